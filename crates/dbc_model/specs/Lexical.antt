@@ -1,0 +1,129 @@
+-- The lexical forms of a database text, as tests on bytes: which bytes are a blank, a mark, a word, a keyword, a name,
+-- a string and a number. Names, texts and decimals are told by the same words as tokens are.
+-- Source: the DBC file format, "General Definitions" (C_identifier, char_string, unsigned_integer, double) and the
+-- keywords that its later sections begin with. That strings are bytes without an encoding, that `//` begins a comment
+-- and that a text may not end in a backslash is the profile of candesk.
+use Rattle.std.specs.Prelude.{ℕ, Bool, true, false, not, ◌||◌, ◌&&◌, ◌==◌, nat_le, List, [], ◌∷◌, ◌++◌, codes, if◌then◌else◌}
+use Rattle.std.specs.List.{list_any, list_all, before_first, after_first}
+use Rattle.std.specs.Str.{bytes_eq}
+
+-- ---- bytes
+
+abbrev pub line_feed : ℕ
+line_feed = 10
+
+abbrev pub quote : ℕ
+quote = 34
+
+abbrev pub point : ℕ
+point = 46
+
+abbrev pub slash : ℕ
+slash = 47
+
+abbrev pub underscore : ℕ
+underscore = 95
+
+abbrev pub backslash : ℕ
+backslash = 92
+
+-- space, tab, carriage return, line feed
+abbrev pub is_blank : ℕ → Bool
+is_blank b = b == 32 || b == 9 || b == 13 || b == line_feed
+
+abbrev pub is_line_feed : ℕ → Bool
+is_line_feed b = b == line_feed
+
+-- `0` to `9`
+abbrev pub is_digit : ℕ → Bool
+is_digit b = nat_le 48 b && nat_le b 57
+
+-- an ASCII letter or an underscore
+abbrev pub is_letter : ℕ → Bool
+is_letter b = (nat_le 65 b && nat_le b 90) || (nat_le 97 b && nat_le b 122) || b == underscore
+
+abbrev pub is_word_byte : ℕ → Bool
+is_word_byte b = is_letter b || is_digit b
+
+abbrev pub is_mark : ℕ → Bool
+is_mark b = list_any (λ mark. b == mark) (codes ":;|@()[],+-")
+
+-- `+` or `-`
+abbrev pub is_sign : ℕ → Bool
+is_sign b = b == 43 || b == 45
+
+-- `E` or `e`
+abbrev pub is_exponent_mark : ℕ → Bool
+is_exponent_mark b = b == 69 || b == 101
+
+abbrev pub is_point : ℕ → Bool
+is_point b = b == point
+
+-- ---- words and names
+
+-- a letter or an underscore, and then letters, digits and underscores
+abbrev pub is_word : List ℕ → Bool
+is_word [] = false
+is_word (b ∷ bytes) = is_letter b && list_all is_word_byte bytes
+
+-- the words that begin the lists and statements whose parts are judged
+abbrev pub statement_words : List (List ℕ)
+statement_words =
+    codes "NS_" ∷ codes "BS_" ∷ codes "BU_" ∷ codes "BO_" ∷ codes "SG_" ∷ codes "CM_" ∷ codes "BA_" ∷ codes "VAL_" ∷ codes "VAL_TABLE_"
+    ∷ codes "BA_DEF_" ∷ codes "BA_DEF_DEF_" ∷ codes "SIG_VALTYPE_" ∷ codes "SG_MUL_VAL_" ∷ []
+
+-- the words that begin the statements which are kept as they stand
+abbrev pub kept_words : List (List ℕ)
+kept_words =
+    codes "BO_TX_BU_" ∷ codes "EV_" ∷ codes "ENVVAR_DATA_" ∷ codes "EV_DATA_" ∷ codes "SIG_GROUP_" ∷ codes "SGTYPE_" ∷ codes "SGTYPE_VAL_"
+    ∷ codes "SIG_TYPE_REF_" ∷ codes "SIGTYPE_VALTYPE_" ∷ codes "BA_DEF_SGTYPE_" ∷ codes "BA_SGTYPE_" ∷ codes "BA_DEF_REL_" ∷ codes "BA_REL_"
+    ∷ codes "BA_DEF_DEF_REL_" ∷ codes "CAT_DEF_" ∷ codes "CAT_" ∷ []
+
+-- the words that stand only inside other statements
+abbrev pub relation_words : List (List ℕ)
+relation_words = codes "BU_SG_REL_" ∷ codes "BU_EV_REL_" ∷ codes "BU_BO_REL_" ∷ []
+
+-- `VERSION` is no keyword here: it is one as the first token of a text alone
+unfoldable pub is_keyword : List ℕ → Bool
+is_keyword word = list_any (bytes_eq word) (statement_words ++ (kept_words ++ relation_words))
+
+-- a C identifier that is no keyword
+unfoldable pub is_name : List ℕ → Bool
+is_name word = is_word word && not (is_keyword word)
+
+-- ---- texts and strings
+
+-- each quote stands directly after a backslash, and the last byte is no backslash; `after` says whether the byte before is one
+abbrev pub is_text_after : Bool → List ℕ → Bool
+is_text_after after [] = not after
+is_text_after after (b ∷ bytes) = (if b == quote then after else true) && is_text_after (b == backslash) bytes
+
+-- what may stand between the quotes of a string
+unfoldable pub is_text : List ℕ → Bool
+is_text bytes = is_text_after false bytes
+
+-- the token of a text
+abbrev pub quoted : List ℕ → List ℕ
+quoted text = quote ∷ (text ++ quote ∷ [])
+
+-- ---- numbers
+
+-- digits, perhaps with one point among, before or behind them, and at least one digit
+abbrev pub is_mantissa : List ℕ → Bool
+is_mantissa bytes = list_all is_digit (before_first is_point bytes) && list_all is_digit (after_first is_point bytes) && list_any is_digit bytes
+
+-- at least one digit, and digits alone
+abbrev pub is_digits : List ℕ → Bool
+is_digits [] = false
+is_digits (b ∷ bytes) = list_all is_digit (b ∷ bytes)
+
+-- perhaps a sign, and digits
+abbrev pub is_signed_digits : List ℕ → Bool
+is_signed_digits [] = false
+is_signed_digits (b ∷ bytes) = if is_sign b then is_digits bytes else is_digits (b ∷ bytes)
+
+-- a mantissa, and perhaps `E` or `e` with an exponent
+unfoldable pub is_number : List ℕ → Bool
+is_number bytes =
+    is_mantissa (before_first is_exponent_mark bytes)
+    && (if list_any is_exponent_mark bytes then is_signed_digits (after_first is_exponent_mark bytes) else true)

@@ -1,0 +1,4 @@
+pub mod Lexical
+pub mod Records
+pub mod Device
+pub mod Views

@@ -1,0 +1,67 @@
+//! The first line of a message.
+ghost use Rattle.std.specs.Prelude.{◌≡◌, Some, None, if◌then◌else◌};
+ghost use Rattle.dbc_model.specs.Records.{head_fits};
+
+use crate::list::{Checked, Copied};
+use crate::memory::Memory;
+use crate::name::Name;
+use std::marker::Model;
+
+/// The first line of a message: `BO_ number name: size sender`. Bit 31 of the number marks a 29-bit identifier, and
+/// the size is in bytes.
+#[derive(Drop)]
+pub struct Head {
+    pub number: u32,
+    pub name: Name,
+    pub size: u16,
+    pub sender: Name,
+}
+
+impl Model for Head {
+    ghost use Rattle.dbc_model.specs.Records as records;
+
+    ghost Value = { records.Head };
+
+    ghost view = { λ a. record { number = a.number; name = a.name; size = a.size; sender = a.sender } };
+
+    ghost invariant = { λ a. records.IsHead (record { number = a.number; name = a.name; size = a.size; sender = a.sender }) };
+}
+
+impl Head {
+    /// The most bytes that a message may have.
+    pub const MAX_SIZE: u16 = 1785;
+
+    /// The head, or `None` where the size is over [`Head::MAX_SIZE`].
+    pub fn new(number: u32, name: Name, size: u16, sender: Name) -> Option<Head>
+        ensures { result ≡ (if head_fits size then Some (record { number = number; name = name; size = size; sender = sender }) else None) }
+    {
+        if size > Head::MAX_SIZE {
+            return None;
+        }
+        Some(Head {
+            number,
+            name,
+            size,
+            sender,
+        })
+    }
+}
+
+impl Checked for Head {
+    ghost use Rattle.dbc_model.specs.Records.{IsHead};
+
+    ghost IsValid = { IsHead };
+}
+
+impl Copied for Head {
+    fn copy(&self) -> Result<Head, Memory> {
+        let name = self.name.copy()?;
+        let sender = self.sender.copy()?;
+        Ok(Head {
+            number: self.number,
+            name,
+            size: self.size,
+            sender,
+        })
+    }
+}

@@ -1,0 +1,22 @@
+//! The records of a CAN database as a DBC file describes them, and the devices that their texts come from and go to.
+//!
+//! Every value of a type of this crate keeps the bounds of the format: a [`Name`] is no keyword, a [`Head`] is at most
+//! 1,785 bytes long. So whoever holds one need not test it again.
+#![tactic(auto)]
+
+mod device;
+mod from_std;
+mod head;
+pub mod limp;
+mod list;
+mod memory;
+mod name;
+mod text;
+
+pub use device::{Broken, Sink, Source, WriteFault, put_all};
+pub use from_std::{FromRead, FromWrite};
+pub use head::Head;
+pub use list::{Checked, Copied, List};
+pub use memory::Memory;
+pub use name::Name;
+pub use text::Text;
