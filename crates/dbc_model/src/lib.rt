@@ -18,5 +18,5 @@ pub use from_std::{FromRead, FromWrite};
 pub use head::Head;
 pub use list::{Checked, Copied, List};
 pub use memory::Memory;
-pub use name::Name;
+pub use name::{Name, is_name};
 pub use text::Text;

@@ -1,0 +1,70 @@
+-- A buffer before a sink.
+use Rattle.std.proofs.Common.{◌≡◌, ℕ, List, [], ◌++◌, refl, sym, ap, subst, ◌∙◌, append_assoc, append-nil}
+use Rattle.std.proofs.KnownBytes.{Appends-nil, Appends-trans}
+use Rattle.dbc_model.specs.Device.{Written, Rises, Wrote, Broke}
+use Rattle.candesk.specs.Held.{Passes}
+
+-- ---- one write after another
+
+pub Wrote-nil : (a : Written) → Wrote a a []
+Wrote-nil a = record { bytes = Appends-nil a.bytes; failures = refl }
+
+pub Wrote-then : (a b c : Written) (xs ys : List ℕ) → Wrote a b xs → Wrote b c ys → Wrote a c (xs ++ ys)
+Wrote-then a b c xs ys p q = record {
+  bytes = Appends-trans a.bytes b.bytes c.bytes xs ys p.bytes q.bytes;
+  failures = q.failures ∙ p.failures;
+}
+
+-- a write of nothing
+pub Wrote-kept : (a b c : Written) (xs : List ℕ) → Wrote a b xs → Wrote b c [] → Wrote a c xs
+Wrote-kept a b c xs p q = subst (Wrote a c) (append-nil xs) (Wrote-then a b c xs [] p q)
+
+pub Broke-then : (a b c : Written) (xs ys : List ℕ) → Wrote a b xs → Broke b c ys → Broke a c (xs ++ ys)
+Broke-then a b c xs ys p q = record {
+  front = xs ++ q.front;
+  back = q.back;
+  parts = ap (λ (t : List ℕ). xs ++ t) q.parts ∙ sym (append_assoc xs q.front q.back);
+  bytes = Appends-trans a.bytes b.bytes c.bytes xs q.front p.bytes q.bytes;
+  failures = subst (λ n. Rises n c.failures) p.failures q.failures;
+}
+
+-- a beginning of some bytes is one of more
+pub Broke-more : (a b : Written) (xs ys : List ℕ) → Broke a b xs → Broke a b (xs ++ ys)
+Broke-more a b xs ys p = record {
+  front = p.front;
+  back = p.back ++ ys;
+  parts = ap (λ (t : List ℕ). t ++ ys) p.parts ∙ append_assoc p.front p.back ys;
+  bytes = p.bytes;
+  failures = p.failures;
+}
+
+-- ---- bytes that go through the buffer
+
+pub Passes-nil : (a : Written) (held : List ℕ) → Passes a a held [] held
+Passes-nil a held = ([], append-nil held, Wrote-nil a)
+
+-- bytes go through, and then others
+pub Passes-then : (a b c : Written) (before xs between ys after : List ℕ) → Passes a b before xs between → Passes b c between ys after → Passes a c before (xs ++ ys) after
+Passes-then a b c before xs between ys after p q = (
+  p.0 ++ q.0,
+  sym (append_assoc before xs ys) ∙ ap (λ zs. zs ++ ys) p.1 ∙ append_assoc p.0 between ys ∙ ap (λ zs. p.0 ++ zs) q.1 ∙ sym (append_assoc p.0 q.0 after),
+  Wrote-then a b c p.0 q.0 p.2 q.2,
+)
+
+-- bytes go through, and of others a beginning
+pub Broke-behind : (a b c : Written) (before xs between ys : List ℕ) → Passes a b before xs between → Broke b c (between ++ ys) → Broke a c (before ++ (xs ++ ys))
+Broke-behind a b c before xs between ys p q =
+    let regrouped : p.0 ++ (between ++ ys) ≡ before ++ (xs ++ ys) = sym (append_assoc p.0 between ys) ∙ ap (λ zs. zs ++ ys) (sym p.1) ∙ append_assoc before xs ys in
+    subst (Broke a c) regrouped (Broke-then a b c p.0 (between ++ ys) p.2 q)
+
+-- what is held is written
+pub Passes-flush : (a b c : Written) (before xs held : List ℕ) → Passes a b before xs held → Wrote b c held → Wrote a c (before ++ xs)
+Passes-flush a b c before xs held p q = subst (Wrote a c) (sym p.1) (Wrote-then a b c p.0 held p.2 q)
+
+-- a beginning of what is held is written
+pub Broke-flush : (a b c : Written) (before xs held : List ℕ) → Passes a b before xs held → Broke b c held → Broke a c (before ++ xs)
+Broke-flush a b c before xs held p q = subst (Broke a c) (sym p.1) (Broke-then a b c p.0 held p.2 q)
+
+-- all that is held is written, and more
+pub Passes-all : (a b c : Written) (held xs : List ℕ) → Wrote a b held → Wrote b c xs → Passes a c held xs []
+Passes-all a b c held xs p q = (held ++ xs, sym (append-nil (held ++ xs)), Wrote-then a b c held xs p q)

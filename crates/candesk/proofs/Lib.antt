@@ -1,0 +1,4 @@
+pub mod Holding
+pub mod Pushing
+pub mod Reading
+pub mod Values

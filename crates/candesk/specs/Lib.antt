@@ -1,0 +1,7 @@
+pub mod Small
+pub mod Frame
+pub mod Raw
+pub mod Line
+pub mod Lines
+pub mod Cuts
+pub mod Held

@@ -1,0 +1,31 @@
+//! A database text and a log in, decoded lines out.
+
+use crate::fault::{Cause, ReadFault, RunFault};
+use crate::small::reading::{Refusal, read_small};
+use crate::streaming::decode_stream;
+use dbc_model::{Sink, Source};
+use std::alloc::Global;
+
+/// Reads the database text, then the log to its end, and writes the decoded line and an LF for each line of it. It
+/// answers how many lines there are, up to `u64::MAX`.
+pub fn decode_run<R: Source, W: Sink>(
+    alloc: Global,
+    text: &[u8],
+    source: &mut R,
+    sink: &mut W,
+) -> Result<u64, RunFault> {
+    let messages = match read_small(alloc, text) {
+        Ok(messages) => messages,
+        Err(Refusal::NotSmall) => {
+            return Err(RunFault::Read(ReadFault {
+                line: 0,
+                cause: Cause::Statement,
+            }));
+        }
+        Err(Refusal::Memory) => return Err(RunFault::Memory),
+    };
+    match decode_stream(alloc, messages.as_slice(), source, sink) {
+        Ok(count) => Ok(count),
+        Err(fault) => Err(RunFault::Stream(fault)),
+    }
+}

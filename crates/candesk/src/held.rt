@@ -1,0 +1,37 @@
+//! Bytes that wait in a buffer before they are put to a sink.
+ghost use Rattle.std.specs.Prelude.{◌≡◌, [], ◌++◌, OnOk, OnErr};
+ghost use Rattle.dbc_model.specs.Device.{Prints, Broke};
+ghost use Rattle.candesk.specs.Held.{Passes};
+
+use arrayvec::ArrayVec;
+use dbc_model::{Sink, WriteFault, put_all};
+
+const ROOM: usize = 65536;
+
+/// The bytes that wait.
+pub type Held = ArrayVec<u8, ROOM>;
+
+/// Puts what is held.
+pub fn flush<W: Sink>(sink: &mut W, held: &mut Held) -> Result<(), WriteFault>
+    ensures prints { Prints (W.written sink.old) (W.written sink.new) result held.old.items }
+    ensures empty { OnOk result (held.new.items ≡ []) }
+{
+    put_all(sink, held.as_slice())?;
+    held.clear();
+    Ok(())
+}
+
+/// Holds these bytes, and puts to the sink what there is no room for.
+pub fn hold<W: Sink>(sink: &mut W, held: &mut Held, bytes: &[u8]) -> Result<(), WriteFault>
+    ensures ok { OnOk result (Passes (W.written sink.old) (W.written sink.new) held.old.items bytes.now held.new.items) }
+    ensures err { OnErr result (Broke (W.written sink.old) (W.written sink.new) (held.old.items ++ bytes.now)) }
+{
+    if held.try_extend_from_slice(bytes).is_ok() {
+        return Ok(());
+    }
+    flush(sink, held)?;
+    if held.try_extend_from_slice(bytes).is_err() {
+        put_all(sink, bytes)?;
+    }
+    Ok(())
+}

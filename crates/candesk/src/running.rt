@@ -1,0 +1,62 @@
+//! A job on a file's bytes, the standard streams and an exit status.
+
+use crate::decoding::decode_run;
+use crate::fault::{RunFault, StreamFault};
+use crate::job::{Command, Job};
+use dbc_model::{Sink, Source, put_all};
+use std::alloc::Global;
+use std::fmt::{Display, Write};
+
+/// The exit statuses.
+pub mod status {
+    /// All went well.
+    pub const DONE: u8 = 0;
+    /// The database was refused.
+    pub const REFUSED: u8 = 1;
+    /// The words are no job.
+    pub const USAGE: u8 = 2;
+    /// A file, a read or a write failed, or a line was too long.
+    pub const DEVICE: u8 = 3;
+    /// A growth was refused.
+    pub const MEMORY: u8 = 4;
+}
+
+// The status of a fault.
+fn status_of(fault: RunFault) -> u8 {
+    match fault {
+        RunFault::Read(_) => status::REFUSED,
+        RunFault::Memory | RunFault::Stream(StreamFault::Memory) => status::MEMORY,
+        RunFault::Stream(_) => status::DEVICE,
+    }
+}
+
+/// Writes a fault's line, `candesk: ` and what is said of it. Where that fails, nothing more can be said.
+pub fn report<E: Sink>(alloc: Global, errors: &mut E, fault: impl Display + Drop) {
+    if let Ok(line) = format!(in alloc; "candesk: {fault}\n") {
+        let _ = put_all(errors, line.as_bytes());
+    } else {
+        let _ = put_all(errors, b"candesk: 90 Memory\n");
+    }
+}
+
+/// Does the job on the bytes of its file: reads standard input from `source`, writes the output to `sink` and a
+/// fault's line to `errors`, and answers the exit status. That `errors` fails doesn't change the status.
+pub fn run<R: Source, W: Sink, E: Sink>(
+    alloc: Global,
+    job: &Job,
+    text: &[u8],
+    source: &mut R,
+    sink: &mut W,
+    errors: &mut E,
+) -> u8 {
+    let outcome = match job.command {
+        Command::Decode => decode_run(alloc, text, source, sink),
+    };
+    match outcome {
+        Ok(_) => status::DONE,
+        Err(fault) => {
+            report(alloc, errors, fault);
+            status_of(fault)
+        }
+    }
+}
