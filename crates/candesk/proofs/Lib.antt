@@ -1,3 +1,4 @@
+pub mod Ending
 pub mod Holding
 pub mod Pushing
 pub mod Reading

@@ -5,3 +5,5 @@ pub mod Line
 pub mod Lines
 pub mod Cuts
 pub mod Held
+pub mod Stream
+pub mod Run

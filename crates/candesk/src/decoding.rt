@@ -1,4 +1,5 @@
 //! A database text and a log in, decoded lines out.
+ghost use Rattle.candesk.specs.Run.{Runs};
 
 use crate::fault::{Cause, ReadFault, RunFault};
 use crate::small::reading::{Refusal, read_small};
@@ -13,7 +14,9 @@ pub fn decode_run<R: Source, W: Sink>(
     text: &[u8],
     source: &mut R,
     sink: &mut W,
-) -> Result<u64, RunFault> {
+) -> Result<u64, RunFault>
+    ensures { Runs (R.unread source.old) (R.unread source.new) (W.written sink.old) (W.written sink.new) result }
+{
     let messages = match read_small(alloc, text) {
         Ok(messages) => messages,
         Err(Refusal::NotSmall) => {

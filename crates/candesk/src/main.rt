@@ -8,6 +8,8 @@ mod job;
 mod running;
 mod small;
 mod streaming;
+#[cfg(test)]
+mod tests;
 
 use dbc_model::{FromRead, FromWrite, put_all};
 use job::{Job, NoJob, job_of};
@@ -42,15 +44,14 @@ fn job_in_words(rt: &HostRuntime) -> Result<Job, NoJob> {
 
 // Says why there is no job, or the help.
 fn refuse(rt: &HostRuntime, why: &NoJob) -> u8 {
-    let alloc: Global = rt.alloc();
     let mut errors = FromWrite::new(rt.stderr());
     match why {
         NoJob::Usage => {
-            report(alloc, &mut errors, "usage");
+            report(&mut errors, "usage");
             status::USAGE
         }
         NoJob::Memory => {
-            report(alloc, &mut errors, "90 Memory");
+            report(&mut errors, "90 Memory");
             status::MEMORY
         }
         NoJob::Help(text) => {
@@ -58,7 +59,7 @@ fn refuse(rt: &HostRuntime, why: &NoJob) -> u8 {
             match put_all(&mut sink, text.as_bytes()) {
                 Ok(()) => status::DONE,
                 Err(fault) => {
-                    report(alloc, &mut errors, fault);
+                    report(&mut errors, fault);
                     status::DEVICE
                 }
             }
@@ -73,11 +74,11 @@ fn work(rt: &HostRuntime, job: &Job) -> u8 {
     let text = match fs::read(rt, job.file.as_str()) {
         Ok(text) => text,
         Err(error) if error.kind() == ErrorKind::OutOfMemory => {
-            report(alloc, &mut errors, "90 Memory");
+            report(&mut errors, "90 Memory");
             return status::MEMORY;
         }
         Err(_) => {
-            report(alloc, &mut errors, "cannot read file");
+            report(&mut errors, "cannot read file");
             return status::DEVICE;
         }
     };

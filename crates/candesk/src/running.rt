@@ -3,6 +3,7 @@
 use crate::decoding::decode_run;
 use crate::fault::{RunFault, StreamFault};
 use crate::job::{Command, Job};
+use arrayvec::ArrayString;
 use dbc_model::{Sink, Source, put_all};
 use std::alloc::Global;
 use std::fmt::{Display, Write};
@@ -30,13 +31,15 @@ fn status_of(fault: RunFault) -> u8 {
     }
 }
 
-/// Writes a fault's line, `candesk: ` and what is said of it. Where that fails, nothing more can be said.
-pub fn report<E: Sink>(alloc: Global, errors: &mut E, fault: impl Display + Drop) {
-    if let Ok(line) = format!(in alloc; "candesk: {fault}\n") {
-        let _ = put_all(errors, line.as_bytes());
-    } else {
-        let _ = put_all(errors, b"candesk: 90 Memory\n");
-    }
+// Room for the longest fault line.
+const LONGEST_FAULT: usize = 96;
+
+/// Writes a fault's line, `candesk: ` and what is said of it. It takes no memory, and where the sink fails nothing more
+/// can be said.
+pub fn report<E: Sink>(errors: &mut E, fault: impl Display + Drop) {
+    let mut line: ArrayString<LONGEST_FAULT> = ArrayString::new();
+    let _ = writeln!(line, "candesk: {fault}");
+    let _ = put_all(errors, line.as_bytes());
 }
 
 /// Does the job on the bytes of its file: reads standard input from `source`, writes the output to `sink` and a
@@ -55,7 +58,7 @@ pub fn run<R: Source, W: Sink, E: Sink>(
     match outcome {
         Ok(_) => status::DONE,
         Err(fault) => {
-            report(alloc, errors, fault);
+            report(errors, fault);
             status_of(fault)
         }
     }

@@ -5,6 +5,7 @@ ghost use Rattle.candesk.specs.Small.{messages_of};
 ghost use Rattle.candesk.specs.Lines.{lines_of, whole_lines, line_text, texts, IsShort, AllShort};
 ghost use Rattle.candesk.specs.Cuts.{Cuts, HasNoLineFeed};
 ghost use Rattle.candesk.specs.Held.{Passes};
+ghost use Rattle.candesk.specs.Stream.{Streams};
 
 use crate::fault::StreamFault;
 use crate::held::{Held, flush, hold};
@@ -163,9 +164,8 @@ fn finish<W: Sink>(
     Ok(1)
 }
 
-/// Reads the source to its end, writes the decoded line and an LF for each line, and answers how many lines there are,
-/// up to `u64::MAX`. Before it pulls again, it has written the texts of all lines that were read whole.
-pub fn decode_stream<R: Source, W: Sink>(
+// Reads the source to its end, and writes the text of each line.
+fn stream_lines<R: Source, W: Sink>(
     alloc: Global,
     messages: &[Message<'_>],
     source: &mut R,
@@ -216,4 +216,17 @@ pub fn decode_stream<R: Source, W: Sink>(
     }
     let last = finish(alloc, messages, sink, &mut held, line.as_slice())?;
     Ok(count.saturating_add(last))
+}
+
+/// Reads the source to its end, writes the decoded line and an LF for each line, and answers how many lines there are,
+/// up to `u64::MAX`. Before it pulls again, it has written the texts of all lines that were read whole.
+pub fn decode_stream<R: Source, W: Sink>(
+    alloc: Global,
+    messages: &[Message<'_>],
+    source: &mut R,
+    sink: &mut W,
+) -> Result<u64, StreamFault>
+    ensures { Streams (messages_of messages.now) (R.unread source.old) (R.unread source.new) (W.written sink.old) (W.written sink.new) result }
+{
+    stream_lines(alloc, messages, source, sink)
 }

@@ -11,6 +11,8 @@ pub mod limp;
 mod list;
 mod memory;
 mod name;
+#[cfg(test)]
+mod tests;
 mod text;
 
 pub use device::{Broken, Sink, Source, WriteFault, put_all};

@@ -3,7 +3,7 @@ use Rattle.dbc_model.specs.Device.{Wrote, Pulled}
 use Rattle.candesk.specs.Small.{messages_of}
 use Rattle.candesk.specs.Lines.{texts, IsShort, AllShort}
 use Rattle.candesk.specs.Cuts.{Cuts, HasNoLineFeed}
-use Rattle.candesk.proofs.streaming.decode_stream.Given as goal
+use Rattle.candesk.proofs.streaming.stream_lines.Given as goal
 
 -- the texts of the lines read so far were written, and the buffer has what stands after the last LF
 abbrev pub invariant-loop-len : goal.invariant-loop-len
