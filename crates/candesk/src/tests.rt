@@ -41,27 +41,37 @@ fn outcome<'o>(job: &'o Result<Job, NoJob>) -> &'o str {
     }
 }
 
-#[test]
-fn words(rt: HostRuntime) {
-    let alloc = rt.alloc();
-    let table: [(&[&str], &str); 12] = [
-        (&[], "(usage)"),
-        (&["frob"], "(usage)"),
-        (&["decode"], "(usage)"),
-        (&["decode", "a", "b"], "(usage)"),
-        (&["decode", "--frob", "a"], "(usage)"),
-        (&["--version"], "(usage)"),
-        (&["--help"], "(help)"),
-        (&["help"], "(help)"),
-        (&["decode", "-h"], "(help)"),
-        (&["decode", "f"], "f"),
-        (&["decode", "--", "--f"], "--f"),
-        (&["decode", "-"], "-"),
-    ];
-    for (words, wanted) in table {
-        let job = job_of(alloc, words);
-        assert_eq!(rt; outcome(&job), wanted, "{words:?}");
+// How the words of a line, one blank apart, read.
+fn outcome_of(alloc: Global, line: &str) -> Result<String, Fail> {
+    let mut words: Vec<&str> = Vec::new(alloc);
+    for word in line.split_whitespace() {
+        words.push(word)?;
     }
+    let job = job_of(alloc, words.as_slice());
+    Ok(String::from_str(alloc, outcome(&job))?)
+}
+
+#[test]
+fn words(rt: HostRuntime) -> Result<(), Fail> {
+    let table = [
+        ("", "(usage)"),
+        ("frob", "(usage)"),
+        ("decode", "(usage)"),
+        ("decode a b", "(usage)"),
+        ("decode --frob a", "(usage)"),
+        ("--version", "(usage)"),
+        ("--help", "(help)"),
+        ("help", "(help)"),
+        ("decode -h", "(help)"),
+        ("decode f", "f"),
+        ("decode -- --f", "--f"),
+        ("decode -", "-"),
+    ];
+    for (line, wanted) in table {
+        let outcome = outcome_of(rt.alloc(), line)?;
+        assert_eq!(rt; outcome.as_str(), wanted, "{line}");
+    }
+    Ok(())
 }
 
 #[test]
