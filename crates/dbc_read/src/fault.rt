@@ -1,0 +1,52 @@
+//! The faults that reading a text ends with.
+
+use std::error::Error as StdError;
+use std::fmt::{self, Formatter, Write};
+use thiserror::Error;
+
+/// Why a text is not read. Each cause is shown with its number.
+#[derive(Clone, Copy, Debug, PartialEq, Eq, Error)]
+pub enum Cause {
+    /// No token begins here, or a string has no end.
+    #[error("1 Token")]
+    Token,
+    /// The text up to and with this token begins no text that is accepted, or the text ends within a statement.
+    #[error("2 Statement")]
+    Statement,
+    /// A second signal of one name in a message.
+    #[error("3 RepeatedSignal")]
+    RepeatedSignal,
+    /// A message after the 65,535th.
+    #[error("4 MessagesFull")]
+    MessagesFull,
+    /// A signal of a message after its 999th.
+    #[error("5 SignalsFull")]
+    SignalsFull,
+    /// A whole number outside the bound of its place.
+    #[error("6 Limit")]
+    Limit,
+    /// Want of memory, whatever the text.
+    #[error("90 Memory")]
+    Memory,
+}
+
+/// Where and why reading a text ended. Lines count from 1, and a line ends at each LF; a fault for want of memory has
+/// the line 0. It shows itself as `line 3: 2 Statement`, and want of memory as `90 Memory`.
+#[derive(Clone, Copy, Debug, PartialEq, Eq)]
+pub struct ReadFault {
+    /// The line of the first byte of the token, or of the place, that the fault stands at.
+    pub line: u64,
+    /// What is wrong there.
+    pub cause: Cause,
+}
+
+impl fmt::Display for ReadFault {
+    fn fmt<W: Write>(&self, f: &mut Formatter<W>) -> fmt::Result {
+        match self.cause {
+            Cause::Memory => write!(f, "{}", self.cause),
+            _ => write!(f, "line {}: {}", self.line, self.cause),
+        }
+    }
+}
+
+impl StdError for ReadFault {}
