@@ -6,4 +6,5 @@ pub mod Strings
 pub mod Longest
 pub mod Gaps
 pub mod CutStep
+pub mod LineFeeds
 pub mod CutLaws

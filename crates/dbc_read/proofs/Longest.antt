@@ -207,6 +207,10 @@ token_found (b ∷ s) =
           ]
     ]
 
+-- what was found is a token
+pub token_there : (s : List ℕ) (t : Kind × ℕ) → Some t ≡ token_at s → IsToken t.0 (take t.1 s)
+token_there s t e = let found : IsFound s (Some t) = subst (IsFound s) (sym e) (token_found s) in found.1
+
 -- the longest token is the one that was found
 pub token_only : (k : Kind) (t rest : List ℕ) → IsLongest k t rest → token_at (t ++ rest) ≡ Some (k, length t)
 token_only k t rest h = only (token_at (t ++ rest)) (token_found (t ++ rest))

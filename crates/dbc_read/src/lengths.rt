@@ -1,7 +1,7 @@
 //! How long the gap or the token at the front of a text is.
-ghost use Rattle.std.specs.Prelude.{◌≡◌, ◌<◌, ◌≤◌, false, length, IfSome};
+ghost use Rattle.std.specs.Prelude.{◌≡◌, ◌-◌, ◌<◌, ◌≤◌, false, not, ◌||◌, ◌==◌, length, slice_index, IfSome};
 ghost use Rattle.std.specs.List.{prefix_len};
-ghost use Rattle.dbc_model.specs.Lexical.{is_blank, is_digit, is_letter, is_word_byte, is_mark};
+ghost use Rattle.dbc_model.specs.Lexical.{backslash, is_blank, is_digit, is_letter, is_word_byte, is_mark};
 ghost use Rattle.dbc_read.specs.Scanner.{gap_len, text_len, mantissa_len, sign_len, exponent_len, number_len, token_at};
 
 use crate::token::Kind;
@@ -99,7 +99,15 @@ fn number_len(bytes: &[u8]) -> usize
     }
 }
 
-// How many bytes stand before the first quote that closes: one that doesn't stand directly after a backslash.
+// Whether a quote at this place behind the opening one closes: no backslash stands directly before it.
+fn closes(bytes: &[u8], end: usize) -> bool
+    requires { end ≤ length bytes.now }
+    ensures { result ≡ (end == 0 || not (slice_index bytes.now (end - 1) == backslash)) }
+{
+    end == 0 || bytes[end - 1] != b'\\'
+}
+
+// How many bytes stand before the first quote that closes.
 fn text_len(bytes: &[u8]) -> Option<usize>
     ensures value { result ≡ text_len false bytes.now }
     ensures in_range { IfSome result (λ n. n < length bytes.now) }
@@ -107,7 +115,7 @@ fn text_len(bytes: &[u8]) -> Option<usize>
     let mut at = 0;
     while let Some(n) = memchr(b'"', &bytes[at..]) {
         let end = at + n;
-        if end == 0 || bytes[end - 1] != b'\\' {
+        if closes(bytes, end) {
             return Some(end);
         }
         at = end + 1;

@@ -1,20 +1,32 @@
 //! The steps from one token to the next.
 ghost use Rattle.std.specs.Prelude.{◌≡◌, ◌≤◌, length};
 ghost use Rattle.std.specs.Iterator.{YieldsFirstBy, item_count};
-ghost use Rattle.dbc_read.specs.Tokens.{line_feeds};
+ghost use Rattle.dbc_read.specs.Tokens.{IsToken, line_feeds};
 ghost use Rattle.dbc_read.specs.Scanner.{cut_of};
 ghost use Rattle.dbc_read.specs.Views.{left, cut_from, item, items, NothingAfter};
 
 use crate::fault::{Cause, ReadFault};
 use crate::lengths::{gap_len, token_at};
 use crate::stream::Tokens;
-use crate::token::{Next, Token};
+use crate::token::{Kind, Next, Token};
 
 fn line_feeds(bytes: &[u8]) -> usize
     ensures value { result ≡ line_feeds bytes.now }
     ensures in_range { result ≤ length bytes.now }
 {
     bytes.iter().filter(|b| **b == b'\n').count()
+}
+
+// How many LF a token holds. Only strings hold any, so that the other tokens aren't looked through again.
+fn token_line_feeds(kind: Kind, bytes: &[u8]) -> usize
+    requires { IsToken kind bytes.now }
+    ensures value { result ≡ line_feeds bytes.now }
+    ensures in_range { result ≤ length bytes.now }
+{
+    match kind {
+        Kind::Text => line_feeds(bytes),
+        _ => 0,
+    }
 }
 
 impl<'a> Tokens<'a> {
@@ -37,7 +49,7 @@ impl<'a> Tokens<'a> {
         match token_at(rest) {
             Some((kind, len)) => {
                 let (bytes, rest) = rest.split_at(len);
-                let after = line + line_feeds(bytes) as u64;
+                let after = line + token_line_feeds(kind, bytes) as u64;
                 (
                     Next::Token(Token { kind, bytes, line }),
                     Tokens { rest, line: after },
