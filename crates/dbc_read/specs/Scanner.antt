@@ -35,6 +35,7 @@ fraction_len whole [] = whole
 fraction_len whole (b ∷ bytes) =
     if b == point then (let digits = whole + prefix_len is_digit bytes in if digits == 0 then 0 else 1 + digits) else whole
 
+-- how many bytes of digits with a point stand at the front
 abbrev pub mantissa_len : List ℕ → ℕ
 mantissa_len bytes = let whole = prefix_len is_digit bytes in fraction_len whole (drop whole bytes)
 
@@ -42,14 +43,16 @@ abbrev pub sign_len : List ℕ → ℕ
 sign_len [] = 0
 sign_len (b ∷ bytes) = if is_sign b then 1 else 0
 
--- how many bytes an exponent at the front has, with its `E`, or 0 where no digits follow
+-- behind an `E` and before a sign of this many bytes: how many bytes the exponent has, or 0 where no digits follow
+abbrev pub power_len : ℕ → List ℕ → ℕ
+power_len sign bytes = let digits = prefix_len is_digit (drop sign bytes) in if digits == 0 then 0 else 1 + (sign + digits)
+
+-- how many bytes an exponent at the front has, with its `E`
 abbrev pub exponent_len : List ℕ → ℕ
 exponent_len [] = 0
-exponent_len (b ∷ bytes) =
-    if is_exponent_mark b then
-    (let sign = sign_len bytes in let digits = prefix_len is_digit (drop sign bytes) in if digits == 0 then 0 else 1 + (sign + digits))
-    else 0
+exponent_len (b ∷ bytes) = if is_exponent_mark b then power_len (sign_len bytes) bytes else 0
 
+-- how many bytes a number at the front has, or 0 where none begins
 abbrev pub number_len : List ℕ → ℕ
 number_len bytes = let mantissa = mantissa_len bytes in if mantissa == 0 then 0 else mantissa + exponent_len (drop mantissa bytes)
 
@@ -69,10 +72,12 @@ abbrev pub token_then : (ℕ → List ℕ → Cut) → ℕ → List ℕ → Opti
 token_then go line rest None = Fault line
 token_then go line rest (Some t) = record { kind = t.0; bytes = take t.1 rest; line = line } ▸ go (line + line_feeds (take t.1 rest)) (drop t.1 rest)
 
+-- behind the gap: the end of the text, or the token there and then what `go` finds
 abbrev pub rest_then : (ℕ → List ℕ → Cut) → ℕ → List ℕ → Cut
 rest_then go line [] = End line
 rest_then go line (b ∷ bytes) = token_then go line (b ∷ bytes) (token_at (b ∷ bytes))
 
+-- the gap at the front, and then what stands behind it
 abbrev pub gap_then : (ℕ → List ℕ → Cut) → ℕ → List ℕ → Cut
 gap_then go line text = let gap = gap_len false text in rest_then go (line + line_feeds (take gap text)) (drop gap text)
 
