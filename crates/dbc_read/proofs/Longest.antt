@@ -1,19 +1,19 @@
 -- The token that the scanner finds is the longest one at its place, and where it finds none no token begins.
-use Rattle.std.proofs.Common.{◌≡◌, ◌≢◌, ℕ, zero, suc, ◌+◌, ◌<◌, ◌≤◌, Bool, true, false, not, cond, eqb, ◌||◌, List, [], ◌∷◌, ◌++◌, length, take, drop, Option, Some, None, refl, sym, ap, subst, ◌∙◌, append_assoc, arith, one-add, inl, inr}
+use Rattle.std.proofs.Common.{◌≡◌, ◌≢◌, ℕ, zero, suc, ◌+◌, ◌<◌, ◌≤◌, Bool, true, false, not, cond, eqb, List, [], ◌∷◌, ◌++◌, length, take, drop, Option, Some, None, refl, sym, ap, subst, ◌∙◌, append_assoc, arith, one-add, inl, inr}
 use Rattle.std.specs.Prelude.{codes}
 use Rattle.std.specs.List.{list_all, list_any, prefix_len}
 use Rattle.std.specs.Option.{option_map}
-use Rattle.std.proofs.lemmas.Bool.{eqb-true, eqb-false, cases_Bool, and_parts, and_from, or_left, or_cases, not-true}
+use Rattle.std.proofs.lemmas.Bool.{eqb-true, eqb-false, cases_Bool, and_parts, and_from, or_cases, not-true}
 use Rattle.std.proofs.lemmas.Bool.Decides.{nat_tests}
 use Rattle.std.proofs.lemmas.List.{take_at, take-append-drop, length-append, length-take-le}
 use Rattle.std.proofs.lemmas.List.Sums.{prefix_len-le-length}
 use Rattle.dbc_read.specs.declared.token.Kind.{Kind}
 use Rattle.dbc_read.specs.declared.token.Kind.TheVariants.{Text, Word, Number, Mark}
-use Rattle.dbc_model.specs.Lexical.{quote, point, is_letter, is_digit, is_word_byte, is_mark, is_text, quoted, is_number}
+use Rattle.dbc_model.specs.Lexical.{quote, is_letter, is_word_byte, is_mark, is_text, quoted, is_number}
 use Rattle.dbc_read.specs.Tokens.{IsToken, IsLongest, BeginsNoToken}
 use Rattle.dbc_read.specs.Scanner.{text_len, number_len, token_at}
 use Rattle.dbc_read.proofs.Runs.{all_le, prefix_all}
-use Rattle.dbc_read.proofs.NumberParts.{IsNumber, number_parts, number_test}
+use Rattle.dbc_read.proofs.NumberParts.{IsNumber, number_parts, number_test, is_mantissa_byte, mantissa_bytes}
 use Rattle.dbc_read.proofs.Numbers.{mantissa_some, number_with, number_is, number_le}
 use Rattle.dbc_read.proofs.Strings.{text_found, closes_at}
 
@@ -22,18 +22,14 @@ use Rattle.dbc_read.proofs.Strings.{text_found, closes_at}
 abbrev pub begins : Kind → ℕ → Bool
 begins Text b = eqb b quote
 begins Word b = is_letter b
-begins Number b = is_digit b || eqb b point
+begins Number b = is_mantissa_byte b
 begins Mark b = is_mark b
 
 number_begins : (b : ℕ) (t : List ℕ) → IsNumber (b ∷ t) → begins Number b ≡ true
-number_begins b t ([], x, parts, ([], fraction, w, f, some, inl e), hx) = absurd cc
-number_begins b t ([], x, parts, (c ∷ whole, fraction, w, f, some, inl e), hx) = absurd cc
-number_begins b t ([], x, parts, ([], fraction, w, f, some, inr e), hx) = absurd (let z : length fraction ≡ 0 = ap length e.1 in omega arith)
-number_begins b t ([], x, parts, (c ∷ whole, fraction, w, f, some, inr e), hx) = absurd cc
-number_begins b t (d ∷ m, x, parts, ([], fraction, w, f, some, inl e), hx) = let same : b ≡ point = cc in rw same refl
-number_begins b t (d ∷ m, x, parts, (c ∷ whole, fraction, w, f, some, inl e), hx) = let same : b ≡ c = cc in rw same (or_left (is_digit c) (eqb c point) (and_parts (is_digit c) (list_all is_digit whole) w).0)
-number_begins b t (d ∷ m, x, parts, ([], fraction, w, f, some, inr e), hx) = absurd (let z : length fraction ≡ 0 = ap length e.1 in omega arith)
-number_begins b t (d ∷ m, x, parts, (c ∷ whole, fraction, w, f, some, inr e), hx) = let same : b ≡ c = cc in rw same (or_left (is_digit c) (eqb c point) (and_parts (is_digit c) (list_all is_digit whole) w).0)
+number_begins b t ([], x, parts, hm, hx) = absurd (omega (arith, mantissa_some [] hm))
+number_begins b t (d ∷ m, x, parts, hm, hx) =
+    let same : b ≡ d = cc in
+    rw same (and_parts (is_mantissa_byte d) (list_all is_mantissa_byte m) (mantissa_bytes (d ∷ m) hm)).0
 
 number_some : IsNumber [] → ⊥
 number_some (m, x, parts, hm, hx) = omega (arith, mantissa_some m hm, ap length parts, length-append m x)
@@ -54,18 +50,11 @@ any_all b q (m ∷ ms) h all =
     let both = and_parts (q m) (list_all q ms) all in
     elim (or_cases (eqb b m) (list_any (λ m. eqb b m) ms) h) [ inl e ↦ rw (eqb-true b m e) both.0 | inr e ↦ any_all b q ms e both.1 ]
 
+-- a mark begins no token of a kind that begins with none of the marks
 no_other : (b : ℕ) (k : Kind) → is_mark b ≡ true → list_all (λ m. not (begins k m)) (codes ":;|@()[],+-") ≡ true → begins k b ≡ true → ⊥
 no_other b k h all e = let one = any_all b (λ m. not (begins k m)) (codes ":;|@()[],+-") h all in let two = not-true (begins k b) one in cc
 
-marks_no_text : (b : ℕ) → is_mark b ≡ true → begins Text b ≡ true → ⊥
-marks_no_text b h e = no_other b Text h refl e
-
-marks_no_word : (b : ℕ) → is_mark b ≡ true → begins Word b ≡ true → ⊥
-marks_no_word b h e = no_other b Word h refl e
-
-marks_no_number : (b : ℕ) → is_mark b ≡ true → begins Number b ≡ true → ⊥
-marks_no_number b h e = no_other b Number h refl e
-
+-- no byte begins tokens of two kinds
 one_kind : (k j : Kind) (b : ℕ) → begins k b ≡ true → begins j b ≡ true → k ≡ j
 one_kind Text Text b p q = refl
 one_kind Word Word b p q = refl
@@ -73,16 +62,16 @@ one_kind Number Number b p q = refl
 one_kind Mark Mark b p q = refl
 one_kind Text Word b p q = absurd (grind (arith, nat_tests))
 one_kind Text Number b p q = absurd (grind (arith, nat_tests))
-one_kind Text Mark b p q = absurd (marks_no_text b q p)
+one_kind Text Mark b p q = absurd (no_other b Text q refl p)
 one_kind Word Text b p q = absurd (grind (arith, nat_tests))
 one_kind Word Number b p q = absurd (grind (arith, nat_tests))
-one_kind Word Mark b p q = absurd (marks_no_word b q p)
+one_kind Word Mark b p q = absurd (no_other b Word q refl p)
 one_kind Number Text b p q = absurd (grind (arith, nat_tests))
 one_kind Number Word b p q = absurd (grind (arith, nat_tests))
-one_kind Number Mark b p q = absurd (marks_no_number b q p)
-one_kind Mark Text b p q = absurd (marks_no_text b p q)
-one_kind Mark Word b p q = absurd (marks_no_word b p q)
-one_kind Mark Number b p q = absurd (marks_no_number b p q)
+one_kind Number Mark b p q = absurd (no_other b Number q refl p)
+one_kind Mark Text b p q = absurd (no_other b Text p refl q)
+one_kind Mark Word b p q = absurd (no_other b Word p refl q)
+one_kind Mark Number b p q = absurd (no_other b Number p refl q)
 
 -- ---- strings
 
@@ -94,12 +83,14 @@ text_bytes s front others whole (text, bytes, is) =
     let rest : text ++ quote ∷ others ≡ s = cc in
     (length text, rw (← rest) (text_found false text others is), rw bytes (omega (arith, length-append text (quote ∷ []))))
 
+-- without a closing quote no string begins
 text_never : (s front others : List ℕ) → text_len false s ≡ None → front ++ others ≡ quote ∷ s → IsToken Text front → ⊥
 text_never s front others none whole h = let x = text_bytes s front others whole h in let e : None ≡ Some x.0 = sym none ∙ x.1 in cc
 
 text_bound : (s front others : List ℕ) (n : ℕ) → text_len false s ≡ Some n → front ++ others ≡ quote ∷ s → IsToken Text front → length front ≤ 2 + n
 text_bound s front others n some whole h = let x = text_bytes s front others whole h in let e : Some n ≡ Some x.0 = sym some ∙ x.1 in let same : n ≡ x.0 = cc in omega (arith, x.2)
 
+-- what stands up to the closing quote is a string
 text_is : (s : List ℕ) (n : ℕ) → text_len false s ≡ Some n → IsToken Text (take (2 + n) (quote ∷ s)) × (2 + n ≤ length (quote ∷ s))
 unfolding is_text
 text_is s n e =

@@ -1,6 +1,5 @@
 //! The faults that reading a text ends with.
 
-use std::error::Error as StdError;
 use std::fmt::{self, Formatter, Write};
 use thiserror::Error;
 
@@ -49,7 +48,7 @@ impl fmt::Display for ReadFault {
     }
 }
 
-impl StdError for ReadFault {}
+impl std::error::Error for ReadFault {}
 
 #[cfg(test)]
 mod tests {
