@@ -1,5 +1,10 @@
+pub mod Bounds
 pub mod Ending
 pub mod Holding
+pub mod Listing
 pub mod Pushing
 pub mod Reading
+pub mod Runs
+pub mod SmallLaws
+pub mod SmallTexts
 pub mod Values

@@ -1,8 +1,8 @@
 -- What a run of `decode` has read and written when it ends.
 use Rattle.std.specs.Prelude.{◌≡◌, ℕ, List, Result, Ok, Err}
 use Rattle.dbc_model.specs.Device.{Unread, Written}
-use Rattle.candesk.specs.declared.fault.ReadFault.{ReadFault}
-use Rattle.candesk.specs.declared.fault.Cause.TheVariants as causes
+use Rattle.dbc_read.specs.declared.fault.ReadFault.{ReadFault}
+use Rattle.dbc_read.specs.declared.fault.Cause.TheVariants as causes
 use Rattle.candesk.specs.declared.fault.RunFault.{RunFault}
 use Rattle.candesk.specs.declared.fault.RunFault.TheVariants as faults
 use Rattle.candesk.specs.Small.{Message}

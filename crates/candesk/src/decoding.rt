@@ -1,10 +1,11 @@
 //! A database text and a log in, decoded lines out.
 ghost use Rattle.candesk.specs.Run.{Runs};
 
-use crate::fault::{Cause, ReadFault, RunFault};
+use crate::fault::RunFault;
 use crate::small::reading::{Refusal, read_small};
 use crate::streaming::decode_stream;
 use dbc_model::{Sink, Source};
+use dbc_read::{Cause, ReadFault};
 use std::alloc::Global;
 
 /// Reads the database text, then the log to its end, and writes the decoded line and an LF for each line of it. It

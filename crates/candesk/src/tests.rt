@@ -1,10 +1,11 @@
 //! What no contract says: fault lines and statuses, the words of the command line, and that runs succeed at all.
 
 use crate::decoding::decode_run;
-use crate::fault::{Cause, ReadFault, RunFault, StreamFault};
+use crate::fault::{RunFault, StreamFault};
 use crate::job::{Command, Job, NoJob, job_of};
 use crate::running::run;
 use dbc_model::limp::Limp;
+use dbc_read::{Cause, ReadFault};
 use std::alloc::{AllocError, Global};
 use std::test::Fail;
 
