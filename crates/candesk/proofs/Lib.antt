@@ -4,6 +4,7 @@ pub mod Holding
 pub mod Listing
 pub mod Pushing
 pub mod Reading
+pub mod Rows
 pub mod Runs
 pub mod SmallLaws
 pub mod SmallTexts

@@ -12,6 +12,7 @@ use Rattle.candesk.specs.SmallTokens.{word_at, mark_at, behind_names}
 use Rattle.candesk.specs.SmallForms.{Spelled, nodes_form, message_form, signals_fit, messages_fit, slashes, token_slashes, AreMessages, IsSmall}
 use Rattle.candesk.specs.SmallReading.{Run, MessageNext, nodes_at, nodes_from, behind_nodes}
 use Rattle.candesk.proofs.Bounds.{and-parts, and-join}
+use Rattle.candesk.proofs.Runs.{Run-functional, MessageNext-functional}
 use Rattle.candesk.proofs.SmallLaws.{no_word_before, messages_spelled, messages_read}
 
 -- ---- nodes
@@ -92,3 +93,9 @@ IsSmall-from_read text cut statements messages line tokens no_comment nodes run 
       spelled = (line, all.0);
       fit = and-join (nat_le (length messages) 65535) _ (le-leb (length messages) 65535 room) all.1;
     }
+
+-- a text is read in one way
+pub one_read : (text text' : List ℕ) (cut : Cut) (one other : List Message) → IsRead text cut one → IsRead text' cut other → one ≡ other
+one_read text text' cut one other a b =
+    let same = same_statements a.statements b.statements (nodes_at cut) (sym a.nodes) b.nodes in
+    (Run-functional MessageNext MessageNext-functional one other a.statements (End a.line) (End b.line) a.run (subst (λ c. Run MessageNext other c (End b.line)) (sym same) b.run)).0

@@ -5,6 +5,7 @@ mod decoding;
 mod fault;
 mod held;
 mod job;
+pub mod laws;
 mod running;
 mod small;
 mod streaming;

@@ -1,4 +1,6 @@
 //! A job on a file's bytes, the standard streams and an exit status.
+ghost use Rattle.std.specs.Prelude.{◌≡◌, Err};
+ghost use Rattle.candesk.specs.Run.{EndsWith, status_of};
 
 use crate::decoding::decode_run;
 use crate::fault::{RunFault, StreamFault};
@@ -23,11 +25,15 @@ pub mod status {
 }
 
 // The status of a fault.
-fn status_of(fault: RunFault) -> u8 {
+fn status_of(fault: RunFault) -> u8
+    ensures { result ≡ status_of (Err fault) }
+{
     match fault {
         RunFault::Read(_) => status::REFUSED,
         RunFault::Memory | RunFault::Stream(StreamFault::Memory) => status::MEMORY,
-        RunFault::Stream(_) => status::DEVICE,
+        RunFault::Stream(StreamFault::LongLine | StreamFault::Read | StreamFault::Write) => {
+            status::DEVICE
+        }
     }
 }
 
@@ -51,7 +57,9 @@ pub fn run<R: Source, W: Sink, E: Sink>(
     source: &mut R,
     sink: &mut W,
     errors: &mut E,
-) -> u8 {
+) -> u8
+    ensures { EndsWith text.now (R.unread source.old) (R.unread source.new) (W.written sink.old) (W.written sink.new) result }
+{
     let outcome = match job.command {
         Command::Decode => decode_run(alloc, text, source, sink),
     };
