@@ -1,8 +1,7 @@
 -- Lists of names: one token more, or the end.
-use Rattle.std.proofs.Common.{◌≡◌, ℕ, Bool, true, false, cond, List, [], ◌∷◌, Option, Some, None, refl, sym, ap, ◌∙◌}
-use Rattle.std.specs.Prelude.{if◌then◌else◌, ◌&&◌}
-use Rattle.dbc_read.specs.Tokens.{Token, Cut, End, Fault, ◌▸◌}
-use Rattle.candesk.specs.SmallTokens.{is_name_token, is_the_mark, name_at, mark_at, behind_names, Receivers, NoneYet, AfterName, AfterComma, behind_receivers, takes_comma, receivers_end}
+use Rattle.std.proofs.Common.{◌≡◌, ℕ, Bool, true, false, cond, List, Some, None, refl, sym, ap, ◌∙◌}
+use Rattle.dbc_read.specs.Tokens.{Cut, End, Fault, ◌▸◌}
+use Rattle.candesk.specs.SmallTokens.{is_name_token, is_the_mark, name_at, mark_at, behind_names, Receivers, NoneYet, AfterName, AfterComma, behind_receivers, receivers_end}
 
 -- what is behind a token that passes a test
 behind-passed : {A B : Type 0} (test : Bool) (a : A) (cut : Cut) (x : A × Cut) (f : Cut → B) (other : B) → cond test (Some (a, cut)) None ≡ Some x → cond test (f cut) other ≡ f x.1

@@ -1,7 +1,7 @@
 -- Small texts, by how they are read.
 use Rattle.std.proofs.Common.{◌≡◌, ℕ, ◌≤◌, List, Option, Some, None, refl, sym, ap, subst, ◌∙◌, inl, inr}
-use Rattle.std.specs.Prelude.{IsTrue, codes, length, nat_le, ◌⊎◌}
-use Rattle.std.specs.List.{flat_map, list_all}
+use Rattle.std.specs.Prelude.{codes, length, nat_le, ◌⊎◌}
+use Rattle.std.specs.List.{flat_map}
 use Rattle.std.proofs.lemmas.Bool.{le-leb, leb-true}
 use Rattle.dbc_read.specs.declared.token.Next.{Next}
 use Rattle.dbc_read.specs.declared.token.Next.TheVariants as nexts
@@ -9,7 +9,7 @@ use Rattle.dbc_read.specs.Tokens.{Cut, End, HasTokens}
 use Rattle.dbc_read.specs.Views.{cut_from}
 use Rattle.candesk.specs.Small.{Message}
 use Rattle.candesk.specs.SmallTokens.{word_at, mark_at, behind_names}
-use Rattle.candesk.specs.SmallForms.{Spelled, nodes_form, message_form, signals_fit, messages_fit, slashes, token_slashes, AreMessages, IsSmall}
+use Rattle.candesk.specs.SmallForms.{Spelled, nodes_form, message_form, slashes, token_slashes, IsSmall}
 use Rattle.candesk.specs.SmallReading.{Run, MessageNext, nodes_at, nodes_from, behind_nodes}
 use Rattle.candesk.proofs.Bounds.{and-parts, and-join}
 use Rattle.candesk.proofs.Runs.{Run-functional, MessageNext-functional}

@@ -1,7 +1,7 @@
 -- The frame of a log line, for data frames with an 11-bit identifier and at most 8 bytes:
 -- `(seconds.fraction) interface id#data`. Source: can-utils, the log format of `candump -L` (lib.h, "CAN log file").
-use Rattle.std.specs.Prelude.{ℕ, ◌+◌, Bool, false, not, ◌&&◌, ◌||◌, ◌==◌, nat_lt, nat_le, List, [], ◌∷◌, length, take, drop, codes, Option, Some, None, option_and_then, option_map, if◌then◌else◌}
-use Rattle.std.specs.List.{prefix_len, list_all}
+use Rattle.std.specs.Prelude.{ℕ, Bool, false, not, ◌&&◌, ◌||◌, ◌==◌, nat_lt, nat_le, List, [], ◌∷◌, length, take, drop, codes, Option, Some, None, option_and_then, option_map, if◌then◌else◌}
+use Rattle.std.specs.List.{prefix_len}
 use Rattle.std.specs.Str.{bytes_eq}
 use Rattle.std.specs.Result.{result_ok}
 use Rattle.std.specs.Int.{from_be_bytes, w16}

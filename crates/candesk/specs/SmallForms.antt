@@ -1,13 +1,13 @@
 -- Which tokens spell a small database: the forms of its statements, as items in the order of the format.
 -- Source: the DBC file format, "Node Definitions", "Message Definitions" and "Signal Definitions".
-use Rattle.std.specs.Prelude.{◌≡◌, ℕ, ◌+◌, ◌*◌, ◌≤◌, ℤ, Bool, true, false, not, ◌&&◌, nat_le, IsTrue, List, [], ◌∷◌, ◌++◌, length, map, codes, Option, Some, ◌⊎◌}
+use Rattle.std.specs.Prelude.{◌≡◌, ℕ, ◌+◌, ◌*◌, ℤ, Bool, true, not, ◌&&◌, nat_le, IsTrue, List, [], ◌∷◌, ◌++◌, length, map, codes, Some, ◌⊎◌}
 use Rattle.std.specs.List.{flat_map, list_any, list_all}
 use Rattle.std.specs.Str.{bytes_eq}
 use Rattle.dbc_model.specs.Lexical.{slash}
-use Rattle.dbc_read.specs.Tokens.{Token, Cut, End, Fault, ◌▸◌, HasTokens}
+use Rattle.dbc_read.specs.Tokens.{Cut, End, Fault, ◌▸◌, HasTokens}
 use Rattle.std.specs.Prelude.{count_by, ◌==◌}
 use Rattle.candesk.specs.Small.{Signal, Message}
-use Rattle.candesk.specs.SmallTokens.{Receivers, NoneYet, word_at, mark_at, name_at, string_at, whole_at, signed_at, behind_names, behind_receivers}
+use Rattle.candesk.specs.SmallTokens.{NoneYet, word_at, mark_at, name_at, string_at, whole_at, signed_at, behind_names, behind_receivers}
 
 -- ---- items
 

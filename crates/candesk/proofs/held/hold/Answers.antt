@@ -1,6 +1,5 @@
-use Rattle.std.proofs.Common.{◌≡◌, [], rules, sym, subst}
+use Rattle.std.proofs.Common.{◌≡◌, [], rules, sym}
 use Rattle.std.proofs.lemmas.Result.{MatchResult-from_err}
-use Rattle.dbc_model.specs.Device.{Wrote}
 use Rattle.candesk.proofs.Holding.{Broke-more, Broke-then, Passes-all}
 use Rattle.candesk.proofs.held.hold.Goals as goal
 

@@ -1,4 +1,4 @@
-use Rattle.std.proofs.Common.{◌≡◌, ◌+◌, ◌<◌, [], ◌∷◌, ◌++◌, Err, ap, ◌∙◌, arith, rules, length, length-append, append-nil}
+use Rattle.std.proofs.Common.{◌≡◌, ◌+◌, ◌<◌, [], ◌∷◌, ◌++◌, Err, ap, arith, rules, length, length-append, append-nil}
 use Rattle.std.proofs.lemmas.Result.{err_from_is_err_and}
 use Rattle.candesk.specs.declared.fault.StreamFault.TheVariants.{LongLine, Write}
 use Rattle.candesk.specs.Small.{messages_of}

@@ -1,4 +1,4 @@
-use Rattle.std.proofs.Common.{◌≡◌, [], ◌++◌, length, take, Err, refl, sym, ap, ◌∙◌, arith, length-append}
+use Rattle.std.proofs.Common.{◌≡◌, [], ◌++◌, length, take, Err, refl, sym, ap, arith, length-append}
 use Rattle.std.proofs.lemmas.Result.{err_from_is_err_and}
 use Rattle.candesk.specs.declared.fault.StreamFault.TheVariants.{LongLine, Write, Memory}
 use Rattle.candesk.specs.Small.{messages_of}

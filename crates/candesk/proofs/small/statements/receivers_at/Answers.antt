@@ -1,4 +1,4 @@
-use Rattle.std.proofs.Common.{◌≡◌, Some, None, sym, ap, ◌∙◌, rules}
+use Rattle.std.proofs.Common.{◌≡◌, sym, ap, ◌∙◌, rules}
 use Rattle.std.specs.Prelude.{Option}
 use Rattle.dbc_read.specs.Tokens.{Cut}
 use Rattle.candesk.specs.SmallTokens.{AfterName, NoneYet, AfterComma, behind_receivers, Receivers}
