@@ -1,4 +1,5 @@
 pub mod Lexical
+pub mod Decimals
 pub mod Records
 pub mod Device
 pub mod Views

@@ -4,6 +4,7 @@
 //! 1,785 bytes long. So whoever holds one need not test it again.
 #![tactic(auto)]
 
+mod decimal;
 mod device;
 mod from_std;
 mod head;
@@ -15,6 +16,7 @@ mod name;
 mod tests;
 mod text;
 
+pub use decimal::Decimal;
 pub use device::{Broken, Sink, Source, WriteFault, put_all};
 pub use from_std::{FromRead, FromWrite};
 pub use head::Head;
