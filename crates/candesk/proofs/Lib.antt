@@ -2,6 +2,7 @@ pub mod Bounds
 pub mod Ending
 pub mod Holding
 pub mod Listing
+pub mod NameLists
 pub mod Pushing
 pub mod Reading
 pub mod Rows

@@ -17,7 +17,7 @@ pub enum StreamFault {
     /// The sink failed.
     #[error("42 Write")]
     Write,
-    /// A growth was refused.
+    /// An allocation was refused.
     #[error("90 Memory")]
     Memory,
 }
@@ -27,7 +27,7 @@ pub enum StreamFault {
 pub enum RunFault {
     /// The database is refused. Nothing was read from the log, and nothing was written.
     Read(ReadFault),
-    /// A growth was refused before the log was read.
+    /// An allocation was refused before the log was read.
     Memory,
     /// The log or its decoded lines met a fault.
     Stream(StreamFault),

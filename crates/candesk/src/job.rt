@@ -25,7 +25,7 @@ pub enum NoJob {
     Usage,
     /// They ask for help, and this is its text.
     Help(String),
-    /// A growth was refused.
+    /// An allocation was refused.
     Memory,
 }
 

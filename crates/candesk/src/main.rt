@@ -12,7 +12,7 @@ mod streaming;
 #[cfg(test)]
 mod tests;
 
-use dbc_model::{FromRead, FromWrite, put_all};
+use dbc_model::{FromRead, FromWrite, Memory, put_all};
 use job::{Job, NoJob, job_of};
 use running::{report, run, status};
 use std::alloc::Global;
@@ -52,7 +52,7 @@ fn refuse(rt: &HostRuntime, why: &NoJob) -> u8 {
             status::USAGE
         }
         NoJob::Memory => {
-            report(&mut errors, "90 Memory");
+            report(&mut errors, Memory);
             status::MEMORY
         }
         NoJob::Help(text) => {
@@ -75,7 +75,7 @@ fn work(rt: &HostRuntime, job: &Job) -> u8 {
     let text = match fs::read(rt, job.file.as_str()) {
         Ok(text) => text,
         Err(error) if error.kind() == ErrorKind::OutOfMemory => {
-            report(&mut errors, "90 Memory");
+            report(&mut errors, Memory);
             return status::MEMORY;
         }
         Err(_) => {

@@ -20,7 +20,7 @@ pub mod status {
     pub const USAGE: u8 = 2;
     /// A file, a read or a write failed, or a line was too long.
     pub const DEVICE: u8 = 3;
-    /// A growth was refused.
+    /// An allocation was refused.
     pub const MEMORY: u8 = 4;
 }
 

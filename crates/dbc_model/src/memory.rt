@@ -3,7 +3,7 @@
 use std::alloc::{AllocError, AllocFailed};
 use thiserror::Error;
 
-/// A growth was refused: fault 90 of every call that takes memory.
+/// An allocation was refused: fault 90 of every call that takes memory.
 #[derive(Clone, Copy, Debug, PartialEq, Eq, Error)]
 #[error("90 Memory")]
 pub struct Memory;

@@ -1,5 +1,5 @@
-/* Preloaded into a program, refuses its growth of memory of number REFUSE_GROWTH, counted from 1. Where that growth
-   was met, the file REFUSE_GROWTH_MET is made. */
+/* Preloaded into a program, refuses its allocation of number REFUSE_ALLOCATION, counted from 1. Where that allocation
+   was met, the file REFUSE_ALLOCATION_MET is made. */
 #define _GNU_SOURCE
 #include <dlfcn.h>
 #include <errno.h>
@@ -7,13 +7,13 @@
 #include <stdlib.h>
 #include <unistd.h>
 
-static unsigned long growths;
+static unsigned long allocations;
 
 static int is_refused(void) {
-    const char *number = getenv("REFUSE_GROWTH");
-    if (number == NULL || ++growths != strtoul(number, NULL, 10))
+    const char *number = getenv("REFUSE_ALLOCATION");
+    if (number == NULL || ++allocations != strtoul(number, NULL, 10))
         return 0;
-    const char *met = getenv("REFUSE_GROWTH_MET");
+    const char *met = getenv("REFUSE_ALLOCATION_MET");
     if (met != NULL) {
         int file = open(met, O_CREAT | O_WRONLY, 0600);
         if (file >= 0)
