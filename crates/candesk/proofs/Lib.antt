@@ -1,6 +1,5 @@
 pub mod Bounds
 pub mod Ending
-pub mod Holding
 pub mod Listing
 pub mod NameLists
 pub mod Pushing

@@ -8,6 +8,5 @@ pub mod Raw
 pub mod Line
 pub mod Lines
 pub mod Cuts
-pub mod Held
 pub mod Stream
 pub mod Run

@@ -3,7 +3,6 @@
 
 mod decoding;
 mod fault;
-mod held;
 mod job;
 pub mod laws;
 mod running;

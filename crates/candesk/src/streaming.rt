@@ -1,18 +1,16 @@
 //! Log lines in, decoded lines out.
 ghost use Rattle.std.specs.Prelude.{◌≡◌, ℕ, ◌-◌, ◌^◌, ◌+◌, ◌<◌, ◌≤◌, min, List, [], ◌∷◌, ◌++◌, length, take, Some, IfOk, OnOk, IfSome, IfNone, IsErrOf};
-ghost use Rattle.dbc_model.specs.Device.{Rises, Wrote, Broke, PullFailed};
+ghost use Rattle.dbc_model.specs.Device.{Rises, Wrote, Broke, PullFailed, Passes};
 ghost use Rattle.candesk.specs.Small.{messages_of};
 ghost use Rattle.candesk.specs.Lines.{lines_of, whole_lines, line_text, texts, IsShort, AllShort};
 ghost use Rattle.candesk.specs.Cuts.{Cuts, HasNoLineFeed};
-ghost use Rattle.candesk.specs.Held.{Passes};
 ghost use Rattle.candesk.specs.Stream.{Streams};
 
 use crate::fault::StreamFault;
-use crate::held::{Held, flush, hold};
 use crate::small::database::Message;
 use crate::small::line::decode_line;
 use arrayvec::ArrayVec;
-use dbc_model::{Broken, Sink, Source, WriteFault};
+use dbc_model::{Broken, Held, Sink, Source, WriteFault, flush, hold};
 use memchr::memchr;
 use std::alloc::Global;
 

@@ -31,6 +31,15 @@ pub record Broke (old new : Written) (text : List ℕ) : Type 0 where
 abbrev pub Prints : {X E : Type 0} → Written → Written → Result X E → List ℕ → Type 0
 Prints old new result text = MatchResult result (λ _. Wrote old new text) (λ _. Broke old new text)
 
+-- of the bytes held before and these, some were written, and the others are held
+abbrev pub Passes : Written → Written → List ℕ → List ℕ → List ℕ → Type 0
+Passes old new before bytes held = (out : List ℕ) × (before ++ bytes ≡ out ++ held) × Wrote old new out
+
+-- the text went through a buffer with these bytes before and those afterwards, or a put failed, and a beginning of the
+-- bytes held before and the text was written
+abbrev pub Sends : {X E : Type 0} → Written → Written → List ℕ → Result X E → List ℕ → List ℕ → Type 0
+Sends old new before result text held = MatchResult result (λ _. Passes old new before text held) (λ _. Broke old new (before ++ text))
+
 -- ---- sources
 
 -- The bytes left, where they are told; how often a pull has failed; and a number that each pull with bytes lowers.

@@ -3,7 +3,7 @@ use Rattle.dbc_model.specs.Device.{Broke}
 use Rattle.candesk.specs.Small.{messages_of}
 use Rattle.candesk.specs.Line.{decoded_line}
 use Rattle.candesk.specs.Lines.{line_text}
-use Rattle.candesk.proofs.Holding.{Passes-then, Broke-behind, Broke-more}
+use Rattle.dbc_model.proofs.Writes.{Passes-then, Broke-behind, Broke-more}
 use Rattle.candesk.proofs.streaming.emit.Goals as goal
 
 pub returns-in-Err-clause-write : goal.returns-in-Err-clause-write

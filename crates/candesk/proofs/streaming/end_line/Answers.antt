@@ -1,7 +1,7 @@
 use Rattle.std.proofs.Common.{◌++◌}
 use Rattle.candesk.specs.Small.{messages_of}
 use Rattle.candesk.specs.Lines.{line_text}
-use Rattle.candesk.proofs.Holding.{Broke-more}
+use Rattle.dbc_model.proofs.Writes.{Broke-more}
 use Rattle.candesk.proofs.streaming.end_line.Goals as goal
 
 pub returns-in-Err-clause-write : goal.returns-in-Err-clause-write

@@ -3,7 +3,7 @@ use Rattle.std.proofs.lemmas.Result.{err_from_is_err_and}
 use Rattle.candesk.specs.declared.fault.StreamFault.TheVariants.{LongLine, Write}
 use Rattle.candesk.specs.Small.{messages_of}
 use Rattle.candesk.specs.Lines.{texts, line_text, IsShort}
-use Rattle.candesk.proofs.Holding.{Passes-then, Passes-flush, Broke-behind, Broke-flush}
+use Rattle.dbc_model.proofs.Writes.{Passes-then, Passes-flush, Broke-behind, Broke-flush}
 use Rattle.candesk.proofs.Reading.{AllByRecursion-append, Cuts-at, Cuts-one, texts-push}
 use Rattle.candesk.proofs.streaming.feed.Goals as goal
 

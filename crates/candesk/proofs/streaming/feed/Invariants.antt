@@ -2,7 +2,7 @@ use Rattle.std.proofs.Common.{◌≡◌, ℕ, ◌-◌, ◌^◌, min, List, [], �
 use Rattle.candesk.specs.Small.{messages_of}
 use Rattle.candesk.specs.Lines.{texts, AllShort}
 use Rattle.candesk.specs.Cuts.{Cuts, HasNoLineFeed}
-use Rattle.candesk.specs.Held.{Passes}
+use Rattle.dbc_model.specs.Device.{Passes}
 use Rattle.candesk.proofs.streaming.feed.Given as goal
 
 -- the texts of the lines so far were written or are held

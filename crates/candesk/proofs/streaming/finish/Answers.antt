@@ -3,7 +3,7 @@ use Rattle.std.proofs.lemmas.Result.{err_from_is_err_and}
 use Rattle.candesk.specs.declared.fault.StreamFault.TheVariants.{Write}
 use Rattle.candesk.specs.Small.{messages_of}
 use Rattle.candesk.specs.Lines.{line_text}
-use Rattle.candesk.proofs.Holding.{Passes-flush, Broke-flush}
+use Rattle.dbc_model.proofs.Writes.{Passes-flush, Broke-flush}
 use Rattle.candesk.proofs.Reading.{lines_of-unended, texts-unended}
 use Rattle.candesk.proofs.streaming.finish.Goals as goal
 

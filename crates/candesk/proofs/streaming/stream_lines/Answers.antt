@@ -3,7 +3,7 @@ use Rattle.std.proofs.lemmas.Result.{err_from_is_err_and}
 use Rattle.candesk.specs.declared.fault.StreamFault.TheVariants.{LongLine, Write, Memory}
 use Rattle.candesk.specs.Small.{messages_of}
 use Rattle.candesk.specs.Lines.{lines_of, IsShort}
-use Rattle.candesk.proofs.Holding.{Wrote-nil, Wrote-kept}
+use Rattle.dbc_model.proofs.Writes.{Wrote-nil, Wrote-kept}
 use Rattle.candesk.proofs.Reading.{AllByRecursion-append, Wrote-texts, Broke-texts, Pulled-nil, Pulled-then, Pulled-none, PullFailed-then, Cuts-nil, Cuts-more, exit-read, exit-long, exit-memory, exit-write, exit-end-write, exit-ok}
 use Rattle.candesk.proofs.streaming.stream_lines.Goals as goal
 

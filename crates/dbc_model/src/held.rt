@@ -1,10 +1,10 @@
 //! Bytes that wait in a buffer before they are put to a sink.
-ghost use Rattle.std.specs.Prelude.{◌≡◌, [], ◌++◌, OnOk, OnErr};
-ghost use Rattle.dbc_model.specs.Device.{Prints, Broke};
-ghost use Rattle.candesk.specs.Held.{Passes};
+ghost use Rattle.std.specs.Prelude.{◌≡◌, [], OnOk};
+ghost use Rattle.std.specs.List.{flat_map};
+ghost use Rattle.dbc_model.specs.Device.{Prints, Sends};
 
+use crate::device::{Sink, WriteFault, put_all};
 use arrayvec::ArrayVec;
-use dbc_model::{Sink, WriteFault, put_all};
 
 const ROOM: usize = 65536;
 
@@ -23,8 +23,7 @@ pub fn flush<W: Sink>(sink: &mut W, held: &mut Held) -> Result<(), WriteFault>
 
 /// Holds these bytes, and puts to the sink what there is no room for.
 pub fn hold<W: Sink>(sink: &mut W, held: &mut Held, bytes: &[u8]) -> Result<(), WriteFault>
-    ensures ok { OnOk result (Passes (W.written sink.old) (W.written sink.new) held.old.items bytes.now held.new.items) }
-    ensures err { OnErr result (Broke (W.written sink.old) (W.written sink.new) (held.old.items ++ bytes.now)) }
+    ensures { Sends (W.written sink.old) (W.written sink.new) held.old.items result bytes.now held.new.items }
 {
     if held.try_extend_from_slice(bytes).is_ok() {
         return Ok(());
@@ -32,6 +31,20 @@ pub fn hold<W: Sink>(sink: &mut W, held: &mut Held, bytes: &[u8]) -> Result<(), 
     flush(sink, held)?;
     if held.try_extend_from_slice(bytes).is_err() {
         put_all(sink, bytes)?;
+    }
+    Ok(())
+}
+
+/// Holds these pieces, one after another.
+pub fn hold_pieces<W: Sink>(
+    sink: &mut W,
+    held: &mut Held,
+    pieces: &[&[u8]],
+) -> Result<(), WriteFault>
+    ensures { Sends (W.written sink.old) (W.written sink.new) held.old.items result (flat_map (λ piece. piece.now) pieces.now) held.new.items }
+{
+    for piece in pieces {
+        hold(sink, held, piece)?;
     }
     Ok(())
 }
