@@ -1,5 +1,6 @@
 pub mod Lexical
 pub mod Decimals
+pub mod Kept
 pub mod Records
 pub mod Device
 pub mod Views
