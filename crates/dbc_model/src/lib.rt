@@ -23,6 +23,7 @@ mod message;
 mod mux_row;
 mod name;
 mod piece;
+mod printing;
 mod signal;
 mod symbol;
 mod table_row;

@@ -1,0 +1,15 @@
+use Rattle.std.proofs.Common.{◌≡◌, ◌-◌, ◌≤◌, ◌++◌, ◌∷◌, [], length, ap, ◌∙◌, arith, rules, sym, append-nil}
+use Rattle.std.proofs.lemmas.List.{take-replicate}
+use Rattle.dbc_model.specs.Layout.{zeros}
+use Rattle.dbc_model.proofs.Magnitudes.{Sends-as, fraction_filled}
+use Rattle.dbc_model.proofs.printing.numbers.hold_fraction.Goals as goal
+
+pub returns-else-digits-behind : goal.returns-else-digits-behind
+returns-else-digits-behind g c =
+    let digits = c.args.digits.now in
+    let k = c.args.behind - length digits in
+    let few : length digits ≤ c.args.behind = search rules in
+    let most : c.args.behind ≤ 20 = search rules in
+    let front = c.split_at-else-digits-behind.ensures.front ∙ take-replicate k 20 48 (omega (arith, most)) in
+    let text = ap (λ t. t ++ (digits ++ [])) front ∙ ap (λ t. zeros k ++ t) (append-nil digits) in
+    Sends-as _ _ _ _ _ _ _ (ap (λ t. 48 ∷ 46 ∷ t) text ∙ sym (fraction_filled c.args.behind digits few)) c.hold_pieces-else-digits-behind.ensures

@@ -1,0 +1,309 @@
+-- The canonical text of a database: the layout of each kind of statement, and the order of the kinds.
+-- Source: the DBC file format, the section of each statement. Where it leaves blanks free they are those that are usual in
+-- files: one space between parts, none before a statement's last semicolon but behind entries and kept tokens.
+use Rattle.std.specs.Prelude.{ℕ, Bool, List, [], ◌∷◌, ◌++◌, Option, Some, None, codes, if◌then◌else◌}
+use Rattle.std.specs.List.{flat_map}
+use Rattle.dbc_model.specs.Decimals.{Decimal}
+use Rattle.dbc_model.specs.Layout.{Word, Mark, Name, Symbol, Text, Whole, Int, Number, Switch, Muxed, Both, Order, Piece, Space, Tab, LineEnd, Is, Layout, layout_text}
+use Rattle.dbc_model.specs.Records.{Head, Signal, Message, Entry, TableRow, ValueRow, FloatRow, MuxRow, Comment, AttrDef, AttrDefault, AttrRow, Kept, Database}
+use Rattle.dbc_model.specs.declared.tag.Tag.{Tag}
+use Rattle.dbc_model.specs.declared.tag.Tag.TheVariants as tags
+use Rattle.dbc_model.specs.declared.mux_row.Range.{Range}
+use Rattle.dbc_model.specs.declared.target.Target.{Target}
+use Rattle.dbc_model.specs.declared.target.Target.TheVariants as targets
+use Rattle.dbc_model.specs.declared.attribute.AttrValue.{AttrValue}
+use Rattle.dbc_model.specs.declared.attribute.AttrValue.TheVariants as values
+use Rattle.dbc_model.specs.declared.definition.Limits.{Limits}
+use Rattle.dbc_model.specs.declared.definition.Object.{Object}
+use Rattle.dbc_model.specs.declared.definition.Object.TheVariants as objects
+use Rattle.dbc_model.specs.declared.definition.Form.{Form}
+use Rattle.dbc_model.specs.declared.definition.Form.TheVariants as forms
+
+-- ---- version, symbols, bit timing, nodes
+
+-- `VERSION "t"`
+unfoldable pub version_layout : List ℕ → Layout
+version_layout version = Is (Word (codes "VERSION")) ∷ Space ∷ Is (Text version) ∷ LineEnd ∷ []
+
+-- a symbol, on a line of its own
+unfoldable pub symbol_layout : List ℕ → Layout
+symbol_layout word = Tab ∷ Is (Symbol word) ∷ LineEnd ∷ []
+
+unfoldable pub symbols_title : Layout
+symbols_title = Is (Word (codes "NS_")) ∷ Space ∷ Is (Mark 58) ∷ LineEnd ∷ []
+
+-- `NS_ :`
+unfoldable pub symbols_layout : List (List ℕ) → Layout
+symbols_layout symbols = symbols_title ++ flat_map symbol_layout symbols
+
+-- ` a : b , c`
+unfoldable pub timing_numbers : List Decimal → Layout
+timing_numbers (a ∷ b ∷ c ∷ []) =
+    Space ∷ Is (Number a) ∷ Space ∷ Is (Mark 58) ∷ Space ∷ Is (Number b) ∷ Space ∷ Is (Mark 44) ∷ Space ∷ Is (Number c) ∷ []
+timing_numbers numbers = []
+
+unfoldable pub timing_title : Layout
+timing_title = Is (Word (codes "BS_")) ∷ Is (Mark 58) ∷ []
+
+-- `BS_:`, or `BS_: a : b , c`
+unfoldable pub timing_layout : Option (List Decimal) → Layout
+timing_layout None = timing_title ++ LineEnd ∷ []
+timing_layout (Some numbers) = timing_title ++ (timing_numbers numbers ++ LineEnd ∷ [])
+
+unfoldable pub node_layout : List ℕ → Layout
+node_layout name = Space ∷ Is (Name name) ∷ []
+
+unfoldable pub nodes_title : Layout
+nodes_title = Is (Word (codes "BU_")) ∷ Is (Mark 58) ∷ []
+
+-- `BU_: n n`
+unfoldable pub nodes_layout : List (List ℕ) → Layout
+nodes_layout nodes = nodes_title ++ (flat_map node_layout nodes ++ LineEnd ∷ [])
+
+-- ---- tables and named values
+
+-- ` n "t"`
+unfoldable pub entry_layout : Entry → Layout
+entry_layout entry = Space ∷ Is (Int entry.number) ∷ Space ∷ Is (Text entry.text) ∷ []
+
+-- the end of a statement behind entries or kept tokens
+unfoldable pub spaced_end : Layout
+spaced_end = Space ∷ Is (Mark 59) ∷ LineEnd ∷ []
+
+-- the end of any other statement
+unfoldable pub statement_end : Layout
+statement_end = Is (Mark 59) ∷ LineEnd ∷ []
+
+-- `VAL_TABLE_ T`: the row up to its key
+unfoldable pub table_key : TableRow → Layout
+table_key row = Is (Word (codes "VAL_TABLE_")) ∷ Space ∷ Is (Name row.name) ∷ []
+
+-- `VAL_TABLE_ T n "t" ;`
+unfoldable pub table_layout : TableRow → Layout
+table_layout row = table_key row ++ (flat_map entry_layout row.entries ++ spaced_end)
+
+-- `VAL_ id s`
+unfoldable pub values_key : ValueRow → Layout
+values_key row = Is (Word (codes "VAL_")) ∷ Space ∷ Is (Whole row.number) ∷ Space ∷ Is (Name row.signal) ∷ []
+
+-- `VAL_ id s n "t" ;`
+unfoldable pub values_layout : ValueRow → Layout
+values_layout row = values_key row ++ (flat_map entry_layout row.entries ++ spaced_end)
+
+-- ---- messages and signals
+
+-- `BO_ number name: size sender`
+unfoldable pub head_layout : Head → Layout
+head_layout head =
+    Is (Word (codes "BO_")) ∷ Space ∷ Is (Whole head.number) ∷ Space ∷ Is (Name head.name) ∷ Is (Mark 58) ∷ Space ∷ Is (Whole head.size) ∷ Space ∷ Is (Name head.sender) ∷ LineEnd ∷ []
+
+-- ` SG_ name`
+unfoldable pub signal_name_layout : Signal → Layout
+signal_name_layout signal = Space ∷ Is (Word (codes "SG_")) ∷ Space ∷ Is (Name signal.name) ∷ []
+
+-- the tag between blanks, where there is one; the blank behind it is that before the colon
+unfoldable pub tag_layout : Tag → Layout
+tag_layout tags.Plain = []
+tag_layout tags.Switch = Space ∷ Is Switch ∷ []
+tag_layout (tags.Muxed n) = Space ∷ Is (Muxed n) ∷ []
+tag_layout (tags.Both n) = Space ∷ Is (Both n) ∷ []
+
+-- `+` for unsigned and `-` for signed
+abbrev pub sign_mark : Bool → ℕ
+sign_mark signed = if signed then 45 else 43
+
+-- ` : start|length@order` and the sign
+unfoldable pub place_layout : Signal → Layout
+place_layout signal =
+    Space ∷ Is (Mark 58) ∷ Space ∷ Is (Whole signal.start) ∷ Is (Mark 124) ∷ Is (Whole signal.length) ∷ Is (Mark 64) ∷ Is (Order signal.intel) ∷ Is (Mark (sign_mark signal.signed)) ∷ []
+
+-- ` (factor,offset)`
+unfoldable pub scale_layout : Signal → Layout
+scale_layout signal = Space ∷ Is (Mark 40) ∷ Is (Number signal.factor) ∷ Is (Mark 44) ∷ Is (Number signal.offset) ∷ Is (Mark 41) ∷ []
+
+-- ` [min|max]`
+unfoldable pub limits_layout : Signal → Layout
+limits_layout signal = Space ∷ Is (Mark 91) ∷ Is (Number signal.minimum) ∷ Is (Mark 124) ∷ Is (Number signal.maximum) ∷ Is (Mark 93) ∷ []
+
+unfoldable pub unit_layout : Signal → Layout
+unit_layout signal = Space ∷ Is (Text signal.unit) ∷ []
+
+unfoldable pub further_receiver : List ℕ → Layout
+further_receiver name = Is (Mark 44) ∷ Is (Name name) ∷ []
+
+-- ` n,n,n`, or nothing
+unfoldable pub receivers_layout : List (List ℕ) → Layout
+receivers_layout [] = []
+receivers_layout (name ∷ names) = node_layout name ++ flat_map further_receiver names
+
+-- ` SG_ name tag : start|length@order` sign ` (factor,offset) [min|max] "unit" receivers`
+unfoldable pub signal_layout : Signal → Layout
+signal_layout signal =
+    signal_name_layout signal
+    ++ (tag_layout signal.tag
+    ++ (place_layout signal
+    ++ (scale_layout signal
+    ++ (limits_layout signal
+    ++ (unit_layout signal
+    ++ (receivers_layout signal.receivers ++ LineEnd ∷ []))))))
+
+unfoldable pub message_layout : Message → Layout
+message_layout message = head_layout message.head ++ flat_map signal_layout message.signals
+
+-- ---- comments and attributes
+
+-- ` BU_ n`, ` BO_ id`, ` SG_ id s`, or nothing for the whole database
+unfoldable pub target_layout : Target → Layout
+target_layout targets.Whole = []
+target_layout (targets.Node name) = Space ∷ Is (Word (codes "BU_")) ∷ Space ∷ Is (Name name) ∷ []
+target_layout (targets.Message number) = Space ∷ Is (Word (codes "BO_")) ∷ Space ∷ Is (Whole number) ∷ []
+target_layout (targets.Signal number name) = Space ∷ Is (Word (codes "SG_")) ∷ Space ∷ Is (Whole number) ∷ Space ∷ Is (Name name) ∷ []
+
+unfoldable pub comment_title : Layout
+comment_title = Is (Word (codes "CM_")) ∷ []
+
+-- `CM_`, `CM_ BU_ n`, ..
+unfoldable pub comment_key : Comment → Layout
+comment_key comment = comment_title ++ target_layout comment.target
+
+unfoldable pub comment_text_layout : Comment → Layout
+comment_text_layout comment = Space ∷ Is (Text comment.text) ∷ []
+
+-- `CM_ "t";`, `CM_ BU_ n "t";`, ..
+unfoldable pub comment_layout : Comment → Layout
+comment_layout comment = comment_key comment ++ (comment_text_layout comment ++ statement_end)
+
+abbrev pub object_word : Object → List ℕ
+object_word objects.Node = codes "BU_"
+object_word objects.Message = codes "BO_"
+object_word objects.Signal = codes "SG_"
+object_word objects.EnvironmentVariable = codes "EV_"
+
+unfoldable pub object_layout : Option Object → Layout
+object_layout None = []
+object_layout (Some object) = Space ∷ Is (Word (object_word object)) ∷ []
+
+-- ` a b`, or nothing
+unfoldable pub number_limits_layout : Option Limits → Layout
+number_limits_layout None = []
+number_limits_layout (Some limits) = Space ∷ Is (Number limits.minimum) ∷ Space ∷ Is (Number limits.maximum) ∷ []
+
+unfoldable pub further_text : List ℕ → Layout
+further_text text = Is (Mark 44) ∷ Is (Text text) ∷ []
+
+unfoldable pub spaced_text : List ℕ → Layout
+spaced_text text = Space ∷ Is (Text text) ∷ []
+
+-- ` "a","b"`
+unfoldable pub texts_layout : List (List ℕ) → Layout
+texts_layout [] = []
+texts_layout (text ∷ texts) = spaced_text text ++ flat_map further_text texts
+
+unfoldable pub form_word : List ℕ → Layout
+form_word word = Space ∷ Is (Word word) ∷ []
+
+-- ` INT a b`, ` HEX`, ` STRING`, ` ENUM "a","b"`, ..
+unfoldable pub form_layout : Form → Layout
+form_layout (forms.Int limits) = form_word (codes "INT") ++ number_limits_layout limits
+form_layout (forms.Hex limits) = form_word (codes "HEX") ++ number_limits_layout limits
+form_layout (forms.Float limits) = form_word (codes "FLOAT") ++ number_limits_layout limits
+form_layout forms.Str = form_word (codes "STRING")
+form_layout (forms.Enumeration texts) = form_word (codes "ENUM") ++ texts_layout texts
+
+unfoldable pub definition_title : Layout
+definition_title = Is (Word (codes "BA_DEF_")) ∷ []
+
+-- `BA_DEF_ BO_ "n"`
+unfoldable pub definition_key : AttrDef → Layout
+definition_key definition = definition_title ++ (object_layout definition.object ++ spaced_text definition.name)
+
+-- `BA_DEF_ BO_ "n" INT a b;`
+unfoldable pub definition_layout : AttrDef → Layout
+definition_layout definition = definition_key definition ++ (form_layout definition.form ++ statement_end)
+
+-- ` "t"` or a blank and a number
+unfoldable pub value_layout : AttrValue → Layout
+value_layout (values.Text text) = spaced_text text
+value_layout (values.Decimal number) = Space ∷ Is (Number number) ∷ []
+
+-- `BA_DEF_DEF_ "n"`
+unfoldable pub default_key : AttrDefault → Layout
+default_key row = Is (Word (codes "BA_DEF_DEF_")) ∷ Space ∷ Is (Text row.name) ∷ []
+
+-- `BA_DEF_DEF_ "n" value;`
+unfoldable pub default_layout : AttrDefault → Layout
+default_layout row = default_key row ++ (value_layout row.value ++ statement_end)
+
+unfoldable pub attribute_title : AttrRow → Layout
+attribute_title row = Is (Word (codes "BA_")) ∷ Space ∷ Is (Text row.name) ∷ []
+
+-- `BA_ "n"`, `BA_ "n" BO_ id`, ..
+unfoldable pub attribute_key : AttrRow → Layout
+attribute_key row = attribute_title row ++ target_layout row.target
+
+-- `BA_ "n" BO_ id value;`
+unfoldable pub attribute_layout : AttrRow → Layout
+attribute_layout row = attribute_key row ++ (value_layout row.value ++ statement_end)
+
+-- ---- float types, multiplexing, kept statements
+
+-- `SIG_VALTYPE_ id s`
+unfoldable pub float_key : FloatRow → Layout
+float_key row = Is (Word (codes "SIG_VALTYPE_")) ∷ Space ∷ Is (Whole row.number) ∷ Space ∷ Is (Name row.signal) ∷ []
+
+unfoldable pub float_kind : FloatRow → Layout
+float_kind row = Space ∷ Is (Mark 58) ∷ Space ∷ Is (Whole row.kind) ∷ []
+
+-- `SIG_VALTYPE_ id s : t;`
+unfoldable pub float_layout : FloatRow → Layout
+float_layout row = float_key row ++ (float_kind row ++ statement_end)
+
+-- ` a-b`
+unfoldable pub range_layout : Range → Layout
+range_layout range = Space ∷ Is (Whole range.first) ∷ Is (Mark 45) ∷ Is (Whole range.last) ∷ []
+
+-- `, a-b`
+unfoldable pub further_range : Range → Layout
+further_range range = Is (Mark 44) ∷ Space ∷ Is (Whole range.first) ∷ Is (Mark 45) ∷ Is (Whole range.last) ∷ []
+
+unfoldable pub ranges_layout : List Range → Layout
+ranges_layout [] = []
+ranges_layout (range ∷ ranges) = range_layout range ++ flat_map further_range ranges
+
+-- `SG_MUL_VAL_ id s`
+unfoldable pub mux_key : MuxRow → Layout
+mux_key row = Is (Word (codes "SG_MUL_VAL_")) ∷ Space ∷ Is (Whole row.number) ∷ Space ∷ Is (Name row.signal) ∷ []
+
+-- `SG_MUL_VAL_ id s switch a-b, c-d;`
+unfoldable pub mux_layout : MuxRow → Layout
+mux_layout row = mux_key row ++ (node_layout row.switch ++ (ranges_layout row.ranges ++ statement_end))
+
+unfoldable pub piece_layout : List ℕ → Layout
+piece_layout bytes = Is (Piece bytes) ∷ Space ∷ []
+
+-- the tokens and a semicolon, with one blank between them
+unfoldable pub kept_layout : Kept → Layout
+kept_layout statement = flat_map piece_layout statement.tokens ++ statement_end
+
+-- ---- databases
+
+-- all kinds, in the order of the format
+unfoldable pub database_layout : Database → Layout
+database_layout d =
+    version_layout d.version
+    ++ (symbols_layout d.symbols
+    ++ (timing_layout d.bit_timing
+    ++ (nodes_layout d.nodes
+    ++ (flat_map table_layout d.tables
+    ++ (flat_map message_layout d.messages
+    ++ (flat_map comment_layout d.comments
+    ++ (flat_map definition_layout d.definitions
+    ++ (flat_map default_layout d.defaults
+    ++ (flat_map attribute_layout d.attributes
+    ++ (flat_map values_layout d.values
+    ++ (flat_map float_layout d.floats
+    ++ (flat_map mux_layout d.muxes
+    ++ flat_map kept_layout d.kept))))))))))))
+
+unfoldable pub canonical_text : Database → List ℕ
+canonical_text database = layout_text (database_layout database)
