@@ -58,33 +58,33 @@ Broke-inside a b c i xs q p = subst (Broke a c) (take-append-drop i xs) (Broke-b
 -- ---- bytes that go through a buffer
 
 pub Passes-nil : (a : Written) (held : List ℕ) → Passes a a held [] held
-Passes-nil a held = ([], append-nil held, Wrote-nil a)
+Passes-nil a held = record { out = []; parts = append-nil held; wrote = Wrote-nil a }
 
 -- bytes go through, and then others
 pub Passes-then : (a b c : Written) (before xs between ys after : List ℕ) → Passes a b before xs between → Passes b c between ys after → Passes a c before (xs ++ ys) after
-Passes-then a b c before xs between ys after p q = (
-  p.0 ++ q.0,
-  sym (append_assoc before xs ys) ∙ ap (λ zs. zs ++ ys) p.1 ∙ append_assoc p.0 between ys ∙ ap (λ zs. p.0 ++ zs) q.1 ∙ sym (append_assoc p.0 q.0 after),
-  Wrote-then a b c p.0 q.0 p.2 q.2,
-)
+Passes-then a b c before xs between ys after p q = record {
+  out = p.out ++ q.out;
+  parts = sym (append_assoc before xs ys) ∙ ap (λ zs. zs ++ ys) p.parts ∙ append_assoc p.out between ys ∙ ap (λ zs. p.out ++ zs) q.parts ∙ sym (append_assoc p.out q.out after);
+  wrote = Wrote-then a b c p.out q.out p.wrote q.wrote;
+}
 
 -- bytes go through, and of others a beginning
 pub Broke-behind : (a b c : Written) (before xs between ys : List ℕ) → Passes a b before xs between → Broke b c (between ++ ys) → Broke a c (before ++ (xs ++ ys))
 Broke-behind a b c before xs between ys p q =
-    let regrouped : p.0 ++ (between ++ ys) ≡ before ++ (xs ++ ys) = sym (append_assoc p.0 between ys) ∙ ap (λ zs. zs ++ ys) (sym p.1) ∙ append_assoc before xs ys in
-    subst (Broke a c) regrouped (Broke-then a b c p.0 (between ++ ys) p.2 q)
+    let regrouped : p.out ++ (between ++ ys) ≡ before ++ (xs ++ ys) = sym (append_assoc p.out between ys) ∙ ap (λ zs. zs ++ ys) (sym p.parts) ∙ append_assoc before xs ys in
+    subst (Broke a c) regrouped (Broke-then a b c p.out (between ++ ys) p.wrote q)
 
 -- what is held is written
 pub Passes-flush : (a b c : Written) (before xs held : List ℕ) → Passes a b before xs held → Wrote b c held → Wrote a c (before ++ xs)
-Passes-flush a b c before xs held p q = subst (Wrote a c) (sym p.1) (Wrote-then a b c p.0 held p.2 q)
+Passes-flush a b c before xs held p q = subst (Wrote a c) (sym p.parts) (Wrote-then a b c p.out held p.wrote q)
 
 -- a beginning of what is held is written
 pub Broke-flush : (a b c : Written) (before xs held : List ℕ) → Passes a b before xs held → Broke b c held → Broke a c (before ++ xs)
-Broke-flush a b c before xs held p q = subst (Broke a c) (sym p.1) (Broke-then a b c p.0 held p.2 q)
+Broke-flush a b c before xs held p q = subst (Broke a c) (sym p.parts) (Broke-then a b c p.out held p.wrote q)
 
 -- all that is held is written, and more
 pub Passes-all : (a b c : Written) (held xs : List ℕ) → Wrote a b held → Wrote b c xs → Passes a c held xs []
-Passes-all a b c held xs p q = (held ++ xs, sym (append-nil (held ++ xs)), Wrote-then a b c held xs p q)
+Passes-all a b c held xs p q = record { out = held ++ xs; parts = sym (append-nil (held ++ xs)); wrote = Wrote-then a b c held xs p q }
 
 -- ---- one part of a text after another
 

@@ -19,6 +19,43 @@ use Rattle.dbc_model.specs.declared.definition.Object.TheVariants as objects
 use Rattle.dbc_model.specs.declared.definition.Form.{Form}
 use Rattle.dbc_model.specs.declared.definition.Form.TheVariants as forms
 
+-- ---- parts
+
+unfoldable pub blank : Layout
+blank = Space ∷ []
+
+unfoldable pub mark_layout : ℕ → Layout
+mark_layout mark = Is (Mark mark) ∷ []
+
+unfoldable pub spaced_mark : ℕ → Layout
+spaced_mark mark = Space ∷ Is (Mark mark) ∷ []
+
+unfoldable pub number_layout : Decimal → Layout
+number_layout number = Is (Number number) ∷ []
+
+unfoldable pub spaced_number : Decimal → Layout
+spaced_number number = blank ++ number_layout number
+
+unfoldable pub spaced_text : List ℕ → Layout
+spaced_text text = Space ∷ Is (Text text) ∷ []
+
+unfoldable pub spaced_name : List ℕ → Layout
+spaced_name name = Space ∷ Is (Name name) ∷ []
+
+unfoldable pub spaced_word : List ℕ → Layout
+spaced_word word = Space ∷ Is (Word word) ∷ []
+
+unfoldable pub line_end : Layout
+line_end = LineEnd ∷ []
+
+-- the end of a statement
+unfoldable pub statement_end : Layout
+statement_end = Is (Mark 59) ∷ LineEnd ∷ []
+
+-- the end of a statement behind entries
+unfoldable pub spaced_end : Layout
+spaced_end = Space ∷ Is (Mark 59) ∷ LineEnd ∷ []
+
 -- ---- version, symbols, bit timing, nodes
 
 -- `VERSION "t"`
@@ -38,8 +75,7 @@ symbols_layout symbols = symbols_title ++ flat_map symbol_layout symbols
 
 -- ` a : b , c`
 unfoldable pub timing_numbers : List Decimal → Layout
-timing_numbers (a ∷ b ∷ c ∷ []) =
-    Space ∷ Is (Number a) ∷ Space ∷ Is (Mark 58) ∷ Space ∷ Is (Number b) ∷ Space ∷ Is (Mark 44) ∷ Space ∷ Is (Number c) ∷ []
+timing_numbers (a ∷ b ∷ c ∷ []) = spaced_number a ++ (spaced_mark 58 ++ (spaced_number b ++ (spaced_mark 44 ++ spaced_number c)))
 timing_numbers numbers = []
 
 unfoldable pub timing_title : Layout
@@ -47,32 +83,21 @@ timing_title = Is (Word (codes "BS_")) ∷ Is (Mark 58) ∷ []
 
 -- `BS_:`, or `BS_: a : b , c`
 unfoldable pub timing_layout : Option (List Decimal) → Layout
-timing_layout None = timing_title ++ LineEnd ∷ []
-timing_layout (Some numbers) = timing_title ++ (timing_numbers numbers ++ LineEnd ∷ [])
-
-unfoldable pub node_layout : List ℕ → Layout
-node_layout name = Space ∷ Is (Name name) ∷ []
+timing_layout None = timing_title ++ line_end
+timing_layout (Some numbers) = timing_title ++ (timing_numbers numbers ++ line_end)
 
 unfoldable pub nodes_title : Layout
 nodes_title = Is (Word (codes "BU_")) ∷ Is (Mark 58) ∷ []
 
 -- `BU_: n n`
 unfoldable pub nodes_layout : List (List ℕ) → Layout
-nodes_layout nodes = nodes_title ++ (flat_map node_layout nodes ++ LineEnd ∷ [])
+nodes_layout nodes = nodes_title ++ (flat_map spaced_name nodes ++ line_end)
 
 -- ---- tables and named values
 
 -- ` n "t"`
 unfoldable pub entry_layout : Entry → Layout
 entry_layout entry = Space ∷ Is (Int entry.number) ∷ Space ∷ Is (Text entry.text) ∷ []
-
--- the end of a statement behind entries or kept tokens
-unfoldable pub spaced_end : Layout
-spaced_end = Space ∷ Is (Mark 59) ∷ LineEnd ∷ []
-
--- the end of any other statement
-unfoldable pub statement_end : Layout
-statement_end = Is (Mark 59) ∷ LineEnd ∷ []
 
 -- `VAL_TABLE_ T`: the row up to its key
 unfoldable pub table_key : TableRow → Layout
@@ -117,16 +142,18 @@ unfoldable pub place_layout : Signal → Layout
 place_layout signal =
     Space ∷ Is (Mark 58) ∷ Space ∷ Is (Whole signal.start) ∷ Is (Mark 124) ∷ Is (Whole signal.length) ∷ Is (Mark 64) ∷ Is (Order signal.intel) ∷ Is (Mark (sign_mark signal.signed)) ∷ []
 
+-- two numbers, with a mark before, between and behind them
+unfoldable pub pair_layout : ℕ → Decimal → ℕ → Decimal → ℕ → Layout
+pair_layout opening first between second closing =
+    spaced_mark opening ++ (number_layout first ++ (mark_layout between ++ (number_layout second ++ mark_layout closing)))
+
 -- ` (factor,offset)`
 unfoldable pub scale_layout : Signal → Layout
-scale_layout signal = Space ∷ Is (Mark 40) ∷ Is (Number signal.factor) ∷ Is (Mark 44) ∷ Is (Number signal.offset) ∷ Is (Mark 41) ∷ []
+scale_layout signal = pair_layout 40 signal.factor 44 signal.offset 41
 
 -- ` [min|max]`
 unfoldable pub limits_layout : Signal → Layout
-limits_layout signal = Space ∷ Is (Mark 91) ∷ Is (Number signal.minimum) ∷ Is (Mark 124) ∷ Is (Number signal.maximum) ∷ Is (Mark 93) ∷ []
-
-unfoldable pub unit_layout : Signal → Layout
-unit_layout signal = Space ∷ Is (Text signal.unit) ∷ []
+limits_layout signal = pair_layout 91 signal.minimum 124 signal.maximum 93
 
 unfoldable pub further_receiver : List ℕ → Layout
 further_receiver name = Is (Mark 44) ∷ Is (Name name) ∷ []
@@ -134,7 +161,7 @@ further_receiver name = Is (Mark 44) ∷ Is (Name name) ∷ []
 -- ` n,n,n`, or nothing
 unfoldable pub receivers_layout : List (List ℕ) → Layout
 receivers_layout [] = []
-receivers_layout (name ∷ names) = node_layout name ++ flat_map further_receiver names
+receivers_layout (name ∷ names) = spaced_name name ++ flat_map further_receiver names
 
 -- ` SG_ name tag : start|length@order` sign ` (factor,offset) [min|max] "unit" receivers`
 unfoldable pub signal_layout : Signal → Layout
@@ -144,8 +171,8 @@ signal_layout signal =
     ++ (place_layout signal
     ++ (scale_layout signal
     ++ (limits_layout signal
-    ++ (unit_layout signal
-    ++ (receivers_layout signal.receivers ++ LineEnd ∷ []))))))
+    ++ (spaced_text signal.unit
+    ++ (receivers_layout signal.receivers ++ line_end))))))
 
 unfoldable pub message_layout : Message → Layout
 message_layout message = head_layout message.head ++ flat_map signal_layout message.signals
@@ -166,12 +193,9 @@ comment_title = Is (Word (codes "CM_")) ∷ []
 unfoldable pub comment_key : Comment → Layout
 comment_key comment = comment_title ++ target_layout comment.target
 
-unfoldable pub comment_text_layout : Comment → Layout
-comment_text_layout comment = Space ∷ Is (Text comment.text) ∷ []
-
 -- `CM_ "t";`, `CM_ BU_ n "t";`, ..
 unfoldable pub comment_layout : Comment → Layout
-comment_layout comment = comment_key comment ++ (comment_text_layout comment ++ statement_end)
+comment_layout comment = comment_key comment ++ (spaced_text comment.text ++ statement_end)
 
 abbrev pub object_word : Object → List ℕ
 object_word objects.Node = codes "BU_"
@@ -181,34 +205,28 @@ object_word objects.EnvironmentVariable = codes "EV_"
 
 unfoldable pub object_layout : Option Object → Layout
 object_layout None = []
-object_layout (Some object) = Space ∷ Is (Word (object_word object)) ∷ []
+object_layout (Some object) = spaced_word (object_word object)
 
 -- ` a b`, or nothing
 unfoldable pub number_limits_layout : Option Limits → Layout
 number_limits_layout None = []
-number_limits_layout (Some limits) = Space ∷ Is (Number limits.minimum) ∷ Space ∷ Is (Number limits.maximum) ∷ []
+number_limits_layout (Some limits) = spaced_number limits.minimum ++ spaced_number limits.maximum
 
 unfoldable pub further_text : List ℕ → Layout
 further_text text = Is (Mark 44) ∷ Is (Text text) ∷ []
-
-unfoldable pub spaced_text : List ℕ → Layout
-spaced_text text = Space ∷ Is (Text text) ∷ []
 
 -- ` "a","b"`
 unfoldable pub texts_layout : List (List ℕ) → Layout
 texts_layout [] = []
 texts_layout (text ∷ texts) = spaced_text text ++ flat_map further_text texts
 
-unfoldable pub form_word : List ℕ → Layout
-form_word word = Space ∷ Is (Word word) ∷ []
-
 -- ` INT a b`, ` HEX`, ` STRING`, ` ENUM "a","b"`, ..
 unfoldable pub form_layout : Form → Layout
-form_layout (forms.Int limits) = form_word (codes "INT") ++ number_limits_layout limits
-form_layout (forms.Hex limits) = form_word (codes "HEX") ++ number_limits_layout limits
-form_layout (forms.Float limits) = form_word (codes "FLOAT") ++ number_limits_layout limits
-form_layout forms.Str = form_word (codes "STRING")
-form_layout (forms.Enumeration texts) = form_word (codes "ENUM") ++ texts_layout texts
+form_layout (forms.Int limits) = spaced_word (codes "INT") ++ number_limits_layout limits
+form_layout (forms.Hex limits) = spaced_word (codes "HEX") ++ number_limits_layout limits
+form_layout (forms.Float limits) = spaced_word (codes "FLOAT") ++ number_limits_layout limits
+form_layout forms.Str = spaced_word (codes "STRING")
+form_layout (forms.Enumeration texts) = spaced_word (codes "ENUM") ++ texts_layout texts
 
 unfoldable pub definition_title : Layout
 definition_title = Is (Word (codes "BA_DEF_")) ∷ []
@@ -224,7 +242,7 @@ definition_layout definition = definition_key definition ++ (form_layout definit
 -- ` "t"` or a blank and a number
 unfoldable pub value_layout : AttrValue → Layout
 value_layout (values.Text text) = spaced_text text
-value_layout (values.Decimal number) = Space ∷ Is (Number number) ∷ []
+value_layout (values.Decimal number) = spaced_number number
 
 -- `BA_DEF_DEF_ "n"`
 unfoldable pub default_key : AttrDefault → Layout
@@ -276,7 +294,7 @@ mux_key row = Is (Word (codes "SG_MUL_VAL_")) ∷ Space ∷ Is (Whole row.number
 
 -- `SG_MUL_VAL_ id s switch a-b, c-d;`
 unfoldable pub mux_layout : MuxRow → Layout
-mux_layout row = mux_key row ++ (node_layout row.switch ++ (ranges_layout row.ranges ++ statement_end))
+mux_layout row = mux_key row ++ (spaced_name row.switch ++ (ranges_layout row.ranges ++ statement_end))
 
 unfoldable pub piece_layout : List ℕ → Layout
 piece_layout bytes = Is (Piece bytes) ∷ Space ∷ []

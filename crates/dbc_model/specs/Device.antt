@@ -32,8 +32,10 @@ abbrev pub Prints : {X E : Type 0} → Written → Written → Result X E → Li
 Prints old new result text = MatchResult result (λ _. Wrote old new text) (λ _. Broke old new text)
 
 -- of the bytes held before and these, some were written, and the others are held
-abbrev pub Passes : Written → Written → List ℕ → List ℕ → List ℕ → Type 0
-Passes old new before bytes held = (out : List ℕ) × (before ++ bytes ≡ out ++ held) × Wrote old new out
+pub record Passes (old new : Written) (before bytes held : List ℕ) : Type 0 where
+  pub out : List ℕ
+  pub parts : before ++ bytes ≡ out ++ held
+  pub wrote : Wrote old new out
 
 -- the text went through a buffer with these bytes before and those afterwards, or a put failed, and a beginning of the
 -- bytes held before and the text was written

@@ -1,0 +1,143 @@
+//! The parts that statements are printed of.
+ghost use Rattle.dbc_model.specs.Device.{Sends};
+ghost use Rattle.dbc_model.specs.Layout.{layout_text};
+ghost use Rattle.dbc_model.specs.CanonicalText.{blank, mark_layout, spaced_mark, number_layout, spaced_number, spaced_text, spaced_name, spaced_word, line_end, statement_end, spaced_end, pair_layout};
+
+use crate::decimal::Decimal;
+use crate::device::{Sink, WriteFault};
+use crate::held::{Held, hold, hold_pieces};
+use crate::name::Name;
+use crate::printing::numbers::hold_decimal;
+use crate::printing::style::Style;
+use crate::text::Text;
+
+/// Holds the mark.
+#[tactic(auto, unfolding(crate::specs::Layout::layout_text, crate::specs::CanonicalText::mark_layout))]
+pub fn hold_mark<W: Sink>(sink: &mut W, held: &mut Held, mark: u8) -> Result<(), WriteFault>
+    ensures { Sends (W.written sink.old) (W.written sink.new) held.old.items result (layout_text (mark_layout mark)) held.new.items }
+{
+    hold(sink, held, &[mark])
+}
+
+/// Holds a blank and the mark.
+#[tactic(auto, unfolding(crate::specs::Layout::layout_text, crate::specs::CanonicalText::spaced_mark))]
+pub fn hold_spaced_mark<W: Sink>(sink: &mut W, held: &mut Held, mark: u8) -> Result<(), WriteFault>
+    ensures { Sends (W.written sink.old) (W.written sink.new) held.old.items result (layout_text (spaced_mark mark)) held.new.items }
+{
+    hold(sink, held, &[b' ', mark])
+}
+
+/// Holds the number.
+#[tactic(auto, unfolding(crate::specs::Layout::layout_text, crate::specs::CanonicalText::number_layout))]
+pub fn hold_number<W: Sink>(
+    sink: &mut W,
+    held: &mut Held,
+    number: Decimal,
+) -> Result<(), WriteFault>
+    ensures { Sends (W.written sink.old) (W.written sink.new) held.old.items result (layout_text (number_layout number)) held.new.items }
+{
+    hold_decimal(sink, held, number)
+}
+
+/// Holds a blank.
+#[tactic(auto, unfolding(crate::specs::Layout::layout_text, crate::specs::CanonicalText::blank))]
+fn hold_blank<W: Sink>(sink: &mut W, held: &mut Held) -> Result<(), WriteFault>
+    ensures { Sends (W.written sink.old) (W.written sink.new) held.old.items result (layout_text blank) held.new.items }
+{
+    hold(sink, held, b" ")
+}
+
+/// Holds a blank and the number.
+#[tactic(auto, using(crate::proofs::Layouts::layouts), unfolding(crate::specs::CanonicalText::spaced_number))]
+pub fn hold_spaced_number<W: Sink>(
+    sink: &mut W,
+    held: &mut Held,
+    number: Decimal,
+) -> Result<(), WriteFault>
+    ensures { Sends (W.written sink.old) (W.written sink.new) held.old.items result (layout_text (spaced_number number)) held.new.items }
+{
+    hold_blank(sink, held)?;
+    hold_number(sink, held, number)
+}
+
+/// Holds a blank and the text between quotes.
+#[tactic(auto, unfolding(crate::specs::Layout::layout_text, crate::specs::CanonicalText::spaced_text))]
+pub fn hold_spaced_text<W: Sink>(
+    sink: &mut W,
+    held: &mut Held,
+    text: &Text,
+) -> Result<(), WriteFault>
+    ensures { Sends (W.written sink.old) (W.written sink.new) held.old.items result (layout_text (spaced_text text.now)) held.new.items }
+{
+    hold_pieces(sink, held, &[b" \"".as_slice(), text.as_bytes(), b"\""])
+}
+
+/// Holds a blank and the word.
+#[tactic(auto, unfolding(crate::specs::Layout::layout_text, crate::specs::CanonicalText::spaced_word))]
+pub fn hold_spaced_word<W: Sink>(
+    sink: &mut W,
+    held: &mut Held,
+    word: &[u8],
+) -> Result<(), WriteFault>
+    ensures { Sends (W.written sink.old) (W.written sink.new) held.old.items result (layout_text (spaced_word word.now)) held.new.items }
+{
+    hold_pieces(sink, held, &[b" ".as_slice(), word])
+}
+
+/// Ends the line.
+#[tactic(auto, unfolding(crate::specs::Layout::layout_text, crate::specs::CanonicalText::line_end))]
+pub fn hold_line_end<W: Sink>(sink: &mut W, held: &mut Held) -> Result<(), WriteFault>
+    ensures { Sends (W.written sink.old) (W.written sink.new) held.old.items result (layout_text (line_end)) held.new.items }
+{
+    hold(sink, held, b"\n")
+}
+
+/// Ends the statement.
+#[tactic(auto, unfolding(crate::specs::Layout::layout_text, crate::specs::CanonicalText::statement_end))]
+pub fn hold_statement_end<W: Sink>(sink: &mut W, held: &mut Held) -> Result<(), WriteFault>
+    ensures { Sends (W.written sink.old) (W.written sink.new) held.old.items result (layout_text (statement_end)) held.new.items }
+{
+    hold(sink, held, b";\n")
+}
+
+/// Ends a statement behind entries.
+#[tactic(auto, unfolding(crate::specs::Layout::layout_text, crate::specs::CanonicalText::spaced_end))]
+pub fn hold_spaced_end<W: Sink>(sink: &mut W, held: &mut Held) -> Result<(), WriteFault>
+    ensures { Sends (W.written sink.old) (W.written sink.new) held.old.items result (layout_text (spaced_end)) held.new.items }
+{
+    hold(sink, held, b" ;\n")
+}
+
+/// Holds two numbers with marks before, between and behind them: ` (a,b)`.
+#[tactic(auto, using(crate::proofs::Layouts::layouts), unfolding(crate::specs::CanonicalText::pair_layout))]
+pub fn hold_pair<W: Sink>(
+    sink: &mut W,
+    held: &mut Held,
+    opening: u8,
+    first: Decimal,
+    between: u8,
+    second: Decimal,
+    closing: u8,
+) -> Result<(), WriteFault>
+    ensures { Sends (W.written sink.old) (W.written sink.new) held.old.items result (layout_text (pair_layout opening first between second closing)) held.new.items }
+{
+    hold_spaced_mark(sink, held, opening)?;
+    hold_number(sink, held, first)?;
+    hold_mark(sink, held, between)?;
+    hold_number(sink, held, second)?;
+    hold_mark(sink, held, closing)
+}
+
+/// A name behind a blank.
+pub struct SpacedName;
+
+impl Style<Name> for SpacedName {
+    ghost use Rattle.dbc_model.specs.CanonicalText.{spaced_name};
+
+    ghost layout = { spaced_name };
+
+    #[tactic(auto, unfolding(crate::specs::Layout::layout_text, crate::specs::CanonicalText::spaced_name))]
+    fn hold_item<W: Sink>(sink: &mut W, held: &mut Held, name: &Name) -> Result<(), WriteFault> {
+        hold_pieces(sink, held, &[b" ".as_slice(), name.as_bytes()])
+    }
+}
