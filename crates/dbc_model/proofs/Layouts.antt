@@ -1,11 +1,12 @@
 -- Texts of layouts, one after another.
-use Rattle.std.proofs.Common.{◌≡◌, ℕ, List, [], ◌∷◌, ◌++◌, refl, sym, ap, ◌∙◌}
+use Rattle.std.proofs.Common.{◌≡◌, ℕ, List, [], ◌∷◌, ◌++◌, ◌<◌, ◌≤◌, ◌-◌, length, take, drop, get_or, arith, refl, sym, ap, ◌∙◌}
 use Rattle.std.specs.Prelude.{Result}
 use Rattle.std.specs.List.{flat_map}
 use Rattle.std.specs.Result.{IsErr}
+use Rattle.std.proofs.Math.Seq.{take-length}
 use Rattle.std.proofs.lemmas.List.Concat.{flat_map-append}
 use Rattle.dbc_model.specs.Device.{Written, Broke, Passes, Sends}
-use Rattle.dbc_model.specs.Layout.{Layout, element_text, layout_text}
+use Rattle.dbc_model.specs.Layout.{Layout, element_text, layout_text, separated}
 use Rattle.dbc_model.proofs.Writes.{Sends-after, Sends-stop}
 
 pub layout_text-append : (xs ys : Layout) → layout_text (xs ++ ys) ≡ layout_text xs ++ layout_text ys
@@ -19,6 +20,18 @@ layout_text-nil = refl
 pub text_of_items : {X : Type 0} (f : X → Layout) (xs : List X) → layout_text (flat_map f xs) ≡ flat_map (λ x. layout_text (f x)) xs
 text_of_items f [] = layout_text-nil
 text_of_items f (x ∷ xs) = layout_text-append (f x) (flat_map f xs) ∙ ap (λ (t : List ℕ). layout_text (f x) ++ t) (text_of_items f xs)
+
+-- no item
+pub separated-none : {X : Type 0} (first further : X → Layout) (xs : List X) → length xs < 1 → layout_text (separated first further xs) ≡ []
+separated-none first further [] few = layout_text-nil
+separated-none first further (x ∷ xs) few = absurd (omega (arith, few))
+
+-- some items
+pub separated-some : {X : Type 0} (first further : X → Layout) (xs : List X) (x d : X) → 1 ≤ length xs → x ≡ get_or xs 0 d
+    → first x ++ flat_map further (take (length xs - 1) (drop 1 xs)) ≡ separated first further xs
+separated-some first further [] x d many is = absurd (omega (arith, many))
+separated-some first further (y ∷ xs) x d many is =
+    ap (λ z. first z ++ flat_map further (take (length xs) xs)) is ∙ ap (λ zs. first y ++ flat_map further zs) (take-length xs)
 
 -- a layout goes out behind one that went through
 pub Sends-then : {X E : Type 0} (a b c : Written) (r : Result X E) (before between after : List ℕ) (xs ys : Layout) → Passes a b before (layout_text xs) between

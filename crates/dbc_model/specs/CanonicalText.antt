@@ -4,7 +4,7 @@
 use Rattle.std.specs.Prelude.{ℕ, Bool, List, [], ◌∷◌, ◌++◌, Option, Some, None, codes, if◌then◌else◌}
 use Rattle.std.specs.List.{flat_map}
 use Rattle.dbc_model.specs.Decimals.{Decimal}
-use Rattle.dbc_model.specs.Layout.{Word, Mark, Name, Symbol, Text, Whole, Int, Number, Switch, Muxed, Both, Order, Piece, Space, Tab, LineEnd, Is, Layout, layout_text}
+use Rattle.dbc_model.specs.Layout.{Word, Mark, Name, Symbol, Text, Whole, Int, Number, Switch, Muxed, Both, Order, Piece, Space, Tab, LineEnd, Is, Layout, layout_text, separated}
 use Rattle.dbc_model.specs.Records.{Head, Signal, Message, Entry, TableRow, ValueRow, FloatRow, MuxRow, Comment, AttrDef, AttrDefault, AttrRow, Kept, Database}
 use Rattle.dbc_model.specs.declared.tag.Tag.{Tag}
 use Rattle.dbc_model.specs.declared.tag.Tag.TheVariants as tags
@@ -160,8 +160,7 @@ further_receiver name = Is (Mark 44) ∷ Is (Name name) ∷ []
 
 -- ` n,n,n`, or nothing
 unfoldable pub receivers_layout : List (List ℕ) → Layout
-receivers_layout [] = []
-receivers_layout (name ∷ names) = spaced_name name ++ flat_map further_receiver names
+receivers_layout names = separated spaced_name further_receiver names
 
 -- ` SG_ name tag : start|length@order` sign ` (factor,offset) [min|max] "unit" receivers`
 unfoldable pub signal_layout : Signal → Layout
@@ -217,8 +216,7 @@ further_text text = Is (Mark 44) ∷ Is (Text text) ∷ []
 
 -- ` "a","b"`
 unfoldable pub texts_layout : List (List ℕ) → Layout
-texts_layout [] = []
-texts_layout (text ∷ texts) = spaced_text text ++ flat_map further_text texts
+texts_layout texts = separated spaced_text further_text texts
 
 -- ` INT a b`, ` HEX`, ` STRING`, ` ENUM "a","b"`, ..
 unfoldable pub form_layout : Form → Layout
@@ -285,8 +283,7 @@ unfoldable pub further_range : Range → Layout
 further_range range = Is (Mark 44) ∷ Space ∷ Is (Whole range.first) ∷ Is (Mark 45) ∷ Is (Whole range.last) ∷ []
 
 unfoldable pub ranges_layout : List Range → Layout
-ranges_layout [] = []
-ranges_layout (range ∷ ranges) = range_layout range ++ flat_map further_range ranges
+ranges_layout ranges = separated range_layout further_range ranges
 
 -- `SG_MUL_VAL_ id s`
 unfoldable pub mux_key : MuxRow → Layout

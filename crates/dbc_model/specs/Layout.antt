@@ -97,6 +97,11 @@ Layout = List Element
 unfoldable pub layout_text : Layout → List ℕ
 layout_text layout = flat_map element_text layout
 
+-- the items in order, the first laid out in one way and those behind it in another; nothing where there is none
+abbrev pub separated : {X : Type 0} → (X → Layout) → (X → Layout) → List X → Layout
+separated first further [] = []
+separated first further (x ∷ xs) = first x ++ flat_map further xs
+
 -- the items of a layout, in order
 abbrev pub item_of : Element → List Item
 item_of Space = []

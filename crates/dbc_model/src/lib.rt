@@ -52,6 +52,7 @@ pub use message::Message;
 pub use mux_row::{MuxRow, Range};
 pub use name::{Name, is_name};
 pub use piece::{Piece, is_piece};
+pub use printing::print;
 pub use signal::Signal;
 pub use symbol::{Symbol, is_symbol};
 pub use table_row::TableRow;

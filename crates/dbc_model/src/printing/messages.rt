@@ -10,7 +10,7 @@ use crate::held::{Held, hold, hold_pieces};
 use crate::message::Message;
 use crate::name::Name;
 use crate::printing::parts::{SpacedName, hold_line_end, hold_pair, hold_spaced_text};
-use crate::printing::style::{Style, hold_items, hold_list};
+use crate::printing::style::{Style, hold_list, hold_separated};
 use crate::signal::Signal;
 use crate::tag::Tag;
 use itoa::Buffer;
@@ -127,13 +127,7 @@ impl Style<Name> for FurtherReceiver {
 fn hold_receivers<W: Sink>(sink: &mut W, held: &mut Held, names: &[Name]) -> Result<(), WriteFault>
     ensures { Sends (W.written sink.old) (W.written sink.new) held.old.items result (layout_text (receivers_layout names.now)) held.new.items }
 {
-    match names {
-        [] => Ok(()),
-        [first, further @ ..] => {
-            SpacedName::hold_item(sink, held, first)?;
-            hold_items::<FurtherReceiver, Name, W>(sink, held, further)
-        }
-    }
+    hold_separated::<SpacedName, FurtherReceiver, Name, W>(sink, held, names)
 }
 
 // A signal's line.

@@ -1,7 +1,7 @@
 //! Lists of items that are printed one after another.
 ghost use Rattle.std.specs.List.{flat_map};
 ghost use Rattle.dbc_model.specs.Device.{Sends};
-ghost use Rattle.dbc_model.specs.Layout.{layout_text};
+ghost use Rattle.dbc_model.specs.Layout.{layout_text, separated};
 
 use crate::device::{Sink, WriteFault};
 use crate::held::Held;
@@ -54,4 +54,21 @@ pub fn hold_list<S: Style<T>, T: Checked, W: Sink>(
     ensures { Sends (W.written sink.old) (W.written sink.new) held.old.items result (layout_text (flat_map S.layout items.now)) held.new.items }
 {
     hold_items::<S, T, W>(sink, held, items.as_slice())
+}
+
+/// Holds the items, the first in one style and those behind it in another.
+pub fn hold_separated<F: Style<T>, S: Style<T>, T: Checked, W: Sink>(
+    sink: &mut W,
+    held: &mut Held,
+    items: &[T],
+) -> Result<(), WriteFault>
+    ensures { Sends (W.written sink.old) (W.written sink.new) held.old.items result (layout_text (separated F.layout S.layout items.now)) held.new.items }
+{
+    match items {
+        [] => Ok(()),
+        [first, further @ ..] => {
+            F::hold_item(sink, held, first)?;
+            hold_items::<S, T, W>(sink, held, further)
+        }
+    }
 }

@@ -1,0 +1,250 @@
+//! Rows of tables, named values, float types and multiplexing, and kept statements.
+ghost use Rattle.dbc_model.specs.Device.{Sends};
+ghost use Rattle.dbc_model.specs.Layout.{layout_text};
+ghost use Rattle.dbc_model.specs.CanonicalText.{table_key, values_key, float_key, float_kind, mux_key, ranges_layout};
+
+use crate::device::{Sink, WriteFault};
+use crate::entry::Entry;
+use crate::float_row::FloatRow;
+use crate::held::{Held, hold_pieces};
+use crate::kept::Kept;
+use crate::mux_row::{MuxRow, Range};
+use crate::piece::Piece;
+use crate::printing::parts::{SpacedName, hold_spaced_end, hold_statement_end};
+use crate::printing::style::{Style, hold_list, hold_separated};
+use crate::table_row::TableRow;
+use crate::value_row::ValueRow;
+use itoa::Buffer;
+
+// A number and its text.
+struct EntryStyle;
+
+impl Style<Entry> for EntryStyle {
+    ghost use Rattle.dbc_model.specs.CanonicalText.{entry_layout};
+
+    ghost layout = { entry_layout };
+
+    #[tactic(auto, unfolding(crate::specs::Layout::layout_text, crate::specs::CanonicalText::entry_layout))]
+    fn hold_item<W: Sink>(sink: &mut W, held: &mut Held, entry: &Entry) -> Result<(), WriteFault> {
+        let mut number = Buffer::new();
+        let pieces: [&[u8]; 5] = [
+            b" ",
+            number.format(entry.number).as_bytes(),
+            b" \"",
+            entry.text.as_bytes(),
+            b"\"",
+        ];
+        hold_pieces(sink, held, &pieces)
+    }
+}
+
+#[tactic(auto, unfolding(crate::specs::Layout::layout_text, crate::specs::CanonicalText::table_key))]
+fn hold_table_key<W: Sink>(sink: &mut W, held: &mut Held, row: &TableRow) -> Result<(), WriteFault>
+    ensures { Sends (W.written sink.old) (W.written sink.new) held.old.items result (layout_text (table_key row.now)) held.new.items }
+{
+    hold_pieces(
+        sink,
+        held,
+        &[b"VAL_TABLE_ ".as_slice(), row.name.as_bytes()],
+    )
+}
+
+/// A table's line.
+pub struct TableLine;
+
+impl Style<TableRow> for TableLine {
+    ghost use Rattle.dbc_model.specs.CanonicalText.{table_layout};
+
+    ghost layout = { table_layout };
+
+    #[tactic(auto, using(crate::proofs::Layouts::layouts), unfolding(crate::specs::CanonicalText::table_layout))]
+    fn hold_item<W: Sink>(sink: &mut W, held: &mut Held, row: &TableRow) -> Result<(), WriteFault> {
+        hold_table_key(sink, held, row)?;
+        hold_list::<EntryStyle, Entry, W>(sink, held, &row.entries)?;
+        hold_spaced_end(sink, held)
+    }
+}
+
+#[tactic(auto, unfolding(crate::specs::Layout::layout_text, crate::specs::CanonicalText::values_key))]
+fn hold_values_key<W: Sink>(sink: &mut W, held: &mut Held, row: &ValueRow) -> Result<(), WriteFault>
+    ensures { Sends (W.written sink.old) (W.written sink.new) held.old.items result (layout_text (values_key row.now)) held.new.items }
+{
+    let mut number = Buffer::new();
+    let pieces: [&[u8]; 4] = [
+        b"VAL_ ",
+        number.format(row.number).as_bytes(),
+        b" ",
+        row.signal.as_bytes(),
+    ];
+    hold_pieces(sink, held, &pieces)
+}
+
+/// The line of a signal's named values.
+pub struct ValuesLine;
+
+impl Style<ValueRow> for ValuesLine {
+    ghost use Rattle.dbc_model.specs.CanonicalText.{values_layout};
+
+    ghost layout = { values_layout };
+
+    #[tactic(auto, using(crate::proofs::Layouts::layouts), unfolding(crate::specs::CanonicalText::values_layout))]
+    fn hold_item<W: Sink>(sink: &mut W, held: &mut Held, row: &ValueRow) -> Result<(), WriteFault> {
+        hold_values_key(sink, held, row)?;
+        hold_list::<EntryStyle, Entry, W>(sink, held, &row.entries)?;
+        hold_spaced_end(sink, held)
+    }
+}
+
+#[tactic(auto, unfolding(crate::specs::Layout::layout_text, crate::specs::CanonicalText::float_key))]
+fn hold_float_key<W: Sink>(sink: &mut W, held: &mut Held, row: &FloatRow) -> Result<(), WriteFault>
+    ensures { Sends (W.written sink.old) (W.written sink.new) held.old.items result (layout_text (float_key row.now)) held.new.items }
+{
+    let mut number = Buffer::new();
+    let pieces: [&[u8]; 4] = [
+        b"SIG_VALTYPE_ ",
+        number.format(row.number).as_bytes(),
+        b" ",
+        row.signal.as_bytes(),
+    ];
+    hold_pieces(sink, held, &pieces)
+}
+
+#[tactic(auto, unfolding(crate::specs::Layout::layout_text, crate::specs::CanonicalText::float_kind))]
+fn hold_float_kind<W: Sink>(sink: &mut W, held: &mut Held, row: &FloatRow) -> Result<(), WriteFault>
+    ensures { Sends (W.written sink.old) (W.written sink.new) held.old.items result (layout_text (float_kind row.now)) held.new.items }
+{
+    let mut kind = Buffer::new();
+    let pieces: [&[u8]; 2] = [b" : ", kind.format(row.kind).as_bytes()];
+    hold_pieces(sink, held, &pieces)
+}
+
+/// The line of a signal's float type.
+pub struct FloatLine;
+
+impl Style<FloatRow> for FloatLine {
+    ghost use Rattle.dbc_model.specs.CanonicalText.{float_layout};
+
+    ghost layout = { float_layout };
+
+    #[tactic(auto, using(crate::proofs::Layouts::layouts), unfolding(crate::specs::CanonicalText::float_layout))]
+    fn hold_item<W: Sink>(sink: &mut W, held: &mut Held, row: &FloatRow) -> Result<(), WriteFault> {
+        hold_float_key(sink, held, row)?;
+        hold_float_kind(sink, held, row)?;
+        hold_statement_end(sink, held)
+    }
+}
+
+// A range behind a blank.
+struct FirstRange;
+
+impl Style<Range> for FirstRange {
+    ghost use Rattle.dbc_model.specs.CanonicalText.{range_layout};
+
+    ghost layout = { range_layout };
+
+    #[tactic(auto, unfolding(crate::specs::Layout::layout_text, crate::specs::CanonicalText::range_layout))]
+    fn hold_item<W: Sink>(sink: &mut W, held: &mut Held, range: &Range) -> Result<(), WriteFault> {
+        let mut first = Buffer::new();
+        let mut last = Buffer::new();
+        let pieces: [&[u8]; 4] = [
+            b" ",
+            first.format(range.first).as_bytes(),
+            b"-",
+            last.format(range.last).as_bytes(),
+        ];
+        hold_pieces(sink, held, &pieces)
+    }
+}
+
+// A range behind a comma.
+struct FurtherRange;
+
+impl Style<Range> for FurtherRange {
+    ghost use Rattle.dbc_model.specs.CanonicalText.{further_range};
+
+    ghost layout = { further_range };
+
+    #[tactic(auto, unfolding(crate::specs::Layout::layout_text, crate::specs::CanonicalText::further_range))]
+    fn hold_item<W: Sink>(sink: &mut W, held: &mut Held, range: &Range) -> Result<(), WriteFault> {
+        let mut first = Buffer::new();
+        let mut last = Buffer::new();
+        let pieces: [&[u8]; 4] = [
+            b", ",
+            first.format(range.first).as_bytes(),
+            b"-",
+            last.format(range.last).as_bytes(),
+        ];
+        hold_pieces(sink, held, &pieces)
+    }
+}
+
+#[tactic(auto, using(crate::proofs::Layouts::layouts), unfolding(crate::specs::CanonicalText::ranges_layout))]
+fn hold_ranges<W: Sink>(sink: &mut W, held: &mut Held, ranges: &[Range]) -> Result<(), WriteFault>
+    ensures { Sends (W.written sink.old) (W.written sink.new) held.old.items result (layout_text (ranges_layout ranges.now)) held.new.items }
+{
+    hold_separated::<FirstRange, FurtherRange, Range, W>(sink, held, ranges)
+}
+
+#[tactic(auto, unfolding(crate::specs::Layout::layout_text, crate::specs::CanonicalText::mux_key))]
+fn hold_mux_key<W: Sink>(sink: &mut W, held: &mut Held, row: &MuxRow) -> Result<(), WriteFault>
+    ensures { Sends (W.written sink.old) (W.written sink.new) held.old.items result (layout_text (mux_key row.now)) held.new.items }
+{
+    let mut number = Buffer::new();
+    let pieces: [&[u8]; 4] = [
+        b"SG_MUL_VAL_ ",
+        number.format(row.number).as_bytes(),
+        b" ",
+        row.signal.as_bytes(),
+    ];
+    hold_pieces(sink, held, &pieces)
+}
+
+/// The line of a signal's multiplexing.
+pub struct MuxLine;
+
+impl Style<MuxRow> for MuxLine {
+    ghost use Rattle.dbc_model.specs.CanonicalText.{mux_layout};
+
+    ghost layout = { mux_layout };
+
+    #[tactic(auto, using(crate::proofs::Layouts::layouts), unfolding(crate::specs::CanonicalText::mux_layout))]
+    fn hold_item<W: Sink>(sink: &mut W, held: &mut Held, row: &MuxRow) -> Result<(), WriteFault> {
+        hold_mux_key(sink, held, row)?;
+        SpacedName::hold_item(sink, held, &row.switch)?;
+        hold_ranges(sink, held, row.ranges.as_slice())?;
+        hold_statement_end(sink, held)
+    }
+}
+
+// A token and a blank.
+struct PieceStyle;
+
+impl Style<Piece> for PieceStyle {
+    ghost use Rattle.dbc_model.specs.CanonicalText.{piece_layout};
+
+    ghost layout = { piece_layout };
+
+    #[tactic(auto, unfolding(crate::specs::Layout::layout_text, crate::specs::CanonicalText::piece_layout))]
+    fn hold_item<W: Sink>(sink: &mut W, held: &mut Held, piece: &Piece) -> Result<(), WriteFault> {
+        hold_pieces(sink, held, &[piece.as_bytes(), b" "])
+    }
+}
+
+/// The line of a kept statement.
+pub struct KeptLine;
+
+impl Style<Kept> for KeptLine {
+    ghost use Rattle.dbc_model.specs.CanonicalText.{kept_layout};
+
+    ghost layout = { kept_layout };
+
+    #[tactic(auto, using(crate::proofs::Layouts::layouts), unfolding(crate::specs::CanonicalText::kept_layout))]
+    fn hold_item<W: Sink>(
+        sink: &mut W,
+        held: &mut Held,
+        statement: &Kept,
+    ) -> Result<(), WriteFault> {
+        hold_list::<PieceStyle, Piece, W>(sink, held, &statement.tokens)?;
+        hold_statement_end(sink, held)
+    }
+}
