@@ -1,5 +1,5 @@
 -- Texts of layouts, one after another.
-use Rattle.std.proofs.Common.{◌≡◌, ℕ, List, [], ◌∷◌, ◌++◌, ◌<◌, ◌≤◌, ◌-◌, length, take, drop, get_or, arith, refl, sym, ap, ◌∙◌}
+use Rattle.std.proofs.Common.{◌≡◌, ℕ, List, [], ◌∷◌, ◌++◌, ◌<◌, ◌≤◌, ◌-◌, length, take, drop, get_or, arith, refl, sym, ap, subst, ◌∙◌}
 use Rattle.std.specs.Prelude.{Result}
 use Rattle.std.specs.List.{flat_map}
 use Rattle.std.specs.Result.{IsErr}
@@ -7,7 +7,7 @@ use Rattle.std.proofs.Math.Seq.{take-length}
 use Rattle.std.proofs.lemmas.List.Concat.{flat_map-append}
 use Rattle.dbc_model.specs.Device.{Written, Broke, Passes, Sends}
 use Rattle.dbc_model.specs.Layout.{Layout, element_text, layout_text, separated}
-use Rattle.dbc_model.proofs.Writes.{Sends-after, Sends-stop}
+use Rattle.dbc_model.proofs.Writes.{Passes-nil, Sends-after, Sends-stop}
 
 pub layout_text-append : (xs ys : Layout) → layout_text (xs ++ ys) ≡ layout_text xs ++ layout_text ys
 unfolding layout_text
@@ -31,7 +31,8 @@ pub separated-some : {X : Type 0} (first further : X → Layout) (xs : List X) (
     → first x ++ flat_map further (take (length xs - 1) (drop 1 xs)) ≡ separated first further xs
 separated-some first further [] x d many is = absurd (omega (arith, many))
 separated-some first further (y ∷ xs) x d many is =
-    ap (λ z. first z ++ flat_map further (take (length xs) xs)) is ∙ ap (λ zs. first y ++ flat_map further zs) (take-length xs)
+    let rest : take (length (y ∷ xs) - 1) xs ≡ xs = ap (λ n. take n xs) (omega arith) ∙ take-length xs in
+    ap (λ z. first z ++ flat_map further (take (length (y ∷ xs) - 1) xs)) is ∙ ap (λ zs. first y ++ flat_map further zs) rest
 
 -- a layout goes out behind one that went through
 pub Sends-then : {X E : Type 0} (a b c : Written) (r : Result X E) (before between after : List ℕ) (xs ys : Layout) → Passes a b before (layout_text xs) between
@@ -43,4 +44,8 @@ pub Sends-broke : {X E : Type 0} (a b : Written) (r : Result X E) (before after 
     → Sends a b before r (layout_text (xs ++ ys)) after
 Sends-broke a b r before after xs ys e p = rw (layout_text-append xs ys) (Sends-stop a b r before (layout_text xs) (layout_text ys) after e p)
 
-pub ruleset layouts = (Sends-then, Sends-broke)
+-- nothing goes out where there is nothing to print
+pub Passes-none : (a : Written) (held : List ℕ) → Passes a a held (layout_text []) held
+Passes-none a held = subst (λ (t : List ℕ). Passes a a held t held) (sym layout_text-nil) (Passes-nil a held)
+
+pub ruleset layouts = (Sends-then, Sends-broke, Passes-none)

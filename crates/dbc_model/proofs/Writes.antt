@@ -8,7 +8,7 @@ use Rattle.std.proofs.KnownBytes.{Appends-nil, Appends-trans}
 use Rattle.std.proofs.lemmas.List.{take_more}
 use Rattle.std.proofs.lemmas.List.Concat.{flat_map-append}
 use Rattle.std.proofs.lemmas.Result.{MatchResult-from_err}
-use Rattle.dbc_model.specs.Device.{Written, Rises, Wrote, Broke, Passes, Sends}
+use Rattle.dbc_model.specs.Device.{Written, Rises, Wrote, Broke, Prints, Passes, Sends}
 
 -- ---- one write after another
 
@@ -129,3 +129,10 @@ Broke-item f xs i x d a b c before between lt is p q =
     let grouped = append_assoc before (flat_map f (take i xs) ++ f (get_or xs i d)) (flat_map f (drop (i + 1) xs))
     ∙ ap (λ (t : List ℕ). before ++ t) (append_assoc (flat_map f (take i xs)) (f (get_or xs i d)) (flat_map f (drop (i + 1) xs)) ∙ sym (flat_map-parts f xs i d lt)) in
     subst (Broke a c) grouped more
+
+-- ---- the end of a text
+
+-- what is held goes out behind what went through an empty buffer
+pub Prints-flush : {X E : Type 0} (a b c : Written) (r : Result X E) (before text held : List ℕ) → before ≡ [] → Passes a b before text held → Prints b c r held → Prints a c r text
+Prints-flush a b c (Ok x) before text held none p q = subst (λ (t : List ℕ). Wrote a c (t ++ text)) none (Passes-flush a b c before text held p q)
+Prints-flush a b c (Err e) before text held none p q = subst (λ (t : List ℕ). Broke a c (t ++ text)) none (Broke-flush a b c before text held p q)

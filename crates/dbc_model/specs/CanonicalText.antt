@@ -45,6 +45,13 @@ spaced_name name = Space ∷ Is (Name name) ∷ []
 unfoldable pub spaced_word : List ℕ → Layout
 spaced_word word = Space ∷ Is (Word word) ∷ []
 
+unfoldable pub word_layout : List ℕ → Layout
+word_layout word = Is (Word word) ∷ []
+
+-- ` id s`: what a row of a signal is for
+unfoldable pub signal_key : ℕ → List ℕ → Layout
+signal_key number name = Space ∷ Is (Whole number) ∷ Space ∷ Is (Name name) ∷ []
+
 unfoldable pub line_end : Layout
 line_end = LineEnd ∷ []
 
@@ -78,13 +85,16 @@ unfoldable pub timing_numbers : List Decimal → Layout
 timing_numbers (a ∷ b ∷ c ∷ []) = spaced_number a ++ (spaced_mark 58 ++ (spaced_number b ++ (spaced_mark 44 ++ spaced_number c)))
 timing_numbers numbers = []
 
+unfoldable pub perhaps_numbers : Option (List Decimal) → Layout
+perhaps_numbers None = []
+perhaps_numbers (Some numbers) = timing_numbers numbers
+
 unfoldable pub timing_title : Layout
 timing_title = Is (Word (codes "BS_")) ∷ Is (Mark 58) ∷ []
 
 -- `BS_:`, or `BS_: a : b , c`
 unfoldable pub timing_layout : Option (List Decimal) → Layout
-timing_layout None = timing_title ++ line_end
-timing_layout (Some numbers) = timing_title ++ (timing_numbers numbers ++ line_end)
+timing_layout timing = timing_title ++ (perhaps_numbers timing ++ line_end)
 
 unfoldable pub nodes_title : Layout
 nodes_title = Is (Word (codes "BU_")) ∷ Is (Mark 58) ∷ []
@@ -101,7 +111,7 @@ entry_layout entry = Space ∷ Is (Int entry.number) ∷ Space ∷ Is (Text entr
 
 -- `VAL_TABLE_ T`: the row up to its key
 unfoldable pub table_key : TableRow → Layout
-table_key row = Is (Word (codes "VAL_TABLE_")) ∷ Space ∷ Is (Name row.name) ∷ []
+table_key row = word_layout (codes "VAL_TABLE_") ++ spaced_name row.name
 
 -- `VAL_TABLE_ T n "t" ;`
 unfoldable pub table_layout : TableRow → Layout
@@ -109,7 +119,7 @@ table_layout row = table_key row ++ (flat_map entry_layout row.entries ++ spaced
 
 -- `VAL_ id s`
 unfoldable pub values_key : ValueRow → Layout
-values_key row = Is (Word (codes "VAL_")) ∷ Space ∷ Is (Whole row.number) ∷ Space ∷ Is (Name row.signal) ∷ []
+values_key row = word_layout (codes "VAL_") ++ signal_key row.number row.signal
 
 -- `VAL_ id s n "t" ;`
 unfoldable pub values_layout : ValueRow → Layout
@@ -185,12 +195,9 @@ target_layout (targets.Node name) = Space ∷ Is (Word (codes "BU_")) ∷ Space 
 target_layout (targets.Message number) = Space ∷ Is (Word (codes "BO_")) ∷ Space ∷ Is (Whole number) ∷ []
 target_layout (targets.Signal number name) = Space ∷ Is (Word (codes "SG_")) ∷ Space ∷ Is (Whole number) ∷ Space ∷ Is (Name name) ∷ []
 
-unfoldable pub comment_title : Layout
-comment_title = Is (Word (codes "CM_")) ∷ []
-
 -- `CM_`, `CM_ BU_ n`, ..
 unfoldable pub comment_key : Comment → Layout
-comment_key comment = comment_title ++ target_layout comment.target
+comment_key comment = word_layout (codes "CM_") ++ target_layout comment.target
 
 -- `CM_ "t";`, `CM_ BU_ n "t";`, ..
 unfoldable pub comment_layout : Comment → Layout
@@ -226,12 +233,9 @@ form_layout (forms.Float limits) = spaced_word (codes "FLOAT") ++ number_limits_
 form_layout forms.Str = spaced_word (codes "STRING")
 form_layout (forms.Enumeration texts) = spaced_word (codes "ENUM") ++ texts_layout texts
 
-unfoldable pub definition_title : Layout
-definition_title = Is (Word (codes "BA_DEF_")) ∷ []
-
 -- `BA_DEF_ BO_ "n"`
 unfoldable pub definition_key : AttrDef → Layout
-definition_key definition = definition_title ++ (object_layout definition.object ++ spaced_text definition.name)
+definition_key definition = word_layout (codes "BA_DEF_") ++ (object_layout definition.object ++ spaced_text definition.name)
 
 -- `BA_DEF_ BO_ "n" INT a b;`
 unfoldable pub definition_layout : AttrDef → Layout
@@ -244,18 +248,15 @@ value_layout (values.Decimal number) = spaced_number number
 
 -- `BA_DEF_DEF_ "n"`
 unfoldable pub default_key : AttrDefault → Layout
-default_key row = Is (Word (codes "BA_DEF_DEF_")) ∷ Space ∷ Is (Text row.name) ∷ []
+default_key row = word_layout (codes "BA_DEF_DEF_") ++ spaced_text row.name
 
 -- `BA_DEF_DEF_ "n" value;`
 unfoldable pub default_layout : AttrDefault → Layout
 default_layout row = default_key row ++ (value_layout row.value ++ statement_end)
 
-unfoldable pub attribute_title : AttrRow → Layout
-attribute_title row = Is (Word (codes "BA_")) ∷ Space ∷ Is (Text row.name) ∷ []
-
 -- `BA_ "n"`, `BA_ "n" BO_ id`, ..
 unfoldable pub attribute_key : AttrRow → Layout
-attribute_key row = attribute_title row ++ target_layout row.target
+attribute_key row = word_layout (codes "BA_") ++ (spaced_text row.name ++ target_layout row.target)
 
 -- `BA_ "n" BO_ id value;`
 unfoldable pub attribute_layout : AttrRow → Layout
@@ -265,7 +266,7 @@ attribute_layout row = attribute_key row ++ (value_layout row.value ++ statement
 
 -- `SIG_VALTYPE_ id s`
 unfoldable pub float_key : FloatRow → Layout
-float_key row = Is (Word (codes "SIG_VALTYPE_")) ∷ Space ∷ Is (Whole row.number) ∷ Space ∷ Is (Name row.signal) ∷ []
+float_key row = word_layout (codes "SIG_VALTYPE_") ++ signal_key row.number row.signal
 
 unfoldable pub float_kind : FloatRow → Layout
 float_kind row = Space ∷ Is (Mark 58) ∷ Space ∷ Is (Whole row.kind) ∷ []
@@ -287,7 +288,7 @@ ranges_layout ranges = separated range_layout further_range ranges
 
 -- `SG_MUL_VAL_ id s`
 unfoldable pub mux_key : MuxRow → Layout
-mux_key row = Is (Word (codes "SG_MUL_VAL_")) ∷ Space ∷ Is (Whole row.number) ∷ Space ∷ Is (Name row.signal) ∷ []
+mux_key row = word_layout (codes "SG_MUL_VAL_") ++ signal_key row.number row.signal
 
 -- `SG_MUL_VAL_ id s switch a-b, c-d;`
 unfoldable pub mux_layout : MuxRow → Layout

@@ -1,8 +1,8 @@
 //! The canonical text of a database.
-ghost use Rattle.std.specs.Prelude.{◌≡◌, [], ◌∷◌, Some};
+ghost use Rattle.std.specs.Prelude.{◌≡◌};
 ghost use Rattle.dbc_model.specs.Device.{Prints, Sends};
 ghost use Rattle.dbc_model.specs.Layout.{layout_text};
-ghost use Rattle.dbc_model.specs.CanonicalText.{version_layout, symbols_title, symbols_layout, timing_title, timing_numbers, timing_layout, nodes_title, nodes_layout, database_layout, canonical_text};
+ghost use Rattle.dbc_model.specs.CanonicalText.{version_layout, symbols_title, symbols_layout, timing_title, timing_numbers, perhaps_numbers, timing_layout, nodes_title, nodes_layout, database_layout, canonical_text};
 
 mod attributes;
 mod messages;
@@ -93,17 +93,30 @@ fn hold_timing_title<W: Sink>(sink: &mut W, held: &mut Held) -> Result<(), Write
 fn hold_timing_numbers<W: Sink>(
     sink: &mut W,
     held: &mut Held,
-    a: Decimal,
-    b: Decimal,
-    c: Decimal,
+    numbers: &[Decimal; 3],
 ) -> Result<(), WriteFault>
-    ensures { Sends (W.written sink.old) (W.written sink.new) held.old.items result (layout_text (timing_numbers (a ∷ b ∷ c ∷ []))) held.new.items }
+    ensures { Sends (W.written sink.old) (W.written sink.new) held.old.items result (layout_text (timing_numbers numbers.now)) held.new.items }
 {
-    hold_spaced_number(sink, held, a)?;
+    let [a, b, c] = numbers;
+    hold_spaced_number(sink, held, *a)?;
     hold_spaced_mark(sink, held, b':')?;
-    hold_spaced_number(sink, held, b)?;
+    hold_spaced_number(sink, held, *b)?;
     hold_spaced_mark(sink, held, b',')?;
-    hold_spaced_number(sink, held, c)
+    hold_spaced_number(sink, held, *c)
+}
+
+#[tactic(auto, using(crate::proofs::Layouts::layouts), unfolding(crate::specs::CanonicalText::perhaps_numbers))]
+fn hold_perhaps_numbers<W: Sink>(
+    sink: &mut W,
+    held: &mut Held,
+    timing: &Option<[Decimal; 3]>,
+) -> Result<(), WriteFault>
+    ensures { Sends (W.written sink.old) (W.written sink.new) held.old.items result (layout_text (perhaps_numbers timing.now)) held.new.items }
+{
+    match timing {
+        Some(numbers) => hold_timing_numbers(sink, held, numbers),
+        None => Ok(()),
+    }
 }
 
 #[tactic(auto, using(crate::proofs::Layouts::layouts), unfolding(crate::specs::CanonicalText::timing_layout))]
@@ -115,9 +128,7 @@ fn hold_timing<W: Sink>(
     ensures { Sends (W.written sink.old) (W.written sink.new) held.old.items result (layout_text (timing_layout timing.now)) held.new.items }
 {
     hold_timing_title(sink, held)?;
-    if let Some([a, b, c]) = timing {
-        hold_timing_numbers(sink, held, *a, *b, *c)?;
-    }
+    hold_perhaps_numbers(sink, held, timing)?;
     hold_line_end(sink, held)
 }
 

@@ -2,15 +2,15 @@
 ghost use Rattle.std.specs.Prelude.{◌≡◌, codes};
 ghost use Rattle.dbc_model.specs.Device.{Sends};
 ghost use Rattle.dbc_model.specs.Layout.{layout_text};
-ghost use Rattle.dbc_model.specs.CanonicalText.{target_layout, comment_title, comment_key, object_word, object_layout, number_limits_layout, texts_layout, form_layout, definition_title, definition_key, value_layout, default_key, attribute_title, attribute_key};
+ghost use Rattle.dbc_model.specs.CanonicalText.{target_layout, comment_key, object_word, object_layout, number_limits_layout, texts_layout, form_layout, definition_key, value_layout, default_key, attribute_key};
 
 use crate::attribute::{AttrDefault, AttrRow, AttrValue};
 use crate::comment::Comment;
 use crate::definition::{AttrDef, Form, Limits, Object};
 use crate::device::{Sink, WriteFault};
-use crate::held::{Held, hold, hold_pieces};
+use crate::held::{Held, hold_pieces};
 use crate::printing::parts::{
-    hold_spaced_number, hold_spaced_text, hold_spaced_word, hold_statement_end,
+    hold_spaced_number, hold_spaced_text, hold_spaced_word, hold_statement_end, hold_word,
 };
 use crate::printing::style::{Style, hold_separated};
 use crate::target::Target;
@@ -41,13 +41,6 @@ fn hold_target<W: Sink>(sink: &mut W, held: &mut Held, target: &Target) -> Resul
     }
 }
 
-#[tactic(auto, unfolding(crate::specs::Layout::layout_text, crate::specs::CanonicalText::comment_title))]
-fn hold_comment_title<W: Sink>(sink: &mut W, held: &mut Held) -> Result<(), WriteFault>
-    ensures { Sends (W.written sink.old) (W.written sink.new) held.old.items result (layout_text (comment_title)) held.new.items }
-{
-    hold(sink, held, b"CM_")
-}
-
 #[tactic(auto, using(crate::proofs::Layouts::layouts), unfolding(crate::specs::CanonicalText::comment_key))]
 fn hold_comment_key<W: Sink>(
     sink: &mut W,
@@ -56,7 +49,7 @@ fn hold_comment_key<W: Sink>(
 ) -> Result<(), WriteFault>
     ensures { Sends (W.written sink.old) (W.written sink.new) held.old.items result (layout_text (comment_key comment.now)) held.new.items }
 {
-    hold_comment_title(sink, held)?;
+    hold_word(sink, held, b"CM_")?;
     hold_target(sink, held, &comment.target)
 }
 
@@ -182,13 +175,6 @@ fn hold_form<W: Sink>(sink: &mut W, held: &mut Held, form: &Form) -> Result<(), 
     }
 }
 
-#[tactic(auto, unfolding(crate::specs::Layout::layout_text, crate::specs::CanonicalText::definition_title))]
-fn hold_definition_title<W: Sink>(sink: &mut W, held: &mut Held) -> Result<(), WriteFault>
-    ensures { Sends (W.written sink.old) (W.written sink.new) held.old.items result (layout_text (definition_title)) held.new.items }
-{
-    hold(sink, held, b"BA_DEF_")
-}
-
 #[tactic(auto, using(crate::proofs::Layouts::layouts), unfolding(crate::specs::CanonicalText::definition_key))]
 fn hold_definition_key<W: Sink>(
     sink: &mut W,
@@ -197,7 +183,7 @@ fn hold_definition_key<W: Sink>(
 ) -> Result<(), WriteFault>
     ensures { Sends (W.written sink.old) (W.written sink.new) held.old.items result (layout_text (definition_key definition.now)) held.new.items }
 {
-    hold_definition_title(sink, held)?;
+    hold_word(sink, held, b"BA_DEF_")?;
     hold_object(sink, held, definition.object)?;
     hold_spaced_text(sink, held, &definition.name)
 }
@@ -232,7 +218,7 @@ fn hold_value<W: Sink>(sink: &mut W, held: &mut Held, value: &AttrValue) -> Resu
     }
 }
 
-#[tactic(auto, unfolding(crate::specs::Layout::layout_text, crate::specs::CanonicalText::default_key))]
+#[tactic(auto, using(crate::proofs::Layouts::layouts), unfolding(crate::specs::CanonicalText::default_key))]
 fn hold_default_key<W: Sink>(
     sink: &mut W,
     held: &mut Held,
@@ -240,11 +226,8 @@ fn hold_default_key<W: Sink>(
 ) -> Result<(), WriteFault>
     ensures { Sends (W.written sink.old) (W.written sink.new) held.old.items result (layout_text (default_key row.now)) held.new.items }
 {
-    hold_pieces(
-        sink,
-        held,
-        &[b"BA_DEF_DEF_ \"".as_slice(), row.name.as_bytes(), b"\""],
-    )
+    hold_word(sink, held, b"BA_DEF_DEF_")?;
+    hold_spaced_text(sink, held, &row.name)
 }
 
 /// The line of an attribute's default.
@@ -267,21 +250,6 @@ impl Style<AttrDefault> for DefaultLine {
     }
 }
 
-#[tactic(auto, unfolding(crate::specs::Layout::layout_text, crate::specs::CanonicalText::attribute_title))]
-fn hold_attribute_title<W: Sink>(
-    sink: &mut W,
-    held: &mut Held,
-    row: &AttrRow,
-) -> Result<(), WriteFault>
-    ensures { Sends (W.written sink.old) (W.written sink.new) held.old.items result (layout_text (attribute_title row.now)) held.new.items }
-{
-    hold_pieces(
-        sink,
-        held,
-        &[b"BA_ \"".as_slice(), row.name.as_bytes(), b"\""],
-    )
-}
-
 #[tactic(auto, using(crate::proofs::Layouts::layouts), unfolding(crate::specs::CanonicalText::attribute_key))]
 fn hold_attribute_key<W: Sink>(
     sink: &mut W,
@@ -290,7 +258,8 @@ fn hold_attribute_key<W: Sink>(
 ) -> Result<(), WriteFault>
     ensures { Sends (W.written sink.old) (W.written sink.new) held.old.items result (layout_text (attribute_key row.now)) held.new.items }
 {
-    hold_attribute_title(sink, held, row)?;
+    hold_word(sink, held, b"BA_")?;
+    hold_spaced_text(sink, held, &row.name)?;
     hold_target(sink, held, &row.target)
 }
 

@@ -1,7 +1,7 @@
 //! The parts that statements are printed of.
 ghost use Rattle.dbc_model.specs.Device.{Sends};
 ghost use Rattle.dbc_model.specs.Layout.{layout_text};
-ghost use Rattle.dbc_model.specs.CanonicalText.{blank, mark_layout, spaced_mark, number_layout, spaced_number, spaced_text, spaced_name, spaced_word, line_end, statement_end, spaced_end, pair_layout};
+ghost use Rattle.dbc_model.specs.CanonicalText.{blank, mark_layout, spaced_mark, number_layout, spaced_number, spaced_text, spaced_name, spaced_word, word_layout, signal_key, line_end, statement_end, spaced_end, pair_layout};
 
 use crate::decimal::Decimal;
 use crate::device::{Sink, WriteFault};
@@ -10,6 +10,7 @@ use crate::name::Name;
 use crate::printing::numbers::hold_decimal;
 use crate::printing::style::Style;
 use crate::text::Text;
+use itoa::Buffer;
 
 /// Holds the mark.
 #[tactic(auto, unfolding(crate::specs::Layout::layout_text, crate::specs::CanonicalText::mark_layout))]
@@ -82,6 +83,34 @@ pub fn hold_spaced_word<W: Sink>(
     ensures { Sends (W.written sink.old) (W.written sink.new) held.old.items result (layout_text (spaced_word word.now)) held.new.items }
 {
     hold_pieces(sink, held, &[b" ".as_slice(), word])
+}
+
+/// Holds the word.
+#[tactic(auto, unfolding(crate::specs::Layout::layout_text, crate::specs::CanonicalText::word_layout))]
+pub fn hold_word<W: Sink>(sink: &mut W, held: &mut Held, word: &[u8]) -> Result<(), WriteFault>
+    ensures { Sends (W.written sink.old) (W.written sink.new) held.old.items result (layout_text (word_layout word.now)) held.new.items }
+{
+    hold(sink, held, word)
+}
+
+/// Holds the number of a message and the name of a signal, each behind a blank.
+#[tactic(auto, unfolding(crate::specs::Layout::layout_text, crate::specs::CanonicalText::signal_key))]
+pub fn hold_signal_key<W: Sink>(
+    sink: &mut W,
+    held: &mut Held,
+    number: u32,
+    name: &Name,
+) -> Result<(), WriteFault>
+    ensures { Sends (W.written sink.old) (W.written sink.new) held.old.items result (layout_text (signal_key number name.now)) held.new.items }
+{
+    let mut buffer = Buffer::new();
+    let pieces: [&[u8]; 4] = [
+        b" ",
+        buffer.format(number).as_bytes(),
+        b" ",
+        name.as_bytes(),
+    ];
+    hold_pieces(sink, held, &pieces)
 }
 
 /// Ends the line.

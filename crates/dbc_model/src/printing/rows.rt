@@ -10,7 +10,9 @@ use crate::held::{Held, hold_pieces};
 use crate::kept::Kept;
 use crate::mux_row::{MuxRow, Range};
 use crate::piece::Piece;
-use crate::printing::parts::{SpacedName, hold_spaced_end, hold_statement_end};
+use crate::printing::parts::{
+    SpacedName, hold_signal_key, hold_spaced_end, hold_statement_end, hold_word,
+};
 use crate::printing::style::{Style, hold_list, hold_separated};
 use crate::table_row::TableRow;
 use crate::value_row::ValueRow;
@@ -38,15 +40,12 @@ impl Style<Entry> for EntryStyle {
     }
 }
 
-#[tactic(auto, unfolding(crate::specs::Layout::layout_text, crate::specs::CanonicalText::table_key))]
+#[tactic(auto, using(crate::proofs::Layouts::layouts), unfolding(crate::specs::CanonicalText::table_key))]
 fn hold_table_key<W: Sink>(sink: &mut W, held: &mut Held, row: &TableRow) -> Result<(), WriteFault>
     ensures { Sends (W.written sink.old) (W.written sink.new) held.old.items result (layout_text (table_key row.now)) held.new.items }
 {
-    hold_pieces(
-        sink,
-        held,
-        &[b"VAL_TABLE_ ".as_slice(), row.name.as_bytes()],
-    )
+    hold_word(sink, held, b"VAL_TABLE_")?;
+    SpacedName::hold_item(sink, held, &row.name)
 }
 
 /// A table's line.
@@ -65,18 +64,12 @@ impl Style<TableRow> for TableLine {
     }
 }
 
-#[tactic(auto, unfolding(crate::specs::Layout::layout_text, crate::specs::CanonicalText::values_key))]
+#[tactic(auto, using(crate::proofs::Layouts::layouts), unfolding(crate::specs::CanonicalText::values_key))]
 fn hold_values_key<W: Sink>(sink: &mut W, held: &mut Held, row: &ValueRow) -> Result<(), WriteFault>
     ensures { Sends (W.written sink.old) (W.written sink.new) held.old.items result (layout_text (values_key row.now)) held.new.items }
 {
-    let mut number = Buffer::new();
-    let pieces: [&[u8]; 4] = [
-        b"VAL_ ",
-        number.format(row.number).as_bytes(),
-        b" ",
-        row.signal.as_bytes(),
-    ];
-    hold_pieces(sink, held, &pieces)
+    hold_word(sink, held, b"VAL_")?;
+    hold_signal_key(sink, held, row.number, &row.signal)
 }
 
 /// The line of a signal's named values.
@@ -95,18 +88,12 @@ impl Style<ValueRow> for ValuesLine {
     }
 }
 
-#[tactic(auto, unfolding(crate::specs::Layout::layout_text, crate::specs::CanonicalText::float_key))]
+#[tactic(auto, using(crate::proofs::Layouts::layouts), unfolding(crate::specs::CanonicalText::float_key))]
 fn hold_float_key<W: Sink>(sink: &mut W, held: &mut Held, row: &FloatRow) -> Result<(), WriteFault>
     ensures { Sends (W.written sink.old) (W.written sink.new) held.old.items result (layout_text (float_key row.now)) held.new.items }
 {
-    let mut number = Buffer::new();
-    let pieces: [&[u8]; 4] = [
-        b"SIG_VALTYPE_ ",
-        number.format(row.number).as_bytes(),
-        b" ",
-        row.signal.as_bytes(),
-    ];
-    hold_pieces(sink, held, &pieces)
+    hold_word(sink, held, b"SIG_VALTYPE_")?;
+    hold_signal_key(sink, held, row.number, &row.signal)
 }
 
 #[tactic(auto, unfolding(crate::specs::Layout::layout_text, crate::specs::CanonicalText::float_kind))]
@@ -185,18 +172,12 @@ fn hold_ranges<W: Sink>(sink: &mut W, held: &mut Held, ranges: &[Range]) -> Resu
     hold_separated::<FirstRange, FurtherRange, Range, W>(sink, held, ranges)
 }
 
-#[tactic(auto, unfolding(crate::specs::Layout::layout_text, crate::specs::CanonicalText::mux_key))]
+#[tactic(auto, using(crate::proofs::Layouts::layouts), unfolding(crate::specs::CanonicalText::mux_key))]
 fn hold_mux_key<W: Sink>(sink: &mut W, held: &mut Held, row: &MuxRow) -> Result<(), WriteFault>
     ensures { Sends (W.written sink.old) (W.written sink.new) held.old.items result (layout_text (mux_key row.now)) held.new.items }
 {
-    let mut number = Buffer::new();
-    let pieces: [&[u8]; 4] = [
-        b"SG_MUL_VAL_ ",
-        number.format(row.number).as_bytes(),
-        b" ",
-        row.signal.as_bytes(),
-    ];
-    hold_pieces(sink, held, &pieces)
+    hold_word(sink, held, b"SG_MUL_VAL_")?;
+    hold_signal_key(sink, held, row.number, &row.signal)
 }
 
 /// The line of a signal's multiplexing.

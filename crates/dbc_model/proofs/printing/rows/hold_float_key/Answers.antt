@@ -1,0 +1,10 @@
+use Rattle.std.specs.Prelude.{codes}
+use Rattle.dbc_model.specs.CanonicalText.{word_layout, signal_key, float_key}
+use Rattle.dbc_model.proofs.Layouts.{Sends-then}
+use Rattle.dbc_model.proofs.printing.rows.hold_float_key.Goals as goal
+
+pub returns : goal.returns
+unfolding float_key
+returns g c =
+    let row = c.row.inside in
+    rw (← c.row.view_is) (Sends-then _ _ _ c.hold_signal_key.result _ _ _ (word_layout (codes "SIG_VALTYPE_")) (signal_key row.number row.signal) c.in_ok-hold_word.ensures c.hold_signal_key.ensures)
