@@ -1,5 +1,9 @@
 pub mod Lexical
 pub mod Decimals
 pub mod Records
+pub mod Comments
+pub mod Attributes
+pub mod Kept
+pub mod Databases
 pub mod Device
 pub mod Views

@@ -4,23 +4,55 @@
 //! 1,785 bytes long. So whoever holds one need not test it again.
 #![tactic(auto)]
 
+mod attribute;
+mod comment;
+mod database;
 mod decimal;
+mod definition;
 mod device;
+mod entry;
+mod float_row;
 mod from_std;
 mod head;
+mod kept;
 pub mod limp;
 mod list;
 mod memory;
+mod message;
+mod mux_row;
 mod name;
+mod piece;
+mod signal;
+mod symbol;
+mod table_row;
+mod tag;
+mod target;
 #[cfg(test)]
 mod tests;
 mod text;
+mod value_row;
 
+pub use attribute::{AttrDefault, AttrRow, AttrValue};
+pub use comment::Comment;
+pub use database::Database;
 pub use decimal::Decimal;
+pub use definition::{AttrDef, Form, Limits, Object};
 pub use device::{Broken, Sink, Source, WriteFault, put_all};
+pub use entry::Entry;
+pub use float_row::FloatRow;
 pub use from_std::{FromRead, FromWrite};
 pub use head::Head;
+pub use kept::Kept;
 pub use list::{Checked, Copied, List};
 pub use memory::Memory;
+pub use message::Message;
+pub use mux_row::{MuxRow, Range};
 pub use name::{Name, is_name};
+pub use piece::{Piece, is_piece};
+pub use signal::Signal;
+pub use symbol::{Symbol, is_symbol};
+pub use table_row::TableRow;
+pub use tag::Tag;
+pub use target::Target;
 pub use text::Text;
+pub use value_row::ValueRow;

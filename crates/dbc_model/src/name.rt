@@ -54,7 +54,7 @@ pub fn is_word(bytes: &[u8]) -> bool
     }
 }
 
-fn same(a: &[u8], b: &[u8]) -> bool
+pub(crate) fn same(a: &[u8], b: &[u8]) -> bool
     ensures { result ≡ bytes_eq a.now b.now }
 {
     a == b
@@ -78,7 +78,7 @@ fn is_statement_word(word: &[u8]) -> bool
         || same(word, b"SG_MUL_VAL_")
 }
 
-fn is_kept_word(word: &[u8]) -> bool
+pub(crate) fn is_kept_word(word: &[u8]) -> bool
     ensures { result ≡ list_any (bytes_eq word.now) kept_words }
 {
     same(word, b"BO_TX_BU_")

@@ -1,0 +1,110 @@
+//! Signals.
+ghost use Rattle.std.specs.Prelude.{◌≡◌, Some, None, if◌then◌else◌};
+ghost use Rattle.dbc_model.specs.Records.{signal_fits};
+
+use crate::decimal::Decimal;
+use crate::list::{Checked, Copied, List};
+use crate::memory::Memory;
+use crate::name::Name;
+use crate::tag::Tag;
+use crate::text::Text;
+use std::marker::Model;
+
+/// A signal of a message: `SG_ name tag : start|length@order sign (factor,offset) [minimum|maximum] "unit" receivers`.
+///
+/// `start` and `length` are in bits; `start` is the lowest bit in Intel order and the highest in Motorola order. The
+/// physical value is `factor · raw + offset`.
+#[derive(Drop)]
+pub struct Signal {
+    pub name: Name,
+    pub tag: Tag,
+    pub start: u16,
+    pub length: u16,
+    pub intel: bool,
+    pub signed: bool,
+    pub factor: Decimal,
+    pub offset: Decimal,
+    pub minimum: Decimal,
+    pub maximum: Decimal,
+    pub unit: Text,
+    pub receivers: List<Name>,
+}
+
+impl Model for Signal {
+    ghost use Rattle.dbc_model.specs.Records as records;
+
+    ghost Value = { records.Signal };
+
+    ghost view = { λ a. record { name = a.name; tag = a.tag; start = a.start; length = a.length; intel = a.intel; signed = a.signed; factor = a.factor; offset = a.offset; minimum = a.minimum; maximum = a.maximum; unit = a.unit; receivers = a.receivers } };
+
+    ghost invariant = { λ a. records.IsSignal (record { name = a.name; tag = a.tag; start = a.start; length = a.length; intel = a.intel; signed = a.signed; factor = a.factor; offset = a.offset; minimum = a.minimum; maximum = a.maximum; unit = a.unit; receivers = a.receivers }) };
+}
+
+impl Signal {
+    /// The most bits that a signal may have: those of a message of [`Head::MAX_SIZE`](crate::Head::MAX_SIZE) bytes.
+    pub const MAX_LENGTH: u16 = 14_280;
+
+    /// The signal, or `None` where the length is 0 or over [`Signal::MAX_LENGTH`].
+    pub fn new(
+        name: Name,
+        tag: Tag,
+        start: u16,
+        length: u16,
+        intel: bool,
+        signed: bool,
+        factor: Decimal,
+        offset: Decimal,
+        minimum: Decimal,
+        maximum: Decimal,
+        unit: Text,
+        receivers: List<Name>,
+    ) -> Option<Signal>
+        ensures { result ≡ (if signal_fits length then Some (record { name = name; tag = tag; start = start; length = length; intel = intel; signed = signed; factor = factor; offset = offset; minimum = minimum; maximum = maximum; unit = unit; receivers = receivers }) else None) }
+    {
+        if length == 0 || length > Signal::MAX_LENGTH {
+            return None;
+        }
+        Some(Signal {
+            name,
+            tag,
+            start,
+            length,
+            intel,
+            signed,
+            factor,
+            offset,
+            minimum,
+            maximum,
+            unit,
+            receivers,
+        })
+    }
+}
+
+impl Checked for Signal {
+    ghost use Rattle.dbc_model.specs.Records.{IsSignal};
+
+    ghost IsValid = { IsSignal };
+}
+
+impl Copied for Signal {
+    fn copy(&self) -> Result<Signal, Memory> {
+        let name = self.name.copy()?;
+        let unit = self.unit.copy()?;
+        let receivers = self.receivers.copy()?;
+        Ok(Signal {
+            name,
+            tag: self.tag,
+            start: self.start,
+            length: self.length,
+            intel: self.intel,
+            signed: self.signed,
+            factor: self.factor,
+            offset: self.offset,
+            minimum: self.minimum,
+            maximum: self.maximum,
+            unit,
+            receivers,
+        })
+    }
+}

@@ -1,0 +1,57 @@
+//! The named values of a signal.
+ghost use Rattle.std.specs.Prelude.{◌≡◌, Some};
+
+use crate::entry::Entry;
+use crate::list::{Checked, Copied, List};
+use crate::memory::Memory;
+use crate::name::Name;
+use std::marker::Model;
+
+/// The named values of a signal: `VAL_ number signal entries ;`.
+#[derive(Drop)]
+pub struct ValueRow {
+    pub number: u32,
+    pub signal: Name,
+    pub entries: List<Entry>,
+}
+
+impl Model for ValueRow {
+    ghost use Rattle.dbc_model.specs.Records as records;
+
+    ghost Value = { records.ValueRow };
+
+    ghost view = { λ a. record { number = a.number; signal = a.signal; entries = a.entries } };
+
+    ghost invariant = { λ a. records.IsValueRow (record { number = a.number; signal = a.signal; entries = a.entries }) };
+}
+
+impl ValueRow {
+    /// The row. It is always there.
+    pub fn new(number: u32, signal: Name, entries: List<Entry>) -> Option<ValueRow>
+        ensures { result ≡ Some (record { number = number; signal = signal; entries = entries }) }
+    {
+        Some(ValueRow {
+            number,
+            signal,
+            entries,
+        })
+    }
+}
+
+impl Checked for ValueRow {
+    ghost use Rattle.dbc_model.specs.Records.{IsValueRow};
+
+    ghost IsValid = { IsValueRow };
+}
+
+impl Copied for ValueRow {
+    fn copy(&self) -> Result<ValueRow, Memory> {
+        let signal = self.signal.copy()?;
+        let entries = self.entries.copy()?;
+        Ok(ValueRow {
+            number: self.number,
+            signal,
+            entries,
+        })
+    }
+}
