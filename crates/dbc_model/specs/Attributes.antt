@@ -1,5 +1,6 @@
 -- Attributes: their definitions, values and defaults, as plain data.
--- Source: the DBC file format, "User Defined Attribute Definitions". That an enumeration has a text is its grammar's.
+-- Source: the DBC file format, "User Defined Attribute Definitions", whose grammar gives an enumeration at least one
+-- text.
 use Rattle.std.specs.Prelude.{Bool, true, nat_le, ℕ, List, All, length, Option, IfSome, IsTrue}
 use Rattle.dbc_model.specs.Decimals.{IsDecimal}
 use Rattle.dbc_model.specs.Records.{IsText}
