@@ -9,39 +9,48 @@ use crate::{
 use std::alloc::Global;
 use std::test::Fail;
 
-const ZERO: Decimal = Decimal {
-    negative: false,
-    mantissa: 0,
-    exponent: 0,
-};
+#[tactic(auto, unfolding(crate::specs::Decimals::decimal_fits))]
+pub(super) fn zero() -> Decimal {
+    Decimal {
+        negative: false,
+        mantissa: 0,
+        exponent: 0,
+    }
+}
 
-const HALF: Decimal = Decimal {
-    negative: false,
-    mantissa: 5,
-    exponent: -1,
-};
+#[tactic(auto, unfolding(crate::specs::Decimals::decimal_fits))]
+pub(super) fn half() -> Decimal {
+    Decimal {
+        negative: false,
+        mantissa: 5,
+        exponent: -1,
+    }
+}
 
-const MINUS_ONE: Decimal = Decimal {
-    negative: true,
-    mantissa: 1,
-    exponent: 0,
-};
+#[tactic(auto, unfolding(crate::specs::Decimals::decimal_fits))]
+pub(super) fn minus_one() -> Decimal {
+    Decimal {
+        negative: true,
+        mantissa: 1,
+        exponent: 0,
+    }
+}
 
-fn text(alloc: Global, bytes: &[u8]) -> Result<Text, Fail> {
+pub(super) fn text(alloc: Global, bytes: &[u8]) -> Result<Text, Fail> {
     match Text::new(alloc, bytes)? {
         Some(text) => Ok(text),
         None => Err(Fail::from("no text")),
     }
 }
 
-fn piece(alloc: Global, bytes: &[u8]) -> Result<Piece, Fail> {
+pub(super) fn piece(alloc: Global, bytes: &[u8]) -> Result<Piece, Fail> {
     match Piece::new(alloc, bytes)? {
         Some(piece) => Ok(piece),
         None => Err(Fail::from("no piece")),
     }
 }
 
-fn one<T: Checked>(alloc: Global, item: T) -> Result<List<T>, Memory>
+pub(super) fn one<T: Checked>(alloc: Global, item: T) -> Result<List<T>, Memory>
     requires { T.IsValid item }
 {
     let mut items = List::new(alloc);
@@ -57,22 +66,22 @@ fn signal(name: Name, unit: Text, length: u16, receivers: List<Name>) -> Option<
         length,
         false,
         true,
-        HALF,
-        MINUS_ONE,
-        ZERO,
-        HALF,
+        half(),
+        minus_one(),
+        zero(),
+        half(),
         unit,
         receivers,
     )
 }
 
-fn named_signal(alloc: Global, bytes: &[u8]) -> Result<Signal, Fail> {
+pub(super) fn named_signal(alloc: Global, bytes: &[u8]) -> Result<Signal, Fail> {
     let receivers = one(alloc, name(alloc, b"N")?)?;
     let made = signal(name(alloc, bytes)?, text(alloc, b"km")?, 8, receivers);
     Ok(made.ok_or("no signal")?)
 }
 
-fn head(alloc: Global) -> Result<Head, Fail> {
+pub(super) fn head(alloc: Global) -> Result<Head, Fail> {
     let made = Head::new(291, name(alloc, b"A")?, 8, name(alloc, b"N")?);
     Ok(made.ok_or("no head")?)
 }
@@ -249,7 +258,7 @@ fn float_rows(rt: HostRuntime) -> Result<(), Fail> {
     Ok(())
 }
 
-fn range(first: u64, last: u64) -> Range {
+pub(super) fn range(first: u64, last: u64) -> Range {
     Range { first, last }
 }
 
@@ -272,8 +281,8 @@ fn has_definition(alloc: Global, form: Form) -> Result<bool, Fail> {
 fn forms(rt: HostRuntime) -> Result<(), Fail> {
     let alloc = rt.alloc();
     let limits = Limits {
-        minimum: HALF,
-        maximum: MINUS_ONE,
+        minimum: half(),
+        maximum: minus_one(),
     };
     assert!(rt; has_definition(alloc, Form::Int(None))?);
     assert!(rt; has_definition(alloc, Form::Hex(Some(limits)))?);
