@@ -28,9 +28,9 @@ impl Model for Piece {
     ghost invariant = { λ piece. IsTrue (is_piece piece.bytes.items) };
 }
 
-/// Whether the bytes are a text between quotes.
+// Whether the bytes are a text between quotes.
 #[tactic(auto, using(crate::proofs::Strings::quoted_by_ends), unfolding(crate::specs::Kept::is_string))]
-pub fn is_string(bytes: &[u8]) -> bool
+pub(crate) fn is_string(bytes: &[u8]) -> bool
     ensures { result ≡ is_string bytes.now }
 {
     match bytes {
@@ -129,9 +129,9 @@ fn is_mantissa(bytes: &[u8]) -> bool
     are_digits(whole) && are_digits(fraction) && has_digit(bytes)
 }
 
-/// Whether the bytes are a number without a sign.
+// Whether the bytes are a number without a sign.
 #[tactic(auto, unfolding(crate::specs::Lexical::is_number))]
-pub fn is_number(bytes: &[u8]) -> bool
+fn is_number(bytes: &[u8]) -> bool
     ensures { result ≡ is_number bytes.now }
 {
     let (mantissa, exponent) = around_exponent_mark(bytes);
