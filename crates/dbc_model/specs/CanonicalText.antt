@@ -5,7 +5,11 @@ use Rattle.std.specs.Prelude.{ℕ, Bool, List, [], ◌∷◌, ◌++◌, Option, 
 use Rattle.std.specs.List.{flat_map}
 use Rattle.dbc_model.specs.Decimals.{Decimal}
 use Rattle.dbc_model.specs.Layout.{Word, Mark, Name, Symbol, Text, Whole, Int, Number, Switch, Muxed, Both, Order, Piece, Space, Tab, LineEnd, Is, Layout, layout_text, separated}
-use Rattle.dbc_model.specs.Records.{Head, Signal, Message, Entry, TableRow, ValueRow, FloatRow, MuxRow, Comment, AttrDef, AttrDefault, AttrRow, Kept, Database}
+use Rattle.dbc_model.specs.Records.{Head, Signal, Message, Entry, TableRow, ValueRow, FloatRow, MuxRow}
+use Rattle.dbc_model.specs.Comments.{Comment}
+use Rattle.dbc_model.specs.Attributes.{AttrDef, AttrDefault, AttrRow}
+use Rattle.dbc_model.specs.Kept.{Kept}
+use Rattle.dbc_model.specs.Databases.{Database}
 use Rattle.dbc_model.specs.declared.tag.Tag.{Tag}
 use Rattle.dbc_model.specs.declared.tag.Tag.TheVariants as tags
 use Rattle.dbc_model.specs.declared.mux_row.Range.{Range}

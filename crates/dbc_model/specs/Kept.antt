@@ -1,7 +1,7 @@
 -- The statements that are kept as they stand: their tokens, as bytes, without the semicolon that ends them.
 -- Source: the DBC file format, "General Definitions" for the tokens, and the sections that define the statements which
 -- begin with these words. That they are kept without being judged is the profile of candesk.
-use Rattle.std.specs.Prelude.{ℕ, ◌-◌, Bool, true, false, not, ◌||◌, ◌&&◌, ◌==◌, List, [], ◌∷◌, length, take, drop, codes}
+use Rattle.std.specs.Prelude.{ℕ, ◌-◌, Bool, true, false, not, ◌||◌, ◌&&◌, ◌==◌, List, [], ◌∷◌, length, take, drop, codes, All, IsTrue}
 use Rattle.std.specs.List.{list_any}
 use Rattle.std.specs.Str.{bytes_eq}
 use Rattle.dbc_model.specs.Lexical.{quoted, is_text, is_word, is_name, is_number, is_mark, kept_words}
@@ -52,3 +52,14 @@ kept_beginnings =
 -- the tokens begin as a kept statement does; any may follow
 unfoldable pub kept_fits : List (List ℕ) → Bool
 kept_fits tokens = list_any (λ tests. begins tests tokens) kept_beginnings
+
+-- the tokens of a statement that is kept as it stands, without its semicolon
+pub record Kept : Type 0 where
+  pub tokens : List (List ℕ)
+
+abbrev pub IsPiece : List ℕ → Type 0
+IsPiece bytes = IsTrue (is_piece bytes)
+
+pub record IsKept (statement : Kept) : Type 0 where
+  pub tokens : All IsPiece statement.tokens
+  pub fit : IsTrue (kept_fits statement.tokens)

@@ -1,7 +1,10 @@
 pub mod Lexical
 pub mod Decimals
-pub mod Kept
 pub mod Records
+pub mod Comments
+pub mod Attributes
+pub mod Kept
+pub mod Databases
 pub mod Layout
 pub mod CanonicalText
 pub mod Device

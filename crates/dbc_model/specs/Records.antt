@@ -1,26 +1,17 @@
 -- The records of a database as plain data: numbers, lists and records of them, with no proof inside, so that
--- definitions may make such values freely. Beside each stands what every value of it is, and before it, as a test that
--- computes, what its constructor judges. What has no bound of its own (`Tag`, `Range`, `Target`, `Form`, ..) is told by
--- the code's own type.
+-- definitions may make such values freely. Beside each stands what every value of it is, and before that, as a test
+-- that computes, what its constructor judges. Enums, and records that are bounded by their fields' types alone, are
+-- plain data as the code declares them.
 -- Source: the DBC file format, the section that is named with each. Bounds that no section gives are the profile of
 -- candesk.
-use Rattle.std.specs.Prelude.{◌≡◌, ℕ, ℤ, pos, negsuc, int_le, ◌-◌, ◌<◌, ◌^◌, Bool, true, not, ◌&&◌, ◌==◌, nat_le, List, [], ◌∷◌, All, length, map, codes, Option, Some, None, IfSome, IsTrue}
-use Rattle.std.specs.List.{list_any, list_all}
+use Rattle.std.specs.Prelude.{◌≡◌, ℕ, ℤ, pos, negsuc, int_le, ◌-◌, ◌<◌, ◌^◌, Bool, true, not, ◌&&◌, nat_le, List, [], ◌∷◌, All, length, map, codes, Option, Some, None, IfSome, IsTrue}
+use Rattle.std.specs.List.{list_any}
 use Rattle.std.specs.Str.{bytes_eq}
 use Rattle.dbc_model.specs.Lexical.{is_word, is_name, is_text}
 use Rattle.dbc_model.specs.Decimals.{Decimal, IsDecimal}
-use Rattle.dbc_model.specs.Kept.{is_piece, kept_fits}
 use Rattle.dbc_model.specs.declared.tag.Tag.{Tag}
 use Rattle.dbc_model.specs.declared.tag.Tag.TheVariants as tags
 use Rattle.dbc_model.specs.declared.mux_row.Range.{Range}
-use Rattle.dbc_model.specs.declared.target.Target.{Target}
-use Rattle.dbc_model.specs.declared.target.Target.TheVariants as targets
-use Rattle.dbc_model.specs.declared.attribute.AttrValue.{AttrValue}
-use Rattle.dbc_model.specs.declared.attribute.AttrValue.TheVariants as values
-use Rattle.dbc_model.specs.declared.definition.Limits.{Limits}
-use Rattle.dbc_model.specs.declared.definition.Object.{Object}
-use Rattle.dbc_model.specs.declared.definition.Form.{Form}
-use Rattle.dbc_model.specs.declared.definition.Form.TheVariants as forms
 
 -- ---- names, texts and symbols
 
@@ -195,137 +186,3 @@ pub record IsMuxRow (row : MuxRow) : Type 0 where
   pub switch : IsName row.switch
   pub ranges : All IsRange row.ranges
   pub fit : IsTrue (ranges_fit row.ranges)
-
--- ---- comments ("Comment Definitions")
-
--- the whole database, or a node, a message or a signal by its names
-abbrev pub IsTarget : Target → Type 0
-IsTarget targets.Whole = Unit {0}
-IsTarget (targets.Node name) = IsName name
-IsTarget (targets.Message number) = IsNumber number
-IsTarget (targets.Signal number name) = IsNumber number × IsName name
-
-pub record Comment : Type 0 where
-  pub target : Target
-  pub text : List ℕ
-
-pub record IsComment (comment : Comment) : Type 0 where
-  pub target : IsTarget comment.target
-  pub text : IsText comment.text
-
--- ---- attributes ("User Defined Attribute Definitions")
-
-pub record IsLimits (limits : Limits) : Type 0 where
-  pub minimum : IsDecimal limits.minimum
-  pub maximum : IsDecimal limits.maximum
-
-abbrev pub IsForm : Form → Type 0
-IsForm (forms.Int limits) = IfSome limits IsLimits
-IsForm (forms.Hex limits) = IfSome limits IsLimits
-IsForm (forms.Float limits) = IfSome limits IsLimits
-IsForm forms.Str = Unit {0}
-IsForm (forms.Enumeration texts) = All IsText texts
-
--- the definition of an attribute, of one kind of object or of the whole database
-pub record AttrDef : Type 0 where
-  pub object : Option Object
-  pub name : List ℕ
-  pub form : Form
-
--- an enumeration has at least one text
-abbrev pub form_fits : Form → Bool
-form_fits (forms.Int limits) = true
-form_fits (forms.Hex limits) = true
-form_fits (forms.Float limits) = true
-form_fits forms.Str = true
-form_fits (forms.Enumeration texts) = nat_le 1 (length texts)
-
-pub record IsAttrDef (definition : AttrDef) : Type 0 where
-  pub name : IsText definition.name
-  pub form : IsForm definition.form
-  pub fits : IsTrue (form_fits definition.form)
-
-abbrev pub IsAttrValue : AttrValue → Type 0
-IsAttrValue (values.Text text) = IsText text
-IsAttrValue (values.Decimal decimal) = IsDecimal decimal
-
-pub record AttrDefault : Type 0 where
-  pub name : List ℕ
-  pub value : AttrValue
-
-pub record IsAttrDefault (row : AttrDefault) : Type 0 where
-  pub name : IsText row.name
-  pub value : IsAttrValue row.value
-
-pub record AttrRow : Type 0 where
-  pub name : List ℕ
-  pub target : Target
-  pub value : AttrValue
-
-pub record IsAttrRow (row : AttrRow) : Type 0 where
-  pub name : IsText row.name
-  pub target : IsTarget row.target
-  pub value : IsAttrValue row.value
-
--- ---- kept statements
-
--- the tokens of a statement that is kept as it stands, without its semicolon
-pub record Kept : Type 0 where
-  pub tokens : List (List ℕ)
-
-abbrev pub IsPiece : List ℕ → Type 0
-IsPiece bytes = IsTrue (is_piece bytes)
-
-pub record IsKept (statement : Kept) : Type 0 where
-  pub tokens : All IsPiece statement.tokens
-  pub fit : IsTrue (kept_fits statement.tokens)
-
--- ---- databases ("Structure of the DBC File")
-
--- the lists stand in the order in which they are printed
-pub record Database : Type 0 where
-  pub version : List ℕ
-  pub symbols : List (List ℕ)
-  pub bit_timing : Option (List Decimal)
-  pub nodes : List (List ℕ)
-  pub tables : List TableRow
-  pub messages : List Message
-  pub comments : List Comment
-  pub definitions : List AttrDef
-  pub defaults : List AttrDefault
-  pub attributes : List AttrRow
-  pub values : List ValueRow
-  pub floats : List FloatRow
-  pub muxes : List MuxRow
-  pub kept : List Kept
-
--- no number is negative
-abbrev pub timing_fits : Option (List Decimal) → Bool
-timing_fits None = true
-timing_fits (Some numbers) = list_all (λ number. not number.negative) numbers
-
--- at most 65,535 messages, and a bit timing without a negative number
-abbrev pub database_fits : Option (List Decimal) → List Message → Bool
-database_fits timing messages = timing_fits timing && nat_le (length messages) 65535
-
--- a bit timing is three numbers: the baud rate and two registers ("Bit Timing Definition")
-pub record IsBitTiming (timing : List Decimal) : Type 0 where
-  pub three : length timing ≡ 3
-  pub numbers : All IsDecimal timing
-
-pub record IsDatabase (database : Database) : Type 0 where
-  pub version : IsText database.version
-  pub symbols : All IsSymbol database.symbols
-  pub bit_timing : IfSome database.bit_timing IsBitTiming
-  pub nodes : All IsName database.nodes
-  pub tables : All IsTableRow database.tables
-  pub messages : All IsMessage database.messages
-  pub comments : All IsComment database.comments
-  pub definitions : All IsAttrDef database.definitions
-  pub defaults : All IsAttrDefault database.defaults
-  pub attributes : All IsAttrRow database.attributes
-  pub values : All IsValueRow database.values
-  pub floats : All IsFloatRow database.floats
-  pub muxes : All IsMuxRow database.muxes
-  pub kept : All IsKept database.kept
-  pub fits : IsTrue (database_fits database.bit_timing database.messages)

@@ -18,7 +18,7 @@ pub enum AttrValue {
 }
 
 impl Checked for AttrValue {
-    ghost use Rattle.dbc_model.specs.Records.{IsAttrValue};
+    ghost use Rattle.dbc_model.specs.Attributes.{IsAttrValue};
 
     ghost IsValid = { IsAttrValue };
 }
@@ -40,13 +40,13 @@ pub struct AttrDefault {
 }
 
 impl Model for AttrDefault {
-    ghost use Rattle.dbc_model.specs.Records as records;
+    ghost use Rattle.dbc_model.specs.Attributes as attributes;
 
-    ghost Value = { records.AttrDefault };
+    ghost Value = { attributes.AttrDefault };
 
     ghost view = { λ a. record { name = a.name; value = a.value } };
 
-    ghost invariant = { λ a. records.IsAttrDefault (record { name = a.name; value = a.value }) };
+    ghost invariant = { λ a. attributes.IsAttrDefault (record { name = a.name; value = a.value }) };
 }
 
 impl AttrDefault {
@@ -59,7 +59,7 @@ impl AttrDefault {
 }
 
 impl Checked for AttrDefault {
-    ghost use Rattle.dbc_model.specs.Records.{IsAttrDefault};
+    ghost use Rattle.dbc_model.specs.Attributes.{IsAttrDefault};
 
     ghost IsValid = { IsAttrDefault };
 }
@@ -81,13 +81,13 @@ pub struct AttrRow {
 }
 
 impl Model for AttrRow {
-    ghost use Rattle.dbc_model.specs.Records as records;
+    ghost use Rattle.dbc_model.specs.Attributes as attributes;
 
-    ghost Value = { records.AttrRow };
+    ghost Value = { attributes.AttrRow };
 
     ghost view = { λ a. record { name = a.name; target = a.target; value = a.value } };
 
-    ghost invariant = { λ a. records.IsAttrRow (record { name = a.name; target = a.target; value = a.value }) };
+    ghost invariant = { λ a. attributes.IsAttrRow (record { name = a.name; target = a.target; value = a.value }) };
 }
 
 impl AttrRow {
@@ -104,7 +104,7 @@ impl AttrRow {
 }
 
 impl Checked for AttrRow {
-    ghost use Rattle.dbc_model.specs.Records.{IsAttrRow};
+    ghost use Rattle.dbc_model.specs.Attributes.{IsAttrRow};
 
     ghost IsValid = { IsAttrRow };
 }

@@ -15,13 +15,13 @@ pub struct Comment {
 }
 
 impl Model for Comment {
-    ghost use Rattle.dbc_model.specs.Records as records;
+    ghost use Rattle.dbc_model.specs.Comments as comments;
 
-    ghost Value = { records.Comment };
+    ghost Value = { comments.Comment };
 
     ghost view = { λ a. record { target = a.target; text = a.text } };
 
-    ghost invariant = { λ a. records.IsComment (record { target = a.target; text = a.text }) };
+    ghost invariant = { λ a. comments.IsComment (record { target = a.target; text = a.text }) };
 }
 
 impl Comment {
@@ -34,7 +34,7 @@ impl Comment {
 }
 
 impl Checked for Comment {
-    ghost use Rattle.dbc_model.specs.Records.{IsComment};
+    ghost use Rattle.dbc_model.specs.Comments.{IsComment};
 
     ghost IsValid = { IsComment };
 }

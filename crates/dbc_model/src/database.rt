@@ -1,6 +1,7 @@
 //! Databases.
-ghost use Rattle.std.specs.Prelude.{◌≡◌, Some, None, if◌then◌else◌};
-ghost use Rattle.dbc_model.specs.Records.{timing_fits, database_fits};
+ghost use Rattle.std.specs.Prelude.{◌≡◌, Some, None, if◌then◌else◌, not, IfSome};
+ghost use Rattle.std.specs.List.{list_all};
+ghost use Rattle.dbc_model.specs.Databases.{IsBitTiming, timing_fits, database_fits};
 
 use crate::attribute::{AttrDefault, AttrRow};
 use crate::comment::Comment;
@@ -41,20 +42,29 @@ pub struct Database {
 }
 
 impl Model for Database {
-    ghost use Rattle.dbc_model.specs.Records as records;
+    ghost use Rattle.dbc_model.specs.Databases as databases;
 
-    ghost Value = { records.Database };
+    ghost Value = { databases.Database };
 
     ghost view = { λ a. record { version = a.version; symbols = a.symbols; bit_timing = a.bit_timing; nodes = a.nodes; tables = a.tables; messages = a.messages; comments = a.comments; definitions = a.definitions; defaults = a.defaults; attributes = a.attributes; values = a.values; floats = a.floats; muxes = a.muxes; kept = a.kept } };
 
-    ghost invariant = { λ a. records.IsDatabase (record { version = a.version; symbols = a.symbols; bit_timing = a.bit_timing; nodes = a.nodes; tables = a.tables; messages = a.messages; comments = a.comments; definitions = a.definitions; defaults = a.defaults; attributes = a.attributes; values = a.values; floats = a.floats; muxes = a.muxes; kept = a.kept }) };
+    ghost invariant = { λ a. databases.IsDatabase (record { version = a.version; symbols = a.symbols; bit_timing = a.bit_timing; nodes = a.nodes; tables = a.tables; messages = a.messages; comments = a.comments; definitions = a.definitions; defaults = a.defaults; attributes = a.attributes; values = a.values; floats = a.floats; muxes = a.muxes; kept = a.kept }) };
+}
+
+fn none_negative(numbers: [Decimal; 3]) -> bool
+    ensures fits { result ≡ list_all (λ number. not number.negative) numbers }
+    ensures valid { IsBitTiming numbers }
+{
+    let [rate, first, second] = numbers;
+    !(rate.negative | first.negative | second.negative)
 }
 
 fn timing_fits(bit_timing: &Option<[Decimal; 3]>) -> bool
-    ensures { result ≡ timing_fits bit_timing.now }
+    ensures fits { result ≡ timing_fits bit_timing.now }
+    ensures valid { IfSome bit_timing.now IsBitTiming }
 {
     match bit_timing {
-        Some(numbers) => numbers.iter().all(|number| !number.negative),
+        Some(numbers) => none_negative(*numbers),
         None => true,
     }
 }
@@ -106,7 +116,7 @@ impl Database {
 }
 
 impl Checked for Database {
-    ghost use Rattle.dbc_model.specs.Records.{IsDatabase};
+    ghost use Rattle.dbc_model.specs.Databases.{IsDatabase};
 
     ghost IsValid = { IsDatabase };
 }

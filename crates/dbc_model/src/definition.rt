@@ -1,6 +1,6 @@
 //! Definitions of attributes.
 ghost use Rattle.std.specs.Prelude.{◌≡◌, Some, None, if◌then◌else◌};
-ghost use Rattle.dbc_model.specs.Records.{form_fits};
+ghost use Rattle.dbc_model.specs.Attributes.{form_fits};
 
 use crate::decimal::Decimal;
 use crate::list::{Checked, Copied, List};
@@ -44,7 +44,7 @@ pub enum Form {
 }
 
 impl Checked for Form {
-    ghost use Rattle.dbc_model.specs.Records.{IsForm};
+    ghost use Rattle.dbc_model.specs.Attributes.{IsForm};
 
     ghost IsValid = { IsForm };
 }
@@ -71,13 +71,13 @@ pub struct AttrDef {
 }
 
 impl Model for AttrDef {
-    ghost use Rattle.dbc_model.specs.Records as records;
+    ghost use Rattle.dbc_model.specs.Attributes as attributes;
 
-    ghost Value = { records.AttrDef };
+    ghost Value = { attributes.AttrDef };
 
     ghost view = { λ a. record { object = a.object; name = a.name; form = a.form } };
 
-    ghost invariant = { λ a. records.IsAttrDef (record { object = a.object; name = a.name; form = a.form }) };
+    ghost invariant = { λ a. attributes.IsAttrDef (record { object = a.object; name = a.name; form = a.form }) };
 }
 
 fn form_fits(form: &Form) -> bool
@@ -102,7 +102,7 @@ impl AttrDef {
 }
 
 impl Checked for AttrDef {
-    ghost use Rattle.dbc_model.specs.Records.{IsAttrDef};
+    ghost use Rattle.dbc_model.specs.Attributes.{IsAttrDef};
 
     ghost IsValid = { IsAttrDef };
 }

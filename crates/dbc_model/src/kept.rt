@@ -21,13 +21,13 @@ pub struct Kept {
 }
 
 impl Model for Kept {
-    ghost use Rattle.dbc_model.specs.Records as records;
+    ghost use Rattle.dbc_model.specs.Kept as statements;
 
-    ghost Value = { records.Kept };
+    ghost Value = { statements.Kept };
 
     ghost view = { λ a. record { tokens = a.tokens } };
 
-    ghost invariant = { λ a. records.IsKept (record { tokens = a.tokens }) };
+    ghost invariant = { λ a. statements.IsKept (record { tokens = a.tokens }) };
 }
 
 fn begins_with_kept_word(tokens: &[Piece]) -> bool
@@ -91,7 +91,7 @@ impl Kept {
 }
 
 impl Checked for Kept {
-    ghost use Rattle.dbc_model.specs.Records.{IsKept};
+    ghost use Rattle.dbc_model.specs.Kept.{IsKept};
 
     ghost IsValid = { IsKept };
 }

@@ -1,7 +1,7 @@
 //! Tokens of the statements that are kept as they stand.
-ghost use Rattle.std.specs.Prelude.{◌≡◌, ◌≤◌, IfOk, IsTrue, Some, None, if◌then◌else◌, length};
-ghost use Rattle.std.specs.List.{list_all, list_any, position_or_len};
-ghost use Rattle.dbc_model.specs.Lexical.{is_digit, is_digits, is_signed_digits, is_mantissa, is_number, is_exponent_mark, is_point};
+ghost use Rattle.std.specs.Prelude.{◌≡◌, ◌+◌, ◌≤◌, IfOk, IsTrue, Some, None, if◌then◌else◌, length, take, drop};
+ghost use Rattle.std.specs.List.{list_all, list_any, before_first, after_first, position_or_len};
+ghost use Rattle.dbc_model.specs.Lexical.{is_digit, is_digits, is_signed_digits, is_mantissa, is_number, is_point, is_exponent_mark};
 ghost use Rattle.dbc_model.specs.Kept.{is_piece, is_string, is_mark_but_semicolon};
 
 use crate::list::{Checked, Copied};
@@ -28,13 +28,13 @@ impl Model for Piece {
     ghost invariant = { λ piece. IsTrue (is_piece piece.bytes.items) };
 }
 
-/// Whether the bytes are a text between quotes.
-#[tactic(auto, unfolding(crate::specs::Kept::is_string))]
-pub fn is_string(bytes: &[u8]) -> bool
+// Whether the bytes are a text between quotes.
+#[tactic(auto, using(crate::proofs::Strings::quoted_by_ends), unfolding(crate::specs::Kept::is_string))]
+pub(crate) fn is_string(bytes: &[u8]) -> bool
     ensures { result ≡ is_string bytes.now }
 {
     match bytes {
-        [b'"', text @ .., b'"'] => is_text(text),
+        [first, text @ .., last] => *first == b'"' && *last == b'"' && is_text(text),
         _ => false,
     }
 }
@@ -66,6 +66,18 @@ fn is_signed_digits(bytes: &[u8]) -> bool
     }
 }
 
+fn is_exponent_mark(b: u8) -> bool
+    ensures { result ≡ is_exponent_mark b }
+{
+    matches!(b, b'E' | b'e')
+}
+
+fn has_exponent_mark(bytes: &[u8]) -> bool
+    ensures { result ≡ list_any is_exponent_mark bytes.now }
+{
+    bytes.iter().any(|b| is_exponent_mark(*b))
+}
+
 // The place of the first point, or the length.
 fn point_place(bytes: &[u8]) -> usize
     ensures place { result ≡ position_or_len is_point bytes.now }
@@ -75,36 +87,55 @@ fn point_place(bytes: &[u8]) -> usize
 }
 
 // The place of the first exponent mark, or the length.
-fn exponent_place(bytes: &[u8]) -> usize
+fn exponent_mark_place(bytes: &[u8]) -> usize
     ensures place { result ≡ position_or_len is_exponent_mark bytes.now }
     ensures in_range { result ≤ length bytes.now }
 {
-    bytes
-        .iter()
-        .take_while(|b| !matches!(**b, b'E' | b'e'))
-        .count()
+    bytes.iter().take_while(|b| !is_exponent_mark(**b)).count()
 }
 
+// The bytes before this place and behind it.
+fn around(bytes: &[u8], place: usize) -> (&[u8], &[u8])
+    requires { place ≤ length bytes.now }
+    ensures before { result.0.now ≡ take place bytes.now }
+    ensures behind { result.1.now ≡ drop (place + 1) bytes.now }
+{
+    let (before, rest) = bytes.split_at(place);
+    match rest {
+        [_, behind @ ..] => (before, behind),
+        [] => (before, rest),
+    }
+}
+
+fn around_point(bytes: &[u8]) -> (&[u8], &[u8])
+    ensures before { result.0.now ≡ before_first is_point bytes.now }
+    ensures behind { result.1.now ≡ after_first is_point bytes.now }
+{
+    around(bytes, point_place(bytes))
+}
+
+fn around_exponent_mark(bytes: &[u8]) -> (&[u8], &[u8])
+    ensures before { result.0.now ≡ before_first is_exponent_mark bytes.now }
+    ensures behind { result.1.now ≡ after_first is_exponent_mark bytes.now }
+{
+    around(bytes, exponent_mark_place(bytes))
+}
+
+// Digits, perhaps with a point.
 fn is_mantissa(bytes: &[u8]) -> bool
     ensures { result ≡ is_mantissa bytes.now }
 {
-    let (whole, rest) = bytes.split_at(point_place(bytes));
-    match rest {
-        [_, fraction @ ..] => are_digits(whole) && are_digits(fraction) && has_digit(bytes),
-        [] => is_digits(whole),
-    }
+    let (whole, fraction) = around_point(bytes);
+    are_digits(whole) && are_digits(fraction) && has_digit(bytes)
 }
 
-/// Whether the bytes are a number without a sign.
+// Whether the bytes are a number without a sign.
 #[tactic(auto, unfolding(crate::specs::Lexical::is_number))]
-pub fn is_number(bytes: &[u8]) -> bool
+fn is_number(bytes: &[u8]) -> bool
     ensures { result ≡ is_number bytes.now }
 {
-    let (mantissa, rest) = bytes.split_at(exponent_place(bytes));
-    match rest {
-        [_, exponent @ ..] => is_mantissa(mantissa) && is_signed_digits(exponent),
-        [] => is_mantissa(mantissa),
-    }
+    let (mantissa, exponent) = around_exponent_mark(bytes);
+    is_mantissa(mantissa) && (!has_exponent_mark(bytes) || is_signed_digits(exponent))
 }
 
 fn is_mark_but_semicolon(bytes: &[u8]) -> bool
@@ -146,7 +177,7 @@ impl Piece {
 }
 
 impl Checked for Piece {
-    ghost use Rattle.dbc_model.specs.Records.{IsPiece};
+    ghost use Rattle.dbc_model.specs.Kept.{IsPiece};
 
     ghost IsValid = { IsPiece };
 }

@@ -18,7 +18,7 @@ pub enum Target {
 }
 
 impl Checked for Target {
-    ghost use Rattle.dbc_model.specs.Records.{IsTarget};
+    ghost use Rattle.dbc_model.specs.Comments.{IsTarget};
 
     ghost IsValid = { IsTarget };
 }

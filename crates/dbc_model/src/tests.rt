@@ -1,6 +1,9 @@
 //! What no contract says: that calls succeed, the texts of the faults, and names and texts at their edges, with the
 //! answers that a reader of the format gives.
 
+mod databases;
+mod records;
+
 use crate::limp::Limp;
 use crate::{
     Copied, FromRead, FromWrite, Head, List, Memory, Name, Sink, Source, Text, WriteFault, put_all,
