@@ -12,6 +12,8 @@ pub mod limp;
 mod list;
 mod memory;
 mod name;
+mod number;
+mod scale;
 #[cfg(test)]
 mod tests;
 mod text;
@@ -23,4 +25,6 @@ pub use head::Head;
 pub use list::{Checked, Copied, List};
 pub use memory::Memory;
 pub use name::{Name, is_name};
+pub use number::{Whole, is_number, whole_of};
+pub use scale::Scale;
 pub use text::Text;
