@@ -37,7 +37,7 @@ pub record IsDecimalOf (negative : Bool) (m : ℕ) (e : ℤ) (decimal : Decimal)
 
 -- the bytes are a number, and the decimal is that number, negated where `negative` is true
 pub record SpellsDecimal (negative : Bool) (number : List ℕ) (decimal : Decimal) : Type 0 where
-  pub number : IsTrue (is_number number)
+  pub form : IsTrue (is_number number)
   pub is : IsDecimalOf negative (mantissa_of number) (exponent_of number) decimal
 
 -- the same of bytes that may begin with a sign

@@ -44,7 +44,7 @@ IsWhole m e (Value n) = (n < 2 ^ 64) × IsWholeNumber m e n
 
 -- the bytes are a number, and what it is as a whole number
 pub record SpellsWhole (number : List ℕ) (whole : Whole) : Type 0 where
-  pub number : IsTrue (is_number number)
+  pub form : IsTrue (is_number number)
   pub is : IsWhole (mantissa_of number) (exponent_of number) whole
 
 -- ---- the digits that count
@@ -67,5 +67,5 @@ StandsFor bound e x = (x ≡ e) ⊎ (((pos bound ≤ℤ x) × (pos bound ≤ℤ 
 -- `m · 10^e` is `digits · 10^exponent`, without zeros at the end of the digits, and where the exponent isn't far from 0
 pub record IsReduced (m : ℕ) (e : ℤ) (digits : Option ℕ) (exponent : ℤ) : Type 0 where
   pub zeros : ℕ
-  pub digits : HasDigits m digits zeros
-  pub exponent : StandsFor 1000 (e +ℤ pos zeros) exponent
+  pub front : HasDigits m digits zeros
+  pub power : StandsFor 1000 (e +ℤ pos zeros) exponent

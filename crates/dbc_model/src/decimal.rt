@@ -1,5 +1,5 @@
 //! Exact decimals.
-ghost use Rattle.std.specs.Prelude.{MatchOption};
+ghost use Rattle.std.specs.Prelude.{ℕ, ℤ, MatchOption};
 ghost use Rattle.dbc_model.specs.Numbers.{IsReduced};
 ghost use Rattle.dbc_model.specs.Decimals.{Decimal as Decimals, IsDecimalOf, SpellsDecimal, SpellsSigned};
 
