@@ -27,10 +27,10 @@ digit_behind m digits zeros digit h some small more kept = record {
   kept = kept;
 }
 
-kept_is : (n m : ℕ) → Some n ≡ at_most_36_digits m → n ≡ m
+pub kept_is : (n m : ℕ) → Some n ≡ at_most_36_digits m → n ≡ m
 kept_is n m e = grind (arith, nat_tests)
 
-dropped_is : (m : ℕ) → None ≡ at_most_36_digits m → 10 ^ 36 ≤ m
+pub dropped_is : (m : ℕ) → None ≡ at_most_36_digits m → 10 ^ 36 ≤ m
 dropped_is m e = grind (arith, nat_tests)
 
 dropped : (m : ℕ) → 10 ^ 36 ≤ m → None ≡ at_most_36_digits m

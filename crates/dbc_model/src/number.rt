@@ -1,5 +1,5 @@
 //! Numbers: which bytes are one, and what its digits and its exponent say, exactly.
-ghost use Rattle.std.specs.Prelude.{◌≡◌, ℕ, ℤ, ◌+◌, ◌*◌, ◌^◌, ◌<◌, ◌≤◌, false, take, drop, length, nat_lt, Some, None, MatchOption, IsTrue, min, if◌then◌else◌};
+ghost use Rattle.std.specs.Prelude.{◌≡◌, ℕ, ℤ, pos, ◌+ℤ◌, ◌-ℤ◌, unsigned_abs, ◌+◌, ◌*◌, ◌^◌, ◌<◌, ◌≤◌, false, take, drop, length, nat_lt, Some, None, MatchOption, IsTrue, min, if◌then◌else◌};
 ghost use Rattle.std.specs.List.{list_any, list_all, position_or_len};
 ghost use Rattle.std.specs.Str.Parse.{digits_value, digits_value_after, signed_digits_value, without_leading_sign};
 ghost use Rattle.dbc_model.specs.Lexical.{is_digit, is_sign, is_point, is_exponent_mark, is_mantissa, is_digits, is_signed_digits, is_number};
@@ -139,6 +139,16 @@ pub fn with_zeros(number: u128, zeros: u128) -> Option<u128>
     if product < LIMIT { Some(product) } else { None }
 }
 
+/// The number and that many zeros behind it, as far as it can be told.
+fn whole_with_zeros(number: u128, zeros: u128) -> Whole
+    ensures { result ≡ (if nat_lt (number * 10 ^ zeros) (2 ^ 64) then Whole.Value (number * 10 ^ zeros) else Whole.TooLarge) }
+{
+    match with_zeros(number, zeros) {
+        Some(product) if product <= u128::from(u64::MAX) => Whole::Value(product as u64),
+        _ => Whole::TooLarge,
+    }
+}
+
 /// The digits, zeros and one more digit, where these are at most 36 digits.
 fn appended(digits: u128, zeros: u128, digit: u8) -> Option<u128>
     requires { digit < 10 }
@@ -180,7 +190,7 @@ impl Digits {
         requires digits { IsTrue (list_all is_digit digits.now) }
         requires few { self.zeros < 2 ^ 99 }
         ensures value { (m : ℕ) → HasDigits m self.front self.zeros → HasDigits (digits_value_after 10 m digits.now) result.front result.zeros }
-        ensures few { result.zeros ≤ self.zeros + length digits.now }
+        ensures few { result.zeros ≤ self.zeros + 2 ^ 64 }
     {
         let mut all = self;
         for digit in digits {
@@ -205,13 +215,23 @@ fn value_up_to_far(digits: &[u8]) -> u128
 /// The number that perhaps a sign, and digits write.
 fn signed_up_to_far(text: &[u8]) -> i128
     requires { IsTrue (list_all is_digit (without_leading_sign text.now)) }
-    ensures { StandsFor (10 ^ 30) (signed_digits_value 10 text.now) result }
+    ensures value { StandsFor (10 ^ 30) (signed_digits_value 10 text.now) result }
+    ensures in_range { unsigned_abs result ≤ 10 ^ 30 }
 {
     match text {
         [b'-', digits @ ..] => -(value_up_to_far(digits) as i128),
         [b'+', digits @ ..] => value_up_to_far(digits) as i128,
         digits => value_up_to_far(digits) as i128,
     }
+}
+
+/// The exponent of digits that have some behind the point, once the zeros at their end are taken off.
+fn of_digits(written: i128, behind_point: usize, zeros: u128) -> i128
+    requires written { unsigned_abs written ≤ 10 ^ 30 }
+    requires zeros { zeros ≤ 2 ^ 66 }
+    ensures { (e : ℤ) → StandsFor (10 ^ 30) e written → StandsFor 1000 ((e -ℤ pos behind_point) +ℤ pos zeros) result }
+{
+    written - behind_point as i128 + zeros as i128
 }
 
 impl Reduced {
@@ -228,26 +248,23 @@ impl Reduced {
         let written = signed_up_to_far(exponent);
         Some(Reduced {
             digits: digits.front,
-            exponent: written - behind_point.len() as i128 + digits.zeros as i128,
+            exponent: of_digits(written, behind_point.len(), digits.zeros),
         })
     }
 
     fn whole(self) -> Whole
         ensures { (m : ℕ) (e : ℤ) → IsReduced m e self.digits self.exponent → IsWhole m e result }
     {
-        if self.digits == Some(0) {
+        let Some(digits) = self.digits else {
+            return if self.exponent < 0 { Whole::Fraction } else { Whole::TooLarge };
+        };
+        if digits == 0 {
             return Whole::Value(0);
         }
         if self.exponent < 0 {
             return Whole::Fraction;
         }
-        let Some(digits) = self.digits else {
-            return Whole::TooLarge;
-        };
-        match with_zeros(digits, self.exponent as u128) {
-            Some(number) if number <= u128::from(u64::MAX) => Whole::Value(number as u64),
-            _ => Whole::TooLarge,
-        }
+        whole_with_zeros(digits, self.exponent as u128)
     }
 }
 
