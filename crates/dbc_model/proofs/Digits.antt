@@ -30,6 +30,9 @@ digit_behind m digits zeros digit h some small more kept = record {
 pub kept_is : (n m : ℕ) → Some n ≡ at_most_36_digits m → n ≡ m
 kept_is n m e = grind (arith, nat_tests)
 
+pub kept_small : (n m : ℕ) → Some n ≡ at_most_36_digits m → n < 10 ^ 36
+kept_small n m e = grind (arith, nat_tests)
+
 pub dropped_is : (m : ℕ) → None ≡ at_most_36_digits m → 10 ^ 36 ≤ m
 dropped_is m e = grind (arith, nat_tests)
 

@@ -1,7 +1,6 @@
 //! Exact decimals.
-ghost use Rattle.std.specs.Prelude.{ℕ, ℤ, MatchOption};
-ghost use Rattle.dbc_model.specs.Numbers.{IsReduced};
-ghost use Rattle.dbc_model.specs.Decimals.{Decimal as Decimals, IsDecimalOf, SpellsDecimal, SpellsSigned};
+ghost use Rattle.std.specs.Prelude.{MatchOption};
+ghost use Rattle.dbc_model.specs.Decimals.{Decimal as Decimals, SpellsDecimal, SpellsSigned};
 
 use crate::number::Reduced;
 use std::marker::Model;
@@ -32,9 +31,13 @@ impl Decimal {
     /// The least exponent is the negation of this, the greatest is this.
     pub const MAX_EXPONENT: i16 = 400;
 
-    fn of_reduced(negative: bool, number: Reduced) -> Option<Decimal>
-        ensures { (m : ℕ) (e : ℤ) → IsReduced m e number.digits number.exponent → MatchOption result ((d : Decimals) → IsDecimalOf negative m e d → ⊥) (IsDecimalOf negative m e) }
+    /// The decimal that a number without a sign is, negated where `negative` is true, or `None` where the bytes are no
+    /// number, where it takes more than 36 digits, or where its exponent, the zeros at the end of its digits counted
+    /// with it, is beyond [`Decimal::MAX_EXPONENT`]. A zero is 0 whatever its sign and exponent.
+    pub fn of_number(negative: bool, number: &[u8]) -> Option<Decimal>
+        ensures { MatchOption result ((d : Decimals) → SpellsDecimal negative number.now d → ⊥) (SpellsDecimal negative number.now) }
     {
+        let number = Reduced::read(number)?;
         let mantissa = number.digits?;
         if mantissa == 0 {
             return Some(Decimal {
@@ -52,15 +55,6 @@ impl Decimal {
             mantissa,
             exponent: number.exponent as i16,
         })
-    }
-
-    /// The decimal that a number without a sign is, negated where `negative` is true, or `None` where the bytes are no
-    /// number, where it takes more than 36 digits, or where its exponent, the zeros at the end of its digits counted
-    /// with it, is beyond [`Decimal::MAX_EXPONENT`]. A zero is 0 whatever its sign and exponent.
-    pub fn of_number(negative: bool, number: &[u8]) -> Option<Decimal>
-        ensures { MatchOption result ((d : Decimals) → SpellsDecimal negative number.now d → ⊥) (SpellsDecimal negative number.now) }
-    {
-        Decimal::of_reduced(negative, Reduced::read(number)?)
     }
 
     /// The decimal of a number that may have a sign before it; [`Decimal::of_number`] says when there is none.

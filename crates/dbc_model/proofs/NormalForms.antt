@@ -1,0 +1,124 @@
+-- The normal form of a number is one, and it is there where the digits and the exponent are within the bounds.
+use Rattle.std.proofs.Common.{◌≡◌, ◌≢◌, ℕ, ℤ, pos, negsuc, suc, ◌+◌, ◌-◌, ◌*◌, ◌^◌, ◌%◌, ◌<◌, ◌≤◌, ◌+ℤ◌, ◌-ℤ◌, ◌≤ℤ◌, ◌<ℤ◌, ◌⊎◌, inl, inr, nat_lt, Option, Some, None, refl, sym, ap, subst, ◌∙◌, arith, if◌then◌else◌, true, false, Bool, IsTrue, not, ◌&&◌, eqb}
+use Rattle.std.specs.Prelude.{int_le}
+use Rattle.std.specs.Ordering.{int_eq}
+use Rattle.std.proofs.Math.Nat.{zero-mul}
+use Rattle.std.proofs.lemmas.Bool.{and_parts, and_from, eqb-true, eqb-false, ne_eqb, eq-eqb, ltb-true, lt-ltb, not-true, not-false, cases_eq, cases_Bool}
+use Rattle.std.proofs.lemmas.Bool.Decides.{nat_tests, Decides-int_eq}
+use Rattle.std.proofs.lemmas.Int.{ints}
+use Rattle.dbc_model.specs.Decimals.{Decimal, decimal_fits, HasValue, IsDecimalOf}
+use Rattle.dbc_model.specs.Numbers.{HasDigits, IsReduced, StandsFor, at_most_36_digits}
+use Rattle.dbc_model.proofs.Powers.{one_way, SameTens, at_least_itself}
+use Rattle.dbc_model.proofs.Digits.{kept_is, kept_small, dropped_is}
+
+-- the bounds of a decimal that is not zero
+pub record WithinBounds (mantissa : ℕ) (exponent : ℤ) : Type 0 where
+  pub digits : mantissa < 10 ^ 36
+  pub last : mantissa % 10 ≢ 0
+  pub least : (pos 0 -ℤ pos 400) ≤ℤ exponent
+  pub greatest : exponent ≤ℤ pos 400
+
+int_le-true : (a b : ℤ) → int_le a b ≡ true → a ≤ℤ b
+int_le-true a b h = grind (arith, ints)
+
+le-int_le : (a b : ℤ) → a ≤ℤ b → int_le a b ≡ true
+le-int_le a b h = grind (arith, ints)
+
+pub bounds_of : (negative : Bool) (mantissa : ℕ) (exponent : ℤ) → mantissa ≢ 0 → IsTrue (decimal_fits negative mantissa exponent) → WithinBounds mantissa exponent
+unfolding decimal_fits
+bounds_of negative mantissa exponent some fits =
+    let within : (nat_lt mantissa (10 ^ 36) && not (eqb (mantissa % 10) 0) && int_le (negsuc 399) exponent && int_le exponent (pos 400)) ≡ true = rw (ne_eqb mantissa 0 some) at fits in
+    let a = and_parts (nat_lt mantissa (10 ^ 36) && not (eqb (mantissa % 10) 0) && int_le (negsuc 399) exponent) (int_le exponent (pos 400)) within in
+    let b = and_parts (nat_lt mantissa (10 ^ 36) && not (eqb (mantissa % 10) 0)) (int_le (negsuc 399) exponent) a.0 in
+    let d = and_parts (nat_lt mantissa (10 ^ 36)) (not (eqb (mantissa % 10) 0)) b.0 in
+    record {
+      digits = ltb-true mantissa (10 ^ 36) d.0;
+      last = eqb-false (mantissa % 10) 0 (not-true (eqb (mantissa % 10) 0) d.1);
+      least = omega (arith, ints, int_le-true (negsuc 399) exponent b.1);
+      greatest = int_le-true exponent (pos 400) a.1;
+    }
+
+pub fits_within : (negative : Bool) (mantissa : ℕ) (exponent : ℤ) → WithinBounds mantissa exponent → IsTrue (decimal_fits negative mantissa exponent)
+unfolding decimal_fits
+fits_within negative mantissa exponent w =
+    let some : mantissa ≢ 0 = λ zero. w.last (ap (λ (n : ℕ). n % 10) zero) in
+    rw (ne_eqb mantissa 0 some)
+    (and_from (nat_lt mantissa (10 ^ 36) && not (eqb (mantissa % 10) 0) && int_le (negsuc 399) exponent) (int_le exponent (pos 400))
+      (and_from (nat_lt mantissa (10 ^ 36) && not (eqb (mantissa % 10) 0)) (int_le (negsuc 399) exponent)
+        (and_from (nat_lt mantissa (10 ^ 36)) (not (eqb (mantissa % 10) 0)) (lt-ltb mantissa (10 ^ 36) w.digits) (rw (ne_eqb (mantissa % 10) 0 w.last) refl))
+        (le-int_le (negsuc 399) exponent (omega (arith, ints, w.least))))
+      (le-int_le exponent (pos 400) w.greatest))
+
+-- a decimal of a number of which the digits are known has these, and their exponent and sign
+pub record SameParts (negative : Bool) (n : ℕ) (e : ℤ) (d : Decimal) : Type 0 where
+  pub mantissa : n ≡ d.mantissa
+  pub exponent : d.exponent ≡ e
+  pub sign : d.negative ≡ negative
+  pub within : WithinBounds n e
+
+nothing : (n z : ℕ) → n * 10 ^ z ≡ 0 → n ≡ 0
+nothing n z e = omega (arith, at_least_itself n z)
+
+pub same_parts : (negative : Bool) (m n z : ℕ) (e : ℤ) (d : Decimal) → m ≡ n * 10 ^ z → n % 10 ≢ 0 → IsDecimalOf negative m e d → SameParts negative n (e +ℤ pos z) d
+same_parts negative m n z e d value last is = elim is.value [
+    | inl zero ↦ absurd (last (ap (λ (i : ℕ). i % 10) (nothing n z (sym value ∙ zero.0))))
+    | inr some ↦
+        let not_zero : d.mantissa ≢ 0 = λ none.
+            let gone : m ≡ 0 = some.1 ∙ ap (λ (i : ℕ). i * 10 ^ some.0) none ∙ zero-mul (10 ^ some.0) in
+            last (ap (λ (i : ℕ). i % 10) (nothing n z (sym value ∙ gone))) in
+        let bounds = bounds_of d.negative d.mantissa d.exponent not_zero is.fits in
+        let same : SameTens n d.mantissa z some.0 = one_way n d.mantissa z some.0 (sym value ∙ some.1) last bounds.last in
+        let exponent : d.exponent ≡ (e +ℤ pos z) = some.2 ∙ ap (λ (i : ℕ). e +ℤ pos i) (sym same.zeros) in
+        record {
+          mantissa = same.number;
+          exponent = exponent;
+          sign = some.3;
+          within = record { digits = omega (arith, same.number, bounds.digits); last = last; least = rw exponent at bounds.least; greatest = rw exponent at bounds.greatest };
+        }
+  ]
+
+pub no_decimal_long : (negative : Bool) (m : ℕ) (e x : ℤ) (r : IsReduced m e None x) (d : Decimal) → IsDecimalOf negative m e d → ⊥
+no_decimal_long negative m e x r d is =
+    let long : 10 ^ 36 ≤ r.front.front = dropped_is r.front.front r.front.kept in
+    let last : r.front.front % 10 ≢ 0 = λ zero. absurd (omega (arith, r.front.last zero)) in
+    let same = same_parts negative m r.front.front r.zeros e d r.front.value last is in
+    absurd (omega (arith, same.within.digits))
+
+-- the last digit is not zero where the digits are not 0
+last_of : (m n : ℕ) (e x : ℤ) (r : IsReduced m e (Some n) x) → n ≢ 0 → n % 10 ≢ 0
+last_of m n e x r some zero =
+    let front : n ≡ r.front.front = kept_is n r.front.front r.front.kept in
+    some (front ∙ r.front.last (ap (λ (i : ℕ). i % 10) (sym front) ∙ zero))
+
+value_of : (m n : ℕ) (e x : ℤ) (r : IsReduced m e (Some n) x) → m ≡ n * 10 ^ r.zeros
+value_of m n e x r = r.front.value ∙ ap (λ (i : ℕ). i * 10 ^ r.zeros) (sym (kept_is n r.front.front r.front.kept))
+
+near_is : (e x : ℤ) → StandsFor 1000 e x → (pos 0 -ℤ pos 400) ≤ℤ e → e ≤ℤ pos 400 → x ≡ e
+near_is e x (inl same) low high = same
+near_is e x (inr (inl above)) low high = absurd (omega (arith, ints, above.1))
+near_is e x (inr (inr below)) low high = absurd (omega (arith, ints, below.1))
+
+is_near : (e x : ℤ) → StandsFor 1000 e x → (pos 0 -ℤ pos 400) ≤ℤ x → x ≤ℤ pos 400 → x ≡ e
+is_near e x (inl same) low high = same
+is_near e x (inr (inl above)) low high = absurd (omega (arith, ints, above.0))
+is_near e x (inr (inr below)) low high = absurd (omega (arith, ints, below.0))
+
+pub no_decimal_far : (negative : Bool) (m n : ℕ) (e x : ℤ) (r : IsReduced m e (Some n) x) → n ≢ 0 → ((pos 0 -ℤ pos 400) ≤ℤ x → x ≤ℤ pos 400 → ⊥) → (d : Decimal) → IsDecimalOf negative m e d → ⊥
+no_decimal_far negative m n e x r some far d is =
+    let same = same_parts negative m n r.zeros e d (value_of m n e x r) (last_of m n e x r some) is in
+    let exponent : x ≡ (e +ℤ pos r.zeros) = near_is (e +ℤ pos r.zeros) x r.power same.within.least same.within.greatest in
+    far (omega (arith, ints, same.within.least)) (omega (arith, ints, same.within.greatest))
+
+pub within_bounds : (m n : ℕ) (e x : ℤ) (r : IsReduced m e (Some n) x) → n ≢ 0 → (pos 0 -ℤ pos 400) ≤ℤ x → x ≤ℤ pos 400 → WithinBounds n x
+within_bounds m n e x r some low high = record { digits = kept_small n r.front.front r.front.kept; last = last_of m n e x r some; least = low; greatest = high }
+
+pub decimal_is : (negative : Bool) (m n : ℕ) (e x : ℤ) (r : IsReduced m e (Some n) x) → n ≢ 0 → (pos 0 -ℤ pos 400) ≤ℤ x → x ≤ℤ pos 400
+    → IsDecimalOf negative m e (record { negative = negative; mantissa = n; exponent = x })
+decimal_is negative m n e x r some low high = record {
+  fits = fits_within negative n x (within_bounds m n e x r some low high);
+  value = inr (r.zeros, value_of m n e x r, is_near (e +ℤ pos r.zeros) x r.power low high, refl);
+}
+
+pub zero_is : (negative : Bool) (m : ℕ) (e x : ℤ) → IsReduced m e (Some 0) x → IsDecimalOf negative m e (record { negative = false; mantissa = 0; exponent = pos 0 })
+unfolding decimal_fits
+zero_is negative m e x r = record { fits = refl; value = inl (value_of m 0 e x r ∙ zero-mul (10 ^ r.zeros), refl) }
