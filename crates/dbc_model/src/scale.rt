@@ -1,6 +1,6 @@
 //! The scale of a signal, in whole numbers.
 ghost use Rattle.std.specs.Prelude.{◌≡◌, ℕ, ◌*◌, ◌+ℤ◌, ◌*ℤ◌, ◌^◌, ◌≤◌, nat_lt, Some, None, unsigned_abs, if◌then◌else◌};
-ghost use Rattle.dbc_model.specs.Scales.{digits_behind, magnitude_at, signed, reach_fits, scale_fits, scale_of};
+ghost use Rattle.dbc_model.specs.Scales.{digits_behind, places_of, magnitude_at, signed, whole_at, reach_fits, scale_fits, scale_of};
 
 use crate::decimal::Decimal;
 use crate::number::{LIMIT, with_zeros};
@@ -34,13 +34,11 @@ fn digits_behind(exponent: i16) -> u16
     if exponent < 0 { exponent.unsigned_abs() } else { 0 }
 }
 
-/// The decimal times the power of ten, without its sign.
-fn magnitude_at(places: u16, decimal: &Decimal) -> Option<u128>
-    requires { digits_behind decimal.now.exponent ≤ places }
-    ensures { result ≡ (if nat_lt (magnitude_at places decimal.now) (10 ^ 38) then Some (magnitude_at places decimal.now) else None) }
+/// The fewest places at which both decimals are whole.
+fn places_of(factor: &Decimal, offset: &Decimal) -> u16
+    ensures { result ≡ places_of factor.now offset.now }
 {
-    let zeros = i32::from(places) + i32::from(decimal.exponent);
-    with_zeros(decimal.mantissa, zeros as u128)
+    digits_behind(factor.exponent).max(digits_behind(offset.exponent))
 }
 
 fn signed(negative: bool, number: u128) -> i128
@@ -48,6 +46,16 @@ fn signed(negative: bool, number: u128) -> i128
     ensures { result ≡ signed negative number }
 {
     if negative { -(number as i128) } else { number as i128 }
+}
+
+/// The decimal as a whole number once its point is moved that many places, where that has at most 38 digits.
+fn whole_at(places: u16, decimal: &Decimal) -> Option<i128>
+    requires { digits_behind decimal.now.exponent ≤ places }
+    ensures { result ≡ (if nat_lt (magnitude_at places decimal.now) (10 ^ 38) then Some (whole_at places decimal.now) else None) }
+{
+    let zeros = i32::from(places) + i32::from(decimal.exponent);
+    let magnitude = with_zeros(decimal.mantissa, zeros as u128)?;
+    Some(signed(decimal.negative, magnitude))
 }
 
 /// Whether all values are within the bound.
@@ -77,18 +85,18 @@ impl Scale {
     pub fn of(factor: &Decimal, offset: &Decimal, length: u16) -> Option<Scale>
         ensures { result ≡ (if scale_fits factor.now offset.now length then Some (scale_of factor.now offset.now length) else None) }
     {
-        let places = digits_behind(factor.exponent).max(digits_behind(offset.exponent));
+        let places = places_of(factor, offset);
         if length > Scale::MAX_LENGTH || places > Scale::MAX_PLACES {
             return None;
         }
-        let whole_factor = magnitude_at(places, factor)?;
-        let whole_offset = magnitude_at(places, offset)?;
-        if !reach_fits(whole_factor, whole_offset, length as u8) {
+        let whole_factor = whole_at(places, factor)?;
+        let whole_offset = whole_at(places, offset)?;
+        if !reach_fits(whole_factor.unsigned_abs(), whole_offset.unsigned_abs(), length as u8) {
             return None;
         }
         Some(Scale {
-            factor: signed(factor.negative, whole_factor),
-            offset: signed(offset.negative, whole_offset),
+            factor: whole_factor,
+            offset: whole_offset,
             places: places as u8,
             length: length as u8,
         })
