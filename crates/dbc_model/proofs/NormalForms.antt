@@ -122,3 +122,48 @@ decimal_is negative m n e x r some low high = record {
 pub zero_is : (negative : Bool) (m : ℕ) (e x : ℤ) → IsReduced m e (Some 0) x → IsDecimalOf negative m e (record { negative = false; mantissa = 0; exponent = pos 0 })
 unfolding decimal_fits
 zero_is negative m e x r = record { fits = refl; value = inl (value_of m 0 e x r ∙ zero-mul (10 ^ r.zeros), refl) }
+
+-- ---- one decimal
+
+same_decimal : (a b : Decimal) → a.negative ≡ b.negative → a.mantissa ≡ b.mantissa → a.exponent ≡ b.exponent → a ≡ b
+same_decimal a b negative mantissa exponent = λ i. record { negative = negative i; mantissa = mantissa i; exponent = exponent i }
+
+record IsZero (d : Decimal) : Type 0 where
+  negative : d.negative ≡ false
+  mantissa : d.mantissa ≡ 0
+  exponent : d.exponent ≡ pos 0
+
+zero_parts : (d : Decimal) → d.mantissa ≡ 0 → IsTrue (decimal_fits d.negative d.mantissa d.exponent) → IsZero d
+unfolding decimal_fits
+zero_parts d none fits =
+    let parts : (not d.negative && int_eq d.exponent (pos 0)) ≡ true = rw (eq-eqb d.mantissa 0 none) at fits in
+    let both = and_parts (not d.negative) (int_eq d.exponent (pos 0)) parts in
+    record { negative = not-true d.negative both.0; mantissa = none; exponent = (Decides-int_eq d.exponent (pos 0)).0 both.1 }
+
+-- a number is 0 exactly where its decimal is
+zero_from : (negative : Bool) (m : ℕ) (e : ℤ) (d : Decimal) → d.mantissa ≡ 0 → IsDecimalOf negative m e d → m ≡ 0
+zero_from negative m e d none is = elim is.value [
+    | inl zero ↦ zero.0
+    | inr some ↦ some.1 ∙ ap (λ (i : ℕ). i * 10 ^ some.0) none ∙ zero-mul (10 ^ some.0)
+  ]
+
+zero_to : (negative : Bool) (m : ℕ) (e : ℤ) (d : Decimal) → m ≡ 0 → IsDecimalOf negative m e d → IsZero d
+zero_to negative m e d none is = elim is.value [
+    | inl zero ↦ zero_parts d zero.1 is.fits
+    | inr some ↦ zero_parts d (nothing d.mantissa some.0 (sym some.1 ∙ none)) is.fits
+  ]
+
+pub one_decimal : (negative : Bool) (m : ℕ) (e : ℤ) (a b : Decimal) → IsDecimalOf negative m e a → IsDecimalOf negative m e b → a ≡ b
+one_decimal negative m e a b is-a is-b = elim (cases_eq a.mantissa 0) [
+    | inl none ↦
+        let m-none = zero_from negative m e a none is-a in
+        let p = zero_to negative m e a m-none is-a in
+        let q = zero_to negative m e b m-none is-b in
+        same_decimal a b (p.negative ∙ sym q.negative) (p.mantissa ∙ sym q.mantissa) (p.exponent ∙ sym q.exponent)
+    | inr some ↦ elim is-a.value [
+        | inl zero ↦ absurd (some zero.1)
+        | inr at ↦
+            let parts = same_parts negative m a.mantissa at.0 e b at.1 (bounds_of a.negative a.mantissa a.exponent some is-a.fits).last is-b in
+            same_decimal a b (at.3 ∙ sym parts.sign) parts.mantissa (at.2 ∙ sym parts.exponent)
+      ]
+  ]

@@ -8,7 +8,7 @@ use Rattle.std.proofs.Math.Nat.{zero-mul}
 use Rattle.dbc_model.specs.declared.number.Whole.{Whole}
 use Rattle.dbc_model.specs.declared.number.Whole.TheVariants.{Fraction, TooLarge, Value}
 use Rattle.dbc_model.specs.Numbers.{IsWholeNumber, IsWhole, HasDigits, IsReduced, StandsFor, at_most_36_digits}
-use Rattle.dbc_model.proofs.Powers.{tens_apart, ends_in_zero, at_least_itself, tens_at_least}
+use Rattle.dbc_model.proofs.Powers.{same_tens, tens_apart, ends_in_zero, at_least_itself, tens_at_least}
 use Rattle.dbc_model.proofs.Digits.{kept_is, dropped_is}
 
 -- the digits of the front with fewer zeros, where the exponent takes some away, or with more
@@ -104,3 +104,21 @@ at_sign m d e (negsuc k) r some more = absurd (omega (arith, ints))
 
 pub with_zeros_at : (m d : ℕ) (e x z : ℤ) → z ≡ x → (r : IsReduced m e (Some d) x) → d ≢ 0 → pos 0 ≤ℤ x → IsWhole m e (as_whole (d * 10 ^ unsigned_abs z))
 with_zeros_at m d e x z same r some more = rw same (at_sign m d e x r some more)
+
+-- ---- one whole number
+
+same_whole : (m : ℕ) (e : ℤ) (a b : ℕ) → IsWholeNumber m e a → IsWholeNumber m e b → a ≡ b
+unfolding IsWholeNumber
+same_whole m (pos k) a b p q = p ∙ sym q
+same_whole m (negsuc k) a b p q = same_tens a b (k + 1) (sym p ∙ q)
+
+pub one_whole : (m : ℕ) (e : ℤ) (a b : Whole) → IsWhole m e a → IsWhole m e b → a ≡ b
+one_whole m e Fraction Fraction p q = refl
+one_whole m e Fraction TooLarge p q = absurd (p q.0 q.2)
+one_whole m e Fraction (Value b) p q = absurd (p b q.1)
+one_whole m e TooLarge Fraction p q = absurd (q p.0 p.2)
+one_whole m e TooLarge TooLarge p q = refl
+one_whole m e TooLarge (Value b) p q = absurd (omega (arith, p.1, q.0, same_whole m e p.0 b p.2 q.1))
+one_whole m e (Value a) Fraction p q = absurd (q a p.1)
+one_whole m e (Value a) TooLarge p q = absurd (omega (arith, p.0, q.1, same_whole m e a q.0 p.1 q.2))
+one_whole m e (Value a) (Value b) p q = ap Value (same_whole m e a b p.1 q.1)

@@ -8,6 +8,7 @@ mod decimal;
 mod device;
 mod from_std;
 mod head;
+pub mod laws;
 pub mod limp;
 mod list;
 mod memory;
