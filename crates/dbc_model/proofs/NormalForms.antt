@@ -44,10 +44,10 @@ fits_within negative mantissa exponent w =
     let some : mantissa ≢ 0 = λ zero. w.last (ap (λ (n : ℕ). n % 10) zero) in
     rw (ne_eqb mantissa 0 some)
     (and_from (nat_lt mantissa (10 ^ 36) && not (eqb (mantissa % 10) 0) && int_le (negsuc 399) exponent) (int_le exponent (pos 400))
-      (and_from (nat_lt mantissa (10 ^ 36) && not (eqb (mantissa % 10) 0)) (int_le (negsuc 399) exponent)
-        (and_from (nat_lt mantissa (10 ^ 36)) (not (eqb (mantissa % 10) 0)) (lt-ltb mantissa (10 ^ 36) w.digits) (rw (ne_eqb (mantissa % 10) 0 w.last) refl))
-        (le-int_le (negsuc 399) exponent (omega (arith, ints, w.least))))
-      (le-int_le exponent (pos 400) w.greatest))
+    (and_from (nat_lt mantissa (10 ^ 36) && not (eqb (mantissa % 10) 0)) (int_le (negsuc 399) exponent)
+    (and_from (nat_lt mantissa (10 ^ 36)) (not (eqb (mantissa % 10) 0)) (lt-ltb mantissa (10 ^ 36) w.digits) (rw (ne_eqb (mantissa % 10) 0 w.last) refl))
+    (le-int_le (negsuc 399) exponent (omega (arith, ints, w.least))))
+    (le-int_le exponent (pos 400) w.greatest))
 
 -- a decimal of a number of which the digits are known has these, and their exponent and sign
 pub record SameParts (negative : Bool) (n : ℕ) (e : ℤ) (d : Decimal) : Type 0 where
@@ -61,21 +61,21 @@ nothing n z e = omega (arith, at_least_itself n z)
 
 pub same_parts : (negative : Bool) (m n z : ℕ) (e : ℤ) (d : Decimal) → m ≡ n * 10 ^ z → n % 10 ≢ 0 → IsDecimalOf negative m e d → SameParts negative n (e +ℤ pos z) d
 same_parts negative m n z e d value last is = elim is.value [
-    | inl zero ↦ absurd (last (ap (λ (i : ℕ). i % 10) (nothing n z (sym value ∙ zero.0))))
-    | inr some ↦
-        let not_zero : d.mantissa ≢ 0 = λ none.
-            let gone : m ≡ 0 = some.1 ∙ ap (λ (i : ℕ). i * 10 ^ some.0) none ∙ zero-mul (10 ^ some.0) in
-            last (ap (λ (i : ℕ). i % 10) (nothing n z (sym value ∙ gone))) in
-        let bounds = bounds_of d.negative d.mantissa d.exponent not_zero is.fits in
-        let same : SameTens n d.mantissa z some.0 = one_way n d.mantissa z some.0 (sym value ∙ some.1) last bounds.last in
-        let exponent : d.exponent ≡ (e +ℤ pos z) = some.2 ∙ ap (λ (i : ℕ). e +ℤ pos i) (sym same.zeros) in
-        record {
-          mantissa = same.number;
-          exponent = exponent;
-          sign = some.3;
-          within = record { digits = omega (arith, same.number, bounds.digits); last = last; least = rw exponent at bounds.least; greatest = rw exponent at bounds.greatest };
-        }
-  ]
+  | inl zero ↦ absurd (last (ap (λ (i : ℕ). i % 10) (nothing n z (sym value ∙ zero.0))))
+  | inr some ↦
+      let not_zero : d.mantissa ≢ 0 = λ none.
+      let gone : m ≡ 0 = some.1 ∙ ap (λ (i : ℕ). i * 10 ^ some.0) none ∙ zero-mul (10 ^ some.0) in
+      last (ap (λ (i : ℕ). i % 10) (nothing n z (sym value ∙ gone))) in
+      let bounds = bounds_of d.negative d.mantissa d.exponent not_zero is.fits in
+      let same : SameTens n d.mantissa z some.0 = one_way n d.mantissa z some.0 (sym value ∙ some.1) last bounds.last in
+      let exponent : d.exponent ≡ (e +ℤ pos z) = some.2 ∙ ap (λ (i : ℕ). e +ℤ pos i) (sym same.zeros) in
+      record {
+        mantissa = same.number;
+        exponent = exponent;
+        sign = some.3;
+        within = record { digits = omega (arith, same.number, bounds.digits); last = last; least = rw exponent at bounds.least; greatest = rw exponent at bounds.greatest };
+      }
+]
 
 pub no_decimal_long : (negative : Bool) (m : ℕ) (e x : ℤ) (r : IsReduced m e None x) (d : Decimal) → IsDecimalOf negative m e d → ⊥
 no_decimal_long negative m e x r d is =
@@ -143,27 +143,27 @@ zero_parts d none fits =
 -- a number is 0 exactly where its decimal is
 zero_from : (negative : Bool) (m : ℕ) (e : ℤ) (d : Decimal) → d.mantissa ≡ 0 → IsDecimalOf negative m e d → m ≡ 0
 zero_from negative m e d none is = elim is.value [
-    | inl zero ↦ zero.0
-    | inr some ↦ some.1 ∙ ap (λ (i : ℕ). i * 10 ^ some.0) none ∙ zero-mul (10 ^ some.0)
-  ]
+  | inl zero ↦ zero.0
+  | inr some ↦ some.1 ∙ ap (λ (i : ℕ). i * 10 ^ some.0) none ∙ zero-mul (10 ^ some.0)
+]
 
 zero_to : (negative : Bool) (m : ℕ) (e : ℤ) (d : Decimal) → m ≡ 0 → IsDecimalOf negative m e d → IsZero d
 zero_to negative m e d none is = elim is.value [
-    | inl zero ↦ zero_parts d zero.1 is.fits
-    | inr some ↦ zero_parts d (nothing d.mantissa some.0 (sym some.1 ∙ none)) is.fits
-  ]
+  | inl zero ↦ zero_parts d zero.1 is.fits
+  | inr some ↦ zero_parts d (nothing d.mantissa some.0 (sym some.1 ∙ none)) is.fits
+]
 
 pub one_decimal : (negative : Bool) (m : ℕ) (e : ℤ) (a b : Decimal) → IsDecimalOf negative m e a → IsDecimalOf negative m e b → a ≡ b
 one_decimal negative m e a b is-a is-b = elim (cases_eq a.mantissa 0) [
-    | inl none ↦
-        let m-none = zero_from negative m e a none is-a in
-        let p = zero_to negative m e a m-none is-a in
-        let q = zero_to negative m e b m-none is-b in
-        same_decimal a b (p.negative ∙ sym q.negative) (p.mantissa ∙ sym q.mantissa) (p.exponent ∙ sym q.exponent)
-    | inr some ↦ elim is-a.value [
-        | inl zero ↦ absurd (some zero.1)
-        | inr at ↦
-            let parts = same_parts negative m a.mantissa at.0 e b at.1 (bounds_of a.negative a.mantissa a.exponent some is-a.fits).last is-b in
-            same_decimal a b (at.3 ∙ sym parts.sign) parts.mantissa (at.2 ∙ sym parts.exponent)
-      ]
+  | inl none ↦
+      let m-none = zero_from negative m e a none is-a in
+      let p = zero_to negative m e a m-none is-a in
+      let q = zero_to negative m e b m-none is-b in
+      same_decimal a b (p.negative ∙ sym q.negative) (p.mantissa ∙ sym q.mantissa) (p.exponent ∙ sym q.exponent)
+  | inr some ↦ elim is-a.value [
+    | inl zero ↦ absurd (some zero.1)
+    | inr at ↦
+        let parts = same_parts negative m a.mantissa at.0 e b at.1 (bounds_of a.negative a.mantissa a.exponent some is-a.fits).last is-b in
+        same_decimal a b (at.3 ∙ sym parts.sign) parts.mantissa (at.2 ∙ sym parts.exponent)
   ]
+]

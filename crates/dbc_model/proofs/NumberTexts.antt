@@ -70,7 +70,7 @@ reduced number before behind digits zeros x before-is behind-is has stands = rec
   zeros = zeros;
   front =
       let e : digits_value_after 10 (digits_value_after 10 0 before) behind ≡ digits_value 10 (digits_before_point number ++ digits_behind_point number) =
-          sym (value_append 0 before behind) ∙ ap (λ (t : List ℕ). digits_value 10 (t ++ behind)) before-is ∙ ap (λ (t : List ℕ). digits_value 10 (digits_before_point number ++ t)) behind-is in
+      sym (value_append 0 before behind) ∙ ap (λ (t : List ℕ). digits_value 10 (t ++ behind)) before-is ∙ ap (λ (t : List ℕ). digits_value 10 (digits_before_point number ++ t)) behind-is in
       rw e at has;
   power = rw behind-is at stands;
 }

@@ -74,9 +74,9 @@ as_whole n = if nat_lt n (2 ^ 64) then Value n else TooLarge
 
 exact_whole : (m n : ℕ) (e : ℤ) → IsWholeNumber m e n → IsWhole m e (as_whole n)
 exact_whole m n e w = elim (cases_lt n (2 ^ 64)) [
-    | inl less ↦ rw (lt-ltb n (2 ^ 64) less) (less, w)
-    | inr more ↦ rw (le-ltb n (2 ^ 64) more) (n, more, w)
-  ]
+  | inl less ↦ rw (lt-ltb n (2 ^ 64) less) (less, w)
+  | inr more ↦ rw (le-ltb n (2 ^ 64) more) (n, more, w)
+]
 
 pub with_zeros_behind : (m d : ℕ) (e : ℤ) (y : ℕ) (r : IsReduced m e (Some d) (pos y)) → d ≢ 0 → IsWhole m e (as_whole (d * 10 ^ y))
 with_zeros_behind m d e y r some =
@@ -86,15 +86,15 @@ with_zeros_behind m d e y r some =
           let w : IsWholeNumber m e (d * 10 ^ y) = rw front (whole_front m y e (pos y) (Some d) r (sym same)) in
           exact_whole m (d * 10 ^ y) e w
       | inr far ↦ elim far [
-          | inl above ↦
-              let reached = at_or_above (e +ℤ pos r.zeros) (omega (arith, ints, above.1)) in
-              let w : IsWholeNumber m e (d * 10 ^ reached.0) = rw front (whole_front m reached.0 e (pos y) (Some d) r reached.1) in
-              let t : 1000 ≤ reached.0 = omega (arith, ints, above.1, reached.1) in
-              let long : 10 ^ 38 ≤ d * 10 ^ reached.0 = tens_at_least d 38 reached.0 (omega arith) (omega arith) in
-              let long' : 10 ^ 38 ≤ d * 10 ^ y = tens_at_least d 38 y (omega arith) (omega (arith, ints, above.0)) in
-              rw (le-ltb (d * 10 ^ y) (2 ^ 64) (omega arith)) (d * 10 ^ reached.0, omega arith, w)
-          | inr below ↦ absurd (omega (arith, ints, below.0))
-        ]
+        | inl above ↦
+            let reached = at_or_above (e +ℤ pos r.zeros) (omega (arith, ints, above.1)) in
+            let w : IsWholeNumber m e (d * 10 ^ reached.0) = rw front (whole_front m reached.0 e (pos y) (Some d) r reached.1) in
+            let t : 1000 ≤ reached.0 = omega (arith, ints, above.1, reached.1) in
+            let long : 10 ^ 38 ≤ d * 10 ^ reached.0 = tens_at_least d 38 reached.0 (omega arith) (omega arith) in
+            let long' : 10 ^ 38 ≤ d * 10 ^ y = tens_at_least d 38 y (omega arith) (omega (arith, ints, above.0)) in
+            rw (le-ltb (d * 10 ^ y) (2 ^ 64) (omega arith)) (d * 10 ^ reached.0, omega arith, w)
+        | inr below ↦ absurd (omega (arith, ints, below.0))
+      ]
     ]
 
 -- the same for an exponent that is cast to a count of zeros

@@ -70,16 +70,16 @@ fn has_exponent_mark(bytes: &[u8]) -> bool
     bytes.iter().any(|b| is_exponent_mark(*b))
 }
 
-/// How many bytes stand before the exponent.
-fn mantissa_length(bytes: &[u8]) -> usize
+/// Where the `E` stands, or the length where there is none.
+fn exponent_place(bytes: &[u8]) -> usize
     ensures value { result ≡ position_or_len is_exponent_mark bytes.now }
     ensures in_range { result ≤ length bytes.now }
 {
     bytes.iter().take_while(|b| !is_exponent_mark(**b)).count()
 }
 
-/// How many bytes stand before the point.
-fn whole_length(bytes: &[u8]) -> usize
+/// Where the point stands, or the length where there is none.
+fn point_place(bytes: &[u8]) -> usize
     ensures value { result ≡ position_or_len is_point bytes.now }
     ensures in_range { result ≤ length bytes.now }
 {
@@ -102,7 +102,7 @@ fn split_around(bytes: &[u8], place: usize) -> (&[u8], &[u8])
 fn is_mantissa(bytes: &[u8]) -> bool
     ensures { result ≡ is_mantissa bytes.now }
 {
-    let (before_point, behind_point) = split_around(bytes, whole_length(bytes));
+    let (before_point, behind_point) = split_around(bytes, point_place(bytes));
     are_digits(before_point) && are_digits(behind_point) && has_digit(bytes)
 }
 
@@ -121,7 +121,7 @@ fn is_signed_digits(bytes: &[u8]) -> bool
 pub fn is_number(bytes: &[u8]) -> bool
     ensures { result ≡ is_number bytes.now }
 {
-    let (mantissa, exponent) = split_around(bytes, mantissa_length(bytes));
+    let (mantissa, exponent) = split_around(bytes, exponent_place(bytes));
     is_mantissa(mantissa) && (!has_exponent_mark(bytes) || is_signed_digits(exponent))
 }
 
@@ -226,7 +226,7 @@ fn signed_up_to_far(text: &[u8]) -> i128
 }
 
 /// The exponent of digits that have some behind the point, once the zeros at their end are taken off.
-fn of_digits(written: i128, behind_point: usize, zeros: u128) -> i128
+fn reduced_exponent(written: i128, behind_point: usize, zeros: u128) -> i128
     requires written { unsigned_abs written ≤ 10 ^ 30 }
     requires zeros { zeros ≤ 2 ^ 66 }
     ensures { (e : ℤ) → StandsFor (10 ^ 30) e written → StandsFor 1000 ((e -ℤ pos behind_point) +ℤ pos zeros) result }
@@ -242,13 +242,13 @@ impl Reduced {
         if !is_number(number) {
             return None;
         }
-        let (mantissa, exponent) = split_around(number, mantissa_length(number));
-        let (before_point, behind_point) = split_around(mantissa, whole_length(mantissa));
+        let (mantissa, exponent) = split_around(number, exponent_place(number));
+        let (before_point, behind_point) = split_around(mantissa, point_place(mantissa));
         let digits = Digits::NONE.then_all(before_point).then_all(behind_point);
         let written = signed_up_to_far(exponent);
         Some(Reduced {
             digits: digits.front,
-            exponent: of_digits(written, behind_point.len(), digits.zeros),
+            exponent: reduced_exponent(written, behind_point.len(), digits.zeros),
         })
     }
 
@@ -256,7 +256,11 @@ impl Reduced {
         ensures { (m : ℕ) (e : ℤ) → IsReduced m e self.digits self.exponent → IsWhole m e result }
     {
         let Some(digits) = self.digits else {
-            return if self.exponent < 0 { Whole::Fraction } else { Whole::TooLarge };
+            return if self.exponent < 0 {
+                Whole::Fraction
+            } else {
+                Whole::TooLarge
+            };
         };
         if digits == 0 {
             return Whole::Value(0);

@@ -31,7 +31,11 @@ impl Model for Scale {
 fn digits_behind(exponent: i16) -> u16
     ensures { result ≡ digits_behind exponent }
 {
-    if exponent < 0 { exponent.unsigned_abs() } else { 0 }
+    if exponent < 0 {
+        exponent.unsigned_abs()
+    } else {
+        0
+    }
 }
 
 /// The fewest places at which both decimals are whole.
@@ -45,7 +49,11 @@ fn signed(negative: bool, number: u128) -> i128
     requires { number ≤ 10 ^ 38 }
     ensures { result ≡ signed negative number }
 {
-    if negative { -(number as i128) } else { number as i128 }
+    if negative {
+        -(number as i128)
+    } else {
+        number as i128
+    }
 }
 
 /// The decimal as a whole number once its point is moved that many places, where that has at most 38 digits.
@@ -91,7 +99,11 @@ impl Scale {
         }
         let whole_factor = whole_at(places, factor)?;
         let whole_offset = whole_at(places, offset)?;
-        if !reach_fits(whole_factor.unsigned_abs(), whole_offset.unsigned_abs(), length as u8) {
+        if !reach_fits(
+            whole_factor.unsigned_abs(),
+            whole_offset.unsigned_abs(),
+            length as u8,
+        ) {
             return None;
         }
         Some(Scale {

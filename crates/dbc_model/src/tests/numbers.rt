@@ -11,7 +11,13 @@ fn decimal(bytes: &[u8]) -> Result<Decimal, Fail> {
     }
 }
 
-fn repeated(alloc: Global, front: &[u8], byte: u8, count: usize, back: &[u8]) -> Result<Vec<u8>, Fail> {
+fn repeated(
+    alloc: Global,
+    front: &[u8],
+    byte: u8,
+    count: usize,
+    back: &[u8],
+) -> Result<Vec<u8>, Fail> {
     let mut bytes = Vec::from_slice(alloc, front)?;
     for _ in 0..count {
         bytes.push(byte)?;
@@ -51,7 +57,7 @@ fn numbers(rt: HostRuntime) {
 }
 
 #[test]
-fn decimals(rt: HostRuntime) {
+fn decimals(rt: HostRuntime) -> Result<(), Fail> {
     let table: [(&[u8], bool, u128, i16); 17] = [
         (b"-0.00390625", true, 390625, -8),
         (b"1E19", false, 1, 19),
@@ -68,17 +74,27 @@ fn decimals(rt: HostRuntime) {
         (b".5", false, 5, -1),
         (b"-1.e5", true, 1, 5),
         (b"007.500e+02", false, 75, 1),
-        (b"999999999999999999999999999999999999", false, 999_999_999_999_999_999_999_999_999_999_999_999, 0),
-        (b"0.000000000000000000000000000000000000000000000012", false, 12, -48),
+        (
+            b"999999999999999999999999999999999999",
+            false,
+            999_999_999_999_999_999_999_999_999_999_999_999,
+            0,
+        ),
+        (
+            b"0.000000000000000000000000000000000000000000000012",
+            false,
+            12,
+            -48,
+        ),
     ];
     for (bytes, negative, mantissa, exponent) in table {
-        let expected = Decimal {
-            negative,
-            mantissa,
-            exponent,
-        };
-        assert_eq!(rt; Decimal::read(bytes), Some(expected));
+        let made = decimal(bytes)?;
+        assert_eq!(rt;
+            (made.negative, made.mantissa, made.exponent),
+            (negative, mantissa, exponent)
+        );
     }
+    Ok(())
 }
 
 #[test]
@@ -130,7 +146,10 @@ fn whole_numbers(rt: HostRuntime) {
         (b"0E-5", Whole::Value(0)),
         (b"0E99999999999999999999", Whole::Value(0)),
         (b"0E-99999999999999999999", Whole::Value(0)),
-        (b"18446744073709551615", Whole::Value(18_446_744_073_709_551_615)),
+        (
+            b"18446744073709551615",
+            Whole::Value(18_446_744_073_709_551_615),
+        ),
         (b"18446744073709551616", Whole::TooLarge),
         (b"1E30", Whole::TooLarge),
         (b"1E99999999999999999999", Whole::TooLarge),
@@ -146,11 +165,15 @@ fn whole_numbers(rt: HostRuntime) {
 }
 
 #[test]
+#[tactic(auto, using(std::proofs::lemmas::Nat::pow_pos))]
 fn a_scale(rt: HostRuntime) -> Result<(), Fail> {
     let Some(scale) = Scale::of(&decimal(b"0.01")?, &decimal(b"250")?, 12) else {
         return Err(Fail::from("no scale"));
     };
     assert_eq!(rt; scale.places(), 2);
+    assert_eq!(rt; scale.value(-1), 24_999);
+    assert_eq!(rt; scale.value(0), 25_000);
+    assert_eq!(rt; scale.value(1), 25_001);
     Ok(())
 }
 

@@ -12,7 +12,7 @@ pub returns-in_err-mantissa : goal.returns-in_err-mantissa
 returns-in_err-mantissa c =
     let reduced = rw c.in_err-mantissa.was at c.in_ok-number.ensures.1 in
     let none : (d : Decimals) → SpellsDecimal c.args.negative c.args.number.now d → ⊥ = λ d spells.
-        no_decimal_long c.args.negative (mantissa_of c.args.number.now) (exponent_of c.args.number.now) c.in_ok-number.number.exponent reduced d spells.is in
+    no_decimal_long c.args.negative (mantissa_of c.args.number.now) (exponent_of c.args.number.now) c.in_ok-number.number.exponent reduced d spells.is in
     rw c.from_residual-in_err-mantissa.ensures none
 
 pub invariant_of-result : goal.invariant_of-result
@@ -31,10 +31,10 @@ pub returns-then-number-bound : goal.returns-then-number-bound
 returns-then-number-bound c d spells =
     let reduced = rw c.in_ok-mantissa.was at c.in_ok-number.ensures.1 in
     let far : (pos 0 -ℤ pos 400) ≤ℤ c.in_ok-number.number.exponent → c.in_ok-number.number.exponent ≤ℤ pos 400 → ⊥ = λ low high.
-        elim c.then-number-bound.branch [
-          | then-number-bound-via-then-number-bound w ↦ grind (arith, ints)
-          | then-number-bound-via-else-number-bound+then-number-bound-2 w ↦ grind (arith, ints)
-        ] in
+    elim c.then-number-bound.branch [
+      | then-number-bound-via-then-number-bound w ↦ grind (arith, ints)
+      | then-number-bound-via-else-number-bound+then-number-bound-2 w ↦ grind (arith, ints)
+    ] in
     no_decimal_far c.args.negative (mantissa_of c.args.number.now) c.in_ok-mantissa.mantissa (exponent_of c.args.number.now) c.in_ok-number.number.exponent reduced c.if-mantissa-eq0.false far d spells.is
 
 pub invariant_of-result-2 : goal.invariant_of-result-2

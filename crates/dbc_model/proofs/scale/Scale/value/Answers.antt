@@ -33,6 +33,11 @@ returns c =
     let small : unsigned_abs c.args.raw ≤ 2 ^ c.self.inside.length = rw (← c.self.view_is) at c.requires in
     let product = product_fits c.self.inside.factor c.self.inside.offset c.args.raw c.self.inside.length c.self.invariant.reach small in
     let value = value_fits c.self.inside.factor c.self.inside.offset c.args.raw c.self.inside.length c.self.invariant.reach small in
-    rw (to_z-of_z w128 c.self.inside.factor factor, to_z-of_z w128 c.args.raw raw, to_z-of_z w128 c.self.inside.offset offset, to_z-of_z w128 (c.self.inside.factor *ℤ c.args.raw) product,
-      to_z-of_z w128 ((c.self.inside.factor *ℤ c.args.raw) +ℤ c.self.inside.offset) value)
+    rw (
+      to_z-of_z w128 c.self.inside.factor factor,
+      to_z-of_z w128 c.args.raw raw,
+      to_z-of_z w128 c.self.inside.offset offset,
+      to_z-of_z w128 (c.self.inside.factor *ℤ c.args.raw) product,
+      to_z-of_z w128 ((c.self.inside.factor *ℤ c.args.raw) +ℤ c.self.inside.offset) value,
+    )
     (ap (λ (s : Scale). (s.factor *ℤ c.args.raw) +ℤ s.offset) c.self.view_is)
