@@ -47,7 +47,7 @@ pub record SpellsWhole (number : List ℕ) (whole : Whole) : Type 0 where
   pub form : IsTrue (is_number number)
   pub is : IsWhole (mantissa_of number) (exponent_of number) whole
 
--- ---- the digits that count
+-- ---- what is kept of a number while it is read; the clauses of public calls don't speak of it
 
 -- the number where it has at most 36 digits
 abbrev pub at_most_36_digits : ℕ → Option ℕ
