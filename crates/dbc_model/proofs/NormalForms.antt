@@ -1,14 +1,15 @@
 -- The normal form of a number is one, and it is there where the digits and the exponent are within the bounds.
-use Rattle.std.proofs.Common.{◌≡◌, ◌≢◌, ℕ, ℤ, pos, negsuc, suc, ◌+◌, ◌-◌, ◌*◌, ◌^◌, ◌%◌, ◌<◌, ◌≤◌, ◌+ℤ◌, ◌-ℤ◌, ◌≤ℤ◌, ◌<ℤ◌, ◌⊎◌, inl, inr, nat_lt, Option, Some, None, refl, sym, ap, subst, ◌∙◌, arith, if◌then◌else◌, true, false, Bool, IsTrue, not, ◌&&◌, eqb}
+use Rattle.std.proofs.Common.{◌≡◌, ◌≢◌, ℕ, ℤ, pos, negsuc, zero, suc, ◌+◌, ◌-◌, ◌*◌, ◌^◌, ◌/◌, ◌%◌, ◌<◌, ◌≤◌, ◌+ℤ◌, ◌-ℤ◌, ◌≤ℤ◌, ◌<ℤ◌, ◌⊎◌, inl, inr, nat_lt, Option, Some, None, refl, sym, ap, subst, ◌∙◌, arith, if◌then◌else◌, true, false, Bool, IsTrue, not, ◌&&◌, eqb}
 use Rattle.std.specs.Prelude.{int_le}
 use Rattle.std.specs.Ordering.{int_eq}
 use Rattle.std.proofs.Math.Nat.{zero-mul}
 use Rattle.std.proofs.lemmas.Bool.{and_parts, and_from, eqb-true, eqb-false, ne_eqb, eq-eqb, ltb-true, lt-ltb, not-true, not-false, cases_eq, cases_Bool}
 use Rattle.std.proofs.lemmas.Bool.Decides.{nat_tests, Decides-int_eq}
 use Rattle.std.proofs.lemmas.Int.{ints}
-use Rattle.dbc_model.specs.Decimals.{Decimal, decimal_fits, HasValue, IsDecimalOf}
+use Rattle.std.proofs.lemmas.Nat.{div-add-mod'}
+use Rattle.dbc_model.specs.Decimals.{Decimal, decimal_fits, HasValue, IsDecimalOf, without_zeros, where_fits, decimal_of}
 use Rattle.dbc_model.specs.Numbers.{HasDigits, IsReduced, StandsFor, at_most_36_digits}
-use Rattle.dbc_model.proofs.Powers.{one_way, SameTens, at_least_itself}
+use Rattle.dbc_model.proofs.Powers.{one_way, SameTens, at_least_itself, tens_more, tens_none}
 use Rattle.dbc_model.proofs.Digits.{kept_is, kept_small, dropped_is}
 
 -- the bounds of a decimal that is not zero
@@ -41,7 +42,7 @@ bounds_of negative mantissa exponent some fits =
 pub fits_within : (negative : Bool) (mantissa : ℕ) (exponent : ℤ) → WithinBounds mantissa exponent → IsTrue (decimal_fits negative mantissa exponent)
 unfolding decimal_fits
 fits_within negative mantissa exponent w =
-    let some : mantissa ≢ 0 = λ zero. w.last (ap (λ (n : ℕ). n % 10) zero) in
+    let some : mantissa ≢ 0 = λ at_zero. w.last (ap (λ (n : ℕ). n % 10) at_zero) in
     rw (ne_eqb mantissa 0 some)
     (and_from (nat_lt mantissa (10 ^ 36) && not (eqb (mantissa % 10) 0) && int_le (negsuc 399) exponent) (int_le exponent (pos 400))
     (and_from (nat_lt mantissa (10 ^ 36) && not (eqb (mantissa % 10) 0)) (int_le (negsuc 399) exponent)
@@ -61,7 +62,7 @@ nothing n z e = omega (arith, at_least_itself n z)
 
 pub same_parts : (negative : Bool) (m n z : ℕ) (e : ℤ) (d : Decimal) → m ≡ n * 10 ^ z → n % 10 ≢ 0 → IsDecimalOf negative m e d → SameParts negative n (e +ℤ pos z) d
 same_parts negative m n z e d value last is = elim is.value [
-  | inl zero ↦ absurd (last (ap (λ (i : ℕ). i % 10) (nothing n z (sym value ∙ zero.0))))
+  | inl at_zero ↦ absurd (last (ap (λ (i : ℕ). i % 10) (nothing n z (sym value ∙ at_zero.0))))
   | inr some ↦
       let not_zero : d.mantissa ≢ 0 = λ none.
       let gone : m ≡ 0 = some.1 ∙ ap (λ (i : ℕ). i * 10 ^ some.0) none ∙ zero-mul (10 ^ some.0) in
@@ -80,15 +81,15 @@ same_parts negative m n z e d value last is = elim is.value [
 pub no_decimal_long : (negative : Bool) (m : ℕ) (e x : ℤ) (r : IsReduced m e None x) (d : Decimal) → IsDecimalOf negative m e d → ⊥
 no_decimal_long negative m e x r d is =
     let long : 10 ^ 36 ≤ r.front.front = dropped_is r.front.front r.front.kept in
-    let last : r.front.front % 10 ≢ 0 = λ zero. absurd (omega (arith, r.front.last zero)) in
+    let last : r.front.front % 10 ≢ 0 = λ at_zero. absurd (omega (arith, r.front.last at_zero)) in
     let same = same_parts negative m r.front.front r.zeros e d r.front.value last is in
     absurd (omega (arith, same.within.digits))
 
 -- the last digit is not zero where the digits are not 0
 last_of : (m n : ℕ) (e x : ℤ) (r : IsReduced m e (Some n) x) → n ≢ 0 → n % 10 ≢ 0
-last_of m n e x r some zero =
+last_of m n e x r some at_zero =
     let front : n ≡ r.front.front = kept_is n r.front.front r.front.kept in
-    some (front ∙ r.front.last (ap (λ (i : ℕ). i % 10) (sym front) ∙ zero))
+    some (front ∙ r.front.last (ap (λ (i : ℕ). i % 10) (sym front) ∙ at_zero))
 
 value_of : (m n : ℕ) (e x : ℤ) (r : IsReduced m e (Some n) x) → m ≡ n * 10 ^ r.zeros
 value_of m n e x r = r.front.value ∙ ap (λ (i : ℕ). i * 10 ^ r.zeros) (sym (kept_is n r.front.front r.front.kept))
@@ -143,13 +144,13 @@ zero_parts d none fits =
 -- a number is 0 exactly where its decimal is
 zero_from : (negative : Bool) (m : ℕ) (e : ℤ) (d : Decimal) → d.mantissa ≡ 0 → IsDecimalOf negative m e d → m ≡ 0
 zero_from negative m e d none is = elim is.value [
-  | inl zero ↦ zero.0
+  | inl at_zero ↦ at_zero.0
   | inr some ↦ some.1 ∙ ap (λ (i : ℕ). i * 10 ^ some.0) none ∙ zero-mul (10 ^ some.0)
 ]
 
 zero_to : (negative : Bool) (m : ℕ) (e : ℤ) (d : Decimal) → m ≡ 0 → IsDecimalOf negative m e d → IsZero d
 zero_to negative m e d none is = elim is.value [
-  | inl zero ↦ zero_parts d zero.1 is.fits
+  | inl at_zero ↦ zero_parts d at_zero.1 is.fits
   | inr some ↦ zero_parts d (nothing d.mantissa some.0 (sym some.1 ∙ none)) is.fits
 ]
 
@@ -161,9 +162,78 @@ one_decimal negative m e a b is-a is-b = elim (cases_eq a.mantissa 0) [
       let q = zero_to negative m e b m-none is-b in
       same_decimal a b (p.negative ∙ sym q.negative) (p.mantissa ∙ sym q.mantissa) (p.exponent ∙ sym q.exponent)
   | inr some ↦ elim is-a.value [
-    | inl zero ↦ absurd (some zero.1)
+    | inl at_zero ↦ absurd (some at_zero.1)
     | inr at ↦
         let parts = same_parts negative m a.mantissa at.0 e b at.1 (bounds_of a.negative a.mantissa a.exponent some is-a.fits).last is-b in
         same_decimal a b (at.3 ∙ sym parts.sign) parts.mantissa (at.2 ∙ sym parts.exponent)
   ]
 ]
+
+-- ---- the decimal as a function
+
+record IsReducedOf (negative : Bool) (m : ℕ) (e : ℤ) (d : Decimal) : Type 0 where
+  zeros : ℕ
+  value : m ≡ d.mantissa * 10 ^ zeros
+  last : d.mantissa % 10 ≢ 0
+  exponent : d.exponent ≡ (e +ℤ pos zeros)
+  sign : d.negative ≡ negative
+
+one_zero_more : (n z : ℕ) (e x : ℤ) → x ≡ ((e +ℤ pos 1) +ℤ pos z) → x ≡ (e +ℤ pos (z + 1))
+one_zero_more n z e x is = omega (arith, ints)
+
+reduces : (steps : ℕ) (negative : Bool) (m : ℕ) (e : ℤ) → m ≢ 0 → m ≤ steps → IsReducedOf negative m e (without_zeros steps negative m e)
+reduces zero negative m e some few = absurd (some (omega arith))
+reduces (suc steps) negative m e some few = elim (cases_eq (m % 10) 0) [
+    | inl none ↦
+        let product : m ≡ m / 10 * 10 = omega (arith, div-add-mod' m 10) in
+        let r : IsReducedOf negative (m / 10) (e +ℤ pos 1) (without_zeros steps negative (m / 10) (e +ℤ pos 1)) =
+            reduces steps negative (m / 10) (e +ℤ pos 1) (λ at_zero. some (product ∙ ap (λ (i : ℕ). i * 10) at_zero)) (omega arith) in
+        rw (eq-eqb (m % 10) 0 none) (record {
+          zeros = r.zeros + 1;
+          value = product ∙ ap (λ (i : ℕ). i * 10) r.value ∙ tens_more (without_zeros steps negative (m / 10) (e +ℤ pos 1)).mantissa r.zeros;
+          last = r.last;
+          exponent = one_zero_more m r.zeros e (without_zeros steps negative (m / 10) (e +ℤ pos 1)).exponent r.exponent;
+          sign = r.sign;
+        })
+    | inr last ↦ rw (ne_eqb (m % 10) 0 last) (record { zeros = 0; value = sym (tens_none m); last = last; exponent = omega (arith, ints); sign = refl })
+  ]
+
+zero_spelled : (negative : Bool) (m : ℕ) (e : ℤ) → m ≡ 0 → IsDecimalOf negative m e (record { negative = false; mantissa = 0; exponent = pos 0 })
+unfolding decimal_fits
+zero_spelled negative m e none = record { fits = refl; value = inl (none, refl) }
+
+pub decimal_from : (negative : Bool) (m : ℕ) (e : ℤ) (d : Decimal) → IsDecimalOf negative m e d → decimal_of negative m e ≡ Some d
+unfolding decimal_of
+decimal_from negative m e d is = elim (cases_eq m 0) [
+    | inl none ↦ rw (eq-eqb m 0 none) (ap Some (one_decimal negative m e _ d (zero_spelled negative m e none) is))
+    | inr some ↦
+        let r : IsReducedOf negative m e (without_zeros m negative m e) = reduces m negative m e some (omega arith) in
+        let parts = same_parts negative m (without_zeros m negative m e).mantissa r.zeros e d r.value r.last is in
+        let same : without_zeros m negative m e ≡ d = same_decimal (without_zeros m negative m e) d (r.sign ∙ sym parts.sign) parts.mantissa (r.exponent ∙ sym parts.exponent) in
+        rw (ne_eqb m 0 some, same, is.fits) refl
+  ]
+
+fitting : (negative : Bool) (m : ℕ) (e : ℤ) (d n : Decimal) → IsReducedOf negative m e n → where_fits n ≡ Some d → IsDecimalOf negative m e d
+fitting negative m e d n r made = elim (cases_Bool (decimal_fits n.negative n.mantissa n.exponent)) [
+    | inl fits ↦
+        let there : Some n ≡ Some d = rw fits at made in
+        let same : n ≡ d = cc in
+        subst (IsDecimalOf negative m e) same (record { fits = fits; value = inr (r.zeros, r.value, r.exponent, r.sign) })
+    | inr none ↦
+        let gone : None ≡ Some d = rw none at made in
+        absurd (cc)
+  ]
+
+pub decimal_to : (negative : Bool) (m : ℕ) (e : ℤ) (d : Decimal) → decimal_of negative m e ≡ Some d → IsDecimalOf negative m e d
+unfolding decimal_of
+decimal_to negative m e d is = elim (cases_eq m 0) [
+    | inl none ↦
+        let made : Some (record { negative = false; mantissa = 0; exponent = pos 0 }) ≡ Some d = rw (eq-eqb m 0 none) at is in
+        let same : record { negative = false; mantissa = 0; exponent = pos 0 } ≡ d = cc in
+        subst (IsDecimalOf negative m e) same (zero_spelled negative m e none)
+    | inr some ↦
+        let r : IsReducedOf negative m e (without_zeros m negative m e) = reduces m negative m e some (omega arith) in
+        let made : where_fits (without_zeros m negative m e) ≡ Some d = rw (ne_eqb m 0 some) at is in
+        let reduced : Decimal = without_zeros m negative m e in
+        fitting negative m e d reduced r made
+  ]

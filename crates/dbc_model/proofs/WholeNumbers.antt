@@ -1,13 +1,14 @@
 -- Whether a number is whole, by the zeros at its end and its exponent.
-use Rattle.std.proofs.Common.{◌≡◌, ◌≢◌, ℕ, ℤ, pos, negsuc, suc, ◌+◌, ◌-◌, ◌*◌, ◌^◌, ◌%◌, ◌<◌, ◌≤◌, ◌+ℤ◌, ◌-ℤ◌, ◌≤ℤ◌, ◌<ℤ◌, ◌⊎◌, inl, inr, nat_lt, Option, Some, None, refl, sym, ap, subst, ◌∙◌, arith, if◌then◌else◌, true, false, Bool}
+use Rattle.std.proofs.Common.{◌≡◌, ◌≢◌, ℕ, ℤ, pos, negsuc, suc, ◌+◌, ◌-◌, ◌*◌, ◌^◌, ◌/◌, ◌%◌, ◌<◌, ◌≤◌, ◌+ℤ◌, ◌-ℤ◌, ◌≤ℤ◌, ◌<ℤ◌, ◌⊎◌, inl, inr, nat_lt, Option, Some, None, refl, sym, ap, subst, ◌∙◌, arith, if◌then◌else◌, true, false, Bool}
 use Rattle.std.specs.Prelude.{unsigned_abs}
-use Rattle.std.proofs.lemmas.Bool.{cases_lt, lt-ltb, le-ltb}
+use Rattle.std.proofs.lemmas.Bool.{cases_lt, cases_eq, lt-ltb, le-ltb, eq-eqb, ne_eqb}
 use Rattle.std.proofs.lemmas.Bool.Decides.{nat_tests}
 use Rattle.std.proofs.lemmas.Int.{ints}
-use Rattle.std.proofs.Math.Nat.{zero-mul}
+use Rattle.std.proofs.Math.Nat.{zero-mul, mul-mod_left}
+use Rattle.std.proofs.lemmas.Nat.{div-add-mod'}
 use Rattle.dbc_model.specs.declared.number.Whole.{Whole}
 use Rattle.dbc_model.specs.declared.number.Whole.TheVariants.{Fraction, TooLarge, Value}
-use Rattle.dbc_model.specs.Numbers.{IsWholeNumber, IsWhole, HasDigits, IsReduced, StandsFor, at_most_36_digits}
+use Rattle.dbc_model.specs.Numbers.{IsWholeNumber, IsWhole, HasDigits, IsReduced, StandsFor, as_whole, whole_value}
 use Rattle.dbc_model.proofs.Powers.{same_tens, tens_apart, ends_in_zero, at_least_itself, tens_at_least}
 use Rattle.dbc_model.proofs.Digits.{kept_is, dropped_is}
 
@@ -68,10 +69,6 @@ whole_zero m e x r =
     let none : m ≡ 0 = r.front.value ∙ ap (λ (i : ℕ). i * 10 ^ r.zeros) (sym front) ∙ zero-mul (10 ^ r.zeros) in
     (omega arith, same_number m 0 0 e none (zero_is_whole e))
 
--- the digits with zeros behind them, as 64 bits hold them
-abbrev pub as_whole : ℕ → Whole
-as_whole n = if nat_lt n (2 ^ 64) then Value n else TooLarge
-
 exact_whole : (m n : ℕ) (e : ℤ) → IsWholeNumber m e n → IsWhole m e (as_whole n)
 exact_whole m n e w = elim (cases_lt n (2 ^ 64)) [
   | inl less ↦ rw (lt-ltb n (2 ^ 64) less) (less, w)
@@ -122,3 +119,19 @@ one_whole m e TooLarge (Value b) p q = absurd (omega (arith, p.1, q.0, same_whol
 one_whole m e (Value a) Fraction p q = absurd (q a p.1)
 one_whole m e (Value a) TooLarge p q = absurd (omega (arith, p.0, q.1, same_whole m e a q.0 p.1 q.2))
 one_whole m e (Value a) (Value b) p q = ap Value (same_whole m e a b p.1 q.1)
+
+whole_value_is : (m : ℕ) (e : ℤ) → IsWhole m e (whole_value m e)
+unfolding whole_value IsWholeNumber
+whole_value_is m (pos k) = exact_whole m (m * 10 ^ k) (pos k) refl
+whole_value_is m (negsuc k) = elim (cases_eq (m % 10 ^ (k + 1)) 0) [
+    | inl none ↦
+        let product : m ≡ m / 10 ^ (k + 1) * 10 ^ (k + 1) = omega (arith, div-add-mod' m (10 ^ (k + 1))) in
+        rw (eq-eqb (m % 10 ^ (k + 1)) 0 none) (exact_whole m (m / 10 ^ (k + 1)) (negsuc k) product)
+    | inr some ↦ rw (ne_eqb (m % 10 ^ (k + 1)) 0 some) (λ n w. some (ap (λ (i : ℕ). i % 10 ^ (k + 1)) w ∙ mul-mod_left n (10 ^ (k + 1))))
+  ]
+
+pub whole_from : (m : ℕ) (e : ℤ) (whole : Whole) → IsWhole m e whole → whole_value m e ≡ whole
+whole_from m e whole is = one_whole m e (whole_value m e) whole (whole_value_is m e) is
+
+pub whole_to : (m : ℕ) (e : ℤ) (whole : Whole) → whole_value m e ≡ whole → IsWhole m e whole
+whole_to m e whole same = subst (IsWhole m e) same (whole_value_is m e)

@@ -1,7 +1,7 @@
 -- What a number of a database text spells: `m · 10^e`, where `m` is the value of all its digits read as one whole
 -- number, and `e` its exponent less the count of the digits behind its point.
 -- Source: the DBC file format, "General Definitions" (unsigned_integer, double).
-use Rattle.std.specs.Prelude.{◌≡◌, ℕ, ℤ, pos, negsuc, ◌+◌, ◌*◌, ◌+ℤ◌, ◌-ℤ◌, ◌≤ℤ◌, ◌⊎◌, ◌^◌, ◌%◌, ◌<◌, ◌≤◌, nat_lt, List, ◌++◌, length, Option, Some, None, MatchOption, IsTrue, not, if◌then◌else◌}
+use Rattle.std.specs.Prelude.{◌≡◌, ℕ, ℤ, pos, negsuc, ◌+◌, ◌*◌, ◌+ℤ◌, ◌-ℤ◌, ◌≤ℤ◌, ◌⊎◌, ◌^◌, ◌/◌, ◌%◌, ◌==◌, ◌<◌, ◌≤◌, nat_lt, List, ◌++◌, length, Option, Some, None, MatchOption, IsTrue, not, if◌then◌else◌}
 use Rattle.std.specs.List.{before_first, after_first}
 use Rattle.std.specs.Str.Parse.{digits_value, signed_digits_value}
 use Rattle.dbc_model.specs.Lexical.{is_point, is_exponent_mark, is_number}
@@ -41,6 +41,17 @@ abbrev pub IsWhole : ℕ → ℤ → Whole → Type 0
 IsWhole m e Fraction = (n : ℕ) → IsWholeNumber m e n → ⊥
 IsWhole m e TooLarge = (n : ℕ) × (2 ^ 64 ≤ n) × IsWholeNumber m e n
 IsWhole m e (Value n) = (n < 2 ^ 64) × IsWholeNumber m e n
+
+-- the same as a function
+abbrev pub as_whole : ℕ → Whole
+as_whole n = if nat_lt n (2 ^ 64) then Value n else TooLarge
+
+unfoldable pub whole_value : ℕ → ℤ → Whole
+whole_value m (pos zeros) = as_whole (m * 10 ^ zeros)
+whole_value m (negsuc k) = if m % 10 ^ (k + 1) == 0 then as_whole (m / 10 ^ (k + 1)) else Fraction
+
+unfoldable pub whole_of_number : List ℕ → Option Whole
+whole_of_number number = if is_number number then Some (whole_value (mantissa_of number) (exponent_of number)) else None
 
 -- the bytes are a number, and what it is as a whole number
 pub record SpellsWhole (number : List ℕ) (whole : Whole) : Type 0 where

@@ -1,17 +1,17 @@
 //! Laws of the definitions. The functions do nothing: what they ensure is the law.
-ghost use Rattle.std.specs.Prelude.{◌≡◌, ℕ, ℤ, pos, negsuc, codes, Bool};
-ghost use Rattle.dbc_model.specs.Decimals.{Decimal, IsDecimalOf};
-ghost use Rattle.dbc_model.specs.Numbers.{mantissa_of, exponent_of, IsWhole};
+ghost use Rattle.std.specs.Prelude.{◌≡◌, ◌↔◌, Some, ℕ, ℤ, pos, negsuc, codes, Bool};
+ghost use Rattle.dbc_model.specs.Decimals.{Decimal, IsDecimalOf, decimal_of};
+ghost use Rattle.dbc_model.specs.Numbers.{mantissa_of, exponent_of, IsWhole, whole_value};
 ghost use Rattle.dbc_model.specs.declared.number.Whole.{Whole};
 
-/// A number is at most one decimal.
+/// A number is at most one decimal: the one that [`Decimal::of_number`](crate::Decimal::of_number) makes.
 pub fn one_decimal()
-    ensures { (negative : Bool) (m : ℕ) (e : ℤ) (one other : Decimal) → IsDecimalOf negative m e one → IsDecimalOf negative m e other → one ≡ other }
+    ensures { (negative : Bool) (m : ℕ) (e : ℤ) (d : Decimal) → IsDecimalOf negative m e d ↔ (decimal_of negative m e ≡ Some d) }
 {}
 
-/// A number is at most one whole number, or too large, or not whole.
+/// A number is exactly one whole number, or too large, or not whole.
 pub fn one_whole()
-    ensures { (m : ℕ) (e : ℤ) (one other : Whole) → IsWhole m e one → IsWhole m e other → one ≡ other }
+    ensures { (m : ℕ) (e : ℤ) (whole : Whole) → IsWhole m e whole ↔ (whole_value m e ≡ whole) }
 {}
 
 /// What some numbers spell, computed by the definitions: 1250 · 10^-5, 5 · 10^-1, 7 · 10^2 and 10 · 10^-12.
