@@ -1,5 +1,7 @@
 pub mod Lexical
+pub mod Numbers
 pub mod Decimals
+pub mod Scales
 pub mod Records
 pub mod Comments
 pub mod Attributes

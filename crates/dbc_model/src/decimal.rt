@@ -1,5 +1,8 @@
 //! Exact decimals.
+ghost use Rattle.std.specs.Prelude.{MatchOption};
+ghost use Rattle.dbc_model.specs.Decimals.{Decimal as Decimals, SpellsDecimal, SpellsSigned};
 
+use crate::number::Reduced;
 use std::marker::Model;
 
 /// The number `mantissa · 10^exponent`, negated where it is negative, in normal form: at most 36 digits of which the
@@ -22,4 +25,46 @@ impl Model for Decimal {
     ghost invariant = { λ a. decimals.IsDecimal (record { negative = a.negative; mantissa = a.mantissa; exponent = a.exponent }) };
 
     ghost inverse = { λ d. record { negative = d.negative; mantissa = d.mantissa; exponent = d.exponent } };
+}
+
+impl Decimal {
+    /// The least exponent is the negation of this, the greatest is this.
+    pub const MAX_EXPONENT: i16 = 400;
+
+    /// The decimal that a number without a sign is, negated where `negative` is true, or `None` where the bytes are no
+    /// number, where it takes more than 36 digits, or where its exponent, the zeros at the end of its digits counted
+    /// with it, is beyond [`Decimal::MAX_EXPONENT`]. A zero is 0 whatever its sign and exponent.
+    pub fn of_number(negative: bool, number: &[u8]) -> Option<Decimal>
+        ensures { MatchOption result ((d : Decimals) → SpellsDecimal negative number.now d → ⊥) (SpellsDecimal negative number.now) }
+    {
+        let number = Reduced::read(number)?;
+        let mantissa = number.digits?;
+        if mantissa == 0 {
+            return Some(Decimal {
+                negative: false,
+                mantissa: 0,
+                exponent: 0,
+            });
+        }
+        let bound = i128::from(Decimal::MAX_EXPONENT);
+        if number.exponent < -bound || number.exponent > bound {
+            return None;
+        }
+        Some(Decimal {
+            negative,
+            mantissa,
+            exponent: number.exponent as i16,
+        })
+    }
+
+    /// The decimal of a number that may have a sign before it; [`Decimal::of_number`] says when there is none.
+    pub fn read(bytes: &[u8]) -> Option<Decimal>
+        ensures { MatchOption result ((d : Decimals) → SpellsSigned bytes.now d → ⊥) (SpellsSigned bytes.now) }
+    {
+        match bytes {
+            [b'-', number @ ..] => Decimal::of_number(true, number),
+            [b'+', number @ ..] => Decimal::of_number(false, number),
+            number => Decimal::of_number(false, number),
+        }
+    }
 }

@@ -11,6 +11,8 @@ use crate::{
 use std::alloc::Global;
 use std::test::Fail;
 
+mod numbers;
+
 fn name(alloc: Global, bytes: &[u8]) -> Result<Name, Fail> {
     match Name::new(alloc, bytes)? {
         Some(name) => Ok(name),
