@@ -124,11 +124,11 @@ whole_value_is : (m : ℕ) (e : ℤ) → IsWhole m e (whole_value m e)
 unfolding whole_value IsWholeNumber
 whole_value_is m (pos k) = exact_whole m (m * 10 ^ k) (pos k) refl
 whole_value_is m (negsuc k) = elim (cases_eq (m % 10 ^ (k + 1)) 0) [
-    | inl none ↦
-        let product : m ≡ m / 10 ^ (k + 1) * 10 ^ (k + 1) = omega (arith, div-add-mod' m (10 ^ (k + 1))) in
-        rw (eq-eqb (m % 10 ^ (k + 1)) 0 none) (exact_whole m (m / 10 ^ (k + 1)) (negsuc k) product)
-    | inr some ↦ rw (ne_eqb (m % 10 ^ (k + 1)) 0 some) (λ n w. some (ap (λ (i : ℕ). i % 10 ^ (k + 1)) w ∙ mul-mod_left n (10 ^ (k + 1))))
-  ]
+  | inl none ↦
+      let product : m ≡ m / 10 ^ (k + 1) * 10 ^ (k + 1) = omega (arith, div-add-mod' m (10 ^ (k + 1))) in
+      rw (eq-eqb (m % 10 ^ (k + 1)) 0 none) (exact_whole m (m / 10 ^ (k + 1)) (negsuc k) product)
+  | inr some ↦ rw (ne_eqb (m % 10 ^ (k + 1)) 0 some) (λ n w. some (ap (λ (i : ℕ). i % 10 ^ (k + 1)) w ∙ mul-mod_left n (10 ^ (k + 1))))
+]
 
 pub whole_from : (m : ℕ) (e : ℤ) (whole : Whole) → IsWhole m e whole → whole_value m e ≡ whole
 whole_from m e whole is = one_whole m e (whole_value m e) whole (whole_value_is m e) is
