@@ -1,14 +1,15 @@
 -- The normal form of a number is one, and it is there where the digits and the exponent are within the bounds.
-use Rattle.std.proofs.Common.{◌≡◌, ◌≢◌, ℕ, ℤ, pos, negsuc, zero, suc, ◌+◌, ◌-◌, ◌*◌, ◌^◌, ◌/◌, ◌%◌, ◌<◌, ◌≤◌, ◌+ℤ◌, ◌-ℤ◌, ◌≤ℤ◌, ◌<ℤ◌, ◌⊎◌, inl, inr, nat_lt, Option, Some, None, refl, sym, ap, subst, ◌∙◌, arith, if◌then◌else◌, true, false, Bool, IsTrue, not, ◌&&◌, eqb}
+use Rattle.std.proofs.Common.{List, MatchOption, ◌≡◌, ◌≢◌, ℕ, ℤ, pos, negsuc, zero, suc, ◌+◌, ◌*◌, ◌^◌, ◌/◌, ◌%◌, ◌<◌, ◌≤◌, ◌+ℤ◌, ◌-ℤ◌, ◌≤ℤ◌, inl, inr, nat_lt, Option, Some, None, refl, sym, ap, subst, ◌∙◌, arith, true, false, Bool, IsTrue, not, ◌&&◌, eqb}
 use Rattle.std.specs.Prelude.{int_le}
 use Rattle.std.specs.Ordering.{int_eq}
 use Rattle.std.proofs.Math.Nat.{zero-mul}
-use Rattle.std.proofs.lemmas.Bool.{and_parts, and_from, eqb-true, eqb-false, ne_eqb, eq-eqb, ltb-true, lt-ltb, not-true, not-false, cases_eq, cases_Bool}
-use Rattle.std.proofs.lemmas.Bool.Decides.{nat_tests, Decides-int_eq}
+use Rattle.std.proofs.lemmas.Bool.{and_parts, and_from, eqb-false, ne_eqb, eq-eqb, ltb-true, lt-ltb, not-true, cases_eq, cases_Bool}
+use Rattle.std.proofs.lemmas.Bool.Decides.{Decides-int_eq}
 use Rattle.std.proofs.lemmas.Int.{ints}
 use Rattle.std.proofs.lemmas.Nat.{div-add-mod'}
-use Rattle.dbc_model.specs.Decimals.{Decimal, decimal_fits, HasValue, IsDecimalOf, without_zeros, where_fits, decimal_of}
-use Rattle.dbc_model.specs.Numbers.{HasDigits, IsReduced, StandsFor, at_most_36_digits}
+use Rattle.dbc_model.specs.Decimals.{Decimal, decimal_fits, IsDecimalOf, without_zeros, where_fits, decimal_of, decimal_of_number, SpellsDecimal}
+use Rattle.dbc_model.specs.Lexical.{is_number}
+use Rattle.dbc_model.specs.Numbers.{IsReduced, StandsFor, mantissa_of, exponent_of}
 use Rattle.dbc_model.proofs.Powers.{one_way, SameTens, at_least_itself, tens_more, tens_none}
 use Rattle.dbc_model.proofs.Digits.{kept_is, kept_small, dropped_is}
 
@@ -184,19 +185,19 @@ one_zero_more n z e x is = omega (arith, ints)
 reduces : (steps : ℕ) (negative : Bool) (m : ℕ) (e : ℤ) → m ≢ 0 → m ≤ steps → IsReducedOf negative m e (without_zeros steps negative m e)
 reduces zero negative m e some few = absurd (some (omega arith))
 reduces (suc steps) negative m e some few = elim (cases_eq (m % 10) 0) [
-    | inl none ↦
-        let product : m ≡ m / 10 * 10 = omega (arith, div-add-mod' m 10) in
-        let r : IsReducedOf negative (m / 10) (e +ℤ pos 1) (without_zeros steps negative (m / 10) (e +ℤ pos 1)) =
-            reduces steps negative (m / 10) (e +ℤ pos 1) (λ at_zero. some (product ∙ ap (λ (i : ℕ). i * 10) at_zero)) (omega arith) in
-        rw (eq-eqb (m % 10) 0 none) (record {
-          zeros = r.zeros + 1;
-          value = product ∙ ap (λ (i : ℕ). i * 10) r.value ∙ tens_more (without_zeros steps negative (m / 10) (e +ℤ pos 1)).mantissa r.zeros;
-          last = r.last;
-          exponent = one_zero_more m r.zeros e (without_zeros steps negative (m / 10) (e +ℤ pos 1)).exponent r.exponent;
-          sign = r.sign;
-        })
-    | inr last ↦ rw (ne_eqb (m % 10) 0 last) (record { zeros = 0; value = sym (tens_none m); last = last; exponent = omega (arith, ints); sign = refl })
-  ]
+  | inl none ↦
+      let product : m ≡ m / 10 * 10 = omega (arith, div-add-mod' m 10) in
+      let r : IsReducedOf negative (m / 10) (e +ℤ pos 1) (without_zeros steps negative (m / 10) (e +ℤ pos 1)) =
+      reduces steps negative (m / 10) (e +ℤ pos 1) (λ at_zero. some (product ∙ ap (λ (i : ℕ). i * 10) at_zero)) (omega arith) in
+      rw (eq-eqb (m % 10) 0 none) (record {
+        zeros = r.zeros + 1;
+        value = product ∙ ap (λ (i : ℕ). i * 10) r.value ∙ tens_more (without_zeros steps negative (m / 10) (e +ℤ pos 1)).mantissa r.zeros;
+        last = r.last;
+        exponent = one_zero_more m r.zeros e (without_zeros steps negative (m / 10) (e +ℤ pos 1)).exponent r.exponent;
+        sign = r.sign;
+      })
+  | inr last ↦ rw (ne_eqb (m % 10) 0 last) (record { zeros = 0; value = sym (tens_none m); last = last; exponent = omega (arith, ints); sign = refl })
+]
 
 zero_spelled : (negative : Bool) (m : ℕ) (e : ℤ) → m ≡ 0 → IsDecimalOf negative m e (record { negative = false; mantissa = 0; exponent = pos 0 })
 unfolding decimal_fits
@@ -205,35 +206,51 @@ zero_spelled negative m e none = record { fits = refl; value = inl (none, refl) 
 pub decimal_from : (negative : Bool) (m : ℕ) (e : ℤ) (d : Decimal) → IsDecimalOf negative m e d → decimal_of negative m e ≡ Some d
 unfolding decimal_of
 decimal_from negative m e d is = elim (cases_eq m 0) [
-    | inl none ↦ rw (eq-eqb m 0 none) (ap Some (one_decimal negative m e _ d (zero_spelled negative m e none) is))
-    | inr some ↦
-        let r : IsReducedOf negative m e (without_zeros m negative m e) = reduces m negative m e some (omega arith) in
-        let parts = same_parts negative m (without_zeros m negative m e).mantissa r.zeros e d r.value r.last is in
-        let same : without_zeros m negative m e ≡ d = same_decimal (without_zeros m negative m e) d (r.sign ∙ sym parts.sign) parts.mantissa (r.exponent ∙ sym parts.exponent) in
-        rw (ne_eqb m 0 some, same, is.fits) refl
-  ]
+  | inl none ↦ rw (eq-eqb m 0 none) (ap Some (one_decimal negative m e _ d (zero_spelled negative m e none) is))
+  | inr some ↦
+      let r : IsReducedOf negative m e (without_zeros m negative m e) = reduces m negative m e some (omega arith) in
+      let parts = same_parts negative m (without_zeros m negative m e).mantissa r.zeros e d r.value r.last is in
+      let same : without_zeros m negative m e ≡ d = same_decimal (without_zeros m negative m e) d (r.sign ∙ sym parts.sign) parts.mantissa (r.exponent ∙ sym parts.exponent) in
+      rw (ne_eqb m 0 some, same, is.fits) refl
+]
 
 fitting : (negative : Bool) (m : ℕ) (e : ℤ) (d n : Decimal) → IsReducedOf negative m e n → where_fits n ≡ Some d → IsDecimalOf negative m e d
 fitting negative m e d n r made = elim (cases_Bool (decimal_fits n.negative n.mantissa n.exponent)) [
-    | inl fits ↦
-        let there : Some n ≡ Some d = rw fits at made in
-        let same : n ≡ d = cc in
-        subst (IsDecimalOf negative m e) same (record { fits = fits; value = inr (r.zeros, r.value, r.exponent, r.sign) })
-    | inr none ↦
-        let gone : None ≡ Some d = rw none at made in
-        absurd (cc)
-  ]
+  | inl fits ↦
+      let there : Some n ≡ Some d = rw fits at made in
+      let same : n ≡ d = cc in
+      subst (IsDecimalOf negative m e) same (record { fits = fits; value = inr (r.zeros, r.value, r.exponent, r.sign) })
+  | inr none ↦
+      let gone : None ≡ Some d = rw none at made in
+      absurd (cc)
+]
 
 pub decimal_to : (negative : Bool) (m : ℕ) (e : ℤ) (d : Decimal) → decimal_of negative m e ≡ Some d → IsDecimalOf negative m e d
 unfolding decimal_of
 decimal_to negative m e d is = elim (cases_eq m 0) [
-    | inl none ↦
-        let made : Some (record { negative = false; mantissa = 0; exponent = pos 0 }) ≡ Some d = rw (eq-eqb m 0 none) at is in
-        let same : record { negative = false; mantissa = 0; exponent = pos 0 } ≡ d = cc in
-        subst (IsDecimalOf negative m e) same (zero_spelled negative m e none)
-    | inr some ↦
-        let r : IsReducedOf negative m e (without_zeros m negative m e) = reduces m negative m e some (omega arith) in
-        let made : where_fits (without_zeros m negative m e) ≡ Some d = rw (ne_eqb m 0 some) at is in
-        let reduced : Decimal = without_zeros m negative m e in
-        fitting negative m e d reduced r made
-  ]
+  | inl none ↦
+      let made : Some (record { negative = false; mantissa = 0; exponent = pos 0 }) ≡ Some d = rw (eq-eqb m 0 none) at is in
+      let same : record { negative = false; mantissa = 0; exponent = pos 0 } ≡ d = cc in
+      subst (IsDecimalOf negative m e) same (zero_spelled negative m e none)
+  | inr some ↦
+      let r : IsReducedOf negative m e (without_zeros m negative m e) = reduces m negative m e some (omega arith) in
+      let made : where_fits (without_zeros m negative m e) ≡ Some d = rw (ne_eqb m 0 some) at is in
+      let reduced : Decimal = without_zeros m negative m e in
+      fitting negative m e d reduced r made
+]
+
+none_from : (made : Option Decimal) → ((d : Decimal) → made ≡ Some d → ⊥) → None ≡ made
+none_from None no_such = refl
+none_from (Some d) no_such = absurd (no_such d refl)
+
+-- what a number's decimal is told to be is what the function gives
+pub decimal_is_made : (negative : Bool) (number : List ℕ) (made : Option Decimal)
+    → MatchOption made ((d : Decimal) → SpellsDecimal negative number d → ⊥) (SpellsDecimal negative number) → made ≡ decimal_of_number negative number
+unfolding decimal_of_number
+decimal_is_made negative number (Some d) spells = rw spells.form (sym (decimal_from negative (mantissa_of number) (exponent_of number) d spells.is))
+decimal_is_made negative number None none = elim (cases_Bool (is_number number)) [
+  | inl form ↦
+      rw form (none_from (decimal_of negative (mantissa_of number) (exponent_of number))
+      (λ d is. none d (record { form = form; is = decimal_to negative (mantissa_of number) (exponent_of number) d is })))
+  | inr other ↦ rw other refl
+]
