@@ -1,14 +1,15 @@
 -- The normal form of a number is one, and it is there where the digits and the exponent are within the bounds.
-use Rattle.std.proofs.Common.{◌≡◌, ◌≢◌, ℕ, ℤ, pos, negsuc, zero, suc, ◌+◌, ◌-◌, ◌*◌, ◌^◌, ◌/◌, ◌%◌, ◌<◌, ◌≤◌, ◌+ℤ◌, ◌-ℤ◌, ◌≤ℤ◌, ◌<ℤ◌, ◌⊎◌, inl, inr, nat_lt, Option, Some, None, refl, sym, ap, subst, ◌∙◌, arith, if◌then◌else◌, true, false, Bool, IsTrue, not, ◌&&◌, eqb}
+use Rattle.std.proofs.Common.{List, MatchOption, ◌≡◌, ◌≢◌, ℕ, ℤ, pos, negsuc, zero, suc, ◌+◌, ◌*◌, ◌^◌, ◌/◌, ◌%◌, ◌<◌, ◌≤◌, ◌+ℤ◌, ◌-ℤ◌, ◌≤ℤ◌, inl, inr, nat_lt, Option, Some, None, refl, sym, ap, subst, ◌∙◌, arith, true, false, Bool, IsTrue, not, ◌&&◌, eqb}
 use Rattle.std.specs.Prelude.{int_le}
 use Rattle.std.specs.Ordering.{int_eq}
 use Rattle.std.proofs.Math.Nat.{zero-mul}
-use Rattle.std.proofs.lemmas.Bool.{and_parts, and_from, eqb-true, eqb-false, ne_eqb, eq-eqb, ltb-true, lt-ltb, not-true, not-false, cases_eq, cases_Bool}
-use Rattle.std.proofs.lemmas.Bool.Decides.{nat_tests, Decides-int_eq}
+use Rattle.std.proofs.lemmas.Bool.{and_parts, and_from, eqb-false, ne_eqb, eq-eqb, ltb-true, lt-ltb, not-true, cases_eq, cases_Bool}
+use Rattle.std.proofs.lemmas.Bool.Decides.{Decides-int_eq}
 use Rattle.std.proofs.lemmas.Int.{ints}
 use Rattle.std.proofs.lemmas.Nat.{div-add-mod'}
-use Rattle.dbc_model.specs.Decimals.{Decimal, decimal_fits, HasValue, IsDecimalOf, without_zeros, where_fits, decimal_of}
-use Rattle.dbc_model.specs.Numbers.{HasDigits, IsReduced, StandsFor, at_most_36_digits}
+use Rattle.dbc_model.specs.Decimals.{Decimal, decimal_fits, IsDecimalOf, without_zeros, where_fits, decimal_of, decimal_of_number, SpellsDecimal}
+use Rattle.dbc_model.specs.Lexical.{is_number}
+use Rattle.dbc_model.specs.Numbers.{IsReduced, StandsFor, mantissa_of, exponent_of}
 use Rattle.dbc_model.proofs.Powers.{one_way, SameTens, at_least_itself, tens_more, tens_none}
 use Rattle.dbc_model.proofs.Digits.{kept_is, kept_small, dropped_is}
 
@@ -236,4 +237,20 @@ decimal_to negative m e d is = elim (cases_eq m 0) [
       let made : where_fits (without_zeros m negative m e) ≡ Some d = rw (ne_eqb m 0 some) at is in
       let reduced : Decimal = without_zeros m negative m e in
       fitting negative m e d reduced r made
+]
+
+none_from : (made : Option Decimal) → ((d : Decimal) → made ≡ Some d → ⊥) → None ≡ made
+none_from None no_such = refl
+none_from (Some d) no_such = absurd (no_such d refl)
+
+-- what a number's decimal is told to be is what the function gives
+pub decimal_is_made : (negative : Bool) (number : List ℕ) (made : Option Decimal)
+    → MatchOption made ((d : Decimal) → SpellsDecimal negative number d → ⊥) (SpellsDecimal negative number) → made ≡ decimal_of_number negative number
+unfolding decimal_of_number
+decimal_is_made negative number (Some d) spells = rw spells.form (sym (decimal_from negative (mantissa_of number) (exponent_of number) d spells.is))
+decimal_is_made negative number None none = elim (cases_Bool (is_number number)) [
+  | inl form ↦
+      rw form (none_from (decimal_of negative (mantissa_of number) (exponent_of number))
+      (λ d is. none d (record { form = form; is = decimal_to negative (mantissa_of number) (exponent_of number) d is })))
+  | inr other ↦ rw other refl
 ]

@@ -1,5 +1,5 @@
 -- The parts of a number's text are digits.
-use Rattle.std.proofs.Common.{◌≡◌, ℕ, suc, ◌+◌, ◌-◌, ◌*◌, ◌<◌, ◌≤◌, Bool, true, false, ◌&&◌, IsTrue, List, [], ◌∷◌, ◌++◌, ℤ, pos, ◌-ℤ◌, ◌+ℤ◌, Option, Some, length, drop, take, if◌then◌else◌, get_or, refl, sym, ap, ◌∙◌, arith, inl, inr, eqb}
+use Rattle.std.proofs.Common.{◌≡◌, ℕ, ◌+◌, Bool, true, false, IsTrue, List, [], ◌∷◌, ◌++◌, ℤ, pos, ◌-ℤ◌, ◌+ℤ◌, Option, Some, length, drop, take, if◌then◌else◌, get_or, refl, sym, ap, ◌∙◌, arith, inl, inr}
 use Rattle.std.specs.List.{list_all, list_any, before_first, after_first, position_or_len}
 use Rattle.std.specs.Str.Parse.{without_leading_sign, digits_value, digits_value_after}
 use Rattle.std.proofs.lemmas.Bool.{and_parts, cases_Bool, cases_lt, both_ways}
@@ -8,7 +8,7 @@ use Rattle.std.proofs.lemmas.List.{get_or_default}
 use Rattle.std.proofs.lemmas.List.Folds.{list_any-from_Any}
 use Rattle.std.proofs.lemmas.List.Sums.{passes_at_first}
 use Rattle.std.proofs.Math.ListN.{drop_of_length-le}
-use Rattle.dbc_model.specs.Lexical.{is_digit, is_sign, is_point, is_exponent_mark, is_mantissa, is_signed_digits, is_number}
+use Rattle.dbc_model.specs.Lexical.{is_digit, is_point, is_exponent_mark, is_signed_digits, is_number}
 use Rattle.dbc_model.specs.Numbers.{digits_before_point, digits_behind_point, written_exponent, mantissa_of, exponent_of, HasDigits, StandsFor, IsReduced}
 use Rattle.dbc_model.proofs.DigitTexts.{value_append}
 

@@ -1,7 +1,7 @@
 -- Numbers with zeros behind them: products with powers of ten.
-use Rattle.std.proofs.Common.{◌≡◌, ◌≢◌, ℕ, zero, suc, ◌+◌, ◌-◌, ◌*◌, ◌^◌, ◌%◌, ◌<◌, ◌≤◌, nat_lt, false, true, refl, sym, ap, ◌∙◌, add-one, arith}
-use Rattle.std.proofs.Math.Nat.{one-le-pow, pow-suc, pow-le-pow_right, le_of_mul-le-mul_right, le-mul_of_pos_right, mul-le-mul_left, mul_assoc, mul_comm, mul-mod_left, mul-one, pow-zero, add-mul-mod_self_right, zero-mul}
-use Rattle.std.proofs.lemmas.Nat.{pow-add, mul-le, mod-mul-add}
+use Rattle.std.proofs.Common.{◌≡◌, ◌≢◌, ℕ, ◌+◌, ◌-◌, ◌*◌, ◌^◌, ◌%◌, ◌<◌, ◌≤◌, sym, ap, ◌∙◌, add-one, arith}
+use Rattle.std.proofs.Math.Nat.{one-le-pow, pow-suc, pow-le-pow_right, le_of_mul-le-mul_right, le-mul_of_pos_right, mul_assoc, mul-mod_left}
+use Rattle.std.proofs.lemmas.Nat.{pow-add, mul-le}
 
 pub tens_positive : (k : ℕ) → 1 ≤ 10 ^ k
 tens_positive k = one-le-pow k 10 (omega arith)

@@ -1,15 +1,15 @@
 -- Scaled values are within the bound, and a scale is there exactly where it fits.
 use mir.Syntax.{w128}
 use mir.Val.{SFits}
-use Rattle.std.proofs.Common.{◌≡◌, ◌≢◌, ℕ, ℤ, pos, negsuc, zero, suc, ◌+◌, ◌-◌, ◌*◌, ◌^◌, ◌<◌, ◌≤◌, ◌+ℤ◌, ◌*ℤ◌, nat_lt, nat_le, max, Option, Some, None, refl, sym, ap, ◌∙◌, arith, if◌then◌else◌, true, false, Bool, IsTrue, ◌&&◌}
+use Rattle.std.proofs.Common.{◌≡◌, ℕ, ℤ, zero, suc, ◌+◌, ◌*◌, ◌^◌, ◌<◌, ◌≤◌, ◌+ℤ◌, ◌*ℤ◌, nat_lt, nat_le, Option, Some, None, refl, ap, ◌∙◌, arith, if◌then◌else◌, true, false, Bool, IsTrue, ◌&&◌}
 use Rattle.std.specs.Prelude.{unsigned_abs}
 use Rattle.std.proofs.Math.Nat.{mul-le-mul_left, le-mul_of_pos_right}
-use Rattle.std.proofs.lemmas.Bool.{ltb-true, lt-ltb, le-ltb, lt-leb, le-leb, and_left, and_right, and_from}
+use Rattle.std.proofs.lemmas.Bool.{ltb-true, le-ltb, lt-leb, le-leb, and_left, and_right, and_from}
 use Rattle.std.proofs.lemmas.Bool.Decides.{nat_tests}
 use Rattle.std.proofs.lemmas.Nat.{pow_pos}
-use Rattle.std.proofs.lemmas.Int.{ints, to_z-of_z, unsigned_abs-mul, fits_signed_from_abs}
+use Rattle.std.proofs.lemmas.Int.{ints, unsigned_abs-mul, fits_signed_from_abs}
 use Rattle.dbc_model.specs.Decimals.{Decimal}
-use Rattle.dbc_model.specs.Scales.{Scale, IsScale, reach_fits, scale_fits, scale_of, places_of, magnitude_at, whole_at, signed}
+use Rattle.dbc_model.specs.Scales.{reach_fits, scale_fits, scale_of, places_of, magnitude_at, whole_at, signed}
 
 abs_sum : (a b : ℤ) → unsigned_abs (a +ℤ b) ≤ unsigned_abs a + unsigned_abs b
 abs_sum a b = grind (arith, ints)

@@ -1,14 +1,14 @@
 -- Whether a number is whole, by the zeros at its end and its exponent.
-use Rattle.std.proofs.Common.{◌≡◌, ◌≢◌, ℕ, ℤ, pos, negsuc, suc, ◌+◌, ◌-◌, ◌*◌, ◌^◌, ◌/◌, ◌%◌, ◌<◌, ◌≤◌, ◌+ℤ◌, ◌-ℤ◌, ◌≤ℤ◌, ◌<ℤ◌, ◌⊎◌, inl, inr, nat_lt, Option, Some, None, refl, sym, ap, subst, ◌∙◌, arith, if◌then◌else◌, true, false, Bool}
+use Rattle.std.proofs.Common.{List, MatchOption, ◌≡◌, ◌≢◌, ℕ, ℤ, pos, negsuc, ◌+◌, ◌*◌, ◌^◌, ◌/◌, ◌%◌, ◌≤◌, ◌+ℤ◌, ◌≤ℤ◌, ◌<ℤ◌, inl, inr, Option, Some, None, refl, sym, ap, subst, ◌∙◌, arith, false}
 use Rattle.std.specs.Prelude.{unsigned_abs}
 use Rattle.std.proofs.lemmas.Bool.{cases_lt, cases_eq, lt-ltb, le-ltb, eq-eqb, ne_eqb}
-use Rattle.std.proofs.lemmas.Bool.Decides.{nat_tests}
 use Rattle.std.proofs.lemmas.Int.{ints}
 use Rattle.std.proofs.Math.Nat.{zero-mul, mul-mod_left}
 use Rattle.std.proofs.lemmas.Nat.{div-add-mod'}
 use Rattle.dbc_model.specs.declared.number.Whole.{Whole}
 use Rattle.dbc_model.specs.declared.number.Whole.TheVariants.{Fraction, TooLarge, Value}
-use Rattle.dbc_model.specs.Numbers.{IsWholeNumber, IsWhole, HasDigits, IsReduced, StandsFor, as_whole, whole_value}
+use Rattle.dbc_model.specs.Numbers.{IsWholeNumber, IsWhole, IsReduced, StandsFor, as_whole, whole_value, whole_of_number, mantissa_of, exponent_of, SpellsWhole}
+use Rattle.dbc_model.specs.Lexical.{is_number}
 use Rattle.dbc_model.proofs.Powers.{same_tens, tens_apart, ends_in_zero, at_least_itself, tens_at_least}
 use Rattle.dbc_model.proofs.Digits.{kept_is, dropped_is}
 
@@ -135,3 +135,9 @@ whole_from m e whole is = one_whole m e (whole_value m e) whole (whole_value_is 
 
 pub whole_to : (m : ℕ) (e : ℤ) (whole : Whole) → whole_value m e ≡ whole → IsWhole m e whole
 whole_to m e whole same = subst (IsWhole m e) same (whole_value_is m e)
+
+-- what a number is told to be as a whole number is what the function gives
+pub whole_is_made : (number : List ℕ) (made : Option Whole) → MatchOption made (is_number number ≡ false) (SpellsWhole number) → made ≡ whole_of_number number
+unfolding whole_of_number
+whole_is_made number (Some whole) spells = rw (spells.form, whole_from (mantissa_of number) (exponent_of number) whole spells.is) refl
+whole_is_made number None other = rw other refl

@@ -1,7 +1,7 @@
 -- What a number of a database text spells: `m · 10^e`, where `m` is the value of all its digits read as one whole
 -- number, and `e` its exponent less the count of the digits behind its point.
 -- Source: the DBC file format, "General Definitions" (unsigned_integer, double).
-use Rattle.std.specs.Prelude.{◌≡◌, ℕ, ℤ, pos, negsuc, ◌+◌, ◌*◌, ◌+ℤ◌, ◌-ℤ◌, ◌≤ℤ◌, ◌⊎◌, ◌^◌, ◌/◌, ◌%◌, ◌==◌, ◌<◌, ◌≤◌, nat_lt, List, ◌++◌, length, Option, Some, None, MatchOption, IsTrue, not, if◌then◌else◌}
+use Rattle.std.specs.Prelude.{◌≡◌, ℕ, ℤ, pos, negsuc, ◌+◌, ◌*◌, ◌+ℤ◌, ◌-ℤ◌, ◌≤ℤ◌, ◌⊎◌, ◌^◌, ◌/◌, ◌%◌, ◌==◌, ◌<◌, ◌≤◌, nat_lt, List, ◌++◌, length, Option, Some, None, IsTrue, if◌then◌else◌}
 use Rattle.std.specs.List.{before_first, after_first}
 use Rattle.std.specs.Str.Parse.{digits_value, signed_digits_value}
 use Rattle.dbc_model.specs.Lexical.{is_point, is_exponent_mark, is_number}

@@ -2,7 +2,7 @@
 -- right, without any rounding.
 -- Source: the DBC file format, "Signal Definitions" (factor, offset: physical_value = raw_value * factor + offset). The
 -- bounds are the profile of candesk: every value has at most 38 digits.
-use Rattle.std.specs.Prelude.{◌≡◌, ℕ, suc, ℤ, pos, negsuc, neg_ℤ, ◌+◌, ◌-◌, ◌*◌, ◌+ℤ◌, ◌*ℤ◌, ◌^◌, ◌<◌, ◌≤◌, max, nat_lt, nat_le, Bool, ◌&&◌, IsTrue, Option, Some, None, if◌then◌else◌, unsigned_abs}
+use Rattle.std.specs.Prelude.{ℕ, suc, ℤ, pos, negsuc, neg_ℤ, ◌+◌, ◌-◌, ◌*◌, ◌^◌, ◌≤◌, max, nat_lt, nat_le, Bool, ◌&&◌, IsTrue, if◌then◌else◌, unsigned_abs}
 use Rattle.dbc_model.specs.Decimals.{Decimal}
 
 -- `length` is the greatest number of raw bits

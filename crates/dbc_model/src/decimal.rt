@@ -1,6 +1,7 @@
 //! Exact decimals.
-ghost use Rattle.std.specs.Prelude.{MatchOption};
-ghost use Rattle.dbc_model.specs.Decimals.{Decimal as Decimals, SpellsDecimal, SpellsSigned};
+ghost use Rattle.std.specs.Prelude.{◌≡◌, MatchOption};
+ghost use Rattle.std.specs.Str.Parse.{starts_with_minus, without_leading_sign};
+ghost use Rattle.dbc_model.specs.Decimals.{Decimal as Decimals, SpellsDecimal, SpellsSigned, decimal_of_number};
 
 use crate::number::Reduced;
 use std::marker::Model;
@@ -31,10 +32,7 @@ impl Decimal {
     /// The least exponent is the negation of this, the greatest is this.
     pub const MAX_EXPONENT: i16 = 400;
 
-    /// The decimal that a number without a sign is, negated where `negative` is true, or `None` where the bytes are no
-    /// number, where it takes more than 36 digits, or where its exponent, the zeros at the end of its digits counted
-    /// with it, is beyond [`Decimal::MAX_EXPONENT`]. A zero is 0 whatever its sign and exponent.
-    pub fn of_number(negative: bool, number: &[u8]) -> Option<Decimal>
+    fn spelled(negative: bool, number: &[u8]) -> Option<Decimal>
         ensures { MatchOption result ((d : Decimals) → SpellsDecimal negative number.now d → ⊥) (SpellsDecimal negative number.now) }
     {
         let number = Reduced::read(number)?;
@@ -57,9 +55,20 @@ impl Decimal {
         })
     }
 
+    /// The decimal that a number without a sign is, negated where `negative` is true, or `None` where the bytes are no
+    /// number, where it takes more than 36 digits, or where its exponent, the zeros at the end of its digits counted
+    /// with it, is beyond [`Decimal::MAX_EXPONENT`]. A zero is 0 whatever its sign and exponent.
+    pub fn of_number(negative: bool, number: &[u8]) -> Option<Decimal>
+        ensures spells { MatchOption result ((d : Decimals) → SpellsDecimal negative number.now d → ⊥) (SpellsDecimal negative number.now) }
+        ensures value { result ≡ decimal_of_number negative number.now }
+    {
+        Decimal::spelled(negative, number)
+    }
+
     /// The decimal of a number that may have a sign before it; [`Decimal::of_number`] says when there is none.
     pub fn read(bytes: &[u8]) -> Option<Decimal>
-        ensures { MatchOption result ((d : Decimals) → SpellsSigned bytes.now d → ⊥) (SpellsSigned bytes.now) }
+        ensures spells { MatchOption result ((d : Decimals) → SpellsSigned bytes.now d → ⊥) (SpellsSigned bytes.now) }
+        ensures value { result ≡ decimal_of_number (starts_with_minus bytes.now) (without_leading_sign bytes.now) }
     {
         match bytes {
             [b'-', number @ ..] => Decimal::of_number(true, number),

@@ -3,7 +3,7 @@ ghost use Rattle.std.specs.Prelude.{◌≡◌, ℕ, ℤ, pos, ◌+ℤ◌, ◌-�
 ghost use Rattle.std.specs.List.{list_any, list_all, position_or_len};
 ghost use Rattle.std.specs.Str.Parse.{digits_value, digits_value_after, signed_digits_value, without_leading_sign};
 ghost use Rattle.dbc_model.specs.Lexical.{is_digit, is_sign, is_point, is_exponent_mark, is_mantissa, is_digits, is_signed_digits, is_number};
-ghost use Rattle.dbc_model.specs.Numbers.{mantissa_of, exponent_of, IsWhole, SpellsWhole, at_most_36_digits, HasDigits, StandsFor, IsReduced};
+ghost use Rattle.dbc_model.specs.Numbers.{mantissa_of, exponent_of, IsWhole, SpellsWhole, whole_of_number, at_most_36_digits, HasDigits, StandsFor, IsReduced};
 
 /// What a number is as a whole number.
 #[derive(Clone, Copy, Debug, PartialEq, Eq)]
@@ -274,7 +274,8 @@ impl Reduced {
 
 /// The whole number that a number without a sign is, by its value, or `None` where the bytes are no number.
 pub fn whole_of(number: &[u8]) -> Option<Whole>
-    ensures { MatchOption result (is_number number.now ≡ false) (SpellsWhole number.now) }
+    ensures spells { MatchOption result (is_number number.now ≡ false) (SpellsWhole number.now) }
+    ensures value { result ≡ whole_of_number number.now }
 {
     Some(Reduced::read(number)?.whole())
 }

@@ -1,4 +1,4 @@
-use Rattle.std.proofs.Common.{◌≡◌, ℕ, ◌+◌, ◌-◌, ◌*◌, ◌^◌, take, get_or, min, sym, ◌∙◌, arith}
+use Rattle.std.proofs.Common.{◌≡◌, ◌+◌, ◌-◌, ◌*◌, take, get_or, arith}
 use Rattle.std.specs.Str.Parse.{digits_value}
 use Rattle.dbc_model.proofs.DigitTexts.{value_more}
 use Rattle.dbc_model.proofs.number.value_up_to_far.Goals as goal

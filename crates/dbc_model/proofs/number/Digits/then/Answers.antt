@@ -1,5 +1,4 @@
-use Rattle.std.proofs.Common.{◌≡◌, ℕ, ◌+◌, ◌*◌, ◌^◌, ◌<◌, sym, subst, arith}
-use Rattle.dbc_model.specs.Numbers.{HasDigits}
+use Rattle.std.proofs.Common.{arith}
 use Rattle.dbc_model.proofs.Digits.{zero_behind, digit_behind_some, digit_behind_none}
 use Rattle.dbc_model.proofs.number.Digits.then.Goals as goal
 

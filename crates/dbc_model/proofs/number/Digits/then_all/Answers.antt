@@ -1,6 +1,5 @@
-use Rattle.std.proofs.Common.{ℕ, ◌+◌, ◌-◌, ◌*◌, take, get_or, sym, subst, arith}
+use Rattle.std.proofs.Common.{take, arith}
 use Rattle.std.specs.Str.Parse.{digits_value_after}
-use Rattle.dbc_model.specs.Numbers.{HasDigits}
 use Rattle.dbc_model.proofs.DigitTexts.{value_more}
 use Rattle.dbc_model.proofs.number.Digits.then_all.Goals as goal
 

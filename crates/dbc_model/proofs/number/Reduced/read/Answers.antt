@@ -1,6 +1,6 @@
 use mir.Syntax.{w128}
 use mir.Val.{SFits}
-use Rattle.std.proofs.Common.{rules, ◌≡◌, ℕ, ℤ, ◌^◌, IsTrue, List, sym, arith, to_z, of_z}
+use Rattle.std.proofs.Common.{rules, ◌≡◌, ◌^◌, to_z, of_z}
 use Rattle.std.proofs.lemmas.Int.{to_z-of_z}
 use Rattle.std.specs.Str.Parse.{digits_value_after}
 use Rattle.std.specs.List.{after_first}

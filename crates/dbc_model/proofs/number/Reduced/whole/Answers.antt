@@ -1,8 +1,8 @@
-use Rattle.std.proofs.Common.{rules, ◌≡◌, ◌≢◌, ℕ, ℤ, pos, ◌^◌, ◌≤◌, ◌<ℤ◌, ◌≤ℤ◌, Some, None, sym, subst, ap, arith}
+use Rattle.std.proofs.Common.{rules, pos, ◌<ℤ◌, ◌≤ℤ◌, Some, None, arith}
 use mir.Syntax.{w128}
 use mir.Val.{SFits}
 use Rattle.std.proofs.lemmas.Int.{ints, to_z-of_z}
-use Rattle.dbc_model.specs.Numbers.{IsReduced, IsWhole}
+use Rattle.dbc_model.specs.Numbers.{IsReduced}
 use Rattle.dbc_model.proofs.Digits.{kept_is, dropped_is}
 use Rattle.dbc_model.proofs.WholeNumbers.{fraction, too_long, whole_zero, with_zeros_at}
 use Rattle.dbc_model.proofs.number.Reduced.whole.Goals as goal

@@ -1,9 +1,9 @@
 use mir.Syntax.{w128}
 use mir.Val.{SFits}
-use Rattle.std.proofs.Common.{rules, ◌≡◌, ℕ, ℤ, ◌<◌, ◌≤◌, Bool, true, false, Some, None, refl, sym, ap, ◌∙◌, arith, to_z, of_z}
+use Rattle.std.proofs.Common.{rules, ◌≡◌, ◌<◌, ◌≤◌, false, Some, refl, sym, ap, ◌∙◌, arith}
 use Rattle.std.specs.Prelude.{unsigned_abs}
 use Rattle.std.proofs.lemmas.Int.{to_z-of_z}
-use Rattle.dbc_model.specs.Scales.{places_of, magnitude_at, whole_at, reach_fits, scale_fits, scale_of}
+use Rattle.dbc_model.specs.Scales.{places_of, magnitude_at, whole_at, scale_fits}
 use Rattle.dbc_model.proofs.Scaling.{too_long, too_many_places, no_factor, no_offset, out_of_reach, all_fits, some_is, reach_is, reach_of, scale_is}
 use Rattle.dbc_model.proofs.scale.Scale.of.Goals as goal
 use Rattle.dbc_model.proofs.scale.Scale.of.Goals.{then-length-gt-MAX_LENGTH-via-then-length-gt-MAX_LENGTH, then-length-gt-MAX_LENGTH-via-else-length-gt-MAX_LENGTH+then-places-gt-MAX_PLACES}

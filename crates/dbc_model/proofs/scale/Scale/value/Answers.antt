@@ -1,6 +1,6 @@
 use mir.Syntax.{w128}
 use mir.Val.{SFits}
-use Rattle.std.proofs.Common.{rules, ◌≡◌, ℕ, ℤ, ◌*ℤ◌, ◌+ℤ◌, ◌^◌, ◌≤◌, refl, sym, ap, ◌∙◌, arith, to_z, of_z}
+use Rattle.std.proofs.Common.{rules, ◌*ℤ◌, ◌+ℤ◌, ◌^◌, ◌≤◌, ap}
 use Rattle.std.specs.Prelude.{unsigned_abs}
 use Rattle.std.proofs.lemmas.Int.{to_z-of_z}
 use Rattle.dbc_model.specs.Scales.{Scale}
