@@ -216,7 +216,7 @@ fn counts_of_signals(rt: HostRuntime) -> Result<(), Fail> {
         for i in 0..count {
             let bytes = [
                 b'S',
-                b'A' + (i / 100) as u8,
+                b'0' + (i / 100 % 10) as u8,
                 b'0' + (i / 10 % 10) as u8,
                 b'0' + (i % 10) as u8,
             ];
