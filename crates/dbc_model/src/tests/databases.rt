@@ -230,18 +230,6 @@ fn same_messages(a: &List<Message>, b: &List<Message>) -> bool {
     }
 }
 
-#[test]
-fn a_copy_holds_messages(rt: HostRuntime) -> Result<(), Fail> {
-    let database = full(rt.alloc())?;
-    let copy = database.copy()?;
-    assert_eq!(rt; copy.version.as_bytes(), b"1.0".as_slice());
-    assert_eq!(rt; copy.bit_timing, database.bit_timing);
-    assert_eq!(rt; copy.symbols.len(), 1);
-    assert!(rt; same_names(&copy.nodes, &database.nodes));
-    assert!(rt; same_messages(&copy.messages, &database.messages));
-    Ok(())
-}
-
 fn same_tables(a: &List<TableRow>, b: &List<TableRow>) -> bool {
     match (a.as_slice(), b.as_slice()) {
         ([a], [b]) => {
@@ -281,17 +269,6 @@ fn same_muxes(a: &List<MuxRow>, b: &List<MuxRow>) -> bool {
         }
         _ => false,
     }
-}
-
-#[test]
-fn a_copy_holds_rows_of_signals(rt: HostRuntime) -> Result<(), Fail> {
-    let database = full(rt.alloc())?;
-    let copy = database.copy()?;
-    assert!(rt; same_tables(&copy.tables, &database.tables));
-    assert!(rt; same_values(&copy.values, &database.values));
-    assert!(rt; same_floats(&copy.floats, &database.floats));
-    assert!(rt; same_muxes(&copy.muxes, &database.muxes));
-    Ok(())
 }
 
 fn same_target(a: &Target, b: &Target) -> bool {
@@ -341,16 +318,6 @@ fn same_attributes(a: &List<AttrRow>, b: &List<AttrRow>) -> bool {
     }
 }
 
-#[test]
-fn a_copy_holds_comments_and_attributes(rt: HostRuntime) -> Result<(), Fail> {
-    let database = full(rt.alloc())?;
-    let copy = database.copy()?;
-    assert!(rt; same_comments(&copy.comments, &database.comments));
-    assert!(rt; same_defaults(&copy.defaults, &database.defaults));
-    assert!(rt; same_attributes(&copy.attributes, &database.attributes));
-    Ok(())
-}
-
 fn same_form(a: &Form, b: &Form) -> bool {
     match (a, b) {
         (Form::Int(a), Form::Int(b)) => a == b,
@@ -386,12 +353,49 @@ fn same_kept(a: &List<Kept>, b: &List<Kept>) -> bool {
     }
 }
 
-#[test]
-fn a_copy_holds_definitions_and_kept_statements(rt: HostRuntime) -> Result<(), Fail> {
-    let database = full(rt.alloc())?;
+fn same_symbols(a: &List<Symbol>, b: &List<Symbol>) -> bool {
+    match (a.as_slice(), b.as_slice()) {
+        ([a], [b]) => a.as_bytes() == b.as_bytes(),
+        _ => false,
+    }
+}
+
+fn same_front(a: &Database, b: &Database) -> bool {
+    a.version.as_bytes() == b.version.as_bytes()
+        && same_symbols(&a.symbols, &b.symbols)
+        && a.bit_timing == b.bit_timing
+        && same_names(&a.nodes, &b.nodes)
+}
+
+fn same_lists_of_signals(a: &Database, b: &Database) -> bool {
+    same_tables(&a.tables, &b.tables)
+        && same_messages(&a.messages, &b.messages)
+        && same_values(&a.values, &b.values)
+        && same_floats(&a.floats, &b.floats)
+        && same_muxes(&a.muxes, &b.muxes)
+}
+
+fn same_remarks(a: &Database, b: &Database) -> bool {
+    same_comments(&a.comments, &b.comments)
+        && same_definitions(&a.definitions, &b.definitions)
+        && same_defaults(&a.defaults, &b.defaults)
+        && same_attributes(&a.attributes, &b.attributes)
+        && same_kept(&a.kept, &b.kept)
+}
+
+fn is_same(a: &Database, b: &Database) -> bool {
+    same_front(a, b) && same_lists_of_signals(a, b) && same_remarks(a, b)
+}
+
+fn copies_well(database: &Database) -> Result<bool, Fail> {
     let copy = database.copy()?;
-    assert!(rt; same_definitions(&copy.definitions, &database.definitions));
-    assert!(rt; same_kept(&copy.kept, &database.kept));
+    Ok(is_same(&copy, database))
+}
+
+#[test]
+fn a_copy_holds_every_field(rt: HostRuntime) -> Result<(), Fail> {
+    let database = full(rt.alloc())?;
+    assert!(rt; copies_well(&database)?);
     Ok(())
 }
 
