@@ -2,6 +2,8 @@
 //! answers that a reader of the format gives.
 
 mod databases;
+mod numbers;
+mod printing;
 mod records;
 
 use crate::limp::Limp;
@@ -10,8 +12,6 @@ use crate::{
 };
 use std::alloc::Global;
 use std::test::Fail;
-
-mod numbers;
 
 fn name(alloc: Global, bytes: &[u8]) -> Result<Name, Fail> {
     match Name::new(alloc, bytes)? {

@@ -170,7 +170,7 @@ fn back(alloc: Global) -> Result<Back, Fail> {
     Ok((values(alloc)?, floats(alloc)?, muxes(alloc)?, kept(alloc)?))
 }
 
-fn full(alloc: Global) -> Result<Database, Fail> {
+pub(super) fn full(alloc: Global) -> Result<Database, Fail> {
     let version = text(alloc, b"1.0")?;
     let timing = Some([half(), zero(), half()]);
     let (symbols, nodes, tables, messages) = front(alloc)?;
