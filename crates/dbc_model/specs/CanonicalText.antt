@@ -307,23 +307,20 @@ kept_layout statement = flat_map piece_layout statement.tokens ++ statement_end
 
 -- ---- databases
 
+-- what stands before the messages
+unfoldable pub front_layout : Database → Layout
+front_layout d = version_layout d.version ++ (symbols_layout d.symbols ++ (timing_layout d.bit_timing ++ (nodes_layout d.nodes ++ flat_map table_layout d.tables)))
+
+unfoldable pub attributes_layout : Database → Layout
+attributes_layout d = flat_map definition_layout d.definitions ++ (flat_map default_layout d.defaults ++ flat_map attribute_layout d.attributes)
+
+-- the rows of signals, and then the kept statements
+unfoldable pub rows_layout : Database → Layout
+rows_layout d = flat_map values_layout d.values ++ (flat_map float_layout d.floats ++ (flat_map mux_layout d.muxes ++ flat_map kept_layout d.kept))
+
 -- all kinds, in the order of the format
 unfoldable pub database_layout : Database → Layout
-database_layout d =
-    version_layout d.version
-    ++ (symbols_layout d.symbols
-    ++ (timing_layout d.bit_timing
-    ++ (nodes_layout d.nodes
-    ++ (flat_map table_layout d.tables
-    ++ (flat_map message_layout d.messages
-    ++ (flat_map comment_layout d.comments
-    ++ (flat_map definition_layout d.definitions
-    ++ (flat_map default_layout d.defaults
-    ++ (flat_map attribute_layout d.attributes
-    ++ (flat_map values_layout d.values
-    ++ (flat_map float_layout d.floats
-    ++ (flat_map mux_layout d.muxes
-    ++ flat_map kept_layout d.kept))))))))))))
+database_layout d = front_layout d ++ (flat_map message_layout d.messages ++ (flat_map comment_layout d.comments ++ (attributes_layout d ++ rows_layout d)))
 
 unfoldable pub canonical_text : Database → List ℕ
 canonical_text database = layout_text (database_layout database)

@@ -2,7 +2,7 @@
 ghost use Rattle.std.specs.Prelude.{◌≡◌};
 ghost use Rattle.dbc_model.specs.Device.{Prints, Sends};
 ghost use Rattle.dbc_model.specs.Layout.{layout_text};
-ghost use Rattle.dbc_model.specs.CanonicalText.{version_layout, symbols_title, symbols_layout, timing_title, timing_numbers, perhaps_numbers, timing_layout, nodes_title, nodes_layout, database_layout, canonical_text};
+ghost use Rattle.dbc_model.specs.CanonicalText.{version_layout, symbols_title, symbols_layout, timing_title, timing_numbers, perhaps_numbers, timing_layout, nodes_title, nodes_layout, front_layout, attributes_layout, rows_layout, database_layout, canonical_text};
 
 mod attributes;
 mod messages;
@@ -148,6 +148,40 @@ fn hold_nodes<W: Sink>(sink: &mut W, held: &mut Held, nodes: &List<Name>) -> Res
     hold_line_end(sink, held)
 }
 
+#[tactic(auto, using(crate::proofs::Layouts::layouts), unfolding(crate::specs::CanonicalText::front_layout))]
+fn hold_front<W: Sink>(sink: &mut W, held: &mut Held, database: &Database) -> Result<(), WriteFault>
+    ensures { Sends (W.written sink.old) (W.written sink.new) held.old.items result (layout_text (front_layout database.now)) held.new.items }
+{
+    hold_version(sink, held, &database.version)?;
+    hold_symbols(sink, held, &database.symbols)?;
+    hold_timing(sink, held, &database.bit_timing)?;
+    hold_nodes(sink, held, &database.nodes)?;
+    hold_list::<TableLine, TableRow, W>(sink, held, &database.tables)
+}
+
+#[tactic(auto, using(crate::proofs::Layouts::layouts), unfolding(crate::specs::CanonicalText::attributes_layout))]
+fn hold_attributes<W: Sink>(
+    sink: &mut W,
+    held: &mut Held,
+    database: &Database,
+) -> Result<(), WriteFault>
+    ensures { Sends (W.written sink.old) (W.written sink.new) held.old.items result (layout_text (attributes_layout database.now)) held.new.items }
+{
+    hold_list::<DefinitionLine, AttrDef, W>(sink, held, &database.definitions)?;
+    hold_list::<DefaultLine, AttrDefault, W>(sink, held, &database.defaults)?;
+    hold_list::<AttributeLine, AttrRow, W>(sink, held, &database.attributes)
+}
+
+#[tactic(auto, using(crate::proofs::Layouts::layouts), unfolding(crate::specs::CanonicalText::rows_layout))]
+fn hold_rows<W: Sink>(sink: &mut W, held: &mut Held, database: &Database) -> Result<(), WriteFault>
+    ensures { Sends (W.written sink.old) (W.written sink.new) held.old.items result (layout_text (rows_layout database.now)) held.new.items }
+{
+    hold_list::<ValuesLine, ValueRow, W>(sink, held, &database.values)?;
+    hold_list::<FloatLine, FloatRow, W>(sink, held, &database.floats)?;
+    hold_list::<MuxLine, MuxRow, W>(sink, held, &database.muxes)?;
+    hold_list::<KeptLine, Kept, W>(sink, held, &database.kept)
+}
+
 #[tactic(auto, using(crate::proofs::Layouts::layouts), unfolding(crate::specs::CanonicalText::database_layout))]
 fn hold_database<W: Sink>(
     sink: &mut W,
@@ -156,20 +190,11 @@ fn hold_database<W: Sink>(
 ) -> Result<(), WriteFault>
     ensures { Sends (W.written sink.old) (W.written sink.new) held.old.items result (layout_text (database_layout database.now)) held.new.items }
 {
-    hold_version(sink, held, &database.version)?;
-    hold_symbols(sink, held, &database.symbols)?;
-    hold_timing(sink, held, &database.bit_timing)?;
-    hold_nodes(sink, held, &database.nodes)?;
-    hold_list::<TableLine, TableRow, W>(sink, held, &database.tables)?;
+    hold_front(sink, held, database)?;
     hold_list::<MessageLines, Message, W>(sink, held, &database.messages)?;
     hold_list::<CommentLine, Comment, W>(sink, held, &database.comments)?;
-    hold_list::<DefinitionLine, AttrDef, W>(sink, held, &database.definitions)?;
-    hold_list::<DefaultLine, AttrDefault, W>(sink, held, &database.defaults)?;
-    hold_list::<AttributeLine, AttrRow, W>(sink, held, &database.attributes)?;
-    hold_list::<ValuesLine, ValueRow, W>(sink, held, &database.values)?;
-    hold_list::<FloatLine, FloatRow, W>(sink, held, &database.floats)?;
-    hold_list::<MuxLine, MuxRow, W>(sink, held, &database.muxes)?;
-    hold_list::<KeptLine, Kept, W>(sink, held, &database.kept)
+    hold_attributes(sink, held, database)?;
+    hold_rows(sink, held, database)
 }
 
 /// Writes the canonical text of the database: its statements in the format's order of kinds, each on a line of its own
