@@ -1,4 +1,4 @@
-use Rattle.std.proofs.Common.{◌≡◌, ◌-◌, ◌≤◌, ◌++◌, ◌∷◌, [], length, ap, ◌∙◌, arith, rules, sym, append-nil}
+use Rattle.std.proofs.Common.{◌-◌, ◌≤◌, ◌++◌, ◌∷◌, [], length, ap, ◌∙◌, arith, rules, sym, append-nil}
 use Rattle.std.proofs.lemmas.List.{take-replicate}
 use Rattle.dbc_model.specs.Layout.{zeros}
 use Rattle.dbc_model.proofs.Magnitudes.{Sends-as, fraction_filled}

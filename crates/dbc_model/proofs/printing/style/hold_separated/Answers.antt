@@ -1,6 +1,5 @@
 use Rattle.std.proofs.Common.{ap, ◌-◌, length, take, drop}
 use Rattle.std.specs.List.{flat_map}
-use Rattle.std.proofs.lemmas.Result.{MatchResult-from_err}
 use Rattle.dbc_model.specs.Layout.{layout_text}
 use Rattle.dbc_model.proofs.Writes.{Passes-nil}
 use Rattle.dbc_model.proofs.Magnitudes.{Sends-as}
