@@ -1,12 +1,11 @@
 //! Tokens of the statements that are kept as they stand.
-ghost use Rattle.std.specs.Prelude.{◌≡◌, ◌+◌, ◌≤◌, IfOk, IsTrue, Some, None, if◌then◌else◌, length, take, drop};
-ghost use Rattle.std.specs.List.{list_all, list_any, before_first, after_first, position_or_len};
-ghost use Rattle.dbc_model.specs.Lexical.{is_digit, is_digits, is_signed_digits, is_mantissa, is_number, is_point, is_exponent_mark};
+ghost use Rattle.std.specs.Prelude.{◌≡◌, IfOk, IsTrue, Some, None, if◌then◌else◌};
 ghost use Rattle.dbc_model.specs.Kept.{is_piece, is_string, is_mark_but_semicolon};
 
 use crate::list::{Checked, Copied};
 use crate::memory::Memory;
 use crate::name::is_word;
+use crate::number::is_number;
 use crate::text::is_text;
 use std::alloc::Global;
 use std::marker::Model;
@@ -37,105 +36,6 @@ pub(crate) fn is_string(bytes: &[u8]) -> bool
         [first, text @ .., last] => *first == b'"' && *last == b'"' && is_text(text),
         _ => false,
     }
-}
-
-fn are_digits(bytes: &[u8]) -> bool
-    ensures { result ≡ list_all is_digit bytes.now }
-{
-    bytes.iter().all(|b| b.is_ascii_digit())
-}
-
-fn has_digit(bytes: &[u8]) -> bool
-    ensures { result ≡ list_any is_digit bytes.now }
-{
-    bytes.iter().any(|b| b.is_ascii_digit())
-}
-
-fn is_digits(bytes: &[u8]) -> bool
-    ensures { result ≡ is_digits bytes.now }
-{
-    !bytes.is_empty() && are_digits(bytes)
-}
-
-fn is_signed_digits(bytes: &[u8]) -> bool
-    ensures { result ≡ is_signed_digits bytes.now }
-{
-    match bytes {
-        [b'+' | b'-', digits @ ..] => is_digits(digits),
-        _ => is_digits(bytes),
-    }
-}
-
-fn is_exponent_mark(b: u8) -> bool
-    ensures { result ≡ is_exponent_mark b }
-{
-    matches!(b, b'E' | b'e')
-}
-
-fn has_exponent_mark(bytes: &[u8]) -> bool
-    ensures { result ≡ list_any is_exponent_mark bytes.now }
-{
-    bytes.iter().any(|b| is_exponent_mark(*b))
-}
-
-// The place of the first point, or the length.
-fn point_place(bytes: &[u8]) -> usize
-    ensures place { result ≡ position_or_len is_point bytes.now }
-    ensures in_range { result ≤ length bytes.now }
-{
-    bytes.iter().take_while(|b| **b != b'.').count()
-}
-
-// The place of the first exponent mark, or the length.
-fn exponent_mark_place(bytes: &[u8]) -> usize
-    ensures place { result ≡ position_or_len is_exponent_mark bytes.now }
-    ensures in_range { result ≤ length bytes.now }
-{
-    bytes.iter().take_while(|b| !is_exponent_mark(**b)).count()
-}
-
-// The bytes before this place and behind it.
-fn around(bytes: &[u8], place: usize) -> (&[u8], &[u8])
-    requires { place ≤ length bytes.now }
-    ensures before { result.0.now ≡ take place bytes.now }
-    ensures behind { result.1.now ≡ drop (place + 1) bytes.now }
-{
-    let (before, rest) = bytes.split_at(place);
-    match rest {
-        [_, behind @ ..] => (before, behind),
-        [] => (before, rest),
-    }
-}
-
-fn around_point(bytes: &[u8]) -> (&[u8], &[u8])
-    ensures before { result.0.now ≡ before_first is_point bytes.now }
-    ensures behind { result.1.now ≡ after_first is_point bytes.now }
-{
-    around(bytes, point_place(bytes))
-}
-
-fn around_exponent_mark(bytes: &[u8]) -> (&[u8], &[u8])
-    ensures before { result.0.now ≡ before_first is_exponent_mark bytes.now }
-    ensures behind { result.1.now ≡ after_first is_exponent_mark bytes.now }
-{
-    around(bytes, exponent_mark_place(bytes))
-}
-
-// Digits, perhaps with a point.
-fn is_mantissa(bytes: &[u8]) -> bool
-    ensures { result ≡ is_mantissa bytes.now }
-{
-    let (whole, fraction) = around_point(bytes);
-    are_digits(whole) && are_digits(fraction) && has_digit(bytes)
-}
-
-// Whether the bytes are a number without a sign.
-#[tactic(auto, unfolding(crate::specs::Lexical::is_number))]
-fn is_number(bytes: &[u8]) -> bool
-    ensures { result ≡ is_number bytes.now }
-{
-    let (mantissa, exponent) = around_exponent_mark(bytes);
-    is_mantissa(mantissa) && (!has_exponent_mark(bytes) || is_signed_digits(exponent))
 }
 
 fn is_mark_but_semicolon(bytes: &[u8]) -> bool
