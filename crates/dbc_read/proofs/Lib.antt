@@ -8,3 +8,6 @@ pub mod Gaps
 pub mod CutStep
 pub mod LineFeeds
 pub mod CutLaws
+pub mod Turns
+pub mod Loops
+pub mod Ends

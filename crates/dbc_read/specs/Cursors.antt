@@ -1,0 +1,7 @@
+-- The tokens from a cursor on.
+use Rattle.dbc_read.specs.declared.cursor.Cursor.{Cursor}
+use Rattle.dbc_read.specs.Tokens.{Cut}
+use Rattle.dbc_read.specs.Views.{left, cut_from}
+
+unfoldable pub left_at : Cursor → Cut
+left_at cursor = cut_from cursor.next (left cursor.after)
