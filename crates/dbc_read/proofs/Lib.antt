@@ -11,3 +11,6 @@ pub mod CutLaws
 pub mod Turns
 pub mod Loops
 pub mod Ends
+pub mod MessageNames
+pub mod SignalLoop
+pub mod StatementLoop

@@ -1,6 +1,7 @@
 -- Each reader leaves fewer tokens, and what one more turn of a loop does.
-use Rattle.std.proofs.Common.{◌≡◌, ℕ, Bool, true, false, List, [], ◌∷◌, ◌++◌, Result, Ok, Err, refl, sym, ap, ◌∙◌, ◌<◌, arith}
-use Rattle.std.specs.Prelude.{codes}
+use Rattle.std.proofs.Common.{◌≡◌, ℕ, Bool, true, false, List, [], ◌∷◌, ◌++◌, Result, Ok, Err, refl, sym, ap, ◌∙◌, ◌<◌, IsTrue, length, arith}
+use Rattle.std.specs.Prelude.{codes, nat_le}
+use Rattle.std.proofs.lemmas.Grind.{common_steps}
 use Rattle.dbc_model.specs.Lexical.{is_name}
 use Rattle.dbc_model.specs.Records.{is_symbol, Signal, Entry, names_of}
 use Rattle.dbc_model.specs.Kept.{is_piece}
@@ -14,7 +15,7 @@ use Rattle.dbc_read.specs.Classes.{has_word, has_mark, has_name, has_symbol, has
 use Rattle.dbc_read.specs.Reading.{Reader, and_then, ◌>>=◌, value, starts, size, repeated, Fails}
 use Rattle.dbc_read.specs.ReadingParts.{word_at, mark_at, name_at, symbol_at, text_at, piece_at, whole_at, id_at, number_at, order_at, tag_token_at, decimal_at, int_at, begins_int, pair_at, names_from, symbols_from, pieces_from, comma_at, begins_receiver, receivers_from, receivers_at, texts_from, entry_at, entries_from}
 use Rattle.dbc_read.specs.ReadingTables.{range_at, ranges_from}
-use Rattle.dbc_read.proofs.Turns.{Shrinks, Keeps, one_shrinks, value_keeps, keeps, bind_shrinks, bind_keeps, after_shrinks, choose_shrinks, choose_keeps, goes_on, fails, ends, repeated_keeps}
+use Rattle.dbc_read.proofs.Turns.{Shrinks, Keeps, one_shrinks, value_keeps, keeps, bind_shrinks, bind_keeps, after_shrinks, choose_shrinks, choose_keeps, goes_on, fails, ends, repeated_keeps, repeated_holds, and_then_ok, ok_is}
 
 pub fails_bind : {A B : Type 0} (e : Stopped) (o : Result (A × Cut) ReadFault) (f : A → Reader B) → Fails e o → Fails e (and_then o f)
 fails_bind stops.Memory o f h = tt
@@ -285,3 +286,60 @@ ranges_end ranges cut total t so_far = ends (has_mark 44) ranges_turn ranges_shr
 pub ranges_less : (range : Range) (cut mid rest : Cut) → mark_at 44 cut ≡ Ok (tt, mid) → range_at mid ≡ Ok (range, rest) → size rest < size cut
 ranges_less range cut mid rest h k = omega (arith, (mark_shrinks 44).less cut (tt, mid) h, range_shrinks.less mid (range, rest) k)
 
+pub names_keep : (names : List (List ℕ)) → Keeps (names_from names)
+unfolding names_from names_turn
+names_keep names = repeated_keeps has_name names_turn names_shrink names
+
+pub symbols_keep : (symbols : List (List ℕ)) → Keeps (symbols_from symbols)
+unfolding symbols_from symbols_turn
+symbols_keep symbols = repeated_keeps has_symbol symbols_turn symbols_shrink symbols
+
+pub pieces_keep : (pieces : List (List ℕ)) → Keeps (pieces_from pieces)
+unfolding pieces_from pieces_turn
+pieces_keep pieces = repeated_keeps has_piece pieces_turn pieces_shrink pieces
+
+pub entries_keep : (entries : List Entry) → Keeps (entries_from entries)
+unfolding entries_from entries_turn
+entries_keep entries = repeated_keeps begins_int entries_turn entries_shrink entries
+
+pub receivers_keep : (receivers : List (List ℕ)) → Keeps (receivers_from receivers)
+unfolding receivers_from receivers_turn
+receivers_keep receivers = repeated_keeps begins_receiver receivers_turn receivers_shrink receivers
+
+pub texts_keep : (texts : List (List ℕ)) → Keeps (texts_from texts)
+unfolding texts_from texts_turn
+texts_keep texts = repeated_keeps (has_mark 44) texts_turn texts_shrink texts
+
+pub ranges_keep : (ranges : List Range) → Keeps (ranges_from ranges)
+unfolding ranges_from ranges_turn
+ranges_keep ranges = repeated_keeps (has_mark 44) ranges_turn ranges_shrink ranges
+
+pub receivers_keep_all : Keeps receivers_at
+unfolding receivers_at
+receivers_keep_all = choose_keeps _ (bind_keeps (keeps name_shrinks) λ name. receivers_keep _) (value_keeps _)
+
+some_texts_kept : (texts : List (List ℕ)) (cut : Cut) (x : List (List ℕ) × Cut) → IsTrue (nat_le 1 (length texts)) → texts_turn texts cut ≡ Ok x → IsTrue (nat_le 1 (length x.0))
+unfolding texts_turn
+some_texts_kept texts cut x h e =
+    let y = and_then_ok (mark_at 44 cut) _ x e in
+    let z = and_then_ok (text_at y.0.1) _ x y.2 in
+    let same : (texts ++ z.0.0 ∷ [], z.0.1) ≡ x = ok_is (texts ++ z.0.0 ∷ [], z.0.1) x z.2 in
+    rw (← same) (grind (arith, common_steps))
+
+-- there is at least the first
+pub some_texts : (first : (List ℕ)) (texts : List (List ℕ)) (cut rest : Cut) → texts_from (first ∷ []) cut ≡ Ok (texts, rest) → IsTrue (nat_le 1 (length texts))
+unfolding texts_from texts_turn
+some_texts first texts cut rest e = repeated_holds (λ xs. IsTrue (nat_le 1 (length xs))) (has_mark 44) texts_turn some_texts_kept (first ∷ []) cut (texts, rest) refl e
+
+some_ranges_kept : (ranges : List Range) (cut : Cut) (x : List Range × Cut) → IsTrue (nat_le 1 (length ranges)) → ranges_turn ranges cut ≡ Ok x → IsTrue (nat_le 1 (length x.0))
+unfolding ranges_turn
+some_ranges_kept ranges cut x h e =
+    let y = and_then_ok (mark_at 44 cut) _ x e in
+    let z = and_then_ok (range_at y.0.1) _ x y.2 in
+    let same : (ranges ++ z.0.0 ∷ [], z.0.1) ≡ x = ok_is (ranges ++ z.0.0 ∷ [], z.0.1) x z.2 in
+    rw (← same) (grind (arith, common_steps))
+
+-- there is at least the first
+pub some_ranges : (first : Range) (ranges : List Range) (cut rest : Cut) → ranges_from (first ∷ []) cut ≡ Ok (ranges, rest) → IsTrue (nat_le 1 (length ranges))
+unfolding ranges_from ranges_turn
+some_ranges first ranges cut rest e = repeated_holds (λ xs. IsTrue (nat_le 1 (length xs))) (has_mark 44) ranges_turn some_ranges_kept (first ∷ []) cut (ranges, rest) refl e

@@ -1,5 +1,5 @@
 -- Reading again and again, as a loop does.
-use Rattle.std.proofs.Common.{◌≡◌, ℕ, zero, suc, ◌<◌, ◌≤◌, Bool, true, false, cond, Result, Ok, Err, refl, sym, ap, ◌∙◌, arith}
+use Rattle.std.proofs.Common.{◌≡◌, ℕ, zero, suc, ◌<◌, ◌≤◌, Bool, true, false, cond, Result, Ok, Err, refl, sym, ap, subst, ◌∙◌, arith}
 use Rattle.dbc_read.specs.declared.fault.Cause.{Cause}
 use Rattle.dbc_read.specs.declared.fault.ReadFault.{ReadFault}
 use Rattle.dbc_read.specs.declared.stopped.Stopped.{Stopped}
@@ -133,3 +133,20 @@ module _ {S : Type 0} (test : Token → Bool) (r : S → Reader S) (shrinks : (s
   pub repeated_keeps : (s : S) → Keeps (repeated test r s)
   unfolding repeated
   repeated_keeps s = record { less = λ cut x e. (turns_keep (size cut) s).less cut x e }
+
+-- ---- what turns keep
+
+module _ {S : Type 0} (P : S → Type 0) (test : Token → Bool) (r : S → Reader S) (kept : (s : S) (cut : Cut) (x : S × Cut) → P s → r s cut ≡ Ok x → P x.0) where
+  turn_holds : (n : ℕ) → ((s : S) (cut : Cut) (x : S × Cut) → P s → turns n test r s cut ≡ Ok x → P x.0) → (s : S) (b : Bool) (cut : Cut) (x : S × Cut) → P s → cond b (and_then (r s cut) (turns n test r)) (Ok (s, cut)) ≡ Ok x → P x.0
+  turn_holds n below s false cut x h e = subst (λ (y : S × Cut). P y.0) (ok_is (s, cut) x e) h
+  turn_holds n below s true cut x h e =
+      let y = and_then_ok (r s cut) (turns n test r) x e in
+      below y.0.0 y.0.1 x (kept s cut y.0 h y.1) y.2
+
+  turns_hold : (n : ℕ) (s : S) (cut : Cut) (x : S × Cut) → P s → turns n test r s cut ≡ Ok x → P x.0
+  turns_hold zero s cut x h e = subst (λ (y : S × Cut). P y.0) (ok_is (s, cut) x e) h
+  turns_hold (suc n) s cut x h e = turn_holds n (turns_hold n) s (starts test cut) cut x h e
+
+  pub repeated_holds : (s : S) (cut : Cut) (x : S × Cut) → P s → repeated test r s cut ≡ Ok x → P x.0
+  unfolding repeated
+  repeated_holds s cut x h e = turns_hold (size cut) s cut x h e

@@ -57,6 +57,12 @@ ranges_from = repeated (has_mark 44) (λ ranges. do
   range ← range_at
   value (ranges ++ range ∷ []))
 
+-- ranges with commas between them, at least one
+unfoldable pub ranges_at : Reader (List Range)
+ranges_at = do
+  range ← range_at
+  ranges_from (range ∷ [])
+
 -- `SG_MUL_VAL_ number signal switch ranges ;`
 unfoldable pub mux_at : Reader MuxRow
 mux_at = do
@@ -64,7 +70,6 @@ mux_at = do
   number ← id_at
   signal ← name_at
   switch ← name_at
-  range ← range_at
-  ranges ← ranges_from (range ∷ [])
+  ranges ← ranges_at
   _ ← mark_at 59
   value (record { number = number; signal = signal; switch = switch; ranges = ranges })

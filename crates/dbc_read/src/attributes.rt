@@ -122,7 +122,7 @@ fn limits(at: &mut Cursor<'_>) -> Result<Option<Limits>, Stopped>
 }
 
 // Takes the texts of an enumeration.
-#[tactic(auto, unfolding(crate::specs::ReadingAttributes::enumeration_at))]
+#[tactic(auto, using(crate::proofs::Loops::some_texts), unfolding(crate::specs::ReadingAttributes::enumeration_at))]
 fn enumeration(alloc: Global, at: &mut Cursor<'_>) -> Result<Form, Stopped>
     ensures value { GivesTo result (left_at at.new) (enumeration_at (left_at at.old)) }
     ensures fits { IfOk result (λ form. IsTrue (form_fits form)) }

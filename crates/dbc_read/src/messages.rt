@@ -81,7 +81,7 @@ fn has_signal(signals: &[Signal], name: &[u8]) -> bool
 }
 
 // Takes the name of a signal, in a message that has these signals.
-#[tactic(auto, unfolding(crate::specs::ReadingMessages::signal_name_at))]
+#[tactic(auto, unfolding(crate::specs::ReadingMessages::signal_name_at, crate::specs::Classes::has_name))]
 fn signal_name(alloc: Global, at: &mut Cursor<'_>, signals: &[Signal]) -> Result<Name, Stopped>
     ensures value { GivesTo result (left_at at.new) (signal_name_at (names_of signals.now) (left_at at.old)) }
     ensures fresh { IfOk result (λ name. list_any (bytes_eq name) (names_of signals.now) ≡ false) }
@@ -188,6 +188,7 @@ pub fn signal(alloc: Global, at: &mut Cursor<'_>, signals: &[Signal]) -> Result<
 }
 
 // Takes the signals of a message.
+#[tactic(auto, using(crate::proofs::SignalLoop::signals_on, crate::proofs::SignalLoop::signals_end, crate::proofs::SignalLoop::signals_less, crate::proofs::MessageNames::signals_fit_more), unfolding(dbc_model::specs::Records::signals_fit))]
 fn signals(alloc: Global, at: &mut Cursor<'_>) -> Result<List<Signal>, Stopped>
     ensures value { GivesTo result (left_at at.new) (signals_from [] (left_at at.old)) }
     ensures fit { IfOk result (λ signals. IsTrue (signals_fit signals)) }

@@ -206,7 +206,7 @@ pub fn texts(alloc: Global, at: &mut Cursor<'_>, first: Text) -> Result<List<Tex
 {
     let mut texts = List::new(alloc);
     texts.push(first)?;
-    'texts: while at.starts_mark(b',') {
+    'further: while at.starts_mark(b',') {
         mark(at, b',')?;
         let found = text(alloc, at)?;
         texts.push(found)?;

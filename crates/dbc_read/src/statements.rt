@@ -228,6 +228,7 @@ fn add_statement(alloc: Global, at: &mut Cursor<'_>, database: &mut Database) ->
 }
 
 /// Takes the statements that stand here, and puts their values behind those of their kinds.
+#[tactic(auto, using(crate::proofs::StatementLoop::statements_on, crate::proofs::StatementLoop::statements_end, crate::proofs::StatementLoop::statements_less))]
 pub fn add_statements(
     alloc: Global,
     at: &mut Cursor<'_>,

@@ -1,8 +1,9 @@
 //! Tables of named values, float types and extended multiplexing.
-ghost use Rattle.std.specs.Prelude.{◌≡◌, [], ◌∷◌, ◌<◌, IfOk, length};
+ghost use Rattle.std.specs.Prelude.{◌≡◌, [], ◌∷◌, IfOk, IsTrue};
+ghost use Rattle.dbc_model.specs.Records.{ranges_fit};
 ghost use Rattle.dbc_read.specs.Cursors.{left_at};
 ghost use Rattle.dbc_read.specs.Reading.{GivesTo};
-ghost use Rattle.dbc_read.specs.ReadingTables.{table_at, values_at, colon_at, float_at, range_at, ranges_from, mux_at};
+ghost use Rattle.dbc_read.specs.ReadingTables.{table_at, values_at, colon_at, float_at, range_at, ranges_from, ranges_at, mux_at};
 
 use crate::cursor::Cursor;
 use crate::numerals::{entries, id, whole};
@@ -84,18 +85,27 @@ fn range(at: &mut Cursor<'_>) -> Result<Range, Stopped>
 
 // The first range and all further ones, which stand here behind commas.
 #[tactic(auto, using(crate::proofs::Loops::ranges_on, crate::proofs::Loops::ranges_fail_first, crate::proofs::Loops::ranges_fail, crate::proofs::Loops::ranges_end, crate::proofs::Loops::ranges_less))]
-fn ranges(alloc: Global, at: &mut Cursor<'_>, first: Range) -> Result<List<Range>, Stopped>
-    ensures value { GivesTo result (left_at at.new) (ranges_from (first ∷ []) (left_at at.old)) }
-    ensures some { IfOk result (λ ranges. 0 < length ranges) }
+fn ranges_behind(alloc: Global, at: &mut Cursor<'_>, first: Range) -> Result<List<Range>, Stopped>
+    ensures { GivesTo result (left_at at.new) (ranges_from (first ∷ []) (left_at at.old)) }
 {
     let mut ranges = List::new(alloc);
     ranges.push(first)?;
-    'ranges: while at.starts_mark(b',') {
+    'further: while at.starts_mark(b',') {
         mark(at, b',')?;
         let found = range(at)?;
         ranges.push(found)?;
     }
     Ok(ranges)
+}
+
+// Takes the ranges of a switch, of which there is at least one.
+#[tactic(auto, using(crate::proofs::Loops::some_ranges), unfolding(crate::specs::ReadingTables::ranges_at))]
+fn ranges(alloc: Global, at: &mut Cursor<'_>) -> Result<List<Range>, Stopped>
+    ensures value { GivesTo result (left_at at.new) (ranges_at (left_at at.old)) }
+    ensures fits { IfOk result (λ ranges. IsTrue (ranges_fit ranges)) }
+{
+    let first = range(at)?;
+    ranges_behind(alloc, at, first)
 }
 
 /// Takes a row of extended multiplexing: `SG_MUL_VAL_`.
@@ -107,8 +117,7 @@ pub fn mux(alloc: Global, at: &mut Cursor<'_>) -> Result<MuxRow, Stopped>
     let number = id(at)?;
     let signal = name(alloc, at)?;
     let switch = name(alloc, at)?;
-    let first = range(at)?;
-    let ranges = ranges(alloc, at, first)?;
+    let ranges = ranges(alloc, at)?;
     mark(at, b';')?;
     Ok(MuxRow {
         number,

@@ -4,8 +4,8 @@ use Rattle.dbc_read.specs.Reading.{size}
 use Rattle.dbc_read.specs.ReadingParts.{texts_from}
 use Rattle.dbc_read.proofs.parts.texts.Given as goal
 
-abbrev pub invariant-texts : goal.invariant-texts
-invariant-texts l = texts_from l.texts (left_at l.at) ≡ texts_from (l.fn.first ∷ []) (left_at l.initial.at)
+abbrev pub invariant-further : goal.invariant-further
+invariant-further l = texts_from l.texts (left_at l.at) ≡ texts_from (l.fn.first ∷ []) (left_at l.initial.at)
 
-abbrev pub decreases-texts : goal.decreases-texts
-decreases-texts l = size (left_at l.at)
+abbrev pub decreases-further : goal.decreases-further
+decreases-further l = size (left_at l.at)
