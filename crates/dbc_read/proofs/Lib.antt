@@ -14,3 +14,6 @@ pub mod Ends
 pub mod MessageNames
 pub mod SignalLoop
 pub mod StatementLoop
+pub mod KeptBeginnings
+pub mod Unsigned
+pub mod Faults

@@ -8,7 +8,7 @@ use Rattle.std.specs.List.{list_any}
 use Rattle.std.specs.Str.{bytes_eq}
 use Rattle.dbc_model.specs.Records.{Signal, names_of, are_distinct, signals_fit}
 
-same_either_way : (a b : List ℕ) → bytes_eq a b ≡ bytes_eq b a
+pub same_either_way : (a b : List ℕ) → bytes_eq a b ≡ bytes_eq b a
 same_either_way [] [] = refl
 same_either_way [] (y ∷ ys) = refl
 same_either_way (x ∷ xs) [] = refl

@@ -107,6 +107,11 @@ MakesTo (Err stopped) made left read = Fails stopped read
 abbrev pub memory_fault : ReadFault
 memory_fault = fault_at 0 causes.Memory
 
+-- the fault that a stop is for those who read texts
+abbrev pub fault_of : Stopped → ReadFault
+fault_of stops.Memory = memory_fault
+fault_of (stops.Fault fault) = fault
+
 -- a text was read so, or memory ran out
 abbrev pub IsReading : {A : Type 0} → Result A ReadFault → Result (A × Cut) ReadFault → Type 0
 IsReading (Ok x) read = (rest : Cut) × (read ≡ Ok (x, rest))

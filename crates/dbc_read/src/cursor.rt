@@ -1,8 +1,8 @@
 //! A place in a text: the token that stands there, and the tokens behind it.
 ghost use Rattle.std.specs.Prelude.{◌≡◌, false};
 ghost use Rattle.dbc_read.specs.Scanner.{cut_of};
-ghost use Rattle.dbc_read.specs.Classes.{has_word, has_mark, has_name, has_symbol, has_string, has_piece, has_number};
-ghost use Rattle.dbc_read.specs.Cursors.{left_at};
+ghost use Rattle.dbc_read.specs.Classes.{has_word, has_mark, has_name, has_symbol, has_string, has_piece, has_kept_word, has_number};
+ghost use Rattle.dbc_read.specs.Cursors.{left_at, behind};
 ghost use Rattle.dbc_read.specs.Reading.{GivesTo, TakesTo, starts, token_at, end_at};
 
 use crate::classes;
@@ -45,7 +45,21 @@ impl<'t> Cursor<'t> {
         }
     }
 
-    /// Whether the text ends here.
+    /// The place behind the token that stands here; this place where none does.
+    #[tactic(auto, unfolding(crate::specs::Cursors::left_at))]
+    pub fn behind(self) -> Cursor<'t>
+        ensures { left_at result ≡ behind (left_at self.entry) }
+    {
+        match self.next {
+            Next::Token(_) => {
+                let (next, after) = self.after.advance();
+                Cursor { next, after }
+            }
+            _ => self,
+        }
+    }
+
+    /// Stays where the text ends, and is a fault elsewhere.
     #[tactic(auto, unfolding(crate::specs::Cursors::left_at, crate::specs::Reading::end_at))]
     pub fn end(&mut self) -> Result<(), Stopped>
         ensures { GivesTo result (left_at self.new) (end_at (left_at self.old)) }
@@ -81,6 +95,17 @@ impl<'t> Cursor<'t> {
     {
         match self.next {
             Next::Token(token) => classes::has_mark(token, mark),
+            _ => false,
+        }
+    }
+
+    /// Whether a statement that is kept as it stands may begin with the word here.
+    #[tactic(auto, unfolding(crate::specs::Cursors::left_at, crate::specs::Reading::starts))]
+    pub fn starts_kept_word(self) -> bool
+        ensures { result ≡ starts has_kept_word (left_at self.entry) }
+    {
+        match self.next {
+            Next::Token(token) => classes::has_kept_word(token),
             _ => false,
         }
     }

@@ -39,9 +39,10 @@ pub fn id(at: &mut Cursor<'_>) -> Result<u32, Stopped>
 }
 
 /// Takes a number without a sign as a decimal, negated where `negative` is true.
-#[tactic(auto, unfolding(crate::specs::ReadingParts::number_at, crate::specs::Classes::number_of))]
+#[tactic(auto, using(crate::proofs::Unsigned::no_sign), unfolding(crate::specs::ReadingParts::number_at, crate::specs::Classes::number_of))]
 pub fn number(at: &mut Cursor<'_>, negative: bool) -> Result<Decimal, Stopped>
-    ensures { GivesTo result (left_at at.new) (number_at negative (left_at at.old)) }
+    ensures value { GivesTo result (left_at at.new) (number_at negative (left_at at.old)) }
+    ensures sign { IfOk result (λ number. negative ≡ false → number.negative ≡ false) }
 {
     let token = at.take()?;
     match Decimal::of_number(negative, token.bytes) {

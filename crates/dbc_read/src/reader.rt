@@ -3,7 +3,7 @@ ghost use Rattle.std.specs.Prelude.{◌≡◌, [], IfOk, IsTrue};
 ghost use Rattle.dbc_model.specs.Databases.{timing_fits};
 ghost use Rattle.dbc_read.specs.Scanner.{cut_of};
 ghost use Rattle.dbc_read.specs.Cursors.{left_at};
-ghost use Rattle.dbc_read.specs.Reading.{GivesTo, MakesTo, IsReading};
+ghost use Rattle.dbc_read.specs.Reading.{GivesTo, MakesTo, IsReading, fault_of};
 ghost use Rattle.dbc_read.specs.ReadingDatabases.{version_at, timing_numbers_at, timing_at, timed_into, empty_database, database_at, message_attribute_at, one_of_six_at, statement_at};
 
 use crate::attributes::{message_target, value};
@@ -16,7 +16,7 @@ use crate::statement::Statement;
 use crate::statements::add_statements;
 use crate::stopped::Stopped;
 use crate::tables::{mux, table, values};
-use dbc_model::{AttrRow, Database, Decimal, List, Text};
+use dbc_model::{AttrRow, Database, Decimal, List, Memory, Text};
 use std::alloc::Global;
 
 // Takes the version, or gives the empty text where none stands here.
@@ -28,10 +28,12 @@ fn version(alloc: Global, at: &mut Cursor<'_>) -> Result<Text, Stopped>
         word(at, b"VERSION")?;
         return text(alloc, at);
     }
-    empty_text(alloc)
+    Ok(empty_text(alloc)?)
 }
 
-fn empty_text(alloc: Global) -> Result<Text, Stopped>
+// The empty text.
+#[tactic(auto, unfolding(dbc_model::specs::Lexical::is_text))]
+fn empty_text(alloc: Global) -> Result<Text, Memory>
     ensures { IfOk result (λ text. text ≡ []) }
 {
     match Text::new(alloc, b"")? {
@@ -116,7 +118,9 @@ fn database(alloc: Global, at: &mut Cursor<'_>) -> Result<Database, Stopped>
 }
 
 // The fault that a reader stopped for.
-fn fault_of(stopped: Stopped) -> ReadFault {
+fn fault_of(stopped: Stopped) -> ReadFault
+    ensures { result ≡ fault_of stopped }
+{
     match stopped {
         Stopped::Memory => ReadFault {
             line: 0,
@@ -128,6 +132,7 @@ fn fault_of(stopped: Stopped) -> ReadFault {
 
 /// The database that a text spells, or the first fault of the text. Where memory runs out before that fault is met, the
 /// fault is [`Cause::Memory`].
+#[tactic(auto, using(crate::proofs::Faults::stopped_reading))]
 pub fn read(alloc: Global, text: &[u8]) -> Result<Database, ReadFault>
     ensures { IsReading result (database_at (cut_of 1 text.now)) }
 {
@@ -189,6 +194,7 @@ fn statement(alloc: Global, at: &mut Cursor<'_>) -> Result<Statement, Stopped>
 /// The one statement that a text is: a `BO_` without signals, a `SG_`, a `VAL_TABLE_`, a `VAL_` of a signal, a
 /// `SG_MUL_VAL_` or a `BA_` of a message. Blanks and comments may stand before it and behind it. Any other text has a
 /// fault, as for [`read`].
+#[tactic(auto, using(crate::proofs::Faults::stopped_reading))]
 pub fn read_one(alloc: Global, text: &[u8]) -> Result<Statement, ReadFault>
     ensures { IsReading result (statement_at (cut_of 1 text.now)) }
 {

@@ -23,7 +23,9 @@ fn add_symbols(alloc: Global, at: &mut Cursor<'_>, database: &mut Database) -> R
 {
     word(at, b"NS_")?;
     mark(at, b':')?;
-    symbols(alloc, at, &mut database.symbols)
+    let read = symbols(alloc, at, &mut database.symbols);
+    let _ = database.symbols.as_slice();
+    read
 }
 
 // `BU_ :` and its names.
@@ -33,7 +35,9 @@ fn add_nodes(alloc: Global, at: &mut Cursor<'_>, database: &mut Database) -> Res
 {
     word(at, b"BU_")?;
     mark(at, b':')?;
-    names(alloc, at, &mut database.nodes)
+    let read = names(alloc, at, &mut database.nodes);
+    let _ = database.nodes.as_slice();
+    read
 }
 
 #[tactic(auto, unfolding(crate::specs::ReadingDatabases::message_into))]
