@@ -22,11 +22,11 @@ pub distinct_more : (names : List (List ℕ)) (name : List ℕ) → are_distinct
 distinct_more [] name h k = refl
 distinct_more (x ∷ xs) name h k = let p = distinct_one x name xs (are_distinct xs) k h in rw (p.1, distinct_more xs name p.0 p.2) refl
 
-fits : (b c : Bool) → (b && c) ≡ true → (c ≡ true)
+pub fits : (b c : Bool) → (b && c) ≡ true → (c ≡ true)
 fits true c e = e
 fits false c e = absurd cc
 
-both : (b c : Bool) → b ≡ true → c ≡ true → (b && c) ≡ true
+pub both : (b c : Bool) → b ≡ true → c ≡ true → (b && c) ≡ true
 both b c e f = rw (e, f) refl
 
 pub signals_fit_more : (signals before new : List Signal) (signal : Signal) → IsTrue (signals_fit signals) → before ≡ signals → length before < 999 → list_any (bytes_eq signal.name) (names_of before) ≡ false → new ≡ signals ++ signal ∷ []

@@ -1,6 +1,6 @@
 //! Whole texts: a database, or one statement.
-ghost use Rattle.std.specs.Prelude.{◌≡◌, [], IfOk, IsTrue};
-ghost use Rattle.dbc_model.specs.Databases.{timing_fits};
+ghost use Rattle.std.specs.Prelude.{◌≡◌, [], IfOk, IfSome, IsTrue};
+ghost use Rattle.dbc_model.specs.Databases.{IsBitTiming, timing_fits};
 ghost use Rattle.dbc_read.specs.Scanner.{cut_of};
 ghost use Rattle.dbc_read.specs.Cursors.{left_at};
 ghost use Rattle.dbc_read.specs.Reading.{GivesTo, MakesTo, IsReading, fault_of};
@@ -47,6 +47,7 @@ fn empty_text(alloc: Global) -> Result<Text, Memory>
 fn timing_numbers(at: &mut Cursor<'_>) -> Result<Option<[Decimal; 3]>, Stopped>
     ensures value { GivesTo result (left_at at.new) (timing_numbers_at (left_at at.old)) }
     ensures fits { IfOk result (λ timing. IsTrue (timing_fits timing)) }
+    ensures valid { IfOk result (λ timing. IfSome timing IsBitTiming) }
 {
     let rate = number(at, false)?;
     mark(at, b':')?;
@@ -61,6 +62,7 @@ fn timing_numbers(at: &mut Cursor<'_>) -> Result<Option<[Decimal; 3]>, Stopped>
 fn timing(at: &mut Cursor<'_>) -> Result<Option<[Decimal; 3]>, Stopped>
     ensures value { GivesTo result (left_at at.new) (timing_at (left_at at.old)) }
     ensures fits { IfOk result (λ timing. IsTrue (timing_fits timing)) }
+    ensures valid { IfOk result (λ timing. IfSome timing IsBitTiming) }
 {
     word(at, b"BS_")?;
     mark(at, b':')?;
