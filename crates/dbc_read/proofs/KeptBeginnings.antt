@@ -9,7 +9,7 @@ use Rattle.std.specs.Str.{bytes_eq}
 use Rattle.std.specs.List.{list_any, list_all}
 use Rattle.std.proofs.lemmas.Bool.{eqb-true}
 use Rattle.dbc_model.specs.Lexical.{is_name, is_text, is_number, kept_words, is_word, is_keyword}
-use Rattle.dbc_model.specs.Kept.{kept_fits, is_kept_word, is_string, is_piece, is_mark_but_semicolon, begins, kept_beginnings}
+use Rattle.dbc_model.specs.Kept.{kept_fits, is_kept_word, is_string, is_piece, is_mark_but_semicolon, begins}
 use Rattle.dbc_read.specs.Tokens.{Token, Cut, End, Fault, ◌▸◌}
 use Rattle.dbc_read.specs.Classes.{has_word, has_name, has_string, has_piece, has_kept_word}
 use Rattle.dbc_read.specs.Cursors.{behind}
@@ -144,8 +144,8 @@ of_words bytes [] h e = absurd cc
 of_words bytes (word ∷ words) h e =
     let p = first_true (is_piece word) (list_all is_piece words) h in
     elim (either_true (bytes_eq bytes word) (list_any (bytes_eq bytes) words) e) [
-      inl same ↦ rw (same_bytes bytes word same) p.0
-    | inr other ↦ of_words bytes words p.1 other
+      | inl same ↦ rw (same_bytes bytes word same) p.0
+      | inr other ↦ of_words bytes words p.1 other
     ]
 
 kept_word_pieces : list_all is_piece kept_words ≡ true

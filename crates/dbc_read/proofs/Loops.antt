@@ -1,18 +1,17 @@
 -- Each reader leaves fewer tokens, and what one more turn of a loop does.
-use Rattle.std.proofs.Common.{◌≡◌, ℕ, Bool, true, false, List, [], ◌∷◌, ◌++◌, Result, Ok, Err, refl, sym, ap, ◌∙◌, ◌<◌, IsTrue, length, arith}
-use Rattle.std.specs.Prelude.{codes, nat_le}
+use Rattle.std.proofs.Common.{◌≡◌, ℕ, Bool, true, false, List, [], ◌∷◌, ◌++◌, Result, Ok, refl, ◌<◌, IsTrue, length, arith}
+use Rattle.std.specs.Prelude.{nat_le}
 use Rattle.std.proofs.lemmas.Grind.{common_steps}
 use Rattle.dbc_model.specs.Lexical.{is_name}
-use Rattle.dbc_model.specs.Records.{is_symbol, Signal, Entry, names_of}
+use Rattle.dbc_model.specs.Records.{is_symbol, Entry}
 use Rattle.dbc_model.specs.Kept.{is_piece}
-use Rattle.dbc_model.specs.Databases.{Database}
 use Rattle.dbc_model.specs.declared.mux_row.Range.{Range}
 use Rattle.dbc_read.specs.declared.fault.ReadFault.{ReadFault}
 use Rattle.dbc_read.specs.declared.stopped.Stopped.{Stopped}
 use Rattle.dbc_read.specs.declared.stopped.Stopped.TheVariants as stops
-use Rattle.dbc_read.specs.Tokens.{Token, Cut}
+use Rattle.dbc_read.specs.Tokens.{Cut}
 use Rattle.dbc_read.specs.Classes.{has_word, has_mark, has_name, has_symbol, has_piece, where_true, text_of, whole_of, number_of, order_of, tag_of}
-use Rattle.dbc_read.specs.Reading.{Reader, and_then, ◌>>=◌, value, starts, size, repeated, Fails}
+use Rattle.dbc_read.specs.Reading.{Reader, and_then, ◌>>=◌, value, starts, size, Fails}
 use Rattle.dbc_read.specs.ReadingParts.{word_at, mark_at, name_at, symbol_at, text_at, piece_at, whole_at, id_at, number_at, order_at, tag_token_at, decimal_at, int_at, begins_int, pair_at, names_from, symbols_from, pieces_from, comma_at, begins_receiver, receivers_from, receivers_at, texts_from, entry_at, entries_from}
 use Rattle.dbc_read.specs.ReadingTables.{range_at, ranges_from}
 use Rattle.dbc_read.proofs.Turns.{Shrinks, Keeps, one_shrinks, value_keeps, keeps, bind_shrinks, bind_keeps, after_shrinks, choose_shrinks, choose_keeps, goes_on, fails, ends, repeated_keeps, repeated_holds, and_then_ok, ok_is}

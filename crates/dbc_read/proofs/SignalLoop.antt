@@ -1,17 +1,16 @@
 -- What one signal more does, in the loop over the signals of a message.
-use Rattle.std.proofs.Common.{◌≡◌, ℕ, ◌<◌, Bool, true, false, List, [], ◌∷◌, ◌++◌, length, Result, Ok, Err, refl, arith}
+use Rattle.std.proofs.Common.{◌≡◌, ℕ, ◌<◌, true, false, List, [], ◌∷◌, ◌++◌, Result, Ok, refl}
 use Rattle.std.specs.Prelude.{codes, nat_lt}
-use Rattle.dbc_model.specs.Records.{Signal, names_of}
+use Rattle.dbc_model.specs.Records.{Signal}
 use Rattle.dbc_read.specs.declared.fault.Cause.TheVariants as causes
 use Rattle.dbc_read.specs.declared.fault.ReadFault.{ReadFault}
 use Rattle.dbc_read.specs.declared.stopped.Stopped.{Stopped}
 use Rattle.dbc_read.specs.Tokens.{Cut}
-use Rattle.dbc_read.specs.Classes.{has_word, has_mark}
-use Rattle.dbc_read.specs.Reading.{Reader, ◌>>=◌, value, starts, size, repeated, Fails}
-use Rattle.dbc_read.specs.ReadingParts.{receivers_at, receivers_from}
+use Rattle.dbc_read.specs.Classes.{has_word}
+use Rattle.dbc_read.specs.Reading.{Reader, ◌>>=◌, value, starts, size, Fails}
 use Rattle.dbc_read.specs.ReadingMessages.{begun, fresh, begin_signal_at, signal_name_at, tag_at, sign_at, place_at, signal_at, signals_from}
-use Rattle.dbc_read.proofs.Turns.{Shrinks, Keeps, one_shrinks, value_keeps, keeps, bind_shrinks, bind_keeps, after_shrinks, choose_shrinks, choose_keeps, goes_on, fails, ends, repeated_keeps}
-use Rattle.dbc_read.proofs.Loops.{fails_bind, mark_shrinks, name_shrinks, text_shrinks, whole_shrinks, order_shrinks, tag_token_shrinks, pair_shrinks, receivers_keep_all}
+use Rattle.dbc_read.proofs.Turns.{Shrinks, Keeps, one_shrinks, value_keeps, keeps, bind_shrinks, bind_keeps, choose_shrinks, choose_keeps, goes_on, fails, ends, repeated_keeps}
+use Rattle.dbc_read.proofs.Loops.{fails_bind, mark_shrinks, text_shrinks, whole_shrinks, order_shrinks, tag_token_shrinks, pair_shrinks, receivers_keep_all}
 
 begin_shrinks : (count : ℕ) → Shrinks (begin_signal_at count)
 unfolding begin_signal_at

@@ -1,18 +1,18 @@
 -- Each statement takes tokens, and what one statement more does in the loop over them.
-use Rattle.std.proofs.Common.{◌≡◌, ℕ, ◌<◌, Bool, true, false, List, [], ◌∷◌, ◌++◌, length, Result, Ok, Err, refl, arith}
+use Rattle.std.proofs.Common.{◌≡◌, ℕ, ◌<◌, true, false, [], Result, Ok}
 use Rattle.std.specs.Prelude.{codes, nat_lt}
 use Rattle.dbc_model.specs.Databases.{Database}
 use Rattle.dbc_read.specs.declared.fault.Cause.TheVariants as causes
 use Rattle.dbc_read.specs.declared.fault.ReadFault.{ReadFault}
 use Rattle.dbc_read.specs.declared.stopped.Stopped.{Stopped}
 use Rattle.dbc_read.specs.Tokens.{Cut}
-use Rattle.dbc_read.specs.Classes.{has_word, has_mark}
-use Rattle.dbc_read.specs.Reading.{Reader, starts, size, repeated, Fails}
+use Rattle.dbc_read.specs.Classes.{has_word}
+use Rattle.dbc_read.specs.Reading.{starts, size, Fails}
 use Rattle.dbc_read.specs.ReadingMessages.{begun, begin_message_at, head_at, message_at}
 use Rattle.dbc_read.specs.ReadingTables.{table_at, values_at, colon_at, float_at, ranges_at, mux_at}
 use Rattle.dbc_read.specs.ReadingAttributes.{node_target_at, message_target_at, signal_target_at, target_at, comment_at, object_at, limits_at, string_form_at, enumeration_at, form_at, definition_at, value_at, default_at, attribute_at}
 use Rattle.dbc_read.specs.ReadingDatabases.{symbols_into, nodes_into, message_into, kept_at, kept_into, table_into, values_into, float_into, mux_into, comment_into, definition_into, default_into, attribute_into, object_into, value_row_into, attribute_row_into, begins_statement, statement_into, statements_into}
-use Rattle.dbc_read.proofs.Turns.{Shrinks, Keeps, one_shrinks, value_keeps, keeps, bind_shrinks, bind_keeps, after_shrinks, choose_shrinks, choose_by_shrinks, choose_keeps, goes_on, fails, ends, repeated_keeps}
+use Rattle.dbc_read.proofs.Turns.{Shrinks, Keeps, one_shrinks, value_keeps, keeps, bind_shrinks, bind_keeps, after_shrinks, choose_shrinks, choose_by_shrinks, choose_keeps, goes_on, fails, ends}
 use Rattle.dbc_read.proofs.Loops.{word_shrinks, mark_shrinks, name_shrinks, text_shrinks, whole_shrinks, id_shrinks, decimal_shrinks, range_shrinks, names_keep, symbols_keep, pieces_keep, entries_keep, texts_keep, ranges_keep}
 use Rattle.dbc_read.proofs.SignalLoop.{signals_keep}
 

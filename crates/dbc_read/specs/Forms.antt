@@ -1,7 +1,7 @@
 -- The forms of statements: for each its parts in order, from its value. A part is an item as it is laid out, or one of the
 -- few that a text may spell in a further way.
 -- Source: the DBC file format, the section of each statement.
-use Rattle.std.specs.Prelude.{ℕ, ℤ, Bool, List, [], ◌∷◌, ◌++◌, map, codes, Option, Some, None, if◌then◌else◌}
+use Rattle.std.specs.Prelude.{ℕ, List, [], ◌∷◌, ◌++◌, codes, Option, Some, None}
 use Rattle.std.specs.List.{flat_map}
 use Rattle.dbc_model.specs.Decimals.{Decimal}
 use Rattle.dbc_model.specs.Layout.{Item, Word, Mark, Name, Symbol, Text, Whole, Int, Number, Switch, Muxed, Both, Order, Piece}

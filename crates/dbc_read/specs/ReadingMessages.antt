@@ -11,7 +11,7 @@ use Rattle.dbc_model.specs.declared.tag.Tag.TheVariants as tags
 use Rattle.dbc_read.specs.declared.fault.Cause.{Cause}
 use Rattle.dbc_read.specs.declared.fault.Cause.TheVariants as causes
 use Rattle.dbc_read.specs.declared.messages.Place.{Place}
-use Rattle.dbc_read.specs.Classes.{has_word, has_mark, where_true}
+use Rattle.dbc_read.specs.Classes.{has_word, has_mark}
 use Rattle.dbc_read.specs.Reading.{Reader, ◌>>=◌, value, one, choose, repeated}
 use Rattle.dbc_read.specs.ReadingParts.{mark_at, name_at, text_at, whole_at, id_at, order_at, tag_token_at, pair_at, receivers_at}
 

@@ -1,7 +1,7 @@
 -- Reading of tables of named values, float types and extended multiplexing.
 -- Source: the DBC file format, "Value Table Definitions", "Signal Value Descriptions", "Signal Definitions"
 -- (signal_extended_value_type) and "Extended Multiplexing".
-use Rattle.std.specs.Prelude.{ℕ, ◌^◌, ◌-◌, List, [], ◌∷◌, ◌++◌, codes}
+use Rattle.std.specs.Prelude.{◌^◌, ◌-◌, List, [], ◌∷◌, ◌++◌, codes}
 use Rattle.dbc_model.specs.Records.{TableRow, ValueRow, FloatRow, MuxRow}
 use Rattle.dbc_model.specs.declared.mux_row.Range.{Range}
 use Rattle.dbc_read.specs.Classes.{has_mark}

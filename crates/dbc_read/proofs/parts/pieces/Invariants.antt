@@ -1,4 +1,4 @@
-use Rattle.std.proofs.Common.{◌≡◌, [], ◌∷◌}
+use Rattle.std.proofs.Common.{◌≡◌, []}
 use Rattle.dbc_read.specs.Cursors.{left_at}
 use Rattle.dbc_read.specs.Reading.{size}
 use Rattle.dbc_read.specs.ReadingParts.{pieces_from}
