@@ -8,3 +8,12 @@ pub mod Gaps
 pub mod CutStep
 pub mod LineFeeds
 pub mod CutLaws
+pub mod Turns
+pub mod Loops
+pub mod Ends
+pub mod MessageNames
+pub mod SignalLoop
+pub mod StatementLoop
+pub mod KeptBeginnings
+pub mod Unsigned
+pub mod Faults
