@@ -8,3 +8,8 @@ pub mod Gaps
 pub mod CutStep
 pub mod LineFeeds
 pub mod CutLaws
+pub mod Shrinking
+pub mod Agree
+pub mod KindsAgree
+pub mod RowsAgree
+pub mod MessagesAgree

@@ -11,13 +11,13 @@ perhaps p = Either p Done Done
 
 -- a decimal behind an optional sign
 abbrev pub decimal : Pattern
-decimal = Either (Mark 43 ⇒ Number false ⇒ Done) (Either (Mark 45 ⇒ Number true ⇒ Done) (Number false ⇒ Done) Done) Done
+decimal = Either (Mark 45 ⇒ Number true ⇒ Done) (Either (Mark 43 ⇒ Number false ⇒ Done) (Number false ⇒ Done) Done) Done
 
 -- an entry's number: from -2^63 to 2^64 - 1
 abbrev pub entry_number : Pattern
 entry_number =
-    Either (Mark 43 ⇒ Whole 0 (2 ^ 64 - 1) ⇒ Done)
-    (Either (Mark 45 ⇒ Whole 0 (2 ^ 63) ⇒ Done) (Whole 0 (2 ^ 64 - 1) ⇒ Done) Done) Done
+    Either (Mark 45 ⇒ Whole 0 (2 ^ 63) ⇒ Done)
+    (Either (Mark 43 ⇒ Whole 0 (2 ^ 64 - 1) ⇒ Done) (Whole 0 (2 ^ 64 - 1) ⇒ Done) Done) Done
 
 -- the number of a message, and a name
 abbrev pub number : Pattern
@@ -59,38 +59,40 @@ receivers = perhaps (Name ⇒ Repeat (Either (Mark 44 ⇒ Done) Done (Name ⇒ D
 
 abbrev pub signal : Pattern
 signal =
-    BeginsSignal ⇒ SignalName ⇒ Either (Tag ⇒ Done) Done
-    (Mark 58 ⇒ Whole 0 65535 ⇒ Mark 124 ⇒ Whole 1 14280 ⇒ Mark 64 ⇒ Order ⇒ Either (Mark 43 ⇒ Done) (Mark 45 ⇒ Done)
+    BeginsSignal ⇒ SignalName ⇒ Either (Mark 58 ⇒ Done) (Tag ⇒ Mark 58 ⇒ Done)
+    (Whole 0 65535 ⇒ Mark 124 ⇒ Whole 1 14280 ⇒ Mark 64 ⇒ Order ⇒ Either (Mark 45 ⇒ Done) (Mark 43 ⇒ Done)
     (pair 40 44 41 then (pair 91 124 93 then (String ⇒ receivers))))
 
 abbrev pub message : Pattern
 message = head then Repeat signal Done
 
--- a node, a message or a signal that a comment or an attribute speaks of
+-- a node, a message or a signal that a comment or an attribute speaks of, or nothing
 abbrev pub target : Pattern
 target =
     Either (Word (codes "BU_") ⇒ Name ⇒ Done)
-    (Either (Word (codes "BO_") ⇒ number) (Word (codes "SG_") ⇒ Whole 0 (2 ^ 32 - 1) ⇒ Name ⇒ Done) Done) Done
+    (Either (Word (codes "BO_") ⇒ number) (Either (Word (codes "SG_") ⇒ Whole 0 (2 ^ 32 - 1) ⇒ Name ⇒ Done) Done Done) Done) Done
 
 -- a comment, or that of an environment variable, which is kept
 abbrev pub comment : Pattern
-comment = Word (codes "CM_") ⇒ Either (Word (codes "EV_") ⇒ kept_rest) (perhaps target then String ⇒ statement_end) Done
+comment = Word (codes "CM_") ⇒ Either (Word (codes "EV_") ⇒ kept_rest) (target then String ⇒ statement_end) Done
 
 abbrev pub object : Pattern
 object =
     Either (Word (codes "BU_") ⇒ Done)
-    (Either (Word (codes "BO_") ⇒ Done) (Either (Word (codes "SG_") ⇒ Done) (Word (codes "EV_") ⇒ Done) Done) Done) Done
+    (Either (Word (codes "BO_") ⇒ Done) (Either (Word (codes "SG_") ⇒ Done) (Either (Word (codes "EV_") ⇒ Done) Done Done) Done) Done) Done
 
 abbrev pub limits : Pattern
 limits = perhaps (decimal then decimal)
 
 abbrev pub form : Pattern
 form =
-    Either (Either (Word (codes "INT") ⇒ limits) (Either (Word (codes "HEX") ⇒ limits) (Word (codes "FLOAT") ⇒ limits) Done) Done)
-    (Either (Word (codes "STRING") ⇒ Done) (Word (codes "ENUM") ⇒ String ⇒ Repeat (Mark 44 ⇒ String ⇒ Done) Done) Done) Done
+    Either (Word (codes "INT") ⇒ limits)
+    (Either (Word (codes "HEX") ⇒ limits)
+    (Either (Word (codes "FLOAT") ⇒ limits)
+    (Either (Word (codes "STRING") ⇒ Done) (Word (codes "ENUM") ⇒ String ⇒ Repeat (Mark 44 ⇒ String ⇒ Done) Done) Done) Done) Done) Done
 
 abbrev pub definition : Pattern
-definition = Word (codes "BA_DEF_") ⇒ (perhaps object then String ⇒ (form then statement_end))
+definition = Word (codes "BA_DEF_") ⇒ (object then String ⇒ (form then statement_end))
 
 -- a text or a number
 abbrev pub given : Pattern
@@ -101,7 +103,7 @@ default = Word (codes "BA_DEF_DEF_") ⇒ String ⇒ (given then statement_end)
 
 -- an attribute, or that of an environment variable, which is kept
 abbrev pub attribute : Pattern
-attribute = Word (codes "BA_") ⇒ String ⇒ Either (Word (codes "EV_") ⇒ kept_rest) (perhaps target then (given then statement_end)) Done
+attribute = Word (codes "BA_") ⇒ String ⇒ Either (Word (codes "EV_") ⇒ kept_rest) (target then (given then statement_end)) Done
 
 -- named values, or those of an environment variable, which are kept
 abbrev pub values : Pattern
@@ -121,15 +123,19 @@ kept = KeptWord ⇒ kept_rest
 
 -- ---- texts
 
+-- what stands for nodes, messages and symbols
+abbrev pub objects : Pattern
+objects = Either symbols (Either nodes message Done) Done
+
 abbrev pub rows : Pattern
 rows = Either table (Either values (Either float mux Done) Done) Done
 
 abbrev pub notes : Pattern
-notes = Either comment (Either definition (Either default (Either attribute kept Done) Done) Done) Done
+notes = Either comment (Either definition (Either default attribute Done) Done) Done
 
 -- any statement but a bit timing
 abbrev pub statement : Pattern
-statement = Either symbols (Either nodes (Either message (Either rows notes Done) Done) Done) Done
+statement = Either objects (Either rows (Either notes kept Done) Done) Done
 
 -- a version only first, and then statements, at most one of them a bit timing
 abbrev pub text : Pattern
