@@ -290,24 +290,24 @@ agree_same {S} {seen} {p} test r shrinks begins h s =
 
 -- ---- choice
 
-either_first : (a b q : Pattern) (seen : Seen) (t : Token) (cut : Cut) (x : Class × Pattern) → after a t seen ≡ Some x → first_fault (Either a b q) seen (t ▸ cut) ≡ first_fault (a then q) seen (t ▸ cut)
+pub either_first : (a b q : Pattern) (seen : Seen) (t : Token) (cut : Cut) (x : Class × Pattern) → after a t seen ≡ Some x → first_fault (Either a b q) seen (t ▸ cut) ≡ first_fault (a then q) seen (t ▸ cut)
 unfolding first_fault
 either_first a b q seen t cut x e =
     let one : after (Either a b q) t seen ≡ Some (x.0, x.1 then q) = rw e refl in
     let two : after (a then q) t seen ≡ Some (x.0, x.1 then q) = after_then a q t seen ∙ rw e refl in
     ap (λ z. judged z t seen (λ p s. first_fault p s cut)) (one ∙ sym two)
 
-either_second : (a b q : Pattern) (seen : Seen) (t : Token) (cut : Cut) → after a t seen ≡ None → may_end a ≡ false → first_fault (Either a b q) seen (t ▸ cut) ≡ first_fault (b then q) seen (t ▸ cut)
+pub either_second : (a b q : Pattern) (seen : Seen) (t : Token) (cut : Cut) → after a t seen ≡ None → may_end a ≡ false → first_fault (Either a b q) seen (t ▸ cut) ≡ first_fault (b then q) seen (t ▸ cut)
 unfolding first_fault
 either_second a b q seen t cut e some =
     let one : after (Either a b q) t seen ≡ first_of (left_then (after b t seen) q) (cond (may_end b) (after q t seen) None) = rw (e, some) refl in
     ap (λ z. judged z t seen (λ p s. first_fault p s cut)) (one ∙ sym (after_then b q t seen))
 
-either_end : (a b q : Pattern) (seen : Seen) (line : ℕ) → may_end a ≡ false → first_fault (Either a b q) seen (End line) ≡ first_fault (b then q) seen (End line)
+pub either_end : (a b q : Pattern) (seen : Seen) (line : ℕ) → may_end a ≡ false → first_fault (Either a b q) seen (End line) ≡ first_fault (b then q) seen (End line)
 unfolding first_fault
 either_end a b q seen line some = rw (may_end-then b q, some) refl
 
-either_fault : (a b q : Pattern) (seen : Seen) (line : ℕ) → first_fault (Either a b q) seen (Fault line) ≡ first_fault (b then q) seen (Fault line)
+pub either_fault : (a b q : Pattern) (seen : Seen) (line : ℕ) → first_fault (Either a b q) seen (Fault line) ≡ first_fault (b then q) seen (Fault line)
 unfolding first_fault
 either_fault a b q seen line = refl
 

@@ -13,3 +13,6 @@ pub mod Agree
 pub mod KindsAgree
 pub mod RowsAgree
 pub mod MessagesAgree
+pub mod Names
+pub mod DatabasesAgree
+pub mod TextsAgree

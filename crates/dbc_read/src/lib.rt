@@ -8,10 +8,14 @@ mod cutting;
 mod fault;
 pub mod laws;
 mod lengths;
+mod messages;
+mod statement;
+mod stopped;
 mod stream;
 mod token;
 
 pub use cutting::tokens;
 pub use fault::{Cause, ReadFault};
 pub use stream::Tokens;
+pub use statement::Statement;
 pub use token::{Kind, Next, Token};
