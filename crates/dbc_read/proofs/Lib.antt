@@ -16,3 +16,5 @@ pub mod MessagesAgree
 pub mod Names
 pub mod DatabasesAgree
 pub mod TextsAgree
+pub mod Sound
+pub mod KindsSound

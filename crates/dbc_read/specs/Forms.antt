@@ -9,7 +9,7 @@ use Rattle.dbc_model.specs.Decimals.{Decimal, SpellsDecimal}
 use Rattle.dbc_model.specs.Records.{is_symbol}
 use Rattle.dbc_model.specs.Kept.{is_piece}
 use Rattle.dbc_model.specs.Layout.{Item, Word, Mark, Name, Symbol, Text, Whole, Int, Number, Switch, Muxed, Both, Order, Piece, Layout, items_of}
-use Rattle.dbc_read.specs.Tokens.{Token}
+use Rattle.dbc_read.specs.Tokens.{Token, Cut, ◌▸◌}
 
 -- ---- one item
 
@@ -76,3 +76,11 @@ Spelled (part ∷ parts) tokens = (front rest : List Token) × (tokens ≡ front
 -- the items that are printed
 abbrev pub of_layout : Layout → List Part
 of_layout layout = map Is (items_of layout)
+
+-- ---- tokens before others
+
+-- these tokens, and behind them those
+infixr 20 ◌▸▸◌
+abbrev pub ◌▸▸◌ : List Token → Cut → Cut
+[] ▸▸ cut = cut
+(t ∷ tokens) ▸▸ cut = t ▸ (tokens ▸▸ cut)
