@@ -18,3 +18,4 @@ pub mod DatabasesAgree
 pub mod TextsAgree
 pub mod Sound
 pub mod KindsSound
+pub mod RowsSound

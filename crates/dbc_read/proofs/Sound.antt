@@ -42,10 +42,10 @@ pub record SoundAt {B : Type 0} (before : List Part) (r : Reader B) (form : B �
   pub spelt : (cut : Cut) (x : B × Cut) → r cut ≡ Ok x → (parts : List Part) × (form x.0 ≡ before ++ parts) × Spelt parts cut x.1
 
 -- an answer
-abbrev read : {A : Type 0} → A → Result A ReadFault
+abbrev pub read : {A : Type 0} → A → Result A ReadFault
 read x = Ok x
 
-ok_is : {A : Type 0} (x y : A) → read x ≡ Ok y → x ≡ y
+pub ok_is : {A : Type 0} (x y : A) → read x ≡ Ok y → x ≡ y
 ok_is x y e = cc
 
 pub sound_then : {A B : Type 0} {before : List Part} {r : Reader A} {f : A → Reader B} {parts : A → List Part} {form : B → List Part}
@@ -185,4 +185,47 @@ reads_value {A} {B} {r} {P} f h = record {
       let one = h.reads cut x.0 x.1 in
       let is = ok_is (f x.0.0, x.0.1) y x.2 in
       (one.0, one.1 ∙ ap (λ c. one.0 ▸▸ c) (ap (λ (w : B × Cut). w.1) is), (x.0.0, sym (ap (λ (w : B × Cut). w.0) is), one.2)));
+}
+
+-- ---- a first item and further ones
+
+abbrev pub first_and : {A : Type 0} → (A → List Part) → (A → List Part) → List A → List Part
+first_and first further [] = []
+first_and first further (x ∷ xs) = first x ++ flat_map further xs
+
+pub sound_first : {A : Type 0} {one_at : Reader A} {more_from : List A → Reader (List A)} {first further : A → List Part} → Sound one_at first → Grows more_from further
+    → Sound (one_at >>= λ a. more_from (a ∷ [])) (first_and first further)
+sound_first {A} {one_at} {more_from} {first} {further} h k = record {
+  spelt = λ cut y e. (
+      let x = and_then-ok (one_at cut) _ y e in
+      let more = k.spelt (x.0.0 ∷ []) x.0.1 y x.2 in
+      subst (λ (list : List A). Spelt (first_and first further list) cut y.1) (sym more.1) (spelt_both (h.spelt cut x.0 x.1) more.2));
+}
+
+-- two readers that read one part
+pub sound_both : {A B C : Type 0} {before : List Part} (r : Reader A) (f : A → Reader B) {g : B → Reader C} {parts : B → List Part} {form : C → List Part}
+    → Sound (r >>= f) parts → ((b : B) → SoundAt (before ++ parts b) (g b) form) → SoundAt before (r >>= λ a. (f a >>= g)) form
+sound_both {A} {B} {C} {before} r f {g} {parts} {form} h k = record {
+  spelt = λ cut y e. (
+      let x = and_then-ok (r cut) _ y e in
+      let z = and_then-ok (f x.0.0 x.0.1) g y x.2 in
+      let one = h.spelt cut z.0 (ap (λ (o : Result (A × Cut) ReadFault). and_then o f) x.1 ∙ z.1) in
+      let two = (k z.0.0).spelt z.0.1 y z.2 in
+      (parts z.0.0 ++ two.0, two.1 ∙ append_assoc before (parts z.0.0) two.0, spelt_both one two.2));
+}
+
+-- a last reader
+pub sound_end : {B : Type 0} {before : List Part} {r : Reader B} {parts form : B → List Part} → Sound r parts → ((b : B) → form b ≡ before ++ parts b) → SoundAt before r form
+sound_end {B} {before} {r} {parts} {form} h same = record { spelt = λ cut x e. (parts x.0, same x.0, h.spelt cut x e) }
+
+-- one item more, behind something
+pub grows_behind : {A M : Type 0} (m : Reader M) (one_at : Reader A) {part : A → List Part} → Sound (m >>= λ _. one_at) part → Grows (λ before. m >>= λ _. (one_at >>= λ a. value (before ++ a ∷ []))) part
+grows_behind {A} {M} m one_at {part} h = record {
+  spelt = λ before cut y e. (
+      let x = and_then-ok (m cut) _ y e in
+      let z = and_then-ok (one_at x.0.1) _ y x.2 in
+      let is = ok_is (before ++ z.0.0 ∷ [], z.0.1) y z.2 in
+      let both = h.spelt cut z.0 (ap (λ (o : Result (M × Cut) ReadFault). and_then o (λ _. one_at)) x.1 ∙ z.1) in
+      (z.0.0 ∷ [], sym (ap (λ (w : List A × Cut). w.0) is),
+        subst (λ (rest : Cut). Spelt (part z.0.0 ++ []) cut rest) (ap (λ (w : List A × Cut). w.1) is) (subst (λ (parts : List Part). Spelt parts cut z.0.1) (sym (append-nil (part z.0.0))) both)));
 }
