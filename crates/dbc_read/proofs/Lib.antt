@@ -19,3 +19,4 @@ pub mod TextsAgree
 pub mod Sound
 pub mod KindsSound
 pub mod RowsSound
+pub mod NotesSound
