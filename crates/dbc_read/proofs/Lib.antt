@@ -20,3 +20,4 @@ pub mod Sound
 pub mod KindsSound
 pub mod RowsSound
 pub mod NotesSound
+pub mod TagsSound
