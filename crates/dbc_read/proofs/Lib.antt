@@ -21,3 +21,4 @@ pub mod KindsSound
 pub mod RowsSound
 pub mod NotesSound
 pub mod TagsSound
+pub mod MessagesSound

@@ -229,3 +229,11 @@ grows_behind {A} {M} m one_at {part} h = record {
       (z.0.0 ∷ [], sym (ap (λ (w : List A × Cut). w.0) is),
         subst (λ (rest : Cut). Spelt (part z.0.0 ++ []) cut rest) (ap (λ (w : List A × Cut). w.1) is) (subst (λ (parts : List Part). Spelt parts cut z.0.1) (sym (append-nil (part z.0.0))) both)));
 }
+
+-- one item more, read in view of those before
+pub grows_in_view : {A : Type 0} (one_at : List A → Reader A) {part : A → List Part} → ((before : List A) → Sound (one_at before) part) → Grows (λ before. one_at before >>= λ a. value (before ++ a ∷ [])) part
+grows_in_view {A} one_at {part} h = record { spelt = λ before cut x e. (grows_by_one (h before)).spelt before cut x e }
+
+-- the same parts by other words
+pub sound_same : {A : Type 0} {r : Reader A} {form other : A → List Part} → Sound r form → ((a : A) → form a ≡ other a) → Sound r other
+sound_same {A} {r} {form} {other} h same = record { spelt = λ cut x e. subst (λ (parts : List Part). Spelt parts cut x.1) (same x.0) (h.spelt cut x e) }
