@@ -17,3 +17,17 @@ pub mod StatementLoop
 pub mod KeptBeginnings
 pub mod Unsigned
 pub mod Faults
+pub mod Shrinking
+pub mod Agree
+pub mod KindsAgree
+pub mod RowsAgree
+pub mod MessagesAgree
+pub mod Names
+pub mod DatabasesAgree
+pub mod TextsAgree
+pub mod Sound
+pub mod KindsSound
+pub mod RowsSound
+pub mod NotesSound
+pub mod TagsSound
+pub mod MessagesSound

@@ -13,3 +13,4 @@ pub mod Pattern
 pub mod Grammar
 pub mod Forms
 pub mod Spelling
+pub mod Laws
