@@ -143,6 +143,13 @@ const REFUSED: &[(&[u8], u64, Cause)] = &[
     (b"BU_SG_REL_ 1;", 1, Cause::Statement),
 ];
 
+fn fault_of(alloc: Global, text: &[u8]) -> Option<ReadFault> {
+    match read(alloc, text) {
+        Ok(_) => None,
+        Err(fault) => Some(fault),
+    }
+}
+
 #[test]
 fn refuses_texts(rt: HostRuntime) {
     for (text, line, cause) in REFUSED {
@@ -150,7 +157,7 @@ fn refuses_texts(rt: HostRuntime) {
             line: *line,
             cause: *cause,
         };
-        assert_eq!(rt; read(rt.alloc(), text).err(), Some(fault), "in {text:?}");
+        assert_eq!(rt; fault_of(rt.alloc(), text), Some(fault), "in {text:?}");
     }
 }
 
@@ -185,22 +192,26 @@ fn refuses_other_statements(rt: HostRuntime) {
     }
 }
 
-// Each beginning of the example is accepted, or refused as it ends too early.
+// Whether the text is accepted, or refused as it ends too early.
+fn is_beginning(alloc: Global, text: &[u8]) -> bool {
+    match fault_of(alloc, text) {
+        Some(fault) => fault.cause == Cause::Token || fault.cause == Cause::Statement,
+        None => true,
+    }
+}
+
 #[test]
 fn reads_beginnings(rt: HostRuntime) {
     for end in 0..=EXAMPLE.len() {
         let (beginning, _) = EXAMPLE.split_at(end);
-        let accepted = match read(rt.alloc(), beginning) {
-            Ok(_) => true,
-            Err(fault) => {
-                assert!(rt; fault.cause == Cause::Token || fault.cause == Cause::Statement);
-                false
-            }
-        };
-        if end == 0 || end == 38 || end == EXAMPLE.len() {
-            assert!(rt; accepted, "the first {end} bytes");
-        }
+        assert!(rt;
+            is_beginning(rt.alloc(), beginning),
+            "the first {end} bytes"
+        );
     }
+    let (head, _) = EXAMPLE.split_at(38);
+    assert_eq!(rt; fault_of(rt.alloc(), head), None);
+    assert_eq!(rt; fault_of(rt.alloc(), EXAMPLE), None);
 }
 
 fn many_messages(alloc: Global, count: usize) -> Result<Vec<u8>, Fail> {
@@ -218,9 +229,9 @@ fn counts_messages(rt: HostRuntime) -> Result<(), Fail> {
         cause: Cause::MessagesFull,
     };
     let text = many_messages(rt.alloc(), 65536)?;
-    assert_eq!(rt; read(rt.alloc(), &text).err(), Some(fault));
+    assert_eq!(rt; fault_of(rt.alloc(), &text), Some(fault));
     let text = many_messages(rt.alloc(), 65535)?;
-    assert!(rt; read(rt.alloc(), &text).is_ok());
+    assert_eq!(rt; fault_of(rt.alloc(), &text), None);
     Ok(())
 }
 
@@ -240,8 +251,8 @@ fn counts_signals(rt: HostRuntime) -> Result<(), Fail> {
         cause: Cause::SignalsFull,
     };
     let text = many_signals(rt.alloc(), 1000)?;
-    assert_eq!(rt; read(rt.alloc(), &text).err(), Some(fault));
+    assert_eq!(rt; fault_of(rt.alloc(), &text), Some(fault));
     let text = many_signals(rt.alloc(), 999)?;
-    assert!(rt; read(rt.alloc(), &text).is_ok());
+    assert_eq!(rt; fault_of(rt.alloc(), &text), None);
     Ok(())
 }

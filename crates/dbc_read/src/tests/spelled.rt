@@ -2,7 +2,7 @@
 
 use crate::{Statement, read, read_one};
 use dbc_model::limp::Limp;
-use dbc_model::{Database, Tag, print};
+use dbc_model::{Database, print};
 use std::alloc::Global;
 use std::test::Fail;
 
@@ -43,25 +43,28 @@ const SPELLED: &[(&[u8], &[u8])] = &[
     ),
 ];
 
-fn printed(alloc: Global, database: &Database) -> Result<Limp, Fail> {
+fn read_text(alloc: Global, text: &[u8]) -> Result<Database, Fail> {
+    Ok(read(alloc, text).ok().ok_or("a database")?)
+}
+
+// The canonical text of what the text spells.
+fn canonical(alloc: Global, text: &[u8]) -> Result<Limp, Fail> {
+    let database = read_text(alloc, text)?;
     let mut sink = Limp::new(Vec::new(alloc), 4096, 1000, 1_000_000);
-    print(database, &mut sink)?;
+    print(&database, &mut sink)?;
     Ok(sink)
 }
 
-fn read_text(alloc: Global, text: &[u8]) -> Result<Database, Fail> {
-    Ok(read(alloc, text).ok().ok_or("a database")?)
+fn is_canonical(alloc: Global, text: &[u8], want: &[u8]) -> Result<bool, Fail> {
+    let sink = canonical(alloc, text)?;
+    Ok(sink.bytes() == want)
 }
 
 #[test]
 fn reads_texts(rt: HostRuntime) -> Result<(), Fail> {
     for (text, want) in SPELLED {
-        let database = read_text(rt.alloc(), text)?;
-        let sink = printed(rt.alloc(), &database)?;
-        assert_eq!(rt; sink.bytes(), *want, "of {text:?}");
-        let again = read_text(rt.alloc(), sink.bytes())?;
-        let second = printed(rt.alloc(), &again)?;
-        assert_eq!(rt; second.bytes(), *want, "again of {text:?}");
+        assert!(rt; is_canonical(rt.alloc(), text, want)?, "of {text:?}");
+        assert!(rt; is_canonical(rt.alloc(), want, want)?, "again of {text:?}");
     }
     Ok(())
 }
@@ -78,35 +81,38 @@ fn long_number(alloc: Global) -> Result<Vec<u8>, Fail> {
 #[test]
 fn reads_long_numbers(rt: HostRuntime) -> Result<(), Fail> {
     let text = long_number(rt.alloc())?;
-    let database = read_text(rt.alloc(), &text)?;
-    let sink = printed(rt.alloc(), &database)?;
     let want: &[u8] =
         b"VERSION \"\"\nNS_ :\nBS_:\nBU_:\nBO_ 1 A: 8 N\n SG_ S : 0|8@1+ (0,0) [0|0] \"\"\n";
-    assert_eq!(rt; sink.bytes(), want);
+    assert!(rt; is_canonical(rt.alloc(), &text, want)?);
     Ok(())
 }
 
+// The place of a statement's kind among the six, and a number of the statement.
+fn numbers_of(statement: &Statement) -> (u32, usize) {
+    match statement {
+        Statement::Head(head) => (0, usize::from(head.size)),
+        Statement::Signal(signal) => (1, usize::from(signal.start)),
+        Statement::Table(row) => (2, row.entries.len()),
+        Statement::Values(row) => (3, row.entries.len()),
+        Statement::Mux(row) => (4, row.ranges.len()),
+        Statement::Attribute(row) => (5, row.name.as_bytes().len()),
+    }
+}
+
+const STATEMENTS: &[(&[u8], (u32, usize))] = &[
+    (b" BO_ 291 A: 8 N // x", (0, 8)),
+    (b"SG_ S m3 : 17|4@0- (2,0) [0|0] \"\"", (1, 17)),
+    (b"VAL_TABLE_ T 0 \"z\" ;", (2, 1)),
+    (b"VAL_ 5 S ;", (3, 0)),
+    (b"SG_MUL_VAL_ 6 S T 1-2, 3-4;", (4, 2)),
+    (b"BA_ \"xyz\" BO_ 7 1;", (5, 3)),
+];
+
 #[test]
-fn reads_statements(rt: HostRuntime) {
-    let alloc = rt.alloc();
-    let head = read_one(alloc, b" BO_ 291 A: 8 N // x");
-    assert!(rt; matches!(&head, Ok(Statement::Head(head)) if head.number == 291 && head.size == 8));
-    let signal = read_one(alloc, b"SG_ S m3 : 8|4@0- (2,0) [0|0] \"\"");
-    assert!(rt;
-        matches!(&signal, Ok(Statement::Signal(signal)) if signal.start == 8 && signal.length == 4 && !signal.intel && signal.signed && signal.tag == Tag::Muxed(3))
-    );
-    let table = read_one(alloc, b"VAL_TABLE_ T 0 \"z\" ;");
-    assert!(rt; matches!(&table, Ok(Statement::Table(row)) if row.entries.len() == 1));
-    let values = read_one(alloc, b"VAL_ 5 S ;");
-    assert!(rt;
-        matches!(&values, Ok(Statement::Values(row)) if row.number == 5 && row.entries.is_empty())
-    );
-    let mux = read_one(alloc, b"SG_MUL_VAL_ 6 S T 1-2, 3-4;");
-    assert!(rt;
-        matches!(&mux, Ok(Statement::Mux(row)) if row.number == 6 && row.ranges.len() == 2)
-    );
-    let attribute = read_one(alloc, b"BA_ \"x\" BO_ 7 1;");
-    assert!(rt;
-        matches!(&attribute, Ok(Statement::Attribute(row)) if row.name.as_bytes() == b"x".as_slice())
-    );
+fn reads_statements(rt: HostRuntime) -> Result<(), Fail> {
+    for (text, want) in STATEMENTS {
+        let statement = read_one(rt.alloc(), text).ok().ok_or("a statement")?;
+        assert_eq!(rt; numbers_of(&statement), *want, "of {text:?}");
+    }
+    Ok(())
 }
