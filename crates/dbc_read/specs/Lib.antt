@@ -1,3 +1,16 @@
 pub mod Tokens
 pub mod Scanner
 pub mod Views
+pub mod Classes
+pub mod Cursors
+pub mod Reading
+pub mod ReadingParts
+pub mod ReadingMessages
+pub mod ReadingTables
+pub mod ReadingAttributes
+pub mod ReadingDatabases
+pub mod Pattern
+pub mod Grammar
+pub mod Forms
+pub mod Spelling
+pub mod Laws

@@ -4,14 +4,31 @@
 //! the definitions of `specs/Tokens.antt`, apart from how they are found; [`laws`] says that both agree.
 #![tactic(auto)]
 
+mod attributes;
+mod classes;
+mod cursor;
 mod cutting;
 mod fault;
+mod kept;
 pub mod laws;
 mod lengths;
+mod messages;
+mod numerals;
+mod parts;
+mod reader;
+mod statement;
+mod statements;
+mod stopped;
 mod stream;
+mod tables;
+mod tags;
+#[cfg(test)]
+mod tests;
 mod token;
 
 pub use cutting::tokens;
 pub use fault::{Cause, ReadFault};
+pub use reader::{read, read_one};
+pub use statement::Statement;
 pub use stream::Tokens;
 pub use token::{Kind, Next, Token};

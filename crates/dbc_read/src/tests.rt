@@ -1,0 +1,4 @@
+//! Tests of whole texts.
+
+mod refused;
+mod spelled;
