@@ -1,6 +1,8 @@
 -- What is spelled is read.
 use Rattle.std.proofs.Common.{◌≡◌, ℕ, Bool, true, false, cond, ◌||◌, List, [], ◌∷◌, ◌++◌, Option, Some, None, Result, Ok, Err, refl, sym, ap, subst, ◌∙◌, append_assoc, append-nil}
+use Rattle.std.specs.Prelude.{All}
 use Rattle.std.specs.List.{flat_map}
+use Rattle.std.proofs.lemmas.List.Elements.{All-head, All-tail}
 use Rattle.dbc_read.specs.declared.fault.Cause.{Cause}
 use Rattle.dbc_read.specs.declared.fault.ReadFault.{ReadFault}
 use Rattle.dbc_read.specs.Tokens.{Token, Cut, End, Fault, ◌▸◌}
@@ -151,6 +153,11 @@ takes_none {A} {s} {a} {May} test r stops h = record {
 
 -- ---- repetition
 
+-- all items put behind what there is, one after another
+abbrev pub all_put : {A S : Type 0} → (S → A → S) → S → List A → S
+all_put put s [] = s
+all_put put s (a ∷ more) = all_put put (put s a) more
+
 -- one turn reads one item, spelled so, and puts it behind those before; behind each item may stand the next, or the end
 module _ {A S : Type 0} (test : Token → Bool) (r : S → Reader S) (shrinks : (s : S) → Shrinks (r s)) (part : A → List Part) (put : S → A → S) (Fits : S → List A → Type 0) (May Last : Cut → Type 0)
     (turn : (s : S) (a : A) (more : List A) → Fits s (a ∷ more) → Takes (r s) (put s a) (part a) May)
@@ -159,17 +166,13 @@ module _ {A S : Type 0} (test : Token → Bool) (r : S → Reader S) (shrinks : 
     (allows : (s : S) (a : A) (more : List A) → Fits s (a ∷ more) → Allows (part a) Anything May)
     (last : (cut : Cut) → Last cut → May cut × Stops test cut) where
 
-  abbrev pub all_put : S → List A → S
-  all_put s [] = s
-  all_put s (a ∷ more) = all_put (put s a) more
-
   may_follow : (s : S) (more : List A) (tokens : List Token) (cut : Cut) → Fits s more → Spelled (flat_map part more) tokens → Last cut → May (tokens ▸▸ cut)
   may_follow s [] tokens cut fit spelled end = subst (λ (t : List Token). May (t ▸▸ cut)) (sym spelled) (last cut end).0
   may_follow s (a ∷ more) tokens cut fit spelled end =
       let half = halves (part a) (flat_map part more) tokens spelled in
       subst May (sym (ap (λ (t : List Token). t ▸▸ cut) half.parts ∙ all_then_twice half.front half.rest cut)) ((allows s a more fit).allows half.front (half.rest ▸▸ cut) half.first tt)
 
-  all_taken : (s : S) (more : List A) (tokens : List Token) (cut : Cut) → Fits s more → Spelled (flat_map part more) tokens → Last cut → repeated test r s (tokens ▸▸ cut) ≡ Ok (all_put s more, cut)
+  all_taken : (s : S) (more : List A) (tokens : List Token) (cut : Cut) → Fits s more → Spelled (flat_map part more) tokens → Last cut → repeated test r s (tokens ▸▸ cut) ≡ Ok (all_put put s more, cut)
   all_taken s [] tokens cut fit spelled end =
       ap (λ (t : List Token). repeated test r s (t ▸▸ cut)) spelled ∙ ends test r shrinks s cut (repeated test r s cut) (last cut end).1 refl
   all_taken s (a ∷ more) tokens cut fit spelled end =
@@ -181,5 +184,26 @@ module _ {A S : Type 0} (test : Token → Bool) (r : S → Reader S) (shrinks : 
       ∙ sym (goes_on test r shrinks s (put s a) (half.front ▸▸ behind) behind (repeated test r s (half.front ▸▸ behind)) ((opens s a more fit).opens half.front behind half.first) taken refl)
       ∙ all_taken (put s a) more half.rest cut now half.second end
 
-  pub takes_repeated : (s : S) (more : List A) → Fits s more → Takes (repeated test r s) (all_put s more) (flat_map part more) Last
+  pub takes_repeated : (s : S) (more : List A) → Fits s more → Takes (repeated test r s) (all_put put s more) (flat_map part more) Last
   takes_repeated s more fit = record { takes = λ tokens cut spelled end. all_taken s more tokens cut fit spelled end }
+
+-- ---- lists that grow
+
+abbrev pub pushed : {A : Type 0} → List A → A → List A
+pushed list a = list ++ a ∷ []
+
+all_pushed : {A : Type 0} (list more : List A) → all_put pushed list more ≡ list ++ more
+all_pushed list [] = sym (append-nil list)
+all_pushed list (a ∷ more) = all_pushed (list ++ a ∷ []) more ∙ append_assoc list (a ∷ []) more
+
+module _ {A : Type 0} (test : Token → Bool) (r : List A → Reader (List A)) (shrinks : (list : List A) → Shrinks (r list)) (part : A → List Part) (P : A → Type 0)
+    (turn : (list : List A) (a : A) → P a → Takes (r list) (list ++ a ∷ []) (part a) Anything) (opens : (a : A) → P a → Opens test true (part a)) where
+  AllAre : List A → List A → Type 0
+  AllAre list more = All P more
+
+  pub takes_list : (list more : List A) → All P more → Takes (repeated test r list) (list ++ more) (flat_map part more) (Stops test)
+  unfolding AllAre
+  takes_list list more are =
+      subst (λ (made : List A). Takes (repeated test r list) made (flat_map part more) (Stops test)) (all_pushed list more)
+      (takes_repeated test r shrinks part pushed AllAre Anything (Stops test) (λ list a more are. turn list a (All-head P a more are)) (λ list a more are. All-tail P a more are) (λ list a more are. opens a (All-head P a more are))
+        (λ list a more are. allows_anything) (λ cut stops. (tt, stops)) list more are)

@@ -22,10 +22,11 @@ use Rattle.dbc_read.specs.declared.fault.Cause.{Cause}
 use Rattle.dbc_read.specs.declared.fault.Cause.TheVariants as causes
 use Rattle.dbc_read.specs.declared.fault.ReadFault.{ReadFault}
 use Rattle.dbc_read.specs.Tokens.{Token, Cut, ◌▸◌}
-use Rattle.dbc_read.specs.Classes.{has_word, has_mark, has_name, has_string, where_true, where_within, bounded, there, text_of, whole_of, number_of}
+use Rattle.dbc_read.specs.Classes.{has_word, has_mark, has_whole, has_name, has_string, where_true, where_within, bounded, there, text_of, whole_of, number_of}
 use Rattle.dbc_read.specs.Forms.{Part, Is, Unsigned, IsOne, IsSign, IsSigned, SpellsNumber, Spelled, signed, ◌▸▸◌}
 use Rattle.dbc_read.specs.Reading.{Reader, and_then, ◌>>=◌, value, token_at, answered, one, starts, choose}
-use Rattle.dbc_read.specs.ReadingParts.{word_at, mark_at, name_at, symbol_at, text_at, piece_at, whole_at, id_at, number_at, decimal_at, int_at}
+use Rattle.dbc_read.specs.ReadingParts.{word_at, mark_at, name_at, symbol_at, text_at, piece_at, whole_at, id_at, number_at, decimal_at, int_at, begins_int}
+use Rattle.dbc_read.proofs.Sound.{all_then_twice}
 use Rattle.dbc_read.proofs.Again.{Takes, Anything, Opens, takes_one, opens_one, alone}
 
 -- ---- tests of tokens
@@ -208,3 +209,31 @@ int_takes z fits =
     takes_signed (whole_at 0 (2 ^ 63) >>= λ n. value (neg_ℤ (pos n))) (whole_at 0 (2 ^ 64 - 1) >>= λ n. value (pos n)) z (SpellsInt z)
     (λ t cut e. minus_behind z t cut fits e) (λ t cut e. plus_behind z t cut fits e) (λ bytes e. e.1.0)
     (Is (Int z)) (alone (Is (Int z)))
+
+or_second : (a b c : Bool) → b ≡ true → (a || (b || c)) ≡ true
+or_second true b c e = refl
+or_second false b c e = rw e refl
+
+or_third : (a b c : Bool) → c ≡ true → (a || (b || c)) ≡ true
+or_third true b c e = refl
+or_third false true c e = refl
+or_third false false c e = e
+
+a_whole : (t : Token) (n : ℕ) → SpellsNumber t.bytes n → n < 2 ^ 64 → has_whole t ≡ true
+unfolding has_whole
+a_whole t n spells small = rw (number_whole t.bytes n small spells) refl
+
+pub int_opens : {parts : List Part} (z : ℤ) → IsTrue (entry_fits z) → Opens begins_int true (Is (Int z) ∷ parts)
+unfolding begins_int starts
+int_opens {parts} z fits = record { opens = begins }
+  where
+    first_is : (negative : Bool) (sign number : List Token) (cut : Cut) → IsSign negative sign → IsOne (SpellsInt z negative) number → starts begins_int ((sign ++ number) ▸▸ cut) ≡ true
+    first_is true sign number cut (s, same, is) n = rw same (rw (is_the_mark 45 s is) refl)
+    first_is false sign number cut (inr (s, same, is)) n = rw same (or_second (has_mark 45 s) (has_mark 43 s) (has_whole s) (is_the_mark 43 s is))
+    first_is false sign number cut (inl none) (t, same, (n, spells, is)) =
+        rw (none, same) (or_third (has_mark 45 t) (has_mark 43 t) (has_whole t) (a_whole t n spells (entry_sign false n (subst (λ (z : ℤ). entry_fits z ≡ true) is fits)).small))
+
+    begins : (tokens : List Token) (cut : Cut) → Spelled (Is (Int z) ∷ parts) tokens → starts begins_int (tokens ▸▸ cut) ≡ true
+    begins tokens cut (front, rest, same, (negative, sign, number, both, is_sign, is_number), others) =
+        ap (λ (t : List Token). starts begins_int (t ▸▸ cut)) (same ∙ ap (λ (t : List Token). t ++ rest) both)
+        ∙ ap (starts begins_int) (all_then_twice (sign ++ number) rest cut) ∙ first_is negative sign number (rest ▸▸ cut) is_sign is_number

@@ -33,3 +33,4 @@ pub mod TagsSound
 pub mod MessagesSound
 pub mod Again
 pub mod KindsAgain
+pub mod RowsAgain

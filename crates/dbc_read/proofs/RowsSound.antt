@@ -33,7 +33,7 @@ of_layout-items f (x ∷ xs) = of_layout-append (f x) (flat_map f xs) ∙ ap (λ
 
 -- ---- entries
 
-abbrev entry_form : Entry → List Part
+abbrev pub entry_form : Entry → List Part
 entry_form entry = Is (Int entry.number) ∷ Is (Text entry.text) ∷ []
 
 entry_sound : Sound entry_at entry_form
@@ -50,7 +50,7 @@ entries_form entries = of_layout-items entry_layout entries
 
 -- ---- tables and named values
 
-table_form : (row : TableRow) → form (Table row) ≡ Is (Word (codes "VAL_TABLE_")) ∷ Is (Name row.name) ∷ (flat_map entry_form row.entries ++ Is (Mark 59) ∷ [])
+pub table_form : (row : TableRow) → form (Table row) ≡ Is (Word (codes "VAL_TABLE_")) ∷ Is (Name row.name) ∷ (flat_map entry_form row.entries ++ Is (Mark 59) ∷ [])
 unfolding table_layout table_key word_layout spaced_name spaced_end items_of
 table_form row =
     of_layout-append (table_key row) (flat_map entry_layout row.entries ++ spaced_end)
@@ -63,7 +63,7 @@ table_sound =
     sound_start (sound_then (word_sound (codes "VAL_TABLE_")) λ _. sound_then name_sound λ name. sound_then entries_sound λ entries. sound_then (mark_sound 59) λ _.
     sound_value (table_form (record { name = name; entries = entries })))
 
-values_form : (row : ValueRow) → form (Values row) ≡ Is (Word (codes "VAL_")) ∷ Is (Whole row.number) ∷ Is (Name row.signal) ∷ (flat_map entry_form row.entries ++ Is (Mark 59) ∷ [])
+pub values_form : (row : ValueRow) → form (Values row) ≡ Is (Word (codes "VAL_")) ∷ Is (Whole row.number) ∷ Is (Name row.signal) ∷ (flat_map entry_form row.entries ++ Is (Mark 59) ∷ [])
 unfolding values_layout values_key word_layout signal_key spaced_end items_of
 values_form row =
     of_layout-append (values_key row) (flat_map entry_layout row.entries ++ spaced_end)
@@ -92,7 +92,7 @@ colon_sound : Sound colon_at (λ _. Perhaps 58 ∷ [])
 unfolding colon_at
 colon_sound = perhaps_mark _ 58 (mark_sound 58)
 
-float_form : (row : FloatRow) → form (Float row) ≡ Is (Word (codes "SIG_VALTYPE_")) ∷ Is (Whole row.number) ∷ Is (Name row.signal) ∷ Perhaps 58 ∷ Is (Whole row.kind) ∷ Is (Mark 59) ∷ []
+pub float_form : (row : FloatRow) → form (Float row) ≡ Is (Word (codes "SIG_VALTYPE_")) ∷ Is (Whole row.number) ∷ Is (Name row.signal) ∷ Perhaps 58 ∷ Is (Whole row.kind) ∷ Is (Mark 59) ∷ []
 unfolding float_key word_layout signal_key items_of
 float_form row = refl
 
@@ -104,10 +104,10 @@ float_sound =
 
 -- ---- multiplexing
 
-abbrev range_form : Range → List Part
+abbrev pub range_form : Range → List Part
 range_form range = Is (Whole range.first) ∷ Is (Mark 45) ∷ Is (Whole range.last) ∷ []
 
-abbrev further_form : Range → List Part
+abbrev pub further_form : Range → List Part
 further_form range = Is (Mark 44) ∷ range_form range
 
 range_sound : Sound range_at range_form
@@ -127,7 +127,7 @@ ranges_layout_form [] = refl
 ranges_layout_form (range ∷ ranges) =
     of_layout-append (range_layout range) (flat_map further_range ranges) ∙ ap (λ (parts : List Part). range_form range ++ parts) (of_layout-items further_range ranges)
 
-mux_form : (row : MuxRow) → form (Mux row) ≡ Is (Word (codes "SG_MUL_VAL_")) ∷ Is (Whole row.number) ∷ Is (Name row.signal) ∷ Is (Name row.switch) ∷ (first_and range_form further_form row.ranges ++ Is (Mark 59) ∷ [])
+pub mux_form : (row : MuxRow) → form (Mux row) ≡ Is (Word (codes "SG_MUL_VAL_")) ∷ Is (Whole row.number) ∷ Is (Name row.signal) ∷ Is (Name row.switch) ∷ (first_and range_form further_form row.ranges ++ Is (Mark 59) ∷ [])
 unfolding mux_layout mux_key word_layout signal_key spaced_name statement_end items_of
 mux_form row =
     of_layout-append (mux_key row) (spaced_name row.switch ++ (ranges_layout row.ranges ++ statement_end))
