@@ -64,14 +64,14 @@ tag_sound : Sound tag_at (λ tag. of_layout (tag_layout tag))
 unfolding tag_at tag_layout items_of
 tag_sound = sound_choose _ (sound_start (sound_value refl)) tag_token_sound
 
-abbrev sign_form : Bool → List Part
+abbrev pub sign_form : Bool → List Part
 sign_form signed = Is (Mark (sign_mark signed)) ∷ []
 
 sign_sound : Sound sign_at sign_form
 unfolding sign_at
 sign_sound = sound_choose _ (sound_start (sound_then (mark_sound 45) λ _. sound_value refl)) (sound_start (sound_then (mark_sound 43) λ _. sound_value refl))
 
-abbrev place_form : Place → List Part
+abbrev pub place_form : Place → List Part
 place_form place = Is (Whole place.start) ∷ Is (Mark 124) ∷ Is (Whole place.length) ∷ Is (Mark 64) ∷ Is (Order place.intel) ∷ Is (Mark (sign_mark place.signed)) ∷ []
 
 place_sound : Sound place_at place_form
@@ -80,7 +80,7 @@ place_sound =
     sound_start (sound_then (whole_sound 0 65535) λ start. sound_then (mark_sound 124) λ _. sound_then (whole_sound 1 14280) λ length. sound_then (mark_sound 64) λ _.
     sound_then order_sound λ intel. sound_then sign_sound λ signed. sound_value refl)
 
-abbrev pair_form : ℕ → ℕ → ℕ → Decimal × Decimal → List Part
+abbrev pub pair_form : ℕ → ℕ → ℕ → Decimal × Decimal → List Part
 pair_form opening between closing pair = Is (Mark opening) ∷ Is (Number pair.0) ∷ Is (Mark between) ∷ Is (Number pair.1) ∷ Is (Mark closing) ∷ []
 
 pair_sound : (opening between closing : ℕ) → Sound (pair_at opening between closing) (pair_form opening between closing)
@@ -91,10 +91,10 @@ pair_sound opening between closing =
 
 -- ---- receivers
 
-abbrev name_form : List ℕ → List Part
+abbrev pub name_form : List ℕ → List Part
 name_form name = Is (Name name) ∷ []
 
-abbrev further_name_form : List ℕ → List Part
+abbrev pub further_name_form : List ℕ → List Part
 further_name_form name = Perhaps 44 ∷ Is (Name name) ∷ []
 
 comma_sound : Sound comma_at (λ _. Perhaps 44 ∷ [])
@@ -104,7 +104,7 @@ comma_sound = perhaps_mark _ 44 (mark_sound 44)
 further_name_sound : Sound (comma_at >>= λ _. name_at) further_name_form
 further_name_sound = sound_start (sound_then comma_sound λ _. sound_end name_sound λ name. refl)
 
-receivers_are : (names : List (List ℕ)) → first_and name_form further_name_form names ≡ receivers_form names
+pub receivers_are : (names : List (List ℕ)) → first_and name_form further_name_form names ≡ receivers_form names
 receivers_are [] = refl
 receivers_are (name ∷ names) = refl
 
@@ -118,7 +118,7 @@ receivers_sound =
 six : (a b c d e f g : List Part) → (((((a ++ b) ++ c) ++ d) ++ e) ++ f) ++ g ≡ (a ++ (b ++ (c ++ (d ++ (e ++ f))))) ++ g
 six a b c d e f g = ap (λ (parts : List Part). parts ++ g) (append_assoc (((a ++ b) ++ c) ++ d) e f ∙ append_assoc ((a ++ b) ++ c) d (e ++ f) ∙ append_assoc (a ++ b) c (d ++ (e ++ f)) ∙ append_assoc a b (c ++ (d ++ (e ++ f))))
 
-signal_form_is : (s : Signal) → signal_form s
+pub signal_form_is : (s : Signal) → signal_form s
     ≡ ((((((Is (Word (codes "SG_")) ∷ Is (Name s.name) ∷ of_layout (tag_layout s.tag)) ++ Is (Mark 58) ∷ [])
       ++ place_form (record { start = s.start; length = s.length; intel = s.intel; signed = s.signed }))
       ++ pair_form 40 44 41 (s.factor, s.offset)) ++ pair_form 91 124 93 (s.minimum, s.maximum)) ++ Is (Text s.unit) ∷ []) ++ receivers_form s.receivers

@@ -20,6 +20,21 @@ keeps_first test b bytes e =
 none_first : (test : ℕ → Bool) (b : ℕ) (bytes : List ℕ) → test b ≡ true → before_first test (b ∷ bytes) ≡ []
 none_first test b bytes e = rw e refl
 
+-- what begins neither with a digit nor with a point is no number
+pub no_digit_no_number : (b : ℕ) (bytes : List ℕ) → is_digit b ≡ false → is_point b ≡ false → is_number (b ∷ bytes) ≡ false
+unfolding is_number
+no_digit_no_number b bytes no_digit no_point = rw no_mantissa refl
+  where
+    before : (rest : List ℕ) → is_mantissa (b ∷ rest) ≡ false
+    before rest = let front = keeps_first is_point b rest no_point in
+        ap (λ front. list_all is_digit front && list_all is_digit (after_first is_point (b ∷ rest)) && list_any is_digit (b ∷ rest)) front.1 ∙ rw no_digit refl
+
+    no_mantissa : is_mantissa (before_first is_exponent_mark (b ∷ bytes)) ≡ false
+    no_mantissa = elim (cases_Bool (is_exponent_mark b)) [
+      | inl mark ↦ ap is_mantissa (none_first is_exponent_mark b bytes mark)
+      | inr other ↦ (let front = keeps_first is_exponent_mark b bytes other in ap is_mantissa front.1 ∙ before front.0)
+    ]
+
 letter_is_no_digit : (b : ℕ) → is_letter b ≡ true → is_digit b ≡ false
 letter_is_no_digit b e = grind (arith, common_steps)
 

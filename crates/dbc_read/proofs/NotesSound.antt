@@ -25,7 +25,7 @@ target_sound =
     (sound_choose _ (sound_start (sound_then (word_sound (codes "BO_")) λ _. sound_then id_sound λ number. sound_value refl))
     (sound_choose _ (sound_start (sound_then (word_sound (codes "SG_")) λ _. sound_then id_sound λ number. sound_then name_sound λ name. sound_value refl)) (sound_start (sound_value refl))))
 
-comment_form : (comment : Comment) → form (OfComment comment) ≡ ((Is (Word (codes "CM_")) ∷ of_layout (target_layout comment.target)) ++ Is (Text comment.text) ∷ []) ++ Is (Mark 59) ∷ []
+pub comment_form : (comment : Comment) → form (OfComment comment) ≡ ((Is (Word (codes "CM_")) ∷ of_layout (target_layout comment.target)) ++ Is (Text comment.text) ∷ []) ++ Is (Mark 59) ∷ []
 unfolding comment_layout comment_key word_layout spaced_text statement_end items_of
 comment_form comment =
     of_layout-append (comment_key comment) (spaced_text comment.text ++ statement_end)
@@ -52,10 +52,10 @@ limits_sound : Sound limits_at (λ limits. of_layout (number_limits_layout limit
 unfolding limits_at number_limits_layout spaced_number blank number_layout items_of
 limits_sound = sound_choose _ (sound_start (sound_then decimal_sound λ minimum. sound_then decimal_sound λ maximum. sound_value refl)) (sound_start (sound_value refl))
 
-abbrev text_form : List ℕ → List Part
+abbrev pub text_form : List ℕ → List Part
 text_form text = Is (Text text) ∷ []
 
-abbrev further_text_form : List ℕ → List Part
+abbrev pub further_text_form : List ℕ → List Part
 further_text_form text = Is (Mark 44) ∷ Is (Text text) ∷ []
 
 further_text_sound : Sound (mark_at 44 >>= λ _. text_at) further_text_form
@@ -65,17 +65,17 @@ texts_sound : Sound (text_at >>= λ text. texts_from (text ∷ [])) (first_and t
 unfolding texts_from
 texts_sound = sound_first text_sound (grows_repeated _ _ further_text_form (grows_behind (mark_at 44) text_at further_text_sound))
 
-texts_layout_form : (texts : List (List ℕ)) → of_layout (texts_layout texts) ≡ first_and text_form further_text_form texts
+pub texts_layout_form : (texts : List (List ℕ)) → of_layout (texts_layout texts) ≡ first_and text_form further_text_form texts
 unfolding texts_layout spaced_text further_text items_of
 texts_layout_form [] = refl
 texts_layout_form (text ∷ texts) =
     of_layout-append (spaced_text text) (flat_map further_text texts) ∙ ap (λ (parts : List Part). text_form text ++ parts) (of_layout-items further_text texts)
 
-word_then : (word : List ℕ) (parts : List Part) (layout : _) → of_layout layout ≡ parts → of_layout (spaced_word word ++ layout) ≡ Is (Word word) ∷ parts
+pub word_then : (word : List ℕ) (parts : List Part) (layout : _) → of_layout layout ≡ parts → of_layout (spaced_word word ++ layout) ≡ Is (Word word) ∷ parts
 unfolding spaced_word items_of
 word_then word parts layout same = of_layout-append (spaced_word word) layout ∙ ap (λ (parts : List Part). Is (Word word) ∷ parts) same
 
-string_form : of_layout (spaced_word (codes "STRING")) ≡ Is (Word (codes "STRING")) ∷ []
+pub string_form : of_layout (spaced_word (codes "STRING")) ≡ Is (Word (codes "STRING")) ∷ []
 unfolding spaced_word items_of
 string_form = refl
 
@@ -88,7 +88,7 @@ form_sound =
     (sound_choose _ (sound_start (sound_then (word_sound (codes "STRING")) λ _. sound_value string_form))
     (sound_start (sound_then (word_sound (codes "ENUM")) λ _. sound_both text_at (λ text. texts_from (text ∷ [])) texts_sound λ texts. sound_value (word_then (codes "ENUM") _ (texts_layout texts) (texts_layout_form texts)))))))
 
-definition_form : (row : AttrDef) → form (Definition row)
+pub definition_form : (row : AttrDef) → form (Definition row)
     ≡ (((Is (Word (codes "BA_DEF_")) ∷ of_layout (object_layout row.object)) ++ Is (Text row.name) ∷ []) ++ of_layout (form_layout row.form)) ++ Is (Mark 59) ∷ []
 unfolding definition_layout definition_key word_layout spaced_text statement_end items_of
 definition_form row =
@@ -109,7 +109,7 @@ given_sound : Sound value_at (λ given. of_layout (value_layout given))
 unfolding value_at value_layout spaced_text spaced_number blank number_layout items_of
 given_sound = sound_choose _ (sound_start (sound_then text_sound λ text. sound_value refl)) (sound_start (sound_then decimal_sound λ number. sound_value refl))
 
-default_form : (row : AttrDefault) → form (Default row) ≡ ((Is (Word (codes "BA_DEF_DEF_")) ∷ Is (Text row.name) ∷ []) ++ of_layout (value_layout row.value)) ++ Is (Mark 59) ∷ []
+pub default_form : (row : AttrDefault) → form (Default row) ≡ ((Is (Word (codes "BA_DEF_DEF_")) ∷ Is (Text row.name) ∷ []) ++ of_layout (value_layout row.value)) ++ Is (Mark 59) ∷ []
 unfolding default_layout default_key word_layout spaced_text statement_end items_of
 default_form row =
     of_layout-append (default_key row) (value_layout row.value ++ statement_end)
@@ -121,7 +121,7 @@ default_sound =
     sound_start (sound_then (word_sound (codes "BA_DEF_DEF_")) λ _. sound_then text_sound λ name. sound_then given_sound λ given. sound_then (mark_sound 59) λ _.
     sound_value (default_form (record { name = name; value = given })))
 
-attribute_form : (row : AttrRow) → form (Attribute row) ≡ (((Is (Word (codes "BA_")) ∷ Is (Text row.name) ∷ []) ++ of_layout (target_layout row.target)) ++ of_layout (value_layout row.value)) ++ Is (Mark 59) ∷ []
+pub attribute_form : (row : AttrRow) → form (Attribute row) ≡ (((Is (Word (codes "BA_")) ∷ Is (Text row.name) ∷ []) ++ of_layout (target_layout row.target)) ++ of_layout (value_layout row.value)) ++ Is (Mark 59) ∷ []
 unfolding attribute_layout attribute_key word_layout spaced_text statement_end items_of
 attribute_form row =
     of_layout-append (attribute_key row) (value_layout row.value ++ statement_end)
