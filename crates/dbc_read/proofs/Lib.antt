@@ -31,3 +31,5 @@ pub mod RowsSound
 pub mod NotesSound
 pub mod TagsSound
 pub mod MessagesSound
+pub mod Proper
+pub mod KindsProper
