@@ -33,3 +33,4 @@ pub mod TagsSound
 pub mod MessagesSound
 pub mod Proper
 pub mod KindsProper
+pub mod MessagesProper
