@@ -34,3 +34,5 @@ pub mod MessagesSound
 pub mod Proper
 pub mod KindsProper
 pub mod MessagesProper
+pub mod RowsProper
+pub mod DatabasesProper

@@ -3,7 +3,7 @@ use Rattle.std.proofs.Common.{◌≡◌, Bool, true, false, cond, List, [], ◌�
 use Rattle.std.proofs.lemmas.List.Elements.{All-push}
 use Rattle.dbc_read.specs.declared.fault.Cause.{Cause}
 use Rattle.dbc_read.specs.Tokens.{Token, Cut, End, Fault, ◌▸◌}
-use Rattle.dbc_read.specs.Reading.{Reader, ◌>>=◌, value, token_at, answered, one, starts, choose, repeated}
+use Rattle.dbc_read.specs.Reading.{Reader, ◌>>=◌, value, token_at, answered, one, starts, choose, choose_by, repeated}
 use Rattle.dbc_read.proofs.Turns.{and_then_ok, ok_is, repeated_holds}
 
 -- all that is read is so
@@ -61,6 +61,22 @@ chosen_holds h k false cut x e = k.holds cut x e
 
 pub yields_choose : {A : Type 0} (test : Token → Bool) {r s : Reader A} {P : A → Type 0} → Yields r P → Yields s P → Yields (choose test r s) P
 yields_choose {A} test {r} {s} {P} h k = record { holds = λ cut x e. chosen_holds h k (starts test cut) cut x e }
+
+-- all that is read where the test is true is so
+pub record YieldsWhere {A : Type 0} (test : Cut → Bool) (r : Reader A) (P : A → Type 0) : Type 0 where
+  pub holds : (cut : Cut) (x : A × Cut) → test cut ≡ true → r cut ≡ Ok x → P x.0
+
+tested_holds : {A : Type 0} {test : Cut → Bool} {r s : Reader A} {P : A → Type 0} → YieldsWhere test r P → Yields s P → (b : Bool) (cut : Cut) (x : A × Cut) → test cut ≡ b → cond b (r cut) (s cut) ≡ Ok x → P x.0
+tested_holds h k true cut x is e = h.holds cut x is e
+tested_holds h k false cut x is e = k.holds cut x e
+
+pub yields_choose_by : {A : Type 0} {test : Cut → Bool} {r s : Reader A} {P : A → Type 0} → YieldsWhere test r P → Yields s P → Yields (choose_by test r s) P
+yields_choose_by {A} {test} {r} {s} {P} h k = record { holds = λ cut x e. tested_holds h k (test cut) cut x refl e }
+
+pub yields_then_where : {A B : Type 0} {test : Cut → Bool} {r : Reader A} {f : A → Reader B} {P : A → Type 0} {Q : B → Type 0} → YieldsWhere test r P → ((a : A) → P a → Yields (f a) Q) → YieldsWhere test (r >>= f) Q
+yields_then_where {A} {B} {test} {r} {f} {P} {Q} h k = record {
+  holds = λ cut y is e. (let x = and_then_ok (r cut) f y e in (k x.0.0 (h.holds cut x.0 is x.1)).holds x.0.1 y x.2);
+}
 
 -- ---- again and again
 
