@@ -1,7 +1,6 @@
 -- What is read as a database, or as one statement, is proper.
-use Rattle.std.proofs.Common.{◌≡◌, ℕ, ◌<◌, Bool, true, false, ◌&&◌, not, List, [], ◌∷◌, ◌++◌, All, length, length-append, Option, Some, None, IfSome, Ok, refl, arith}
+use Rattle.std.proofs.Common.{◌≡◌, ℕ, ◌<◌, true, false, List, [], ◌∷◌, ◌++◌, All, length, length-append, Option, Some, IfSome, Ok, refl, arith}
 use Rattle.std.specs.Prelude.{codes, nat_le, IsTrue}
-use Rattle.std.specs.List.{list_all}
 use Rattle.std.proofs.lemmas.Bool.{and_parts, and_from}
 use Rattle.std.proofs.lemmas.List.Elements.{All-nil, All-push}
 use Rattle.dbc_model.specs.Decimals.{Decimal, IsDecimal}
@@ -14,7 +13,7 @@ use Rattle.dbc_model.specs.Databases.{Database, IsBitTiming, IsDatabase, timing_
 use Rattle.dbc_read.specs.declared.statement.Statement.{Statement}
 use Rattle.dbc_read.specs.Tokens.{Cut}
 use Rattle.dbc_read.specs.Spelling.{IsStatement}
-use Rattle.dbc_read.specs.Reading.{◌>>=◌, value, end_at}
+use Rattle.dbc_read.specs.Reading.{end_at}
 use Rattle.dbc_read.specs.ReadingParts.{word_at, mark_at}
 use Rattle.dbc_read.specs.ReadingDatabases.{symbols_into, nodes_into, begins_kept, kept_into, message_into, table_into, values_into, float_into, mux_into, comment_into, definition_into, default_into, attribute_into, object_into, value_row_into, attribute_row_into, statement_into, statements_into, version_at, timing_numbers_at, timing_at, timed_into, empty_database, database_at, one_of_six_at, statement_at}
 use Rattle.dbc_read.proofs.Proper.{Yields, YieldsWhere, yields_then, yields_after, yields_value, yields_choose, yields_choose_by, yields_then_where, yields_repeated}
@@ -24,21 +23,39 @@ use Rattle.dbc_read.proofs.RowsProper.{table_proper, values_proper, float_proper
 
 -- ---- one statement more
 
+-- a database by its parts
+of_parts : (d : Database) → IsText d.version → All IsSymbol d.symbols → IfSome d.bit_timing IsBitTiming → All IsName d.nodes → All IsTableRow d.tables
+    → All IsMessage d.messages → All IsComment d.comments → All IsAttrDef d.definitions → All IsAttrDefault d.defaults → All IsAttrRow d.attributes
+    → All IsValueRow d.values → All IsFloatRow d.floats → All IsMuxRow d.muxes → All IsKept d.kept → IsTrue (database_fits d.bit_timing d.messages) → IsDatabase d
+of_parts d version symbols bit_timing nodes tables messages comments definitions defaults attributes values floats muxes kept fits = record {
+  version = version;
+  symbols = symbols;
+  bit_timing = bit_timing;
+  nodes = nodes;
+  tables = tables;
+  messages = messages;
+  comments = comments;
+  definitions = definitions;
+  defaults = defaults;
+  attributes = attributes;
+  values = values;
+  floats = floats;
+  muxes = muxes;
+  kept = kept;
+  fits = fits;
+}
+
 symbols_keep : (d : Database) → IsDatabase d → Yields (symbols_into d) (λ d. IsDatabase d)
 unfolding symbols_into
 symbols_keep d is =
-    yields_after (word_at (codes "NS_")) λ _. yields_after (mark_at 58) λ _. yields_then (symbols_proper d.symbols is.symbols) λ symbols all. yields_value (record {
-      version = is.version; symbols = all; bit_timing = is.bit_timing; nodes = is.nodes; tables = is.tables; messages = is.messages; comments = is.comments; definitions = is.definitions;
-      defaults = is.defaults; attributes = is.attributes; values = is.values; floats = is.floats; muxes = is.muxes; kept = is.kept; fits = is.fits;
-    })
+    yields_after (word_at (codes "NS_")) λ _. yields_after (mark_at 58) λ _. yields_then (symbols_proper d.symbols is.symbols) λ symbols all.
+    yields_value (of_parts _ is.version all is.bit_timing is.nodes is.tables is.messages is.comments is.definitions is.defaults is.attributes is.values is.floats is.muxes is.kept is.fits)
 
 nodes_keep : (d : Database) → IsDatabase d → Yields (nodes_into d) (λ d. IsDatabase d)
 unfolding nodes_into
 nodes_keep d is =
-    yields_after (word_at (codes "BU_")) λ _. yields_after (mark_at 58) λ _. yields_then (names_proper d.nodes is.nodes) λ nodes all. yields_value (record {
-      version = is.version; symbols = is.symbols; bit_timing = is.bit_timing; nodes = all; tables = is.tables; messages = is.messages; comments = is.comments; definitions = is.definitions;
-      defaults = is.defaults; attributes = is.attributes; values = is.values; floats = is.floats; muxes = is.muxes; kept = is.kept; fits = is.fits;
-    })
+    yields_after (word_at (codes "BU_")) λ _. yields_after (mark_at 58) λ _. yields_then (names_proper d.nodes is.nodes) λ nodes all.
+    yields_value (of_parts _ is.version is.symbols is.bit_timing all is.tables is.messages is.comments is.definitions is.defaults is.attributes is.values is.floats is.muxes is.kept is.fits)
 
 one_message_more : (timing : Option (List Decimal)) (messages : List Message) (message : Message) → length messages < 65535 → IsTrue (database_fits timing messages) → IsTrue (database_fits timing (messages ++ message ∷ []))
 one_message_more timing messages message room fits =
@@ -49,82 +66,62 @@ one_message_more timing messages message room fits =
 message_keeps : (d : Database) → IsDatabase d → Yields (message_into d) (λ d. IsDatabase d)
 unfolding message_into
 message_keeps d is =
-    yields_then (message_proper (length d.messages)) λ message is_message. yields_value (record {
-      version = is.version; symbols = is.symbols; bit_timing = is.bit_timing; nodes = is.nodes; tables = is.tables; messages = All-push IsMessage d.messages message is.messages is_message.proper; comments = is.comments; definitions = is.definitions;
-      defaults = is.defaults; attributes = is.attributes; values = is.values; floats = is.floats; muxes = is.muxes; kept = is.kept; fits = one_message_more d.bit_timing d.messages message is_message.room is.fits;
-    })
+    yields_then (message_proper (length d.messages)) λ message is_message.
+    yields_value (of_parts _ is.version is.symbols is.bit_timing is.nodes is.tables (All-push IsMessage d.messages message is.messages is_message.proper) is.comments is.definitions is.defaults is.attributes is.values is.floats is.muxes is.kept (one_message_more d.bit_timing d.messages message is_message.room is.fits))
 
 table_keeps : (d : Database) → IsDatabase d → Yields (table_into d) (λ d. IsDatabase d)
 unfolding table_into
 table_keeps d is =
-    yields_then table_proper λ row is_proper. yields_value (record {
-      version = is.version; symbols = is.symbols; bit_timing = is.bit_timing; nodes = is.nodes; tables = All-push IsTableRow d.tables row is.tables is_proper; messages = is.messages; comments = is.comments; definitions = is.definitions;
-      defaults = is.defaults; attributes = is.attributes; values = is.values; floats = is.floats; muxes = is.muxes; kept = is.kept; fits = is.fits;
-    })
+    yields_then table_proper λ row is_proper.
+    yields_value (of_parts _ is.version is.symbols is.bit_timing is.nodes (All-push IsTableRow d.tables row is.tables is_proper) is.messages is.comments is.definitions is.defaults is.attributes is.values is.floats is.muxes is.kept is.fits)
 
 values_keep : (d : Database) → IsDatabase d → Yields (values_into d) (λ d. IsDatabase d)
 unfolding values_into
 values_keep d is =
-    yields_then values_proper λ row is_proper. yields_value (record {
-      version = is.version; symbols = is.symbols; bit_timing = is.bit_timing; nodes = is.nodes; tables = is.tables; messages = is.messages; comments = is.comments; definitions = is.definitions;
-      defaults = is.defaults; attributes = is.attributes; values = All-push IsValueRow d.values row is.values is_proper; floats = is.floats; muxes = is.muxes; kept = is.kept; fits = is.fits;
-    })
+    yields_then values_proper λ row is_proper.
+    yields_value (of_parts _ is.version is.symbols is.bit_timing is.nodes is.tables is.messages is.comments is.definitions is.defaults is.attributes (All-push IsValueRow d.values row is.values is_proper) is.floats is.muxes is.kept is.fits)
 
 float_keeps : (d : Database) → IsDatabase d → Yields (float_into d) (λ d. IsDatabase d)
 unfolding float_into
 float_keeps d is =
-    yields_then float_proper λ row is_proper. yields_value (record {
-      version = is.version; symbols = is.symbols; bit_timing = is.bit_timing; nodes = is.nodes; tables = is.tables; messages = is.messages; comments = is.comments; definitions = is.definitions;
-      defaults = is.defaults; attributes = is.attributes; values = is.values; floats = All-push IsFloatRow d.floats row is.floats is_proper; muxes = is.muxes; kept = is.kept; fits = is.fits;
-    })
+    yields_then float_proper λ row is_proper.
+    yields_value (of_parts _ is.version is.symbols is.bit_timing is.nodes is.tables is.messages is.comments is.definitions is.defaults is.attributes is.values (All-push IsFloatRow d.floats row is.floats is_proper) is.muxes is.kept is.fits)
 
 mux_keeps : (d : Database) → IsDatabase d → Yields (mux_into d) (λ d. IsDatabase d)
 unfolding mux_into
 mux_keeps d is =
-    yields_then mux_proper λ row is_proper. yields_value (record {
-      version = is.version; symbols = is.symbols; bit_timing = is.bit_timing; nodes = is.nodes; tables = is.tables; messages = is.messages; comments = is.comments; definitions = is.definitions;
-      defaults = is.defaults; attributes = is.attributes; values = is.values; floats = is.floats; muxes = All-push IsMuxRow d.muxes row is.muxes is_proper; kept = is.kept; fits = is.fits;
-    })
+    yields_then mux_proper λ row is_proper.
+    yields_value (of_parts _ is.version is.symbols is.bit_timing is.nodes is.tables is.messages is.comments is.definitions is.defaults is.attributes is.values is.floats (All-push IsMuxRow d.muxes row is.muxes is_proper) is.kept is.fits)
 
 comment_keeps : (d : Database) → IsDatabase d → Yields (comment_into d) (λ d. IsDatabase d)
 unfolding comment_into
 comment_keeps d is =
-    yields_then comment_proper λ comment is_proper. yields_value (record {
-      version = is.version; symbols = is.symbols; bit_timing = is.bit_timing; nodes = is.nodes; tables = is.tables; messages = is.messages; comments = All-push IsComment d.comments comment is.comments is_proper; definitions = is.definitions;
-      defaults = is.defaults; attributes = is.attributes; values = is.values; floats = is.floats; muxes = is.muxes; kept = is.kept; fits = is.fits;
-    })
+    yields_then comment_proper λ comment is_proper.
+    yields_value (of_parts _ is.version is.symbols is.bit_timing is.nodes is.tables is.messages (All-push IsComment d.comments comment is.comments is_proper) is.definitions is.defaults is.attributes is.values is.floats is.muxes is.kept is.fits)
 
 definition_keeps : (d : Database) → IsDatabase d → Yields (definition_into d) (λ d. IsDatabase d)
 unfolding definition_into
 definition_keeps d is =
-    yields_then definition_proper λ definition is_proper. yields_value (record {
-      version = is.version; symbols = is.symbols; bit_timing = is.bit_timing; nodes = is.nodes; tables = is.tables; messages = is.messages; comments = is.comments; definitions = All-push IsAttrDef d.definitions definition is.definitions is_proper;
-      defaults = is.defaults; attributes = is.attributes; values = is.values; floats = is.floats; muxes = is.muxes; kept = is.kept; fits = is.fits;
-    })
+    yields_then definition_proper λ definition is_proper.
+    yields_value (of_parts _ is.version is.symbols is.bit_timing is.nodes is.tables is.messages is.comments (All-push IsAttrDef d.definitions definition is.definitions is_proper) is.defaults is.attributes is.values is.floats is.muxes is.kept is.fits)
 
 default_keeps : (d : Database) → IsDatabase d → Yields (default_into d) (λ d. IsDatabase d)
 unfolding default_into
 default_keeps d is =
-    yields_then default_proper λ row is_proper. yields_value (record {
-      version = is.version; symbols = is.symbols; bit_timing = is.bit_timing; nodes = is.nodes; tables = is.tables; messages = is.messages; comments = is.comments; definitions = is.definitions;
-      defaults = All-push IsAttrDefault d.defaults row is.defaults is_proper; attributes = is.attributes; values = is.values; floats = is.floats; muxes = is.muxes; kept = is.kept; fits = is.fits;
-    })
+    yields_then default_proper λ row is_proper.
+    yields_value (of_parts _ is.version is.symbols is.bit_timing is.nodes is.tables is.messages is.comments is.definitions (All-push IsAttrDefault d.defaults row is.defaults is_proper) is.attributes is.values is.floats is.muxes is.kept is.fits)
 
 attribute_keeps : (d : Database) → IsDatabase d → Yields (attribute_into d) (λ d. IsDatabase d)
 unfolding attribute_into
 attribute_keeps d is =
-    yields_then attribute_proper λ row is_proper. yields_value (record {
-      version = is.version; symbols = is.symbols; bit_timing = is.bit_timing; nodes = is.nodes; tables = is.tables; messages = is.messages; comments = is.comments; definitions = is.definitions;
-      defaults = is.defaults; attributes = All-push IsAttrRow d.attributes row is.attributes is_proper; values = is.values; floats = is.floats; muxes = is.muxes; kept = is.kept; fits = is.fits;
-    })
+    yields_then attribute_proper λ row is_proper.
+    yields_value (of_parts _ is.version is.symbols is.bit_timing is.nodes is.tables is.messages is.comments is.definitions is.defaults (All-push IsAttrRow d.attributes row is.attributes is_proper) is.values is.floats is.muxes is.kept is.fits)
 
 kept_keeps : (d : Database) → IsDatabase d → YieldsWhere begins_kept (kept_into d) (λ d. IsDatabase d)
 unfolding kept_into
 kept_keeps d is =
-    yields_then_where kept_proper λ row is_proper. yields_value (record {
-      version = is.version; symbols = is.symbols; bit_timing = is.bit_timing; nodes = is.nodes; tables = is.tables; messages = is.messages; comments = is.comments; definitions = is.definitions;
-      defaults = is.defaults; attributes = is.attributes; values = is.values; floats = is.floats; muxes = is.muxes; kept = All-push IsKept d.kept row is.kept is_proper; fits = is.fits;
-    })
+    yields_then_where kept_proper λ row is_proper.
+    yields_value (of_parts _ is.version is.symbols is.bit_timing is.nodes is.tables is.messages is.comments is.definitions is.defaults is.attributes is.values is.floats is.muxes (All-push IsKept d.kept row is.kept is_proper) is.fits)
 
 statement_keeps : (d : Database) → IsDatabase d → Yields (statement_into d) (λ d. IsDatabase d)
 unfolding statement_into object_into value_row_into attribute_row_into
@@ -175,15 +172,29 @@ other_timing old new messages timed fits =
 timed_keeps : (d : Database) → IsDatabase d → Yields (timed_into d) (λ d. IsDatabase d)
 unfolding timed_into
 timed_keeps d is =
-    yields_choose _ (yields_then timing_proper λ timing is_timing. statements_keep (record d { bit_timing = timing }) (record {
-      version = is.version; symbols = is.symbols; bit_timing = is_timing.numbers; nodes = is.nodes; tables = is.tables; messages = is.messages; comments = is.comments; definitions = is.definitions;
-      defaults = is.defaults; attributes = is.attributes; values = is.values; floats = is.floats; muxes = is.muxes; kept = is.kept; fits = other_timing d.bit_timing timing d.messages is_timing.fits is.fits;
-    })) (yields_value is)
+    yields_choose _
+    (yields_then timing_proper λ timing is_timing.
+    statements_keep (record d { bit_timing = timing })
+    (of_parts _ is.version is.symbols is_timing.numbers is.nodes is.tables is.messages is.comments is.definitions is.defaults is.attributes is.values is.floats is.muxes is.kept (other_timing d.bit_timing timing d.messages is_timing.fits is.fits)))
+    (yields_value is)
 
 empty_is : (version : List ℕ) → IsText version → IsDatabase (empty_database version)
 empty_is version is = record {
-  version = is; symbols = All-nil IsSymbol; bit_timing = tt; nodes = All-nil IsName; tables = All-nil IsTableRow; messages = All-nil IsMessage; comments = All-nil IsComment; definitions = All-nil IsAttrDef;
-  defaults = All-nil IsAttrDefault; attributes = All-nil IsAttrRow; values = All-nil IsValueRow; floats = All-nil IsFloatRow; muxes = All-nil IsMuxRow; kept = All-nil IsKept; fits = refl;
+  version = is;
+  symbols = All-nil IsSymbol;
+  bit_timing = tt;
+  nodes = All-nil IsName;
+  tables = All-nil IsTableRow;
+  messages = All-nil IsMessage;
+  comments = All-nil IsComment;
+  definitions = All-nil IsAttrDef;
+  defaults = All-nil IsAttrDefault;
+  attributes = All-nil IsAttrRow;
+  values = All-nil IsValueRow;
+  floats = All-nil IsFloatRow;
+  muxes = All-nil IsMuxRow;
+  kept = All-nil IsKept;
+  fits = refl;
 }
 
 all_proper : Yields database_at (λ d. IsDatabase d)

@@ -1,23 +1,20 @@
 -- What each part's reader reads is proper.
-use Rattle.std.proofs.Common.{◌≡◌, ℕ, ℤ, pos, neg_ℤ, ◌<◌, ◌^◌, ◌-◌, zero, suc, Bool, true, false, cond, ◌&&◌, not, List, [], ◌∷◌, ◌++◌, All, length, Option, Some, None, Result, Ok, Err, refl, subst, arith, inl, inr}
+use Rattle.std.proofs.Common.{◌≡◌, ℕ, ℤ, pos, neg_ℤ, ◌<◌, ◌^◌, ◌-◌, zero, suc, Bool, true, false, cond, ◌&&◌, not, List, [], ◌∷◌, All, length, Option, Some, None, Ok, Err, refl, subst, arith, inl, inr}
 use Rattle.std.specs.Prelude.{nat_le, IsTrue}
 use Rattle.std.specs.Ordering.{int_eq}
 use Rattle.std.proofs.lemmas.List.Elements.{All-nil, All-push}
 use Rattle.std.specs.Str.{bytes_eq}
 use Rattle.std.proofs.lemmas.Bool.{and_parts, eq-eqb, not-true}
 use Rattle.std.proofs.lemmas.Int.{ints}
-use Rattle.dbc_model.specs.Lexical.{quoted, is_text, is_name, is_number}
+use Rattle.dbc_model.specs.Lexical.{quoted, is_text, is_name}
 use Rattle.dbc_model.specs.Numbers.{mantissa_of, exponent_of, whole_of_number}
 use Rattle.dbc_model.specs.Decimals.{Decimal, IsDecimal, IsDecimalOf, decimal_fits}
-use Rattle.dbc_model.specs.Records.{IsName, IsText, IsSymbol, IsNumber, Entry, IsEntry, entry_fits, is_symbol}
+use Rattle.dbc_model.specs.Records.{IsName, IsText, IsSymbol, IsNumber, IsEntry, entry_fits, is_symbol}
 use Rattle.dbc_model.specs.Kept.{IsPiece, is_piece, is_string, inside}
 use Rattle.dbc_model.specs.declared.number.Whole.{Whole as WholeNumber}
 use Rattle.dbc_model.specs.declared.number.Whole.TheVariants.{Fraction, TooLarge, Value}
-use Rattle.dbc_read.specs.declared.fault.Cause.{Cause}
 use Rattle.dbc_read.specs.declared.fault.Cause.TheVariants as causes
-use Rattle.dbc_read.specs.Tokens.{Token}
-use Rattle.dbc_read.specs.Classes.{has_mark, where_true, where_within, bounded, text_of, whole_of}
-use Rattle.dbc_read.specs.Reading.{Reader, ◌>>=◌, value}
+use Rattle.dbc_read.specs.Classes.{where_true, bounded, text_of, whole_of}
 use Rattle.dbc_read.specs.ReadingParts.{name_at, symbol_at, text_at, piece_at, whole_at, id_at, number_at, decimal_at, int_at, pair_at, names_from, symbols_from, pieces_from, receivers_from, receivers_at, texts_from, entry_at, entries_from}
 use Rattle.dbc_read.proofs.Loops.{some_texts}
 use Rattle.dbc_read.proofs.KindsSound.{number_spelled_by}

@@ -13,13 +13,11 @@ use Rattle.dbc_model.specs.declared.tag.Tag.TheVariants as tags
 use Rattle.dbc_read.specs.declared.fault.Cause.{Cause}
 use Rattle.dbc_read.specs.declared.fault.Cause.TheVariants as causes
 use Rattle.dbc_read.specs.declared.messages.Place.{Place}
-use Rattle.dbc_read.specs.Tokens.{Token}
 use Rattle.dbc_read.specs.Classes.{has_word, bounded, whole_of, tagged, counted, front, muxed_of, tag_of}
-use Rattle.dbc_read.specs.Reading.{Reader, ◌>>=◌, value}
 use Rattle.dbc_read.specs.ReadingParts.{mark_at, order_at, tag_token_at}
 use Rattle.dbc_read.specs.ReadingMessages.{begun, begin_message_at, head_at, begin_signal_at, fresh, signal_name_at, tag_at, sign_at, place_at, signal_at, signals_from, message_at}
 use Rattle.dbc_read.proofs.MessageNames.{signals_fit_more}
-use Rattle.dbc_read.proofs.Proper.{Yields, yields_one, yields_then, yields_after, yields_value, yields_as, yields_choose, yields_repeated}
+use Rattle.dbc_read.proofs.Proper.{Yields, yields_one, yields_then, yields_after, yields_value, yields_choose, yields_repeated}
 use Rattle.dbc_read.proofs.KindsProper.{Between, bounded_between, below_16, below_64, name_proper, text_proper, whole_proper, id_proper, pair_proper, receivers_proper}
 
 -- ---- tags

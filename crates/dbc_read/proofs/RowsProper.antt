@@ -1,17 +1,16 @@
 -- What the readers of rows, comments, attributes and kept statements read is proper.
-use Rattle.std.proofs.Common.{◌≡◌, ℕ, ◌^◌, ◌-◌, true, List, [], ◌∷◌, ◌++◌, All, length, IfSome, Result, Ok, refl, ap, subst}
+use Rattle.std.proofs.Common.{◌≡◌, ℕ, ◌^◌, ◌-◌, true, [], ◌∷◌, All, length, IfSome, Ok, refl, subst}
 use Rattle.std.specs.Prelude.{codes, nat_le, IsTrue}
 use Rattle.std.proofs.lemmas.List.Elements.{All-nil, All-push}
-use Rattle.dbc_model.specs.Records.{TableRow, IsTableRow, ValueRow, IsValueRow, FloatRow, IsFloatRow, IsRange, MuxRow, IsMuxRow}
+use Rattle.dbc_model.specs.Records.{IsTableRow, IsValueRow, IsFloatRow, IsRange, IsMuxRow}
 use Rattle.dbc_model.specs.declared.mux_row.Range.{Range}
-use Rattle.dbc_model.specs.Comments.{IsTarget, Comment, IsComment}
-use Rattle.dbc_model.specs.Attributes.{IsLimits, IsForm, form_fits, AttrDef, IsAttrDef, IsAttrValue, AttrDefault, IsAttrDefault, AttrRow, IsAttrRow}
+use Rattle.dbc_model.specs.Comments.{IsTarget, IsComment}
+use Rattle.dbc_model.specs.Attributes.{IsLimits, IsForm, form_fits, IsAttrDef, IsAttrValue, IsAttrDefault, IsAttrRow}
 use Rattle.dbc_model.specs.declared.definition.Form.{Form}
 use Rattle.dbc_model.specs.declared.target.Target.{Target}
 use Rattle.dbc_model.specs.declared.target.Target.TheVariants as targets
 use Rattle.dbc_model.specs.Kept.{Kept, IsKept}
 use Rattle.dbc_read.specs.Tokens.{Cut}
-use Rattle.dbc_read.specs.Reading.{◌>>=◌, value}
 use Rattle.dbc_read.specs.ReadingParts.{word_at, mark_at, pieces_from}
 use Rattle.dbc_read.specs.ReadingTables.{table_at, values_at, colon_at, float_at, range_at, ranges_from, ranges_at, mux_at}
 use Rattle.dbc_read.specs.ReadingAttributes.{node_target_at, message_target_at, signal_target_at, target_at, comment_at, object_at, limits_at, string_form_at, enumeration_at, form_at, definition_at, value_at, default_at, attribute_at}
@@ -100,7 +99,7 @@ form_proper =
     (yields_choose _ (yields_after (word_at (codes "FLOAT")) λ _. yields_then limits_proper λ limits are. yields_value (record { proper = are; fits = refl }))
     (yields_choose _ (yields_after (word_at (codes "STRING")) λ _. yields_value (record { proper = tt; fits = refl }))
     (yields_after (word_at (codes "ENUM")) λ _. yields_then text_proper λ text is_text. yields_then (texts_proper text is_text) λ texts are_texts.
-      yields_value (record { proper = are_texts.first; fits = are_texts.second })))))
+    yields_value (record { proper = are_texts.first; fits = are_texts.second })))))
 
 pub definition_proper : Yields definition_at (λ definition. IsAttrDef definition)
 unfolding definition_at
