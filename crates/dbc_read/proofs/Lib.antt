@@ -34,3 +34,8 @@ pub mod MessagesSound
 pub mod Again
 pub mod KindsAgain
 pub mod RowsAgain
+pub mod Proper
+pub mod KindsProper
+pub mod MessagesProper
+pub mod RowsProper
+pub mod DatabasesProper
