@@ -119,6 +119,10 @@ pub id_takes : (n : ℕ) → n < 2 ^ 32 → Takes id_at n (Is (Whole n) ∷ []) 
 unfolding id_at
 id_takes n small = whole_takes 0 (2 ^ 32 - 1) n (within 0 (2 ^ 32 - 1) n (omega arith) (omega (arith, small)) (omega (arith, small)))
 
+pub decimal_from_number : (negative : Bool) (bytes : List ℕ) (d : Decimal) → SpellsDecimal negative bytes d → decimal_of_number negative bytes ≡ Some d
+unfolding decimal_of_number
+decimal_from_number negative bytes d spells = rw (spells.form, decimal_from negative (mantissa_of bytes) (exponent_of bytes) d spells.is) refl
+
 decimal_is : (negative : Bool) (bytes : List ℕ) (d : Decimal) → SpellsDecimal negative bytes d → number_of negative bytes ≡ Ok d
 unfolding number_of decimal_of_number
 decimal_is negative bytes d spells = rw (spells.form, decimal_from negative (mantissa_of bytes) (exponent_of bytes) d spells.is) refl

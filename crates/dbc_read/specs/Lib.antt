@@ -13,4 +13,5 @@ pub mod Pattern
 pub mod Grammar
 pub mod Forms
 pub mod Spelling
+pub mod Texts
 pub mod Laws
