@@ -39,3 +39,4 @@ pub mod KindsProper
 pub mod MessagesProper
 pub mod RowsProper
 pub mod DatabasesProper
+pub mod NotesAgain
