@@ -31,3 +31,6 @@ pub mod RowsSound
 pub mod NotesSound
 pub mod TagsSound
 pub mod MessagesSound
+pub mod AddingSound
+pub mod DatabasesSound
+pub mod StatementsSound

@@ -142,7 +142,7 @@ signals_sound : Sound (signals_from []) (flat_map signal_form)
 unfolding signals_from
 signals_sound = sound_list (grows_repeated _ _ signal_form (grows_in_view signal_at signal_sound))
 
-head_sound : (count : ℕ) → Sound (head_at count) (λ head. of_layout (head_layout head))
+pub head_sound : (count : ℕ) → Sound (head_at count) (λ head. of_layout (head_layout head))
 unfolding head_at head_layout items_of
 head_sound count =
     sound_start (sound_then (begin_message_sound count) λ _. sound_then id_sound λ number. sound_then name_sound λ name. sound_then (mark_sound 58) λ _. sound_then (whole_sound 0 1785) λ size.

@@ -105,7 +105,7 @@ definition_sound =
 
 -- ---- values
 
-given_sound : Sound value_at (λ given. of_layout (value_layout given))
+pub given_sound : Sound value_at (λ given. of_layout (value_layout given))
 unfolding value_at value_layout spaced_text spaced_number blank number_layout items_of
 given_sound = sound_choose _ (sound_start (sound_then text_sound λ text. sound_value refl)) (sound_start (sound_then decimal_sound λ number. sound_value refl))
 
@@ -121,7 +121,7 @@ default_sound =
     sound_start (sound_then (word_sound (codes "BA_DEF_DEF_")) λ _. sound_then text_sound λ name. sound_then given_sound λ given. sound_then (mark_sound 59) λ _.
     sound_value (default_form (record { name = name; value = given })))
 
-attribute_form : (row : AttrRow) → form (Attribute row) ≡ (((Is (Word (codes "BA_")) ∷ Is (Text row.name) ∷ []) ++ of_layout (target_layout row.target)) ++ of_layout (value_layout row.value)) ++ Is (Mark 59) ∷ []
+pub attribute_form : (row : AttrRow) → form (Attribute row) ≡ (((Is (Word (codes "BA_")) ∷ Is (Text row.name) ∷ []) ++ of_layout (target_layout row.target)) ++ of_layout (value_layout row.value)) ++ Is (Mark 59) ∷ []
 unfolding attribute_layout attribute_key word_layout spaced_text statement_end items_of
 attribute_form row =
     of_layout-append (attribute_key row) (value_layout row.value ++ statement_end)
