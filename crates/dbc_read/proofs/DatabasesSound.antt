@@ -208,4 +208,4 @@ database_sound cut d rest e proper =
     let end = ends_there c.0.1 f.0 f.1 in
     let spelt = spelt_both version.spelt all.spelt in
     (spelt.front, end.0, up_to spelt.front cut c.0.1 end.0 spelt.stands end.1,
-      record { version = version.version; statements = all.statements; spelled = spelt.spelled; placed = all.placed; one_timing = all.one_timing; gathered = sym same ∙ all.is; proper = proper })
+      record { version = version.version; statements = all.statements; spelled = spelt.spelled; placed = all.placed; one_timing = all.one_timing; gathered = subst (λ (e : Database). e ≡ gather version.version all.statements) same all.is; proper = proper })

@@ -34,3 +34,4 @@ pub mod MessagesSound
 pub mod AddingSound
 pub mod DatabasesSound
 pub mod StatementsSound
+pub mod StatementsAgree

@@ -151,7 +151,7 @@ signal_shrinks signals =
     bind_keeps (keep (mark_shrinks 58)) λ _. bind_keeps place_keeps λ place. bind_keeps (pair_keeps 40 44 41) λ scale. bind_keeps (pair_keeps 91 124 93) λ limits.
     bind_keeps (keep text_shrinks) λ unit. bind_keeps receivers_keep λ receivers. value_keeps _
 
-begins_a_signal : Begins (has_word (codes "SG_")) grammar.signal
+pub begins_a_signal : Begins (has_word (codes "SG_")) grammar.signal
 begins_a_signal = begins_one (has_word (codes "SG_")) BeginsSignal _ (λ t seen. counted_class (has_word (codes "SG_") t) (nat_le 999 (length seen.signals)) seen)
   where
     counted_class : (word full : Bool) (seen : Seen) → is_of_class (cond word (cond full (Err causes.SignalsFull) (Ok seen)) (Err causes.Statement)) ≡ word

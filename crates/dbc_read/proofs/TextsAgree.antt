@@ -199,13 +199,13 @@ timed_agrees d seen has =
     agree_choose (has_word (codes "BS_")) (begins_word (codes "BS_") _)
     (agree_then (timing_agrees seen) λ timing. statements_agree (record d { bit_timing = timing }) seen (record { count = has.count })) (agree_value has)
 
-end_judges : {A : Type 0} (a : A) (seen : Seen) (rest : Cut) → Judges (and_then (end_at rest) (λ u. value a)) (first_fault Done seen rest)
+pub end_judges : {A : Type 0} (a : A) (seen : Seen) (rest : Cut) → Judges (and_then (end_at rest) (λ u. value a)) (first_fault Done seen rest)
 unfolding first_fault end_at
 end_judges a seen (End line) = refl
 end_judges a seen (Fault line) = refl
 end_judges a seen (t ▸ rest) = refl
 
-bind_judges : {A B : Type 0} (post : A → Seen → Type 0) (f : A → Reader B) (go : Seen → Cut → Option ReadFault) (o : Result (A × Cut) ReadFault) (total : Option ReadFault) → Follows post o go total
+pub bind_judges : {A B : Type 0} (post : A → Seen → Type 0) (f : A → Reader B) (go : Seen → Cut → Option ReadFault) (o : Result (A × Cut) ReadFault) (total : Option ReadFault) → Follows post o go total
     → ((a : A) (s : Seen) (rest : Cut) → post a s → Judges (f a rest) (go s rest)) → Judges (and_then o f) total
 bind_judges post f go (Ok x) total h k = subst (λ t. Judges (f x.0 x.1) t) (sym h.2) (k x.0 h.0 x.1 h.1)
 bind_judges post f go (Err e) total h k = h
