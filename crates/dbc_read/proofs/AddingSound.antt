@@ -1,13 +1,13 @@
 -- What each statement that is read adds to a database is spelled so.
-use Rattle.std.proofs.Common.{◌≡◌, ℕ, zero, suc, ◌<◌, ◌≤◌, Bool, true, false, cond, ◌||◌, ◌&&◌, List, [], ◌∷◌, ◌++◌, length, Option, Some, None, Result, Ok, Err, refl, sym, ap, subst, ◌∙◌, append_assoc, append-nil, arith, inl, inr}
-use Rattle.std.specs.Prelude.{codes, ◌⊎◌}
+use Rattle.std.proofs.Common.{◌≡◌, ℕ, zero, suc, ◌≤◌, Bool, true, false, cond, ◌||◌, ◌&&◌, List, [], ◌∷◌, ◌++◌, length, Result, Ok, refl, sym, ap, subst, ◌∙◌, append_assoc, append-nil, arith}
+use Rattle.std.specs.Prelude.{codes}
 use Rattle.std.specs.List.{flat_map, list_any, list_all}
 use Rattle.std.specs.Str.{bytes_eq}
 use Rattle.std.proofs.lemmas.List.Concat.{flat_map-append}
 use Rattle.std.proofs.lemmas.Slice.Eq.{bytes_eq-Decides}
 use Rattle.std.proofs.lemmas.Bool.{and_parts}
 use Rattle.dbc_model.specs.Databases.{Database}
-use Rattle.dbc_model.specs.Lexical.{is_word, kept_words}
+use Rattle.dbc_model.specs.Lexical.{kept_words}
 use Rattle.dbc_model.specs.Kept.{Kept}
 use Rattle.dbc_model.specs.Records.{is_symbol}
 use Rattle.dbc_model.specs.Layout.{Word, Mark, Name, Symbol, Piece, items_of}
@@ -16,19 +16,19 @@ use Rattle.dbc_read.specs.declared.fault.ReadFault.{ReadFault}
 use Rattle.dbc_read.specs.Tokens.{Token, Cut, End, Fault, ◌▸◌}
 use Rattle.dbc_read.specs.Classes.{has_word, has_name, has_string, has_symbol, has_kept_word}
 use Rattle.dbc_read.specs.Cursors.{behind}
-use Rattle.dbc_read.specs.Forms.{Part, Is, Spelled, of_layout, ◌▸▸◌}
+use Rattle.dbc_read.specs.Forms.{Part, Is, ◌▸▸◌}
 use Rattle.dbc_read.specs.Reading.{Reader, and_then, ◌>>=◌, value, starts, size, turns, repeated, choose, choose_by}
-use Rattle.dbc_read.specs.Spelling.{AnyStatement, Symbols, Timing, Nodes, Table, OfMessage, OfComment, Definition, Default, Attribute, Values, Float, Mux, OfKept, form, EndsSymbols, FollowOn, ArePlaced, symbols_of, timings_of, nodes_of, tables_of, messages_of, comments_of, definitions_of, defaults_of, attributes_of, values_of, floats_of, muxes_of, kept_of}
-use Rattle.dbc_read.specs.ReadingParts.{word_at, mark_at, names_from, symbols_from, pieces_from}
+use Rattle.dbc_read.specs.Spelling.{AnyStatement, Symbols, Nodes, Table, OfMessage, OfComment, Definition, Default, Attribute, Values, Float, Mux, OfKept, form, EndsSymbols, FollowOn, symbols_of, timings_of, nodes_of, tables_of, messages_of, comments_of, definitions_of, defaults_of, attributes_of, values_of, floats_of, muxes_of, kept_of}
+use Rattle.dbc_read.specs.ReadingParts.{word_at, mark_at, names_from, symbols_from}
 use Rattle.dbc_read.proofs.KeptBeginnings.{kept_by_tokens}
 use Rattle.dbc_read.proofs.Shrinking.{and_then-ok, Shrinks, bind_shrinks, value_keeps}
 use Rattle.dbc_read.proofs.KindsAgree.{symbol_shrinks}
-use Rattle.dbc_read.specs.ReadingDatabases.{symbols_into, nodes_into, begins_kept, kept_at, kept_into, message_into, table_into, values_into, float_into, mux_into, comment_into, definition_into, default_into, attribute_into, object_into, value_row_into, attribute_row_into, begins_statement, statement_into, statements_into}
+use Rattle.dbc_read.specs.ReadingDatabases.{symbols_into, nodes_into, begins_kept, kept_at, kept_into, message_into, table_into, values_into, float_into, mux_into, comment_into, definition_into, default_into, attribute_into, object_into, value_row_into, attribute_row_into, statement_into}
 use Rattle.dbc_read.proofs.KindsSound.{symbol_sound, name_sound, pieces_sound, mark_sound, word_sound}
 use Rattle.dbc_read.proofs.RowsSound.{of_layout-append, of_layout-items, table_sound, values_sound, float_sound, mux_sound}
 use Rattle.dbc_read.proofs.NotesSound.{comment_sound, definition_sound, default_sound, attribute_sound}
 use Rattle.dbc_read.proofs.MessagesSound.{message_sound}
-use Rattle.dbc_read.proofs.Sound.{Spelt, spelt_both, spelt_none, Sound, Grows, read, ok_is, grows_by_one, grows_repeated, sound_start, sound_then, sound_value}
+use Rattle.dbc_read.proofs.Sound.{Spelt, spelt_both, Sound, Grows, ok_is, grows_by_one, grows_repeated, sound_start, sound_then, sound_value}
 
 -- ---- a database and statements more
 

@@ -1,6 +1,6 @@
 -- The readers of statements agree with the pattern of all statements.
-use Rattle.std.proofs.Common.{◌≡◌, ℕ, suc, ◌+◌, ◌^◌, ◌-◌, Bool, true, false, cond, ◌||◌, ◌&&◌, List, [], ◌∷◌, ◌++◌, length, length-append, Option, Some, None, Result, Ok, Err, refl, sym, ap, subst, ◌∙◌, arith, inl, inr}
-use Rattle.std.specs.Prelude.{codes, nat_le, not, ◌⊎◌}
+use Rattle.std.proofs.Common.{◌≡◌, ℕ, ◌+◌, ◌^◌, ◌-◌, Bool, true, false, cond, ◌||◌, List, [], ◌∷◌, length, length-append, Some, None, Ok, Err, refl, sym, ap, subst, ◌∙◌, inl, inr}
+use Rattle.std.specs.Prelude.{codes, nat_le, ◌⊎◌}
 use Rattle.std.specs.List.{list_any}
 use Rattle.std.specs.Str.{bytes_eq}
 use Rattle.std.proofs.lemmas.Bool.{cases_Bool}
@@ -9,17 +9,16 @@ use Rattle.dbc_model.specs.Databases.{Database}
 use Rattle.dbc_model.specs.Lexical.{is_name, is_keyword, kept_words}
 use Rattle.dbc_model.specs.Kept.{kept_fits, is_piece, is_string}
 use Rattle.dbc_read.specs.declared.fault.Cause.TheVariants as causes
-use Rattle.dbc_read.specs.declared.fault.ReadFault.{ReadFault}
 use Rattle.dbc_read.specs.declared.token.Kind.{Kind}
 use Rattle.dbc_read.specs.Tokens.{Token, Cut, End, Fault, ◌▸◌}
-use Rattle.dbc_read.specs.Classes.{has_word, has_mark, has_name, has_string, has_piece, has_kept_word, has_number, has_whole}
-use Rattle.dbc_read.specs.Pattern.{Class, Word, Mark, Name, String, Whole, Number, Piece, KeptWord, BeginsMessage, Seen, is_of_class, plain, verdict, Pattern, Done, ◌⇒◌, Either, Repeat, ◌then◌, may_end, Left, first_of, left_then, after, fault_in, ruled, judged, first_fault}
+use Rattle.dbc_read.specs.Classes.{has_word, has_name, has_string, has_piece, has_kept_word}
+use Rattle.dbc_read.specs.Pattern.{Class, Word, Name, String, Whole, BeginsMessage, Seen, is_of_class, plain, verdict, Pattern, Done, ◌⇒◌, Either, ◌then◌, may_end, first_of, left_then, after, fault_in, ruled, judged, first_fault}
 use Rattle.dbc_read.specs.Grammar as grammar
-use Rattle.dbc_read.specs.Reading.{Reader, ◌>>=◌, value, starts, choose, choose_by}
+use Rattle.dbc_read.specs.Reading.{starts}
 use Rattle.dbc_read.specs.ReadingDatabases.{symbols_into, nodes_into, begins_kept, kept_at, kept_into, message_into, table_into, values_into, float_into, mux_into, comment_into, definition_into, default_into, attribute_into, object_into, value_row_into, attribute_row_into, object_words, value_words, attribute_words, has_object_word, has_value_word, has_attribute_word, begins_statement, statement_into}
 use Rattle.dbc_read.specs.ReadingTables.{values_at}
 use Rattle.dbc_read.specs.ReadingAttributes.{comment_at, attribute_at}
-use Rattle.dbc_read.proofs.Agree.{Agrees, Same, Follows, Begins, agree_bind, agree_then, agree_value, begins_one, begins_either, either_first, either_second, either_end, either_fault, after_then}
+use Rattle.dbc_read.proofs.Agree.{Agrees, Follows, Begins, agree_bind, agree_then, agree_value, begins_one, begins_either, either_first, either_second, either_end, either_fault, after_then}
 use Rattle.dbc_read.proofs.KindsAgree.{begins_word, begins_whole, word_agrees, mark_agrees, name_agrees, text_agrees, id_agrees, symbols_agree, names_agree, pieces_agree, entries_agree}
 use Rattle.dbc_read.proofs.Names.{name_is_no_number, name_is_piece, string_is_piece}
 use Rattle.dbc_read.proofs.RowsAgree.{table_agrees, float_agrees, mux_agrees, target_agrees, definition_agrees, default_agrees, given_agrees}

@@ -1,5 +1,5 @@
 -- A database that was read is spelled by the tokens that it was read from.
-use Rattle.std.proofs.Common.{◌≡◌, ℕ, zero, suc, ◌≤◌, Bool, true, false, cond, List, [], ◌∷◌, ◌++◌, length, Option, Some, None, Result, Ok, Err, refl, sym, ap, subst, ◌∙◌, append_assoc, append-nil, arith}
+use Rattle.std.proofs.Common.{◌≡◌, ℕ, zero, suc, ◌≤◌, Bool, true, false, cond, List, [], ◌∷◌, ◌++◌, length, Option, Some, None, Ok, refl, sym, ap, subst, ◌∙◌, append-nil, arith}
 use Rattle.std.specs.Prelude.{codes, IfSome}
 use Rattle.std.specs.List.{flat_map}
 use Rattle.std.proofs.lemmas.List.Concat.{flat_map-append}
@@ -7,17 +7,16 @@ use Rattle.dbc_model.specs.Databases.{Database, IsDatabase, IsBitTiming}
 use Rattle.dbc_model.specs.Decimals.{Decimal}
 use Rattle.dbc_model.specs.Layout.{Word, Mark, items_of}
 use Rattle.dbc_model.specs.CanonicalText.{version_layout, timing_title}
-use Rattle.dbc_read.specs.declared.fault.ReadFault.{ReadFault}
 use Rattle.dbc_read.specs.Tokens.{Token, Cut, End, Fault, ◌▸◌}
 use Rattle.dbc_read.specs.Classes.{has_word, has_number, has_symbol}
-use Rattle.dbc_read.specs.Forms.{Part, Is, Unsigned, Spelled, of_layout, ◌▸▸◌}
-use Rattle.dbc_read.specs.Reading.{Reader, and_then, ◌>>=◌, value, starts, size, turns, repeated, choose, end_at}
-use Rattle.dbc_read.specs.ReadingParts.{word_at, text_at, number_at}
+use Rattle.dbc_read.specs.Forms.{Part, Is, Unsigned, of_layout, ◌▸▸◌}
+use Rattle.dbc_read.specs.Reading.{and_then, ◌>>=◌, value, starts, size, turns, repeated, end_at}
+use Rattle.dbc_read.specs.ReadingParts.{word_at, text_at}
 use Rattle.dbc_read.specs.ReadingDatabases.{begins_statement, statement_into, statements_into, version_at, timing_numbers_at, timing_at, timed_into, empty_database, database_at}
-use Rattle.dbc_read.specs.Spelling.{AnyStatement, Timing, form, timing_form, EndsSymbols, FollowOn, ArePlaced, symbols_of, timings_of, nodes_of, tables_of, messages_of, comments_of, definitions_of, defaults_of, attributes_of, values_of, floats_of, muxes_of, kept_of, timing_of, version_form, version_text, gather, Spells}
+use Rattle.dbc_read.specs.Spelling.{AnyStatement, Timing, form, timing_form, EndsSymbols, ArePlaced, symbols_of, timings_of, nodes_of, tables_of, messages_of, comments_of, definitions_of, defaults_of, attributes_of, values_of, floats_of, muxes_of, kept_of, timing_of, version_form, version_text, gather, Spells}
 use Rattle.dbc_read.proofs.Shrinking.{and_then-ok}
 use Rattle.dbc_read.proofs.KindsSound.{mark_sound, word_sound, text_sound, unsigned_sound}
-use Rattle.dbc_read.proofs.AddingSound.{joined, joined_none, joined_twice, Adding, Adds, statement_adds}
+use Rattle.dbc_read.proofs.AddingSound.{joined, joined_none, joined_twice, Adding, statement_adds}
 use Rattle.dbc_read.proofs.Sound.{Spelt, spelt_both, spelt_none, Sound, ok_is, sound_start, sound_then, sound_value, sound_choose, sound_end}
 
 -- ---- many statements

@@ -1,5 +1,5 @@
 -- The readers of messages and signals agree with their patterns.
-use Rattle.std.proofs.Common.{◌≡◌, ℕ, suc, ◌+◌, ◌<◌, ◌≤◌, Bool, true, false, cond, List, [], ◌∷◌, ◌++◌, length, map, Result, Ok, Err, refl, sym, ap, subst, ◌∙◌, arith}
+use Rattle.std.proofs.Common.{◌≡◌, ℕ, suc, ◌+◌, Bool, true, false, cond, List, [], ◌∷◌, ◌++◌, length, Ok, Err, refl, sym, ap, subst, ◌∙◌, arith}
 use Rattle.std.specs.Prelude.{codes, nat_le, nat_lt, not}
 use Rattle.std.specs.List.{list_any}
 use Rattle.std.specs.Str.{bytes_eq}
@@ -7,15 +7,13 @@ use Rattle.std.proofs.lemmas.Bool.Decides.{leb_tells}
 use Rattle.std.proofs.lemmas.List.{length-map, map-append}
 use Rattle.dbc_model.specs.Lexical.{is_name}
 use Rattle.dbc_model.specs.Records.{Signal, Message, names_of}
-use Rattle.dbc_model.specs.declared.tag.Tag.{Tag}
 use Rattle.dbc_model.specs.declared.tag.Tag.TheVariants as tags
-use Rattle.dbc_read.specs.declared.fault.Cause.{Cause}
 use Rattle.dbc_read.specs.declared.fault.Cause.TheVariants as causes
-use Rattle.dbc_read.specs.Tokens.{Token, Cut, ◌▸◌}
+use Rattle.dbc_read.specs.Tokens.{◌▸◌}
 use Rattle.dbc_read.specs.Classes.{has_word, has_mark, has_name}
-use Rattle.dbc_read.specs.Pattern.{is_of_class, Mark, String, Whole, Order, Tag as TagClass, BeginsMessage, BeginsSignal, SignalName, Seen, one_message_more, one_signal_more, one_name_more, Pattern, Done, ◌⇒◌, Either, Repeat, ◌then◌}
+use Rattle.dbc_read.specs.Pattern.{is_of_class, Mark, Whole, Order, BeginsMessage, BeginsSignal, SignalName, Seen, one_name_more, Done, ◌⇒◌, Either, Repeat}
 use Rattle.dbc_read.specs.Grammar as grammar
-use Rattle.dbc_read.specs.Reading.{◌>>=◌, value}
+use Rattle.dbc_read.specs.Reading.{value}
 use Rattle.dbc_read.specs.ReadingParts.{tag_token_at, order_at, pair_at}
 use Rattle.dbc_read.specs.ReadingMessages.{begun, begin_message_at, head_at, begin_signal_at, fresh, signal_name_at, tag_at, sign_at, place_at, signal_at, signals_from, message_at}
 use Rattle.dbc_read.proofs.Shrinking.{Shrinks, Keeps, one_shrinks, value_keeps, bind_shrinks, bind_keeps, choose_keeps, keep}

@@ -1,25 +1,23 @@
 -- What the readers of messages and signals read is spelled by their forms.
-use Rattle.std.proofs.Common.{◌≡◌, ℕ, Bool, true, false, cond, List, [], ◌∷◌, ◌++◌, length, Result, Ok, Err, refl, sym, ap, subst, ◌∙◌, append_assoc}
+use Rattle.std.proofs.Common.{◌≡◌, ℕ, Bool, true, false, cond, List, [], ◌∷◌, ◌++◌, length, Ok, Err, refl, sym, ap, subst, ◌∙◌, append_assoc}
 use Rattle.std.specs.Prelude.{codes, nat_lt}
 use Rattle.std.specs.List.{flat_map, list_any}
 use Rattle.std.specs.Str.{bytes_eq}
 use Rattle.std.proofs.lemmas.Slice.Eq.{bytes_eq-Decides}
 use Rattle.dbc_model.specs.Lexical.{is_name}
 use Rattle.dbc_model.specs.Decimals.{Decimal}
-use Rattle.dbc_model.specs.Records.{Head, Signal, Message, names_of}
+use Rattle.dbc_model.specs.Records.{Signal, names_of}
 use Rattle.dbc_model.specs.Layout.{Word, Mark, Name, Text, Whole, Number, Order, Layout, items_of}
 use Rattle.dbc_model.specs.CanonicalText.{head_layout, signal_name_layout, tag_layout, sign_mark, place_layout, pair_layout, spaced_mark, number_layout, mark_layout, scale_layout, limits_layout, spaced_text}
-use Rattle.dbc_model.specs.declared.tag.Tag.{Tag}
-use Rattle.dbc_model.specs.declared.tag.Tag.TheVariants as tags
 use Rattle.dbc_read.specs.declared.fault.Cause.{Cause}
 use Rattle.dbc_read.specs.declared.fault.Cause.TheVariants as causes
 use Rattle.dbc_read.specs.declared.messages.Place.{Place}
-use Rattle.dbc_read.specs.Tokens.{Token, Cut}
-use Rattle.dbc_read.specs.Classes.{has_word, has_name}
+use Rattle.dbc_read.specs.Tokens.{Token}
+use Rattle.dbc_read.specs.Classes.{has_word}
 use Rattle.dbc_read.specs.Forms.{Part, Is, Perhaps, of_layout}
 use Rattle.dbc_read.specs.Spelling.{receivers_form, signal_form, form, OfMessage}
-use Rattle.dbc_read.specs.Reading.{Reader, ◌>>=◌, value, choose}
-use Rattle.dbc_read.specs.ReadingParts.{mark_at, name_at, pair_at, comma_at, receivers_from, receivers_at}
+use Rattle.dbc_read.specs.Reading.{◌>>=◌}
+use Rattle.dbc_read.specs.ReadingParts.{name_at, pair_at, comma_at, receivers_from, receivers_at}
 use Rattle.dbc_read.specs.ReadingMessages.{begun, begin_message_at, head_at, begin_signal_at, fresh, signal_name_at, tag_at, sign_at, place_at, signal_at, signals_from, message_at}
 use Rattle.dbc_read.proofs.Sound.{Sound, sound_one, sound_then, sound_value, sound_start, sound_choose, sound_end, sound_same, sound_list, first_and, sound_first, grows_repeated, grows_behind, grows_in_view}
 use Rattle.dbc_read.proofs.KindsSound.{mark_sound, name_sound, text_sound, whole_sound, id_sound, decimal_sound}

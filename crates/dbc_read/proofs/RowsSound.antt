@@ -1,20 +1,20 @@
 -- What the readers of rows read is spelled by their forms.
-use Rattle.std.proofs.Common.{◌≡◌, ℕ, Bool, ◌^◌, ◌-◌, List, [], ◌∷◌, ◌++◌, map, refl, sym, ap, subst, ◌∙◌, inl, inr}
+use Rattle.std.proofs.Common.{◌≡◌, ℕ, Bool, ◌^◌, ◌-◌, List, [], ◌∷◌, ◌++◌, map, refl, ap, subst, ◌∙◌, inl, inr}
 use Rattle.std.specs.Prelude.{codes}
 use Rattle.std.specs.List.{flat_map}
 use Rattle.std.proofs.lemmas.List.{map-append}
 use Rattle.std.proofs.lemmas.List.Concat.{flat_map-append}
 use Rattle.dbc_model.specs.Records.{Entry, TableRow, ValueRow, FloatRow, MuxRow}
 use Rattle.dbc_model.specs.declared.mux_row.Range.{Range}
-use Rattle.dbc_model.specs.Layout.{Item, Word, Mark, Name, Text, Whole, Int, Layout, Element, item_of, items_of, separated}
+use Rattle.dbc_model.specs.Layout.{Word, Mark, Name, Text, Whole, Int, Layout, item_of, items_of}
 use Rattle.dbc_model.specs.CanonicalText.{word_layout, signal_key, spaced_name, spaced_end, statement_end, entry_layout, table_key, table_layout, values_key, values_layout, float_key, range_layout, further_range, ranges_layout, mux_key, mux_layout}
 use Rattle.dbc_read.specs.Tokens.{Token, Cut}
-use Rattle.dbc_read.specs.Forms.{Part, Is, Perhaps, SaysPart, Spelled, of_layout}
+use Rattle.dbc_read.specs.Forms.{Part, Is, Perhaps, SaysPart, of_layout}
 use Rattle.dbc_read.specs.Spelling.{form, Table, Values, Float, Mux}
 use Rattle.dbc_read.specs.Reading.{Reader, ◌>>=◌, value, choose}
 use Rattle.dbc_read.specs.ReadingParts.{mark_at, entry_at, entries_from}
 use Rattle.dbc_read.specs.ReadingTables.{table_at, values_at, colon_at, float_at, range_at, ranges_from, ranges_at, mux_at}
-use Rattle.dbc_read.proofs.Sound.{Spelt, ok_is, Sound, SoundAt, Grows, sound_then, sound_value, sound_start, sound_choose, grows_by_one, grows_repeated, sound_list, first_and, sound_first, sound_end, grows_behind}
+use Rattle.dbc_read.proofs.Sound.{Spelt, ok_is, Sound, sound_then, sound_value, sound_start, sound_choose, grows_by_one, grows_repeated, sound_list, first_and, sound_first, sound_end, grows_behind}
 use Rattle.dbc_read.proofs.KindsSound.{word_sound, mark_sound, name_sound, text_sound, whole_sound, id_sound, int_sound}
 
 -- ---- forms of layouts, one behind the other

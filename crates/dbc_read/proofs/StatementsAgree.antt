@@ -1,13 +1,11 @@
 -- Reading one statement meets the first fault of the pattern of one statement.
-use Rattle.std.proofs.Common.{◌≡◌, ℕ, Bool, true, false, cond, List, [], ◌∷◌, length, Result, Ok, Err, refl}
+use Rattle.std.proofs.Common.{◌≡◌, Bool, true, false, cond, [], Ok, Err, refl}
 use Rattle.std.specs.Prelude.{codes, nat_le, ◌+◌}
 use Rattle.dbc_read.specs.declared.fault.Cause.TheVariants as causes
-use Rattle.dbc_read.specs.declared.statement.Statement.{Statement}
 use Rattle.dbc_read.specs.Tokens.{Cut}
 use Rattle.dbc_read.specs.Classes.{has_word}
-use Rattle.dbc_read.specs.Pattern.{is_of_class, BeginsMessage, Seen, Done, ◌then◌, first_fault, nothing_seen}
+use Rattle.dbc_read.specs.Pattern.{is_of_class, BeginsMessage, Seen, Done, first_fault, nothing_seen}
 use Rattle.dbc_read.specs.Grammar as grammar
-use Rattle.dbc_read.specs.Reading.{◌>>=◌, value}
 use Rattle.dbc_read.specs.ReadingTables.{values_at}
 use Rattle.dbc_read.specs.ReadingDatabases.{message_attribute_at, one_of_six_at, statement_at}
 use Rattle.dbc_read.specs.Laws.{Judges}

@@ -1,14 +1,12 @@
 -- A statement that was read alone is spelled by the tokens that it was read from.
-use Rattle.std.proofs.Common.{◌≡◌, ℕ, List, [], ◌∷◌, ◌++◌, Result, Ok, Err, refl, sym, ap, subst, ◌∙◌, append_assoc}
+use Rattle.std.proofs.Common.{◌≡◌, ℕ, List, [], Ok, refl, ap, subst}
 use Rattle.std.specs.Prelude.{codes}
-use Rattle.dbc_model.specs.Attributes.{AttrRow}
-use Rattle.dbc_model.specs.Layout.{Word, Mark, Text, Whole, items_of}
-use Rattle.dbc_model.specs.CanonicalText.{target_layout, value_layout}
-use Rattle.dbc_model.specs.declared.target.Target.{Target}
+use Rattle.dbc_model.specs.Layout.{items_of}
+use Rattle.dbc_model.specs.CanonicalText.{target_layout}
 use Rattle.dbc_read.specs.declared.statement.Statement.{Statement}
 use Rattle.dbc_read.specs.Tokens.{Token, Cut, End}
-use Rattle.dbc_read.specs.Forms.{Part, Is, Spelled, of_layout, ◌▸▸◌}
-use Rattle.dbc_read.specs.Reading.{◌>>=◌, value, end_at}
+use Rattle.dbc_read.specs.Forms.{Spelled, of_layout, ◌▸▸◌}
+use Rattle.dbc_read.specs.Reading.{value, end_at}
 use Rattle.dbc_read.specs.ReadingAttributes.{message_target_at}
 use Rattle.dbc_read.specs.ReadingDatabases.{message_attribute_at, one_of_six_at, statement_at}
 use Rattle.dbc_read.specs.Spelling.{form, Attribute, form_alone, IsStatement, SpellsStatement}
