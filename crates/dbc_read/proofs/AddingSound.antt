@@ -52,17 +52,40 @@ joined d statements = record {
 
 pub joined_none : (d : Database) → joined d [] ≡ d
 joined_none d =
-    rw (append-nil d.symbols, append-nil d.nodes, append-nil d.tables, append-nil d.messages, append-nil d.comments, append-nil d.definitions, append-nil d.defaults,
-      append-nil d.attributes, append-nil d.values, append-nil d.floats, append-nil d.muxes, append-nil d.kept) refl
+    rw (
+      append-nil d.symbols,
+      append-nil d.nodes,
+      append-nil d.tables,
+      append-nil d.messages,
+      append-nil d.comments,
+      append-nil d.definitions,
+      append-nil d.defaults,
+      append-nil d.attributes,
+      append-nil d.values,
+      append-nil d.floats,
+      append-nil d.muxes,
+      append-nil d.kept,
+    ) refl
 
 behind_both : {X : Type 0} (f : AnyStatement → List X) (list : List X) (xs ys : List AnyStatement) → (list ++ flat_map f xs) ++ flat_map f ys ≡ list ++ flat_map f (xs ++ ys)
 behind_both f list xs ys = append_assoc list (flat_map f xs) (flat_map f ys) ∙ ap (λ more. list ++ more) (sym (flat_map-append f xs ys))
 
 pub joined_twice : (d : Database) (xs ys : List AnyStatement) → joined (joined d xs) ys ≡ joined d (xs ++ ys)
 joined_twice d xs ys =
-    rw (behind_both symbols_of d.symbols xs ys, behind_both nodes_of d.nodes xs ys, behind_both tables_of d.tables xs ys, behind_both messages_of d.messages xs ys,
-      behind_both comments_of d.comments xs ys, behind_both definitions_of d.definitions xs ys, behind_both defaults_of d.defaults xs ys, behind_both attributes_of d.attributes xs ys,
-      behind_both values_of d.values xs ys, behind_both floats_of d.floats xs ys, behind_both muxes_of d.muxes xs ys, behind_both kept_of d.kept xs ys) refl
+    rw (
+      behind_both symbols_of d.symbols xs ys,
+      behind_both nodes_of d.nodes xs ys,
+      behind_both tables_of d.tables xs ys,
+      behind_both messages_of d.messages xs ys,
+      behind_both comments_of d.comments xs ys,
+      behind_both definitions_of d.definitions xs ys,
+      behind_both defaults_of d.defaults xs ys,
+      behind_both attributes_of d.attributes xs ys,
+      behind_both values_of d.values xs ys,
+      behind_both floats_of d.floats xs ys,
+      behind_both muxes_of d.muxes xs ys,
+      behind_both kept_of d.kept xs ys,
+    ) refl
 
 -- ---- what one statement more is
 
@@ -185,11 +208,14 @@ titled_spelt {X} word from {part} add grows before cut x e =
     let c = and_then-ok (from before b.0.1) _ x b.2 in
     let list = grows.spelt before b.0.1 c.0 c.1 in
     let is = ok_is (add c.0.0, c.0.1) x c.2 in
-    let rest = ap (λ (w : Database × Cut). w.1) is in
-    (list.0, sym (ap (λ (w : Database × Cut). w.0) is) ∙ ap add list.1,
+    let rest = ap (λ (w : Database × Cut). w.1) is in (
+      list.0,
+      sym (ap (λ (w : Database × Cut). w.0) is) ∙ ap add list.1,
       subst (λ (end : Cut). Spelt (Is (Word word) ∷ Is (Mark 58) ∷ flat_map part list.0) cut end) rest
-        (spelt_both ((word_sound word).spelt cut a.0 a.1) (spelt_both ((mark_sound 58).spelt a.0.1 b.0 b.1) list.2)),
-      b.0.1, c.1 ∙ same_left c.0.0 (before ++ list.0) c.0.1 x.1 list.1 rest)
+          (spelt_both ((word_sound word).spelt cut a.0 a.1) (spelt_both ((mark_sound 58).spelt a.0.1 b.0 b.1) list.2)),
+      b.0.1,
+      c.1 ∙ same_left c.0.0 (before ++ list.0) c.0.1 x.1 list.1 rest,
+    )
   where
     same_left : {A : Type 0} (a b : A) (c d : Cut) → a ≡ b → c ≡ d → left a c ≡ left b d
     same_left a b c d e f = rw (e, f) refl
@@ -234,7 +260,7 @@ nodes_are : (nodes : List (List ℕ)) → Is (Word (codes "BU_")) ∷ Is (Mark 5
 unfolding nodes_layout nodes_title spaced_name line_end items_of
 nodes_are nodes =
     sym (of_layout-append nodes_title (flat_map spaced_name nodes ++ line_end) ∙ ap (λ (parts : List Part). Is (Word (codes "BU_")) ∷ Is (Mark 58) ∷ parts)
-      (of_layout-append (flat_map spaced_name nodes) line_end ∙ append-nil _ ∙ of_layout-items spaced_name nodes))
+    (of_layout-append (flat_map spaced_name nodes) line_end ∙ append-nil _ ∙ of_layout-items spaced_name nodes))
 
 symbols_adds : (d : Database) → Adds d (symbols_into d)
 unfolding symbols_into is_symbol
@@ -310,7 +336,7 @@ begins_as_symbol (Fault line) e = sym (kept_by_tokens (Fault line)) ∙ e
 begins_as_symbol (t ▸ cut) e =
     either_word (list_any (bytes_eq t.bytes) kept_words) (list_any (bytes_eq t.bytes) first_words) (is_symbol t.bytes ≡ true) (are_symbols kept_words t.bytes refl) (are_symbols first_words t.bytes refl)
     (of_four (list_any (bytes_eq t.bytes) kept_words) (bytes_eq t.bytes (codes "VAL_")) (bytes_eq t.bytes (codes "CM_")) (bytes_eq t.bytes (codes "BA_")) (starts has_name (behind (t ▸ cut)))
-      (starts (has_word (codes "EV_")) (behind (t ▸ cut))) (starts has_string (behind (t ▸ cut)) && starts (has_word (codes "EV_")) (behind (behind (t ▸ cut)))) (sym (kept_by_tokens (t ▸ cut)) ∙ e))
+    (starts (has_word (codes "EV_")) (behind (t ▸ cut))) (starts has_string (behind (t ▸ cut)) && starts (has_word (codes "EV_")) (behind (behind (t ▸ cut)))) (sym (kept_by_tokens (t ▸ cut)) ∙ e))
 
 kept_adding : (d : Database) (cut : Cut) (x : Database × Cut) → begins_kept cut ≡ true → kept_into d cut ≡ Ok x → Adding d cut x
 unfolding kept_into

@@ -85,19 +85,19 @@ values_more : (d : Database) (seen : Seen) → Counted d seen → Agrees seen (v
 unfolding values_into values_at
 values_more d seen has =
     agree_then (agree_then (word_agrees seen (codes "VAL_")) λ _. agree_then (id_agrees seen) λ number. agree_then (name_agrees seen) λ signal. agree_then (entries_agree seen []) λ entries.
-      agree_then (mark_agrees seen 59) λ _. agree_value refl) λ row. agree_value (record { count = has.count })
+    agree_then (mark_agrees seen 59) λ _. agree_value refl) λ row. agree_value (record { count = has.count })
 
 comment_more : (d : Database) (seen : Seen) → Counted d seen → Agrees seen (comment_into d) plain_comment Counted
 unfolding comment_into comment_at
 comment_more d seen has =
     agree_then (agree_then (word_agrees seen (codes "CM_")) λ _. agree_then (target_agrees seen) λ target. agree_then (text_agrees seen) λ text.
-      agree_then (mark_agrees seen 59) λ _. agree_value refl) λ row. agree_value (record { count = has.count })
+    agree_then (mark_agrees seen 59) λ _. agree_value refl) λ row. agree_value (record { count = has.count })
 
 attribute_more : (d : Database) (seen : Seen) → Counted d seen → Agrees seen (attribute_into d) plain_attribute Counted
 unfolding attribute_into attribute_at
 attribute_more d seen has =
     agree_then (agree_then (word_agrees seen (codes "BA_")) λ _. agree_then (text_agrees seen) λ name. agree_then (target_agrees seen) λ target. agree_then (given_agrees seen) λ given.
-      agree_then (mark_agrees seen 59) λ _. agree_value refl) λ row. agree_value (record { count = has.count })
+    agree_then (mark_agrees seen 59) λ _. agree_value refl) λ row. agree_value (record { count = has.count })
 
 -- ---- by the first word
 
@@ -366,7 +366,7 @@ attribute_no_name kind line seen q t rest e = no_string (Either ev_kept behind_n
 
 attribute_first_kept : (kind : Kind) (line : ℕ) (seen : Seen) (q : Pattern) (t : Token) (kind3 : Kind) (line3 : ℕ) (cut : Cut) → has_string t ≡ true
     → first_fault (grammar.statement then q) seen (token_of_word kind line (codes "BA_") ▸ (t ▸ (token_of_word kind3 line3 (codes "EV_") ▸ cut)))
-      ≡ first_fault (grammar.kept_rest then q) seen (token_of_word kind line (codes "BA_") ▸ (t ▸ (token_of_word kind3 line3 (codes "EV_") ▸ cut)))
+    ≡ first_fault (grammar.kept_rest then q) seen (token_of_word kind line (codes "BA_") ▸ (t ▸ (token_of_word kind3 line3 (codes "EV_") ▸ cut)))
 unfolding statement_into object_into value_row_into attribute_row_into begins_kept kept_fits has_object_word has_value_word has_attribute_word has_word has_kept_word has_name has_piece is_piece is_string is_name is_keyword starts first_fault
 attribute_first_kept kind line seen q t kind3 line3 cut e =
     plain_token String (Either ev_kept behind_name q) seen t (token_of_word kind3 line3 (codes "EV_") ▸ cut) (rw e refl)
@@ -391,11 +391,13 @@ attribute_named kind line d seen has q t e (t3 ▸ cut) =
           subst (λ bytes. Follows Counted (statement_into d (first ▸ (t ▸ (token_of_word t3.kind t3.line bytes ▸ cut)))) (first_fault q) (first_fault (grammar.statement then q) seen (first ▸ (t ▸ (token_of_word t3.kind t3.line bytes ▸ cut)))))
           ((bytes_eq-Decides (codes "EV_") t3.bytes).0 same)
           (rw (attribute_kept kind line d seen has q t e t3.kind t3.line cut, attribute_first_kept kind line seen q t t3.kind t3.line cut e)
-            ((kept_more d seen has).follows q (first ▸ (t ▸ (token_of_word t3.kind t3.line (codes "EV_") ▸ cut)))))
+          ((kept_more d seen has).follows q (first ▸ (t ▸ (token_of_word t3.kind t3.line (codes "EV_") ▸ cut)))))
       | inr differ ↦
           (let here : has_word (codes "EV_") t3 ≡ false = other_word t3 differ in
-          rw (attribute_short kind line d t (t3 ▸ cut) e (only t3 cut differ),
-            attribute_first kind line seen q t (t3 ▸ cut) e (either_second ev_kept behind_name q seen t3 cut (no_token (Word (codes "EV_")) grammar.kept_rest seen t3 (rw here refl)) refl))
+          rw (
+            attribute_short kind line d t (t3 ▸ cut) e (only t3 cut differ),
+            attribute_first kind line seen q t (t3 ▸ cut) e (either_second ev_kept behind_name q seen t3 cut (no_token (Word (codes "EV_")) grammar.kept_rest seen t3 (rw here refl)) refl),
+          )
           ((attribute_more d seen has).follows q (first ▸ (t ▸ (t3 ▸ cut)))))
     ]
   where

@@ -132,9 +132,24 @@ gather_timed : (version : Option (List ℕ)) (xs ys : List AnyStatement) (number
     → joined (record (joined (empty_database (version_text version)) xs) { bit_timing = timing }) ys ≡ gather version (xs ++ Timing numbers ∷ ys)
 gather_timed version xs ys numbers timing before behind is =
     let all : List AnyStatement = Timing numbers ∷ ys in
-    rw (flat_map-append symbols_of xs all, flat_map-append timings_of xs all, flat_map-append nodes_of xs all, flat_map-append tables_of xs all, flat_map-append messages_of xs all,
-      flat_map-append comments_of xs all, flat_map-append definitions_of xs all, flat_map-append defaults_of xs all, flat_map-append attributes_of xs all, flat_map-append values_of xs all,
-      flat_map-append floats_of xs all, flat_map-append muxes_of xs all, flat_map-append kept_of xs all, before, behind, is) refl
+    rw (
+      flat_map-append symbols_of xs all,
+      flat_map-append timings_of xs all,
+      flat_map-append nodes_of xs all,
+      flat_map-append tables_of xs all,
+      flat_map-append messages_of xs all,
+      flat_map-append comments_of xs all,
+      flat_map-append definitions_of xs all,
+      flat_map-append defaults_of xs all,
+      flat_map-append attributes_of xs all,
+      flat_map-append values_of xs all,
+      flat_map-append floats_of xs all,
+      flat_map-append muxes_of xs all,
+      flat_map-append kept_of xs all,
+      before,
+      behind,
+      is,
+    ) refl
 
 record Gathered (version : Option (List ℕ)) (cut : Cut) (x : Database × Cut) : Type 0 where
   statements : List AnyStatement
@@ -205,6 +220,9 @@ database_sound cut d rest e proper =
     let first = subst (λ (text : List ℕ). Joins (empty_database text) a.0.1 b.0) (sym version.is) (statements_join (empty_database a.0.0) a.0.1 b.0 b.1) in
     let all = all_gathered version.version a.0.1 b.0 c.0 first c.1 (subst (λ (d : Database). IsDatabase d) (sym same) proper) in
     let end = ends_there c.0.1 f.0 f.1 in
-    let spelt = spelt_both version.spelt all.spelt in
-    (spelt.front, end.0, up_to spelt.front cut c.0.1 end.0 spelt.stands end.1,
-      record { version = version.version; statements = all.statements; spelled = spelt.spelled; placed = all.placed; one_timing = all.one_timing; gathered = subst (λ (e : Database). e ≡ gather version.version all.statements) same all.is; proper = proper })
+    let spelt = spelt_both version.spelt all.spelt in (
+      spelt.front,
+      end.0,
+      up_to spelt.front cut c.0.1 end.0 spelt.stands end.1,
+      record { version = version.version; statements = all.statements; spelled = spelt.spelled; placed = all.placed; one_timing = all.one_timing; gathered = subst (λ (e : Database). e ≡ gather version.version all.statements) same all.is; proper = proper },
+    )

@@ -145,11 +145,11 @@ pub int_sound : Sound int_at (λ z. Is (Int z) ∷ [])
 unfolding int_at
 int_sound =
     sound_choose (has_mark 45) (sound_reads (λ z. Is (Int z)) (reads_as (reads_behind (λ _ z. Says (Int z)) minus_is (reads_value (λ n. neg_ℤ (pos n)) (whole_is 0 (2 ^ 63)))
-      (λ _ z tokens u v parts sign number. subst (λ z. Says (Int z) tokens) (sym number.1) (signed_whole true number.0 tokens u v parts sign number.2))) (λ z tokens y. y.1)))
+    (λ _ z tokens u v parts sign number. subst (λ z. Says (Int z) tokens) (sym number.1) (signed_whole true number.0 tokens u v parts sign number.2))) (λ z tokens y. y.1)))
     (sound_choose (has_mark 43) (sound_reads (λ z. Is (Int z)) (reads_as (reads_behind (λ _ z. Says (Int z)) plus_is (reads_value (λ n. pos n) (whole_is 0 (2 ^ 64 - 1)))
-      (λ _ z tokens u v parts sign number. subst (λ z. Says (Int z) tokens) (sym number.1) (signed_whole false number.0 tokens u v parts sign number.2))) (λ z tokens y. y.1)))
+    (λ _ z tokens u v parts sign number. subst (λ z. Says (Int z) tokens) (sym number.1) (signed_whole false number.0 tokens u v parts sign number.2))) (λ z tokens y. y.1)))
     (sound_reads (λ z. Is (Int z)) (reads_as (reads_value (λ n. pos n) (whole_is 0 (2 ^ 64 - 1)))
-      (λ z tokens number. subst (λ z. Says (Int z) tokens) (sym number.1) (signed_whole false number.0 tokens [] tokens refl (inl refl) number.2)))))
+    (λ z tokens number. subst (λ z. Says (Int z) tokens) (sym number.1) (signed_whole false number.0 tokens [] tokens refl (inl refl) number.2)))))
 
 -- ---- lists
 

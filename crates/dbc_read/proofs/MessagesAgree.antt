@@ -45,16 +45,16 @@ unfolding begin_message_at
 begin_message_agrees seen count is =
     agree_one (λ u s. Began seen s) seen BeginsMessage _
     (λ t. subst (λ full. Rules (λ u s. Began seen s) (begun (has_word (codes "BO_") t) (nat_lt count 65535) causes.MessagesFull)
-      (cond (has_word (codes "BO_") t) (cond full (Err causes.MessagesFull) (Ok (record { messages = seen.messages + 1; signals = [] }))) (Err causes.Statement)))
-      (sym (ap (λ n. nat_le 65535 n) is ∙ full_or_fits count 65535)) (begun_message (has_word (codes "BO_") t) (nat_lt count 65535) seen))
+    (cond (has_word (codes "BO_") t) (cond full (Err causes.MessagesFull) (Ok (record { messages = seen.messages + 1; signals = [] }))) (Err causes.Statement)))
+    (sym (ap (λ n. nat_le 65535 n) is ∙ full_or_fits count 65535)) (begun_message (has_word (codes "BO_") t) (nat_lt count 65535) seen))
 
 begin_signal_agrees : (seen : Seen) (count : ℕ) → length seen.signals ≡ count → Agrees seen (begin_signal_at count) (BeginsSignal ⇒ Done) (Same seen)
 unfolding begin_signal_at
 begin_signal_agrees seen count is =
     agree_one (Same seen) seen BeginsSignal _
     (λ t. subst (λ full. Rules (Same seen) (begun (has_word (codes "SG_") t) (nat_lt count 999) causes.SignalsFull)
-      (cond (has_word (codes "SG_") t) (cond full (Err causes.SignalsFull) (Ok seen)) (Err causes.Statement)))
-      (sym (ap (λ n. nat_le 999 n) is ∙ full_or_fits count 999)) (begun_signal (has_word (codes "SG_") t) (nat_lt count 999) seen))
+    (cond (has_word (codes "SG_") t) (cond full (Err causes.SignalsFull) (Ok seen)) (Err causes.Statement)))
+    (sym (ap (λ n. nat_le 999 n) is ∙ full_or_fits count 999)) (begun_signal (has_word (codes "SG_") t) (nat_lt count 999) seen))
 
 -- one name more
 pub record Named (seen : Seen) (name : List ℕ) (s : Seen) : Type 0 where
@@ -63,7 +63,7 @@ pub record Named (seen : Seen) (name : List ℕ) (s : Seen) : Type 0 where
 
 fresh_name : (word repeated : Bool) (name : List ℕ) (seen : Seen)
     → Rules (Named seen) (cond word (cond repeated (Err causes.RepeatedSignal) (Ok name)) (Err causes.Statement))
-      (cond word (cond repeated (Err causes.RepeatedSignal) (Ok (record seen { signals = seen.signals ++ name ∷ [] }))) (Err causes.Statement))
+    (cond word (cond repeated (Err causes.RepeatedSignal) (Ok (record seen { signals = seen.signals ++ name ∷ [] }))) (Err causes.Statement))
 fresh_name true true name seen = refl
 fresh_name true false name seen = record { messages = refl; signals = refl }
 fresh_name false repeated name seen = refl
@@ -73,7 +73,7 @@ unfolding signal_name_at has_name
 signal_name_agrees seen names is =
     agree_one (Named seen) seen SignalName _
     (λ t. subst (λ mine. Rules (Named seen) (fresh mine t.bytes) (cond (is_name t.bytes) (one_name_more t.bytes seen) (Err causes.Statement))) is
-      (fresh_name (is_name t.bytes) (list_any (bytes_eq t.bytes) seen.signals) t.bytes seen))
+    (fresh_name (is_name t.bytes) (list_any (bytes_eq t.bytes) seen.signals) t.bytes seen))
 
 -- ---- heads
 
@@ -103,11 +103,11 @@ signal_agrees seen signals is =
     agree_bind (signal_name_agrees seen (names_of signals) is) λ name s named.
     agree_choose_then (value tags.Plain) tag_token_at _ (has_mark 58) (begins_mark 58 Done)
     (agree_then (mark_agrees s 58) λ _.
-      agree_then (place_agrees s) λ place. agree_then (pair_agrees s 40 44 41) λ scale. agree_then (pair_agrees s 91 124 93) λ limits.
-      agree_then (text_agrees s) λ unit. agree_then (receivers_agree s) λ receivers. agree_value named)
+    agree_then (place_agrees s) λ place. agree_then (pair_agrees s 40 44 41) λ scale. agree_then (pair_agrees s 91 124 93) λ limits.
+    agree_then (text_agrees s) λ unit. agree_then (receivers_agree s) λ receivers. agree_value named)
     (agree_then (tag_token_agrees s) λ tag. agree_then (mark_agrees s 58) λ _.
-      agree_then (place_agrees s) λ place. agree_then (pair_agrees s 40 44 41) λ scale. agree_then (pair_agrees s 91 124 93) λ limits.
-      agree_then (text_agrees s) λ unit. agree_then (receivers_agree s) λ receivers. agree_value named)
+    agree_then (place_agrees s) λ place. agree_then (pair_agrees s 40 44 41) λ scale. agree_then (pair_agrees s 91 124 93) λ limits.
+    agree_then (text_agrees s) λ unit. agree_then (receivers_agree s) λ receivers. agree_value named)
 
 -- a signal takes a token at least
 begin_signal_shrinks : (count : ℕ) → Shrinks (begin_signal_at count)

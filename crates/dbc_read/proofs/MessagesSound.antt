@@ -118,23 +118,35 @@ six a b c d e f g = ap (λ (parts : List Part). parts ++ g) (append_assoc (((a +
 
 signal_form_is : (s : Signal) → signal_form s
     ≡ ((((((Is (Word (codes "SG_")) ∷ Is (Name s.name) ∷ of_layout (tag_layout s.tag)) ++ Is (Mark 58) ∷ [])
-      ++ place_form (record { start = s.start; length = s.length; intel = s.intel; signed = s.signed }))
-      ++ pair_form 40 44 41 (s.factor, s.offset)) ++ pair_form 91 124 93 (s.minimum, s.maximum)) ++ Is (Text s.unit) ∷ []) ++ receivers_form s.receivers
+    ++ place_form (record { start = s.start; length = s.length; intel = s.intel; signed = s.signed }))
+    ++ pair_form 40 44 41 (s.factor, s.offset)) ++ pair_form 91 124 93 (s.minimum, s.maximum)) ++ Is (Text s.unit) ∷ []) ++ receivers_form s.receivers
 unfolding signal_name_layout place_layout scale_layout limits_layout pair_layout spaced_mark number_layout mark_layout spaced_text items_of
 signal_form_is s =
     let behind : Layout = place_layout s ++ (scale_layout s ++ (limits_layout s ++ spaced_text s.unit)) in
     ap (λ (parts : List Part). parts ++ receivers_form s.receivers)
     (of_layout-append (signal_name_layout s) (tag_layout s.tag ++ behind) ∙ ap (λ (parts : List Part). Is (Word (codes "SG_")) ∷ Is (Name s.name) ∷ parts) (of_layout-append (tag_layout s.tag) behind))
     ∙ sym (six (Is (Word (codes "SG_")) ∷ Is (Name s.name) ∷ of_layout (tag_layout s.tag)) (Is (Mark 58) ∷ []) (place_form (record { start = s.start; length = s.length; intel = s.intel; signed = s.signed }))
-      (pair_form 40 44 41 (s.factor, s.offset)) (pair_form 91 124 93 (s.minimum, s.maximum)) (Is (Text s.unit) ∷ []) (receivers_form s.receivers))
+    (pair_form 40 44 41 (s.factor, s.offset)) (pair_form 91 124 93 (s.minimum, s.maximum)) (Is (Text s.unit) ∷ []) (receivers_form s.receivers))
 
 pub signal_sound : (signals : List Signal) → Sound (signal_at signals) signal_form
 unfolding signal_at
 signal_sound signals =
     sound_start (sound_then (begin_signal_sound (length signals)) λ _. sound_then (signal_name_sound (names_of signals)) λ name. sound_then tag_sound λ tag. sound_then (mark_sound 58) λ _.
     sound_then place_sound λ place. sound_then (pair_sound 40 44 41) λ scale. sound_then (pair_sound 91 124 93) λ limits. sound_then text_sound λ unit. sound_then receivers_sound λ receivers.
-    sound_value (signal_form_is (record { name = name; tag = tag; start = place.start; length = place.length; intel = place.intel; signed = place.signed; factor = scale.0; offset = scale.1;
-      minimum = limits.0; maximum = limits.1; unit = unit; receivers = receivers })))
+    sound_value (signal_form_is (record {
+      name = name;
+      tag = tag;
+      start = place.start;
+      length = place.length;
+      intel = place.intel;
+      signed = place.signed;
+      factor = scale.0;
+      offset = scale.1;
+      minimum = limits.0;
+      maximum = limits.1;
+      unit = unit;
+      receivers = receivers;
+    })))
 
 signals_sound : Sound (signals_from []) (flat_map signal_form)
 unfolding signals_from

@@ -47,7 +47,7 @@ one_of_six_agrees =
     (agree_choose (has_word (codes "VAL_TABLE_")) (begins_word (codes "VAL_TABLE_") _) (agree_then (table_agrees nothing_seen) λ row. agree_value tt)
     (agree_choose (has_word (codes "VAL_")) (begins_word (codes "VAL_") _) (agree_then (values_agrees nothing_seen) λ row. agree_value tt)
     (agree_choose (has_word (codes "SG_MUL_VAL_")) (begins_word (codes "SG_MUL_VAL_") _) (agree_then (mux_agrees nothing_seen) λ row. agree_value tt)
-      (agree_then (message_attribute_agrees nothing_seen) λ row. agree_value tt)))))
+    (agree_then (message_attribute_agrees nothing_seen) λ row. agree_value tt)))))
 
 pub statement_judges : (cut : Cut) → Judges (statement_at cut) (first_fault grammar.one_statement nothing_seen cut)
 unfolding statement_at

@@ -50,6 +50,9 @@ statement_sound cut s rest e proper =
     let a = and_then-ok (one_of_six_at cut) _ (s, rest) e in
     let b = and_then-ok (end_at a.0.1) _ (s, rest) a.2 in
     let end = ends_there a.0.1 b.0 b.1 in
-    let spelt = one_of_six_sound.spelt cut a.0 a.1 in
-    (spelt.front, end.0, up_to spelt.front cut a.0.1 end.0 spelt.stands end.1,
-      record { spelled = subst (λ (statement : Statement). Spelled (form_alone statement) spelt.front) (same_statement a.0.0 s b.0.1 rest b.2) spelt.spelled; proper = proper })
+    let spelt = one_of_six_sound.spelt cut a.0 a.1 in (
+      spelt.front,
+      end.0,
+      up_to spelt.front cut a.0.1 end.0 spelt.stands end.1,
+      record { spelled = subst (λ (statement : Statement). Spelled (form_alone statement) spelt.front) (same_statement a.0.0 s b.0.1 rest b.2) spelt.spelled; proper = proper },
+    )

@@ -80,9 +80,9 @@ digits_number digits n are e =
     let exponent : after_first is_exponent_mark digits ≡ [] = after_none is_exponent_mark digits mark in
     let spelled = (whole_spelled digits n e).1 in
     let value : mantissa_of digits ≡ digits_value 10 digits = ap (λ (front : List ℕ). digits_value 10 (front ++ after_first is_point (before_first is_exponent_mark digits))) whole
-        ∙ ap (λ (back : List ℕ). digits_value 10 (digits ++ back)) fraction ∙ ap (digits_value 10) (append-nil digits) in
+    ∙ ap (λ (back : List ℕ). digits_value 10 (digits ++ back)) fraction ∙ ap (digits_value 10) (append-nil digits) in
     let power : exponent_of digits ≡ pos 0 = ap (λ (back : List ℕ). signed_digits_value 10 back -ℤ pos (length (after_first is_point (before_first is_exponent_mark digits)))) exponent
-        ∙ ap (λ (back : List ℕ). signed_digits_value 10 [] -ℤ pos (length back)) fraction in
+    ∙ ap (λ (back : List ℕ). signed_digits_value 10 [] -ℤ pos (length back)) fraction in
     sym (power_none n (digits_value 10 digits) (subst (λ (m : ℕ). IsWholeNumber m (pos 0) n) value (subst (λ (z : ℤ). IsWholeNumber (mantissa_of digits) z n) power spelled)))
 
 -- ---- tags

@@ -105,8 +105,8 @@ objects_shrink d =
     choose_shrinks _ (bind_shrinks (word_shrinks _) λ _. bind_keeps (keep (mark_shrinks 58)) λ _. bind_keeps (symbols_keep _) λ symbols. value_keeps _)
     (choose_shrinks _ (bind_shrinks (word_shrinks _) λ _. bind_keeps (keep (mark_shrinks 58)) λ _. bind_keeps (names_keep _) λ nodes. value_keeps _)
     (bind_shrinks (bind_shrinks (bind_shrinks (one_shrinks _) λ _. bind_keeps id_keeps λ number. bind_keeps (keep name_shrinks) λ name. bind_keeps (keep (mark_shrinks 58)) λ _.
-      bind_keeps (keep (whole_shrinks 0 1785)) λ size. bind_keeps (keep name_shrinks) λ sender. value_keeps _) λ head.
-      bind_keeps (repeated_keeps _ (λ s. bind_keeps (keep (signal_shrinks s)) λ signal. value_keeps _) []) λ signals. value_keeps _) λ message. value_keeps _))
+    bind_keeps (keep (whole_shrinks 0 1785)) λ size. bind_keeps (keep name_shrinks) λ sender. value_keeps _) λ head.
+    bind_keeps (repeated_keeps _ (λ s. bind_keeps (keep (signal_shrinks s)) λ signal. value_keeps _) []) λ signals. value_keeps _) λ message. value_keeps _))
 
 rows_shrink : (d : Database) → Shrinks (value_row_into d)
 unfolding value_row_into table_into values_into float_into mux_into table_at values_at float_at mux_at
@@ -115,7 +115,7 @@ rows_shrink d =
     (choose_shrinks _ (bind_shrinks (bind_shrinks (word_shrinks _) λ _. bind_keeps id_keeps λ number. bind_keeps (keep name_shrinks) λ name. bind_keeps (entries_keep _) λ entries. bind_keeps (keep (mark_shrinks 59)) λ _. value_keeps _) λ row. value_keeps _)
     (choose_shrinks _ (bind_shrinks (bind_shrinks (word_shrinks _) λ _. bind_keeps id_keeps λ number. bind_keeps (keep name_shrinks) λ name. bind_keeps colon_keeps λ _. bind_keeps (keep (whole_shrinks 0 2)) λ kind. bind_keeps (keep (mark_shrinks 59)) λ _. value_keeps _) λ row. value_keeps _)
     (bind_shrinks (bind_shrinks (word_shrinks _) λ _. bind_keeps id_keeps λ number. bind_keeps (keep name_shrinks) λ name. bind_keeps (keep name_shrinks) λ switch.
-      bind_keeps all_ranges_keep λ ranges. bind_keeps (keep (mark_shrinks 59)) λ _. value_keeps _) λ row. value_keeps _)))
+    bind_keeps all_ranges_keep λ ranges. bind_keeps (keep (mark_shrinks 59)) λ _. value_keeps _) λ row. value_keeps _)))
 
 notes_shrink : (d : Database) → Shrinks (attribute_row_into d)
 unfolding attribute_row_into comment_into definition_into default_into attribute_into comment_at definition_at default_at attribute_at
@@ -164,9 +164,11 @@ any_of_four false b c d = any_of_three b c d
 begins_a_statement : Begins begins_statement grammar.statement
 unfolding begins_statement has_object_word has_value_word has_attribute_word has_word
 begins_a_statement =
-    begins_as (λ t. rw (any_of_three (bytes_eq t.bytes (codes "NS_")) (bytes_eq t.bytes (codes "BU_")) (bytes_eq t.bytes (codes "BO_")),
+    begins_as (λ t. rw (
+      any_of_three (bytes_eq t.bytes (codes "NS_")) (bytes_eq t.bytes (codes "BU_")) (bytes_eq t.bytes (codes "BO_")),
       any_of_four (bytes_eq t.bytes (codes "VAL_TABLE_")) (bytes_eq t.bytes (codes "VAL_")) (bytes_eq t.bytes (codes "SIG_VALTYPE_")) (bytes_eq t.bytes (codes "SG_MUL_VAL_")),
-      any_of_four (bytes_eq t.bytes (codes "CM_")) (bytes_eq t.bytes (codes "BA_DEF_")) (bytes_eq t.bytes (codes "BA_DEF_DEF_")) (bytes_eq t.bytes (codes "BA_"))) refl)
+      any_of_four (bytes_eq t.bytes (codes "CM_")) (bytes_eq t.bytes (codes "BA_DEF_")) (bytes_eq t.bytes (codes "BA_DEF_DEF_")) (bytes_eq t.bytes (codes "BA_")),
+    ) refl)
     (begins_either Done begins_objects (begins_either Done begins_rows (begins_either Done begins_notes begins_kept_one)))
 
 statements_agree : (d : Database) (seen : Seen) → Counted d seen → Agrees seen (statements_into d) (Repeat grammar.statement Done) Counted
@@ -218,5 +220,5 @@ database_judges cut =
     let timed = Either (grammar.timing then Repeat grammar.statement Done) Done Done in
     bind_judges (Same nothing_seen) _ (first_fault (Repeat grammar.statement timed)) (version_at cut) _ ((version_agrees nothing_seen).follows (Repeat grammar.statement timed) cut)
     (λ version s rest is. bind_judges Counted _ (first_fault timed) (statements_into (empty_database version) rest) _ ((statements_agree (empty_database version) s (begun_empty version s is)).follows timed rest)
-      (λ before s' rest' has. bind_judges Counted _ (first_fault Done) (timed_into before rest') _ ((timed_agrees before s' has).follows Done rest')
-        (λ all s'' end now. end_judges all s'' end)))
+    (λ before s' rest' has. bind_judges Counted _ (first_fault Done) (timed_into before rest') _ ((timed_agrees before s' has).follows Done rest')
+    (λ all s'' end now. end_judges all s'' end)))
