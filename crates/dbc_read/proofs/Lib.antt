@@ -40,3 +40,8 @@ pub mod MessagesProper
 pub mod RowsProper
 pub mod DatabasesProper
 pub mod NotesAgain
+pub mod AddingSound
+pub mod DatabasesSound
+pub mod StatementsSound
+pub mod StatementsAgree
+pub mod Readings
