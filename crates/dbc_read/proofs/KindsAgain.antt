@@ -95,7 +95,7 @@ text_takes text =
 
 -- ---- numbers
 
-number_whole : (bytes : List ℕ) (n : ℕ) → n < 2 ^ 64 → SpellsNumber bytes n → whole_of_number bytes ≡ Some (Value n)
+pub number_whole : (bytes : List ℕ) (n : ℕ) → n < 2 ^ 64 → SpellsNumber bytes n → whole_of_number bytes ≡ Some (Value n)
 unfolding whole_of_number
 number_whole bytes n small spells = rw (spells.0, whole_from (mantissa_of bytes) (exponent_of bytes) (Value n) (small, spells.1)) refl
 

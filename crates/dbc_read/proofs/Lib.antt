@@ -45,3 +45,5 @@ pub mod DatabasesSound
 pub mod StatementsSound
 pub mod StatementsAgree
 pub mod Readings
+pub mod TagsAgain
+pub mod MessagesAgain

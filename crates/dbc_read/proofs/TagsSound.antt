@@ -7,7 +7,7 @@ use Rattle.std.specs.Str.Parse.{digits_value, signed_digits_value}
 use Rattle.std.proofs.lemmas.Bool.{and_parts, eqb-true}
 use Rattle.std.proofs.lemmas.Grind.{common_steps}
 use Rattle.std.proofs.lemmas.Slice.Eq.{bytes_eq-Decides}
-use Rattle.dbc_model.specs.Lexical.{is_digit, is_digits, is_point, is_exponent_mark}
+use Rattle.dbc_model.specs.Lexical.{is_digit, is_digits, is_point, is_exponent_mark, is_number}
 use Rattle.dbc_model.specs.Numbers.{mantissa_of, exponent_of, IsWholeNumber, whole_of_number}
 use Rattle.dbc_model.specs.Layout.{Order, items_of}
 use Rattle.dbc_model.specs.CanonicalText.{tag_layout}
@@ -67,10 +67,19 @@ digits_all (d ∷ digits) e = e
 power_none : (n m : ℕ) → n ≡ m * 10 ^ 0 → n ≡ m
 power_none n m e = omega (arith, e)
 
--- digits alone are the number that they write
-pub digits_number : (digits : List ℕ) (n : ℕ) → is_digits digits ≡ true → whole_of_number digits ≡ Some (Value n) → digits_value 10 digits ≡ n
-unfolding mantissa_of exponent_of IsWholeNumber
-digits_number digits n are e =
+-- what digits alone are as a number
+pub record AreDigits (digits : List ℕ) : Type 0 where
+  pub form : is_number digits ≡ true
+  pub mantissa : mantissa_of digits ≡ digits_value 10 digits
+  pub exponent : exponent_of digits ≡ pos 0
+
+some_digit : (digits : List ℕ) → is_digits digits ≡ true → list_any is_digit digits ≡ true
+some_digit [] are = absurd cc
+some_digit (d ∷ digits) are = rw (and_parts (is_digit d) (list_all is_digit digits) are).0 refl
+
+pub digits_are : (digits : List ℕ) → is_digits digits ≡ true → AreDigits digits
+unfolding is_number mantissa_of exponent_of
+digits_are digits are =
     let all = digits_all digits are in
     let mark = no_mark digits all in
     let mantissa = before_none is_exponent_mark digits mark in
@@ -78,12 +87,21 @@ digits_number digits n are e =
     let whole : before_first is_point (before_first is_exponent_mark digits) ≡ digits = ap (before_first is_point) mantissa ∙ before_none is_point digits point in
     let fraction : after_first is_point (before_first is_exponent_mark digits) ≡ [] = ap (after_first is_point) mantissa ∙ after_none is_point digits point in
     let exponent : after_first is_exponent_mark digits ≡ [] = after_none is_exponent_mark digits mark in
+    record {
+      form = rw (whole, fraction, mantissa, mark, all, some_digit digits are) refl;
+      mantissa = ap (λ (front : List ℕ). digits_value 10 (front ++ after_first is_point (before_first is_exponent_mark digits))) whole
+        ∙ ap (λ (back : List ℕ). digits_value 10 (digits ++ back)) fraction ∙ ap (digits_value 10) (append-nil digits);
+      exponent = ap (λ (back : List ℕ). signed_digits_value 10 back -ℤ pos (length (after_first is_point (before_first is_exponent_mark digits)))) exponent
+        ∙ ap (λ (back : List ℕ). signed_digits_value 10 [] -ℤ pos (length back)) fraction;
+    }
+
+-- digits alone are the number that they write
+pub digits_number : (digits : List ℕ) (n : ℕ) → is_digits digits ≡ true → whole_of_number digits ≡ Some (Value n) → digits_value 10 digits ≡ n
+unfolding IsWholeNumber
+digits_number digits n are e =
+    let parts = digits_are digits are in
     let spelled = (whole_spelled digits n e).1 in
-    let value : mantissa_of digits ≡ digits_value 10 digits = ap (λ (front : List ℕ). digits_value 10 (front ++ after_first is_point (before_first is_exponent_mark digits))) whole
-    ∙ ap (λ (back : List ℕ). digits_value 10 (digits ++ back)) fraction ∙ ap (digits_value 10) (append-nil digits) in
-    let power : exponent_of digits ≡ pos 0 = ap (λ (back : List ℕ). signed_digits_value 10 back -ℤ pos (length (after_first is_point (before_first is_exponent_mark digits)))) exponent
-    ∙ ap (λ (back : List ℕ). signed_digits_value 10 [] -ℤ pos (length back)) fraction in
-    sym (power_none n (digits_value 10 digits) (subst (λ (m : ℕ). IsWholeNumber m (pos 0) n) value (subst (λ (z : ℤ). IsWholeNumber (mantissa_of digits) z n) power spelled)))
+    sym (power_none n (digits_value 10 digits) (subst (λ (m : ℕ). IsWholeNumber m (pos 0) n) parts.mantissa (subst (λ (z : ℤ). IsWholeNumber (mantissa_of digits) z n) parts.exponent spelled)))
 
 -- ---- tags
 
