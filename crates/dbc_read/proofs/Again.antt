@@ -70,6 +70,12 @@ pub takes_next : {A B : Type 0} {r : Reader A} {a : A} {b : B} {xs ys : List Par
     → Takes r a xs Anything → Takes (f a) b ys May → Takes (r >>= f) b (xs ++ ys) May
 takes_next {A} {B} {r} {a} {b} {xs} {ys} {May} f h k = takes_then f h allows_anything k
 
+-- where nothing is spelled behind the first
+pub takes_last : {A B : Type 0} {r : Reader A} {a : A} {b : B} {parts : List Part} {May : Cut → Type 0} (f : A → Reader B) → Takes r a parts May → Takes (f a) b [] Anything → Takes (r >>= f) b parts May
+takes_last {A} {B} {r} {a} {b} {parts} {May} f h k = record {
+  takes = λ tokens cut spelled may. and_then-is (r (tokens ▸▸ cut)) f a cut (h.takes tokens cut spelled may) ∙ k.takes [] cut refl tt;
+}
+
 -- the same parts by other words
 pub takes_as : {A : Type 0} {r : Reader A} {a : A} {xs ys : List Part} {May : Cut → Type 0} → xs ≡ ys → Takes r a ys May → Takes r a xs May
 takes_as {A} {r} {a} {xs} {ys} {May} same h = record { takes = λ tokens cut spelled may. h.takes tokens cut (subst (λ (parts : List Part). Spelled parts tokens) same spelled) may }
@@ -121,6 +127,9 @@ opens_as {test} {passes} {xs} {ys} same h = record { opens = λ tokens cut spell
 
 pub allows_stop : {test : Token → Bool} {parts : List Part} {May : Cut → Type 0} → Opens test false parts → Allows parts May (Stops test)
 allows_stop {test} {parts} {May} h = record { allows = λ tokens cut spelled may. h.opens tokens cut spelled }
+
+pub allows_as : {xs ys : List Part} {May Before : Cut → Type 0} → xs ≡ ys → Allows ys May Before → Allows xs May Before
+allows_as {xs} {ys} {May} {Before} same h = record { allows = λ tokens cut spelled may. h.allows tokens cut (subst (λ (parts : List Part). Spelled parts tokens) same spelled) may }
 
 -- two things that may stand there
 pub allows_both : {parts : List Part} {May One Two : Cut → Type 0} → Allows parts May One → Allows parts May Two → Allows parts May (λ cut. One cut × Two cut)
@@ -192,7 +201,7 @@ module _ {A S : Type 0} (test : Token → Bool) (r : S → Reader S) (shrinks : 
 abbrev pub pushed : {A : Type 0} → List A → A → List A
 pushed list a = list ++ a ∷ []
 
-all_pushed : {A : Type 0} (list more : List A) → all_put pushed list more ≡ list ++ more
+pub all_pushed : {A : Type 0} (list more : List A) → all_put pushed list more ≡ list ++ more
 all_pushed list [] = sym (append-nil list)
 all_pushed list (a ∷ more) = all_pushed (list ++ a ∷ []) more ∙ append_assoc list (a ∷ []) more
 

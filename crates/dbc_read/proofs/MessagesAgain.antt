@@ -5,11 +5,11 @@ use Rattle.std.specs.List.{flat_map, list_any}
 use Rattle.std.specs.Str.{bytes_eq}
 use Rattle.std.proofs.lemmas.Bool.{cases_Bool, and_parts}
 use Rattle.std.proofs.lemmas.Grind.{common_steps}
-use Rattle.std.proofs.lemmas.List.{take_at}
+use Rattle.std.proofs.lemmas.List.{map-append}
 use Rattle.std.proofs.lemmas.List.Elements.{All-head, All-tail}
 use Rattle.std.proofs.lemmas.List.Folds.{list_any-append}
 use Rattle.std.proofs.lemmas.Slice.Eq.{bytes_eq-Decides}
-use Rattle.dbc_model.specs.Lexical.{is_name, is_digits}
+use Rattle.dbc_model.specs.Lexical.{is_name, is_keyword}
 use Rattle.dbc_model.specs.Numbers.{whole_of_number}
 use Rattle.dbc_model.specs.Decimals.{Decimal}
 use Rattle.dbc_model.specs.Records.{IsName, Head, IsHead, IsTag, Signal, IsSignal, Message, IsMessage, names_of, are_distinct, signals_fit}
@@ -33,8 +33,10 @@ use Rattle.dbc_read.proofs.Loops.{name_shrinks, comma_keeps}
 use Rattle.dbc_read.proofs.SignalLoop.{signal_shrinks}
 use Rattle.dbc_read.proofs.Sound.{first_and}
 use Rattle.dbc_read.proofs.MessagesSound.{sign_form, place_form, pair_form, name_form, further_name_form, signal_form_is}
-use Rattle.dbc_read.proofs.Again.{Takes, Anything, Opens, Stops, Allows, Halves, halves, takes_value, takes_then, takes_next, takes_as, takes_where, takes_first, takes_second, takes_none, takes_one, opens_one, allows_stop, allows_anything, takes_list, takes_repeated, pushed, alone}
+use Rattle.dbc_read.proofs.Again.{Takes, Anything, Opens, Stops, Allows, Halves, halves, takes_value, takes_then, takes_next, takes_as, takes_last, opens_as, allows_as, all_pushed, takes_where, takes_first, takes_second, takes_none, takes_one, opens_one, allows_stop, allows_anything, takes_list, takes_repeated, pushed, alone}
 use Rattle.dbc_read.proofs.KindsAgain.{is_the_word, is_the_mark, Within, within, number_whole, mark_takes, name_takes, text_takes, whole_takes, id_takes, decimal_takes}
+use Rattle.dbc_read.proofs.MessageNames.{same_either_way}
+use Rattle.dbc_read.proofs.TagsAgain.{tag_takes}
 use Rattle.dbc_read.proofs.RowsAgain.{mark_opens, mark_opens_itself, perhaps_takes}
 use Rattle.dbc_read.proofs.NotesAgain.{word_opens}
 
@@ -165,3 +167,82 @@ unfolding receivers_at has_name
 receivers_take [] = takes_none _ _ no_name_behind (takes_where takes_value (λ cut may. tt))
 receivers_take (name ∷ names) = takes_first _ (name_opens is_name name (λ is. is)) (takes_next _ (name_takes name) (further_names_take (name ∷ []) names))
 
+-- ---- signals
+
+seven : (a b c d e f g : List Part) → ((((((a ++ b) ++ c) ++ d) ++ e) ++ f) ++ g) ≡ a ++ (b ++ (c ++ (d ++ (e ++ (f ++ g)))))
+seven a b c d e f g =
+    append_assoc ((((a ++ b) ++ c) ++ d) ++ e) f g ∙ append_assoc (((a ++ b) ++ c) ++ d) e (f ++ g) ∙ append_assoc ((a ++ b) ++ c) d (e ++ (f ++ g))
+    ∙ append_assoc (a ++ b) c (d ++ (e ++ (f ++ g))) ∙ append_assoc a b (c ++ (d ++ (e ++ (f ++ g))))
+
+abbrev place_of : Signal → Place
+place_of s = record { start = s.start; length = s.length; intel = s.intel; signed = s.signed }
+
+colon_stands : {parts : List Part} → Allows (Is (Mark 58) ∷ parts) (Stops begins_receiver) (λ cut. starts (has_mark 58) cut ≡ true)
+colon_stands {parts} = record { allows = λ tokens cut spelled may. (mark_opens_itself 58).opens tokens cut spelled }
+
+signal_takes : (signals : List Signal) (s : Signal) → IsSignal s → nat_lt (length signals) 999 ≡ true → list_any (bytes_eq s.name) (names_of signals) ≡ false → Takes (signal_at signals) s (signal_form s) (Stops begins_receiver)
+unfolding signal_at
+signal_takes signals s is room new =
+    takes_as (signal_form_is s ∙ seven (Is (Word (codes "SG_")) ∷ Is (Name s.name) ∷ of_layout (tag_layout s.tag)) (Is (Mark 58) ∷ []) (place_form (place_of s)) (pair_form 40 44 41 (s.factor, s.offset))
+      (pair_form 91 124 93 (s.minimum, s.maximum)) (Is (Text s.unit) ∷ []) (receivers_form s.receivers))
+    (takes_next _ (begin_signal_takes (length signals) room) (takes_next _ (signal_name_takes (names_of signals) s.name new)
+    (takes_then _ (tag_takes s.tag is.tag) colon_stands (takes_next _ (mark_takes 58) (takes_next _ (place_takes (place_of s) is.start is.fits)
+    (takes_next _ (pair_takes 40 44 41 (s.factor, s.offset)) (takes_next _ (pair_takes 91 124 93 (s.minimum, s.maximum)) (takes_next _ (text_takes s.unit)
+    (takes_last _ (receivers_take s.receivers) takes_value)))))))))
+
+-- ---- the signals of a message
+
+new_before : (y x : List ℕ) (xs ys : List (List ℕ)) → (not (list_any (bytes_eq y) (xs ++ x ∷ ys)) && are_distinct (xs ++ x ∷ ys)) ≡ true → (bytes_eq x y ≡ false) × (are_distinct (xs ++ x ∷ ys) ≡ true)
+new_before y x xs ys fit = grind (arith, common_steps, list_any-append (bytes_eq y) xs (x ∷ ys), same_either_way x y)
+
+is_new : (xs : List (List ℕ)) (x : List ℕ) (ys : List (List ℕ)) → are_distinct (xs ++ x ∷ ys) ≡ true → list_any (bytes_eq x) xs ≡ false
+is_new [] x ys fit = refl
+is_new (y ∷ xs) x ys fit = let parts = new_before y x xs ys fit in rw (parts.0, is_new xs x ys parts.1) refl
+
+-- a signal that stands behind these and before those
+pub record Fitting (signals : List Signal) (s : Signal) : Type 0 where
+  pub room : nat_lt (length signals) 999 ≡ true
+  pub new : list_any (bytes_eq s.name) (names_of signals) ≡ false
+
+fitting : (signals : List Signal) (s : Signal) (more : List Signal) → IsTrue (signals_fit (signals ++ s ∷ more)) → Fitting signals s
+unfolding signals_fit
+fitting signals s more fit =
+    let parts = and_parts (nat_le (length (signals ++ s ∷ more)) 999) (are_distinct (names_of (signals ++ s ∷ more))) fit in
+    record {
+      room = room_left (length signals) (length more) (subst (λ (n : ℕ). nat_le n 999 ≡ true) (length-append signals (s ∷ more)) parts.0);
+      new = is_new (names_of signals) s.name (names_of more) (subst (λ (names : List (List ℕ)). are_distinct names ≡ true) (map-append (λ (s : Signal). s.name) signals (s ∷ more)) parts.1);
+    }
+  where
+    room_left : (n m : ℕ) → nat_le (n + suc m) 999 ≡ true → nat_lt n 999 ≡ true
+    room_left n m e = grind (arith, common_steps)
+
+-- the signals behind these are signals, and all of them fit
+pub record AreSignals (signals more : List Signal) : Type 0 where
+  pub each : All IsSignal more
+  pub fit : IsTrue (signals_fit (signals ++ more))
+
+-- neither a receiver nor a signal
+abbrev pub EndsSignals : Cut → Type 0
+EndsSignals cut = Stops begins_receiver cut × Stops (has_word (codes "SG_")) cut
+
+signal_opens : {parts : List Part} → Opens (has_word (codes "SG_")) true (Is (Word (codes "SG_")) ∷ parts)
+unfolding has_word
+signal_opens {parts} = word_opens (λ bytes. bytes_eq bytes (codes "SG_")) (codes "SG_") refl
+
+signal_no_receiver : {parts : List Part} → Opens begins_receiver false (Is (Word (codes "SG_")) ∷ parts)
+unfolding begins_receiver has_mark has_name is_name is_keyword
+signal_no_receiver {parts} = word_opens (λ bytes. bytes_eq bytes (44 ∷ []) || is_name bytes) (codes "SG_") refl
+
+pub signals_take : (signals more : List Signal) → AreSignals signals more → Takes (signals_from signals) (signals ++ more) (flat_map signal_form more) EndsSignals
+unfolding signals_from
+signals_take signals more are =
+    subst (λ (made : List Signal). Takes (signals_from signals) made (flat_map signal_form more) EndsSignals) (all_pushed signals more)
+    (takes_repeated (has_word (codes "SG_")) _ (λ list. bind_shrinks (signal_shrinks list) λ signal. value_keeps _) signal_form pushed AreSignals (Stops begins_receiver) EndsSignals
+      (λ list s more are. (let one = fitting list s more are.fit in takes_last _ (signal_takes list s (All-head IsSignal s more are.each) one.room one.new) takes_value))
+      (λ list s more are. record { each = All-tail IsSignal s more are.each; fit = subst (λ (all : List Signal). IsTrue (signals_fit all)) (sym (append_assoc list (s ∷ []) more)) are.fit })
+      (λ list s more are. opens_as (signal_form_is s) signal_opens) (λ list s more are. allows_as (signal_form_is s) (allows_stop signal_no_receiver)) (λ cut ends. ends) signals more are)
+
+pub message_takes : (count : ℕ) (message : Message) → nat_lt count 65535 ≡ true → IsMessage message → Takes (message_at count) message (form (OfMessage message)) EndsSignals
+unfolding message_at
+message_takes count message may is =
+    takes_next _ (head_takes count message.head may is.head) (takes_last _ (signals_take [] message.signals (record { each = is.signals; fit = is.fit })) takes_value)

@@ -35,7 +35,7 @@ use Rattle.dbc_read.proofs.Loops.{mark_shrinks, text_shrinks}
 use Rattle.dbc_read.proofs.Names.{no_digit_no_number}
 use Rattle.dbc_read.proofs.Sound.{all_then_twice, first_and}
 use Rattle.dbc_read.proofs.NotesSound.{text_form, further_text_form, comment_form, texts_layout_form, word_then, string_form, definition_form, default_form, attribute_form}
-use Rattle.dbc_read.proofs.Again.{Takes, Anything, Opens, Stops, Allows, takes_value, takes_then, takes_next, takes_as, takes_where, takes_first, takes_second, takes_none, opens_one, allows_stop, allows_both, takes_list}
+use Rattle.dbc_read.proofs.Again.{Takes, Anything, Opens, Stops, Allows, takes_value, takes_then, takes_next, takes_as, takes_last, takes_where, takes_first, takes_second, takes_none, opens_one, allows_stop, allows_both, takes_list}
 use Rattle.dbc_read.proofs.KindsAgain.{is_the_mark, number_is_no_mark, decimal_from_number, word_takes, mark_takes, name_takes, text_takes, quoted_is_string, id_takes, decimal_takes}
 use Rattle.dbc_read.proofs.RowsAgain.{mark_opens, mark_opens_itself, semicolon_is_no_comma}
 
@@ -168,14 +168,8 @@ further_texts_take texts more are =
 abbrev EndsForm : Cut → Type 0
 EndsForm cut = Stops begins_decimal cut × Stops (has_mark 44) cut
 
--- where nothing more is spelled, what stands behind stands there
-nothing_more : {May : Cut → Type 0} → Allows [] May May
-nothing_more {May} = record { allows = λ tokens cut none may. subst (λ (t : List Token). May (t ▸▸ cut)) (sym none) may }
-
 limited_takes : (word : List ℕ) (make : Option Limits → Form) (limits : Option Limits) → Takes (limited_at word make) (make limits) (Is (Word word) ∷ of_layout (number_limits_layout limits)) EndsForm
-limited_takes word make limits =
-    takes_as (ap (λ (parts : List Part). Is (Word word) ∷ parts) (sym (append-nil (of_layout (number_limits_layout limits)))))
-    (takes_where (takes_next _ (word_takes word) (takes_then {May = Stops begins_decimal} _ (limits_take limits) nothing_more (takes_where takes_value (λ cut may. tt)))) (λ cut may. may.0))
+limited_takes word make limits = takes_where (takes_next _ (word_takes word) (takes_last _ (limits_take limits) takes_value)) (λ cut may. may.0)
 
 some_texts : (texts : List (List ℕ)) → nat_le 1 (length texts) ≡ true → (first : List ℕ) × (more : List (List ℕ)) × (texts ≡ first ∷ more)
 some_texts [] fit = absurd cc
@@ -188,9 +182,8 @@ enumeration_form text texts = word_then (codes "ENUM") _ (texts_layout (text ∷
 enumeration_takes : (text : List ℕ) (texts : List (List ℕ)) → All IsText (text ∷ texts) → Takes enumeration_at (forms.Enumeration (text ∷ texts)) (Is (Word (codes "ENUM")) ∷ (text_form text ++ flat_map further_text_form texts)) EndsForm
 unfolding enumeration_at texts_from
 enumeration_takes text texts are =
-    takes_as (ap (λ (parts : List Part). Is (Word (codes "ENUM")) ∷ Is (Text text) ∷ parts) (sym (append-nil (flat_map further_text_form texts))))
-    (takes_where (takes_next _ (word_takes (codes "ENUM")) (takes_next _ (text_takes text)
-    (takes_then {May = Stops (has_mark 44)} _ (further_texts_take (text ∷ []) texts (All-tail IsText text texts are)) nothing_more (takes_where takes_value (λ cut may. tt))))) (λ cut may. may.1))
+    takes_where (takes_next _ (word_takes (codes "ENUM")) (takes_next _ (text_takes text)
+    (takes_last _ (further_texts_take (text ∷ []) texts (All-tail IsText text texts are)) takes_value))) (λ cut may. may.1)
 
 string_takes : Takes string_form_at forms.Str (Is (Word (codes "STRING")) ∷ []) EndsForm
 unfolding string_form_at
