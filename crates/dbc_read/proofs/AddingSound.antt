@@ -252,11 +252,11 @@ names_grow : Grows names_from (λ name. Is (Name name) ∷ [])
 unfolding names_from
 names_grow = grows_repeated _ _ (λ name. Is (Name name) ∷ []) (grows_by_one name_sound)
 
-symbols_are : (symbols : List (List ℕ)) → Is (Word (codes "NS_")) ∷ Is (Mark 58) ∷ flat_map (λ word. Is (Symbol word) ∷ []) symbols ≡ form (Symbols symbols)
+pub symbols_are : (symbols : List (List ℕ)) → Is (Word (codes "NS_")) ∷ Is (Mark 58) ∷ flat_map (λ word. Is (Symbol word) ∷ []) symbols ≡ form (Symbols symbols)
 unfolding symbols_layout symbols_title symbol_layout items_of
 symbols_are symbols = sym (of_layout-append symbols_title (flat_map symbol_layout symbols) ∙ ap (λ (parts : List Part). Is (Word (codes "NS_")) ∷ Is (Mark 58) ∷ parts) (of_layout-items symbol_layout symbols))
 
-nodes_are : (nodes : List (List ℕ)) → Is (Word (codes "BU_")) ∷ Is (Mark 58) ∷ flat_map (λ name. Is (Name name) ∷ []) nodes ≡ form (Nodes nodes)
+pub nodes_are : (nodes : List (List ℕ)) → Is (Word (codes "BU_")) ∷ Is (Mark 58) ∷ flat_map (λ name. Is (Name name) ∷ []) nodes ≡ form (Nodes nodes)
 unfolding nodes_layout nodes_title spaced_name line_end items_of
 nodes_are nodes =
     sym (of_layout-append nodes_title (flat_map spaced_name nodes ++ line_end) ∙ ap (λ (parts : List Part). Is (Word (codes "BU_")) ∷ Is (Mark 58) ∷ parts)
@@ -300,7 +300,7 @@ nodes_adds d = record {
 
 -- ---- statements that are kept
 
-piece_form : (row : Kept) → form (OfKept row) ≡ flat_map (λ bytes. Is (Piece bytes) ∷ []) row.tokens ++ Is (Mark 59) ∷ []
+pub piece_form : (row : Kept) → form (OfKept row) ≡ flat_map (λ bytes. Is (Piece bytes) ∷ []) row.tokens ++ Is (Mark 59) ∷ []
 unfolding kept_layout piece_layout statement_end items_of
 piece_form row = of_layout-append (flat_map piece_layout row.tokens) statement_end ∙ ap (λ (parts : List Part). parts ++ Is (Mark 59) ∷ []) (of_layout-items piece_layout row.tokens)
 
@@ -308,7 +308,7 @@ kept_sound : Sound kept_at (λ row. form (OfKept row))
 unfolding kept_at
 kept_sound = sound_start (sound_then pieces_sound λ tokens. sound_then (mark_sound 59) λ _. sound_value (piece_form (record { tokens = tokens })))
 
-either_word : (word other : Bool) (P : Type 0) → (word ≡ true → P) → (other ≡ true → P) → (word || other) ≡ true → P
+pub either_word : (word other : Bool) (P : Type 0) → (word ≡ true → P) → (other ≡ true → P) → (word || other) ≡ true → P
 either_word true other P f g e = f refl
 either_word false other P f g e = g e
 
@@ -319,10 +319,10 @@ are_symbols (word ∷ words) bytes all e =
     let both = and_parts (is_symbol word) (list_all is_symbol words) all in
     either_word (bytes_eq bytes word) (list_any (bytes_eq bytes) words) (is_symbol bytes ≡ true) (λ same. ap is_symbol ((bytes_eq-Decides bytes word).0 same) ∙ both.0) (are_symbols words bytes both.1) e
 
-abbrev first_words : List (List ℕ)
+abbrev pub first_words : List (List ℕ)
 first_words = codes "VAL_" ∷ codes "CM_" ∷ codes "BA_" ∷ []
 
-of_four : (kept a b c x y z : Bool) → (kept || ((a && x) || ((b && y) || (c && z)))) ≡ true → (kept || (a || (b || (c || false)))) ≡ true
+pub of_four : (kept a b c x y z : Bool) → (kept || ((a && x) || ((b && y) || (c && z)))) ≡ true → (kept || (a || (b || (c || false)))) ≡ true
 of_four true a b c x y z e = refl
 of_four false true b c x y z e = refl
 of_four false false true c x y z e = refl

@@ -91,7 +91,7 @@ abbrev three_numbers : Option (List Decimal) → Option (Decimal × Decimal × D
 three_numbers (Some (a ∷ b ∷ c ∷ [])) = Some (a, b, c)
 three_numbers timing = None
 
-abbrev numbers_form : Option (Decimal × Decimal × Decimal) → List Part
+abbrev pub numbers_form : Option (Decimal × Decimal × Decimal) → List Part
 numbers_form None = []
 numbers_form (Some numbers) = Unsigned numbers.0 ∷ Is (Mark 58) ∷ Unsigned numbers.1 ∷ Is (Mark 44) ∷ Unsigned numbers.2 ∷ []
 
@@ -100,7 +100,7 @@ unfolding timing_numbers_at
 timing_numbers_sound =
     sound_start (sound_then unsigned_sound λ rate. sound_then (mark_sound 58) λ _. sound_then unsigned_sound λ first. sound_then (mark_sound 44) λ _. sound_then unsigned_sound λ second. sound_value refl)
 
-timing_is : (numbers : Option (Decimal × Decimal × Decimal)) → timing_form numbers ≡ Is (Word (codes "BS_")) ∷ Is (Mark 58) ∷ numbers_form numbers
+pub timing_is : (numbers : Option (Decimal × Decimal × Decimal)) → timing_form numbers ≡ Is (Word (codes "BS_")) ∷ Is (Mark 58) ∷ numbers_form numbers
 unfolding timing_title items_of
 timing_is None = refl
 timing_is (Some numbers) = refl
@@ -123,11 +123,11 @@ timing_kept (Some (a ∷ b ∷ c ∷ d ∷ numbers)) h = let three : length (a �
 -- ---- all statements of a text
 
 -- the database of statements without a bit timing
-gather_untimed : (version : Option (List ℕ)) (xs : List AnyStatement) → flat_map timings_of xs ≡ [] → joined (empty_database (version_text version)) xs ≡ gather version xs
+pub gather_untimed : (version : Option (List ℕ)) (xs : List AnyStatement) → flat_map timings_of xs ≡ [] → joined (empty_database (version_text version)) xs ≡ gather version xs
 gather_untimed version xs none = rw none refl
 
 -- and with one
-gather_timed : (version : Option (List ℕ)) (xs ys : List AnyStatement) (numbers : Option (Decimal × Decimal × Decimal)) (timing : Option (List Decimal))
+pub gather_timed : (version : Option (List ℕ)) (xs ys : List AnyStatement) (numbers : Option (Decimal × Decimal × Decimal)) (timing : Option (List Decimal))
     → flat_map timings_of xs ≡ [] → flat_map timings_of ys ≡ [] → timing_of (numbers ∷ []) ≡ timing
     → joined (record (joined (empty_database (version_text version)) xs) { bit_timing = timing }) ys ≡ gather version (xs ++ Timing numbers ∷ ys)
 gather_timed version xs ys numbers timing before behind is =

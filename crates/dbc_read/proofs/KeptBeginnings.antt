@@ -187,7 +187,7 @@ fourth_true false false true d h = refl
 fourth_true false false false true h = refl
 fourth_true false false false false h = absurd cc
 
-any_of_four : (a b c d p q r s : Bool) → (a ≡ true → p ≡ true) → (b ≡ true → q ≡ true) → (c ≡ true → r ≡ true) → (d ≡ true → s ≡ true) → (a || (b || (c || (d || false)))) ≡ true → (p || (q || (r || (s || false)))) ≡ true
+pub any_of_four : (a b c d p q r s : Bool) → (a ≡ true → p ≡ true) → (b ≡ true → q ≡ true) → (c ≡ true → r ≡ true) → (d ≡ true → s ≡ true) → (a || (b || (c || (d || false)))) ≡ true → (p || (q || (r || (s || false)))) ≡ true
 any_of_four true b c d p q r s f g h k e = rw (f refl) refl
 any_of_four false true c d p q r s f g h k e = or_true p q r _ (g refl)
 any_of_four false false true d p q r s f g h k e = third_true p q r _ (h refl)

@@ -47,3 +47,4 @@ pub mod StatementsAgree
 pub mod Readings
 pub mod TagsAgain
 pub mod MessagesAgain
+pub mod KeptAgain

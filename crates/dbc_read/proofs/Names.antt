@@ -68,7 +68,7 @@ first_letter b bytes e = both (is_letter b) (list_all is_word_byte bytes) e
     both true y e = refl
     both false y e = absurd cc
 
-word_is_no_number : (bytes : List ℕ) → is_word bytes ≡ true → is_number bytes ≡ false
+pub word_is_no_number : (bytes : List ℕ) → is_word bytes ≡ true → is_number bytes ≡ false
 unfolding is_number
 word_is_no_number [] e = absurd cc
 word_is_no_number (b ∷ bytes) e = rw (no_mantissa b bytes (first_letter b bytes e)) refl
