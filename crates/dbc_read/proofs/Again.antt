@@ -137,10 +137,10 @@ allows_both {parts} {May} {One} {Two} h k = record { allows = λ tokens cut spel
 
 -- ---- choice
 
-chosen-first : {A : Type 0} (b : Bool) (x y z : Result (A × Cut) ReadFault) → b ≡ true → x ≡ z → cond b x y ≡ z
+pub chosen-first : {A : Type 0} (b : Bool) (x y z : Result (A × Cut) ReadFault) → b ≡ true → x ≡ z → cond b x y ≡ z
 chosen-first b x y z e same = rw e same
 
-chosen-second : {A : Type 0} (b : Bool) (x y z : Result (A × Cut) ReadFault) → b ≡ false → y ≡ z → cond b x y ≡ z
+pub chosen-second : {A : Type 0} (b : Bool) (x y z : Result (A × Cut) ReadFault) → b ≡ false → y ≡ z → cond b x y ≡ z
 chosen-second b x y z e same = rw e same
 
 pub takes_first : {A : Type 0} {test : Token → Bool} {r : Reader A} {a : A} {parts : List Part} {May : Cut → Type 0} (s : Reader A) → Opens test true parts → Takes r a parts May → Takes (choose test r s) a parts May

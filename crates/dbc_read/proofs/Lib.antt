@@ -48,3 +48,4 @@ pub mod Readings
 pub mod TagsAgain
 pub mod MessagesAgain
 pub mod KeptAgain
+pub mod AddingAgain
