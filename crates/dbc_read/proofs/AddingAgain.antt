@@ -110,13 +110,13 @@ symbols_joined d more = ap (λ (e : Database). record e { symbols = d.symbols ++
 nodes_joined : (d : Database) (more : List (List ℕ)) → record d { nodes = d.nodes ++ more } ≡ joined d (Nodes more ∷ [])
 nodes_joined d more = ap (λ (e : Database). record e { nodes = d.nodes ++ more }) (sym (joined_none d)) ∙ ap (λ (list : List (List ℕ)). record (joined d []) { nodes = d.nodes ++ list }) (sym (append-nil more))
 
-symbols_added : (d : Database) (symbols : List (List ℕ)) → Takes (statement_into d) (joined d (Symbols symbols ∷ [])) (form (Symbols symbols)) (Stops has_symbol)
+pub symbols_added : (d : Database) (symbols : List (List ℕ)) → Takes (statement_into d) (joined d (Symbols symbols ∷ [])) (form (Symbols symbols)) (Stops has_symbol)
 unfolding object_into symbols_into
 symbols_added d symbols =
     takes_as (sym (symbols_are symbols)) (as_object d (codes "NS_") refl (unkept_word (codes "NS_") refl refl refl refl) (takes_first _ (is_word_of (codes "NS_") (codes "NS_") refl)
     (takes_made (symbols_joined d symbols) (takes_next _ (word_takes (codes "NS_")) (takes_next _ (mark_takes 58) (takes_last _ (symbols_take d.symbols symbols) takes_value))))))
 
-nodes_added : (d : Database) (nodes : List (List ℕ)) → Takes (statement_into d) (joined d (Nodes nodes ∷ [])) (form (Nodes nodes)) (Stops has_name)
+pub nodes_added : (d : Database) (nodes : List (List ℕ)) → Takes (statement_into d) (joined d (Nodes nodes ∷ [])) (form (Nodes nodes)) (Stops has_name)
 unfolding object_into nodes_into
 nodes_added d nodes =
     takes_as (sym (nodes_are nodes)) (as_object d (codes "BU_") refl (unkept_word (codes "BU_") refl refl refl refl) (takes_second _ (is_word_of (codes "BU_") (codes "NS_") refl) (takes_first _ (is_word_of (codes "BU_") (codes "BU_") refl)
@@ -124,7 +124,7 @@ nodes_added d nodes =
 
 -- ---- messages
 
-message_added : (d : Database) (message : Message) → nat_lt (length d.messages) 65535 ≡ true → IsMessage message → Takes (statement_into d) (joined d (OfMessage message ∷ [])) (form (OfMessage message)) EndsSignals
+pub message_added : (d : Database) (message : Message) → nat_lt (length d.messages) 65535 ≡ true → IsMessage message → Takes (statement_into d) (joined d (OfMessage message ∷ [])) (form (OfMessage message)) EndsSignals
 unfolding object_into message_into head_layout items_of
 message_added d message room is =
     as_object d (codes "BO_") refl (unkept_word (codes "BO_") refl refl refl refl) (takes_second _ (is_word_of (codes "BO_") (codes "NS_") refl) (takes_second _ (is_word_of (codes "BO_") (codes "BU_") refl)
@@ -132,26 +132,26 @@ message_added d message room is =
 
 -- ---- rows of values
 
-table_added : (d : Database) (row : TableRow) → IsTableRow row → Takes (statement_into d) (joined d (Table row ∷ [])) (form (Table row)) Anything
+pub table_added : (d : Database) (row : TableRow) → IsTableRow row → Takes (statement_into d) (joined d (Table row ∷ [])) (form (Table row)) Anything
 unfolding value_row_into table_into table_layout table_key word_layout items_of
 table_added d row is =
     as_value_row d (codes "VAL_TABLE_") refl refl (unkept_word (codes "VAL_TABLE_") refl refl refl refl) (takes_first _ (is_word_of (codes "VAL_TABLE_") (codes "VAL_TABLE_") refl)
     (put_into (λ row. record d { tables = d.tables ++ row ∷ [] }) (table_takes row is) (ap (λ (e : Database). record e { tables = d.tables ++ row ∷ [] }) (sym (joined_none d)))))
 
-values_added : (d : Database) (row : ValueRow) → IsValueRow row → Takes (statement_into d) (joined d (Values row ∷ [])) (form (Values row)) Anything
+pub values_added : (d : Database) (row : ValueRow) → IsValueRow row → Takes (statement_into d) (joined d (Values row ∷ [])) (form (Values row)) Anything
 unfolding value_row_into values_into values_layout values_key word_layout signal_key items_of
 values_added d row is =
     as_value_row d (codes "VAL_") refl refl unkept_values (takes_second _ (is_word_of (codes "VAL_") (codes "VAL_TABLE_") refl) (takes_first _ (is_word_of (codes "VAL_") (codes "VAL_") refl)
     (put_into (λ row. record d { values = d.values ++ row ∷ [] }) (values_take row is) (ap (λ (e : Database). record e { values = d.values ++ row ∷ [] }) (sym (joined_none d))))))
 
-float_added : (d : Database) (row : FloatRow) → IsFloatRow row → Takes (statement_into d) (joined d (Float row ∷ [])) (form (Float row)) Anything
+pub float_added : (d : Database) (row : FloatRow) → IsFloatRow row → Takes (statement_into d) (joined d (Float row ∷ [])) (form (Float row)) Anything
 unfolding value_row_into float_into float_key word_layout items_of
 float_added d row is =
     as_value_row d (codes "SIG_VALTYPE_") refl refl (unkept_word (codes "SIG_VALTYPE_") refl refl refl refl) (takes_second _ (is_word_of (codes "SIG_VALTYPE_") (codes "VAL_TABLE_") refl)
     (takes_second _ (is_word_of (codes "SIG_VALTYPE_") (codes "VAL_") refl) (takes_first _ (is_word_of (codes "SIG_VALTYPE_") (codes "SIG_VALTYPE_") refl)
     (put_into (λ row. record d { floats = d.floats ++ row ∷ [] }) (float_takes row is) (ap (λ (e : Database). record e { floats = d.floats ++ row ∷ [] }) (sym (joined_none d)))))))
 
-mux_added : (d : Database) (row : MuxRow) → IsMuxRow row → Takes (statement_into d) (joined d (Mux row ∷ [])) (form (Mux row)) Anything
+pub mux_added : (d : Database) (row : MuxRow) → IsMuxRow row → Takes (statement_into d) (joined d (Mux row ∷ [])) (form (Mux row)) Anything
 unfolding value_row_into mux_into mux_layout mux_key word_layout items_of
 mux_added d row is =
     as_value_row d (codes "SG_MUL_VAL_") refl refl (unkept_word (codes "SG_MUL_VAL_") refl refl refl refl) (takes_second _ (is_word_of (codes "SG_MUL_VAL_") (codes "VAL_TABLE_") refl)
@@ -160,27 +160,27 @@ mux_added d row is =
 
 -- ---- comments and attributes
 
-comment_added : (d : Database) (row : Comment) → IsComment row → Takes (statement_into d) (joined d (OfComment row ∷ [])) (form (OfComment row)) Anything
+pub comment_added : (d : Database) (row : Comment) → IsComment row → Takes (statement_into d) (joined d (OfComment row ∷ [])) (form (OfComment row)) Anything
 unfolding attribute_row_into comment_into
 comment_added d row is =
     let apart = comment_form row ∙ append_assoc (Is (Word (codes "CM_")) ∷ of_layout (target_layout row.target)) (Is (Text row.text) ∷ []) (Is (Mark 59) ∷ []) in
     takes_as apart (as_note d (codes "CM_") refl refl (unkept_comment row.target row.text (Is (Mark 59) ∷ [])) (takes_first _ (is_word_of (codes "CM_") (codes "CM_") refl)
     (put_into (λ row. record d { comments = d.comments ++ row ∷ [] }) (takes_as (sym apart) (comment_takes row is)) (ap (λ (e : Database). record e { comments = d.comments ++ row ∷ [] }) (sym (joined_none d))))))
 
-definition_added : (d : Database) (row : AttrDef) → IsAttrDef row → Takes (statement_into d) (joined d (Definition row ∷ [])) (form (Definition row)) Anything
+pub definition_added : (d : Database) (row : AttrDef) → IsAttrDef row → Takes (statement_into d) (joined d (Definition row ∷ [])) (form (Definition row)) Anything
 unfolding attribute_row_into definition_into definition_layout definition_key word_layout items_of
 definition_added d row is =
     as_note d (codes "BA_DEF_") refl refl (unkept_word (codes "BA_DEF_") refl refl refl refl) (takes_second _ (is_word_of (codes "BA_DEF_") (codes "CM_") refl) (takes_first _ (is_word_of (codes "BA_DEF_") (codes "BA_DEF_") refl)
     (put_into (λ row. record d { definitions = d.definitions ++ row ∷ [] }) (definition_takes row is) (ap (λ (e : Database). record e { definitions = d.definitions ++ row ∷ [] }) (sym (joined_none d))))))
 
-default_added : (d : Database) (row : AttrDefault) → Takes (statement_into d) (joined d (Default row ∷ [])) (form (Default row)) Anything
+pub default_added : (d : Database) (row : AttrDefault) → Takes (statement_into d) (joined d (Default row ∷ [])) (form (Default row)) Anything
 unfolding attribute_row_into default_into default_layout default_key word_layout items_of
 default_added d row =
     as_note d (codes "BA_DEF_DEF_") refl refl (unkept_word (codes "BA_DEF_DEF_") refl refl refl refl) (takes_second _ (is_word_of (codes "BA_DEF_DEF_") (codes "CM_") refl)
     (takes_second _ (is_word_of (codes "BA_DEF_DEF_") (codes "BA_DEF_") refl) (takes_first _ (is_word_of (codes "BA_DEF_DEF_") (codes "BA_DEF_DEF_") refl)
     (put_into (λ row. record d { defaults = d.defaults ++ row ∷ [] }) (default_takes row) (ap (λ (e : Database). record e { defaults = d.defaults ++ row ∷ [] }) (sym (joined_none d)))))))
 
-attribute_added : (d : Database) (row : AttrRow) → IsAttrRow row → Takes (statement_into d) (joined d (Attribute row ∷ [])) (form (Attribute row)) Anything
+pub attribute_added : (d : Database) (row : AttrRow) → IsAttrRow row → Takes (statement_into d) (joined d (Attribute row ∷ [])) (form (Attribute row)) Anything
 unfolding attribute_row_into attribute_into
 attribute_added d row is =
     let apart = attribute_form row ∙ append_assoc (Is (Word (codes "BA_")) ∷ Is (Text row.name) ∷ of_layout (target_layout row.target)) (of_layout (value_layout row.value)) (Is (Mark 59) ∷ []) in
@@ -188,7 +188,7 @@ attribute_added d row is =
     (takes_second _ (is_word_of (codes "BA_") (codes "BA_DEF_") refl) (takes_second _ (is_word_of (codes "BA_") (codes "BA_DEF_DEF_") refl)
     (put_into (λ row. record d { attributes = d.attributes ++ row ∷ [] }) (takes_as (sym apart) (attribute_takes row is)) (ap (λ (e : Database). record e { attributes = d.attributes ++ row ∷ [] }) (sym (joined_none d))))))))
 
-kept_added : (d : Database) (row : Kept) → IsKept row → Takes (statement_into d) (joined d (OfKept row ∷ [])) (form (OfKept row)) Anything
+pub kept_added : (d : Database) (row : Kept) → IsKept row → Takes (statement_into d) (joined d (OfKept row ∷ [])) (form (OfKept row)) Anything
 unfolding statement_into kept_into
 kept_added d row is =
     takes_kept d _ (λ tokens cut spelled. begins_as_kept row (Is (Mark 59) ∷ []) tokens cut is.fit (subst (λ (parts : List Part). Spelled parts tokens) (piece_form row) spelled))

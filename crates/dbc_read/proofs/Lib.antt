@@ -49,3 +49,6 @@ pub mod TagsAgain
 pub mod MessagesAgain
 pub mod KeptAgain
 pub mod AddingAgain
+pub mod StatementsFit
+pub mod StatementsAgain
+pub mod DatabasesAgain
