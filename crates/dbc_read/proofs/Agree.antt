@@ -359,3 +359,10 @@ agree_choose {A} {seen} {r} {s} {a} {b} {post} test begins h k = record { follow
           | inl goes ↦ let x = begins.begins t seen goes in rw (choose_go test r s t cut goes, either_first a b q seen t cut x.0 x.1) (h.follows q (t ▸ cut))
           | inr stops ↦ rw (choose_stop test r s t cut stops, either_second a b q seen t cut (begins.stops t seen stops) begins.some) (k.follows q (t ▸ cut))
         ]
+
+-- ---- whole texts
+
+-- what was read has no fault, and what was met is the first
+abbrev pub Judges : {A : Type 0} → Result (A × Cut) ReadFault → Option ReadFault → Type 0
+Judges (Ok x) fault = fault ≡ None
+Judges (Err e) fault = fault ≡ Some e

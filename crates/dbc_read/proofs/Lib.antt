@@ -52,3 +52,5 @@ pub mod AddingAgain
 pub mod StatementsFit
 pub mod StatementsAgain
 pub mod DatabasesAgain
+pub mod AloneAgain
+pub mod Readable

@@ -180,7 +180,7 @@ place_of s = record { start = s.start; length = s.length; intel = s.intel; signe
 colon_stands : {parts : List Part} → Allows (Is (Mark 58) ∷ parts) (Stops begins_receiver) (λ cut. starts (has_mark 58) cut ≡ true)
 colon_stands {parts} = record { allows = λ tokens cut spelled may. (mark_opens_itself 58).opens tokens cut spelled }
 
-signal_takes : (signals : List Signal) (s : Signal) → IsSignal s → nat_lt (length signals) 999 ≡ true → list_any (bytes_eq s.name) (names_of signals) ≡ false → Takes (signal_at signals) s (signal_form s) (Stops begins_receiver)
+pub signal_takes : (signals : List Signal) (s : Signal) → IsSignal s → nat_lt (length signals) 999 ≡ true → list_any (bytes_eq s.name) (names_of signals) ≡ false → Takes (signal_at signals) s (signal_form s) (Stops begins_receiver)
 unfolding signal_at
 signal_takes signals s is room new =
     takes_as (signal_form_is s ∙ seven (Is (Word (codes "SG_")) ∷ Is (Name s.name) ∷ of_layout (tag_layout s.tag)) (Is (Mark 58) ∷ []) (place_form (place_of s)) (pair_form 40 44 41 (s.factor, s.offset))

@@ -10,7 +10,7 @@ use Rattle.dbc_read.specs.Scanner.{cut_of}
 use Rattle.dbc_read.specs.Forms.{◌▸▸◌}
 use Rattle.dbc_read.specs.Pattern.{Pattern, first_fault, nothing_seen}
 use Rattle.dbc_read.specs.Grammar as grammar
-use Rattle.dbc_read.specs.Laws.{Judges}
+use Rattle.dbc_read.proofs.Agree.{Judges}
 use Rattle.dbc_read.specs.Reading.{Fails, fault_of, memory_fault}
 use Rattle.dbc_read.specs.ReadingDatabases.{database_at, statement_at}
 use Rattle.dbc_read.specs.Texts.{HasDatabase, HasStatement, HasFirstFault}

@@ -8,7 +8,7 @@ use Rattle.dbc_read.specs.Pattern.{is_of_class, BeginsMessage, Seen, Done, first
 use Rattle.dbc_read.specs.Grammar as grammar
 use Rattle.dbc_read.specs.ReadingTables.{values_at}
 use Rattle.dbc_read.specs.ReadingDatabases.{message_attribute_at, one_of_six_at, statement_at}
-use Rattle.dbc_read.specs.Laws.{Judges}
+use Rattle.dbc_read.proofs.Agree.{Judges}
 use Rattle.dbc_read.proofs.Agree.{Agrees, Same, Any, Begins, agree_bind, agree_then, agree_value, agree_choose, begins_one}
 use Rattle.dbc_read.proofs.KindsAgree.{begins_word, word_agrees, mark_agrees, name_agrees, text_agrees, id_agrees, entries_agree}
 use Rattle.dbc_read.proofs.RowsAgree.{table_agrees, mux_agrees, message_target_agrees, given_agrees}

@@ -14,7 +14,7 @@ use Rattle.dbc_read.specs.ReadingMessages.{begin_message_at, head_at, signals_fr
 use Rattle.dbc_read.specs.ReadingTables.{table_at, values_at, colon_at, float_at, range_at, ranges_from, ranges_at, mux_at}
 use Rattle.dbc_read.specs.ReadingAttributes.{node_target_at, message_target_at, signal_target_at, target_at, comment_at, object_at, limits_at, string_form_at, enumeration_at, form_at, definition_at, value_at, default_at, attribute_at}
 use Rattle.dbc_read.specs.ReadingDatabases.{symbols_into, nodes_into, begins_kept, kept_at, kept_into, message_into, table_into, values_into, float_into, mux_into, comment_into, definition_into, default_into, attribute_into, object_into, value_row_into, attribute_row_into, has_object_word, has_value_word, has_attribute_word, begins_statement, statement_into, statements_into, version_at, timing_numbers_at, timing_at, timed_into, empty_database, database_at}
-use Rattle.dbc_read.specs.Laws.{Judges}
+use Rattle.dbc_read.proofs.Agree.{Judges}
 use Rattle.dbc_read.proofs.Shrinking.{Shrinks, Keeps, one_shrinks, value_keeps, bind_shrinks, bind_keeps, bind_later, choose_shrinks, choose_keeps, repeated_keeps, keep}
 use Rattle.dbc_read.proofs.Agree.{Agrees, Same, Follows, Begins, agree_then, agree_value, agree_choose, agree_repeated, begins_one, begins_either, begins_as}
 use Rattle.dbc_read.proofs.KindsAgree.{begins_word, begins_number, plain_class, word_agrees, mark_agrees, text_agrees, number_agrees, word_shrinks, mark_shrinks, name_shrinks, symbol_shrinks, piece_shrinks, text_shrinks, whole_shrinks, decimal_shrinks, int_shrinks}

@@ -1,16 +1,29 @@
--- What is proved of reading.
-use Rattle.std.specs.Prelude.{◌≡◌, Option, Some, None, Result, Ok, Err}
+-- What is proved of texts: they spell a database exactly where they have no fault, and then one alone.
+use Rattle.std.specs.Prelude.{◌≡◌, ◌↔◌, ℕ, List, Option, Some, None, Result, Ok, Err}
 use Rattle.dbc_model.specs.Databases.{Database}
 use Rattle.dbc_read.specs.declared.fault.ReadFault.{ReadFault}
-use Rattle.dbc_read.specs.Tokens.{Cut}
+use Rattle.dbc_read.specs.declared.statement.Statement.{Statement}
+use Rattle.dbc_read.specs.Tokens.{Token, Cut, End}
+use Rattle.dbc_read.specs.Forms.{◌▸▸◌}
+use Rattle.dbc_read.specs.Spelling.{Spells, SpellsStatement}
 use Rattle.dbc_read.specs.Pattern.{first_fault, nothing_seen}
 use Rattle.dbc_read.specs.Grammar as grammar
-use Rattle.dbc_read.specs.ReadingDatabases.{database_at}
 
--- what was read has no fault, and what was met is the first
-abbrev pub Judges : {A : Type 0} → Result (A × Cut) ReadFault → Option ReadFault → Type 0
-Judges (Ok x) fault = fault ≡ None
-Judges (Err e) fault = fault ≡ Some e
+-- the tokens run to the end of the text, and spell a database
+abbrev pub SpellDatabase : Cut → Type 0
+SpellDatabase cut = (tokens : List Token) × (line : ℕ) × (database : Database) × (cut ≡ (tokens ▸▸ End line)) × Spells tokens database
 
-abbrev pub MeetsFirstFault : Type 0
-MeetsFirstFault = (cut : Cut) → Judges (database_at cut) (first_fault grammar.text nothing_seen cut)
+abbrev pub SpellStatement : Cut → Type 0
+SpellStatement cut = (tokens : List Token) × (line : ℕ) × (statement : Statement) × (cut ≡ (tokens ▸▸ End line)) × SpellsStatement tokens statement
+
+abbrev pub FaultOrDatabase : Type 0
+FaultOrDatabase = (cut : Cut) → (first_fault grammar.text nothing_seen cut ≡ None) ↔ SpellDatabase cut
+
+abbrev pub FaultOrStatement : Type 0
+FaultOrStatement = (cut : Cut) → (first_fault grammar.one_statement nothing_seen cut ≡ None) ↔ SpellStatement cut
+
+abbrev pub OneDatabase : Type 0
+OneDatabase = (tokens : List Token) (a b : Database) → Spells tokens a → Spells tokens b → a ≡ b
+
+abbrev pub OneStatement : Type 0
+OneStatement = (tokens : List Token) (a b : Statement) → SpellsStatement tokens a → SpellsStatement tokens b → a ≡ b

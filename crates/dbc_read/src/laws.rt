@@ -2,14 +2,29 @@
 ghost use Rattle.std.specs.Prelude.{◌≡◌, ◌↔◌, ℕ, List};
 ghost use Rattle.dbc_read.specs.Tokens.{Cut, HasTokens};
 ghost use Rattle.dbc_read.specs.Scanner.{cut_of};
-ghost use Rattle.dbc_read.specs.Laws.{MeetsFirstFault};
+ghost use Rattle.dbc_read.specs.Laws.{FaultOrDatabase, FaultOrStatement, OneDatabase, OneStatement};
 
 /// A text has exactly one list of tokens with its end or fault, and it is the one that the scanner finds.
 pub fn one_cut()
     ensures { (line : ℕ) (text : List ℕ) (cut : Cut) → HasTokens line text cut ↔ (cut ≡ cut_of line text) }
 {}
 
-/// Reading a text from left to right ends with its first fault, or it has none.
-pub fn first_fault_is_met()
-    ensures { MeetsFirstFault }
+/// Tokens have no first fault exactly where they spell a database.
+pub fn fault_or_database()
+    ensures { FaultOrDatabase }
+{}
+
+/// Tokens spell one database at most.
+pub fn one_database()
+    ensures { OneDatabase }
+{}
+
+/// Tokens have no first fault as one statement exactly where they spell one that may stand alone.
+pub fn fault_or_statement()
+    ensures { FaultOrStatement }
+{}
+
+/// Tokens spell one statement at most.
+pub fn one_statement()
+    ensures { OneStatement }
 {}
