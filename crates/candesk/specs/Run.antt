@@ -1,14 +1,18 @@
--- What a run of `decode` has read and written when it ends.
+-- What a run of `decode` has read and written when it ends, and what the status of a run of any command says.
 use Rattle.std.specs.Prelude.{◌≡◌, ℕ, List, Result, Ok, Err}
 use Rattle.dbc_model.specs.Device.{Unread, Written}
 use Rattle.dbc_read.specs.declared.fault.ReadFault.{ReadFault}
 use Rattle.dbc_read.specs.declared.fault.Cause.TheVariants as causes
 use Rattle.candesk.specs.declared.fault.RunFault.{RunFault}
 use Rattle.candesk.specs.declared.fault.RunFault.TheVariants as faults
+use Rattle.candesk.specs.declared.job.Command.{Command}
+use Rattle.candesk.specs.declared.job.Command.TheVariants as commands
+use Rattle.candesk.specs.declared.fault.PrintFault.{PrintFault}
 use Rattle.candesk.specs.Small.{Message}
 use Rattle.candesk.specs.declared.fault.StreamFault.TheVariants as streams
 use Rattle.candesk.specs.SmallForms.{IsSmall}
 use Rattle.candesk.specs.Stream.{Streams}
+use Rattle.candesk.specs.Printing.{PrintsText, print_status_of}
 
 -- nothing was read and nothing was written
 pub record IsUntouched (before after : Unread) (old new : Written) : Type 0 where
@@ -39,5 +43,16 @@ status_of (Err (faults.Stream streams.Write)) = 3
 status_of (Err (faults.Stream streams.Memory)) = 4
 
 -- the status is that of an outcome with which the log was so decoded
-abbrev pub EndsWith : List ℕ → Unread → Unread → Written → Written → ℕ → Type 0
-EndsWith text before after old new status = (outcome : Result ℕ RunFault) × Runs text before after old new outcome × (status ≡ status_of outcome)
+abbrev pub DecodingEndsWith : List ℕ → Unread → Unread → Written → Written → ℕ → Type 0
+DecodingEndsWith text before after old new status =
+    (outcome : Result ℕ RunFault) × Runs text before after old new outcome × (status ≡ status_of outcome)
+
+-- the status is that of an outcome with which the text was so printed
+abbrev pub PrintingEndsWith : List ℕ → Written → Written → ℕ → Type 0
+PrintingEndsWith text old new status =
+    (outcome : Result (Unit {0}) PrintFault) × PrintsText text old new outcome × (status ≡ print_status_of outcome)
+
+-- the command ended so; `print` reads nothing from the source
+abbrev pub EndsWith : Command → List ℕ → Unread → Unread → Written → Written → ℕ → Type 0
+EndsWith commands.Decode text before after old new status = DecodingEndsWith text before after old new status
+EndsWith commands.Print text before after old new status = (after ≡ before) × PrintingEndsWith text old new status
