@@ -1,6 +1,6 @@
 -- The readers of statements agree with the pattern of all statements.
-use Rattle.std.proofs.Common.{◌≡◌, ℕ, suc, ◌+◌, ◌^◌, ◌-◌, Bool, true, false, cond, ◌||◌, ◌&&◌, List, [], ◌∷◌, ◌++◌, length, length-append, Option, Some, None, Result, Ok, Err, refl, sym, ap, subst, ◌∙◌, arith, inl, inr}
-use Rattle.std.specs.Prelude.{codes, nat_le, not, ◌⊎◌}
+use Rattle.std.proofs.Common.{◌≡◌, ℕ, ◌+◌, ◌^◌, ◌-◌, Bool, true, false, cond, ◌||◌, List, [], ◌∷◌, length, length-append, Some, None, Ok, Err, refl, sym, ap, subst, ◌∙◌, inl, inr}
+use Rattle.std.specs.Prelude.{codes, nat_le, ◌⊎◌}
 use Rattle.std.specs.List.{list_any}
 use Rattle.std.specs.Str.{bytes_eq}
 use Rattle.std.proofs.lemmas.Bool.{cases_Bool}
@@ -9,17 +9,16 @@ use Rattle.dbc_model.specs.Databases.{Database}
 use Rattle.dbc_model.specs.Lexical.{is_name, is_keyword, kept_words}
 use Rattle.dbc_model.specs.Kept.{kept_fits, is_piece, is_string}
 use Rattle.dbc_read.specs.declared.fault.Cause.TheVariants as causes
-use Rattle.dbc_read.specs.declared.fault.ReadFault.{ReadFault}
 use Rattle.dbc_read.specs.declared.token.Kind.{Kind}
 use Rattle.dbc_read.specs.Tokens.{Token, Cut, End, Fault, ◌▸◌}
-use Rattle.dbc_read.specs.Classes.{has_word, has_mark, has_name, has_string, has_piece, has_kept_word, has_number, has_whole}
-use Rattle.dbc_read.specs.Pattern.{Class, Word, Mark, Name, String, Whole, Number, Piece, KeptWord, BeginsMessage, Seen, is_of_class, plain, verdict, Pattern, Done, ◌⇒◌, Either, Repeat, ◌then◌, may_end, Left, first_of, left_then, after, fault_in, ruled, judged, first_fault}
+use Rattle.dbc_read.specs.Classes.{has_word, has_name, has_string, has_piece, has_kept_word}
+use Rattle.dbc_read.specs.Pattern.{Class, Word, Name, String, Whole, BeginsMessage, Seen, is_of_class, plain, verdict, Pattern, Done, ◌⇒◌, Either, ◌then◌, may_end, first_of, left_then, after, fault_in, ruled, judged, first_fault}
 use Rattle.dbc_read.specs.Grammar as grammar
-use Rattle.dbc_read.specs.Reading.{Reader, ◌>>=◌, value, starts, choose, choose_by}
+use Rattle.dbc_read.specs.Reading.{starts}
 use Rattle.dbc_read.specs.ReadingDatabases.{symbols_into, nodes_into, begins_kept, kept_at, kept_into, message_into, table_into, values_into, float_into, mux_into, comment_into, definition_into, default_into, attribute_into, object_into, value_row_into, attribute_row_into, object_words, value_words, attribute_words, has_object_word, has_value_word, has_attribute_word, begins_statement, statement_into}
 use Rattle.dbc_read.specs.ReadingTables.{values_at}
 use Rattle.dbc_read.specs.ReadingAttributes.{comment_at, attribute_at}
-use Rattle.dbc_read.proofs.Agree.{Agrees, Same, Follows, Begins, agree_bind, agree_then, agree_value, begins_one, begins_either, either_first, either_second, either_end, either_fault, after_then}
+use Rattle.dbc_read.proofs.Agree.{Agrees, Follows, Begins, agree_bind, agree_then, agree_value, begins_one, begins_either, either_first, either_second, either_end, either_fault, after_then}
 use Rattle.dbc_read.proofs.KindsAgree.{begins_word, begins_whole, word_agrees, mark_agrees, name_agrees, text_agrees, id_agrees, symbols_agree, names_agree, pieces_agree, entries_agree}
 use Rattle.dbc_read.proofs.Names.{name_is_no_number, name_is_piece, string_is_piece}
 use Rattle.dbc_read.proofs.RowsAgree.{table_agrees, float_agrees, mux_agrees, target_agrees, definition_agrees, default_agrees, given_agrees}
@@ -86,19 +85,19 @@ values_more : (d : Database) (seen : Seen) → Counted d seen → Agrees seen (v
 unfolding values_into values_at
 values_more d seen has =
     agree_then (agree_then (word_agrees seen (codes "VAL_")) λ _. agree_then (id_agrees seen) λ number. agree_then (name_agrees seen) λ signal. agree_then (entries_agree seen []) λ entries.
-      agree_then (mark_agrees seen 59) λ _. agree_value refl) λ row. agree_value (record { count = has.count })
+    agree_then (mark_agrees seen 59) λ _. agree_value refl) λ row. agree_value (record { count = has.count })
 
 comment_more : (d : Database) (seen : Seen) → Counted d seen → Agrees seen (comment_into d) plain_comment Counted
 unfolding comment_into comment_at
 comment_more d seen has =
     agree_then (agree_then (word_agrees seen (codes "CM_")) λ _. agree_then (target_agrees seen) λ target. agree_then (text_agrees seen) λ text.
-      agree_then (mark_agrees seen 59) λ _. agree_value refl) λ row. agree_value (record { count = has.count })
+    agree_then (mark_agrees seen 59) λ _. agree_value refl) λ row. agree_value (record { count = has.count })
 
 attribute_more : (d : Database) (seen : Seen) → Counted d seen → Agrees seen (attribute_into d) plain_attribute Counted
 unfolding attribute_into attribute_at
 attribute_more d seen has =
     agree_then (agree_then (word_agrees seen (codes "BA_")) λ _. agree_then (text_agrees seen) λ name. agree_then (target_agrees seen) λ target. agree_then (given_agrees seen) λ given.
-      agree_then (mark_agrees seen 59) λ _. agree_value refl) λ row. agree_value (record { count = has.count })
+    agree_then (mark_agrees seen 59) λ _. agree_value refl) λ row. agree_value (record { count = has.count })
 
 -- ---- by the first word
 
@@ -367,7 +366,7 @@ attribute_no_name kind line seen q t rest e = no_string (Either ev_kept behind_n
 
 attribute_first_kept : (kind : Kind) (line : ℕ) (seen : Seen) (q : Pattern) (t : Token) (kind3 : Kind) (line3 : ℕ) (cut : Cut) → has_string t ≡ true
     → first_fault (grammar.statement then q) seen (token_of_word kind line (codes "BA_") ▸ (t ▸ (token_of_word kind3 line3 (codes "EV_") ▸ cut)))
-      ≡ first_fault (grammar.kept_rest then q) seen (token_of_word kind line (codes "BA_") ▸ (t ▸ (token_of_word kind3 line3 (codes "EV_") ▸ cut)))
+    ≡ first_fault (grammar.kept_rest then q) seen (token_of_word kind line (codes "BA_") ▸ (t ▸ (token_of_word kind3 line3 (codes "EV_") ▸ cut)))
 unfolding statement_into object_into value_row_into attribute_row_into begins_kept kept_fits has_object_word has_value_word has_attribute_word has_word has_kept_word has_name has_piece is_piece is_string is_name is_keyword starts first_fault
 attribute_first_kept kind line seen q t kind3 line3 cut e =
     plain_token String (Either ev_kept behind_name q) seen t (token_of_word kind3 line3 (codes "EV_") ▸ cut) (rw e refl)
@@ -392,11 +391,13 @@ attribute_named kind line d seen has q t e (t3 ▸ cut) =
           subst (λ bytes. Follows Counted (statement_into d (first ▸ (t ▸ (token_of_word t3.kind t3.line bytes ▸ cut)))) (first_fault q) (first_fault (grammar.statement then q) seen (first ▸ (t ▸ (token_of_word t3.kind t3.line bytes ▸ cut)))))
           ((bytes_eq-Decides (codes "EV_") t3.bytes).0 same)
           (rw (attribute_kept kind line d seen has q t e t3.kind t3.line cut, attribute_first_kept kind line seen q t t3.kind t3.line cut e)
-            ((kept_more d seen has).follows q (first ▸ (t ▸ (token_of_word t3.kind t3.line (codes "EV_") ▸ cut)))))
+          ((kept_more d seen has).follows q (first ▸ (t ▸ (token_of_word t3.kind t3.line (codes "EV_") ▸ cut)))))
       | inr differ ↦
           (let here : has_word (codes "EV_") t3 ≡ false = other_word t3 differ in
-          rw (attribute_short kind line d t (t3 ▸ cut) e (only t3 cut differ),
-            attribute_first kind line seen q t (t3 ▸ cut) e (either_second ev_kept behind_name q seen t3 cut (no_token (Word (codes "EV_")) grammar.kept_rest seen t3 (rw here refl)) refl))
+          rw (
+            attribute_short kind line d t (t3 ▸ cut) e (only t3 cut differ),
+            attribute_first kind line seen q t (t3 ▸ cut) e (either_second ev_kept behind_name q seen t3 cut (no_token (Word (codes "EV_")) grammar.kept_rest seen t3 (rw here refl)) refl),
+          )
           ((attribute_more d seen has).follows q (first ▸ (t ▸ (t3 ▸ cut)))))
     ]
   where

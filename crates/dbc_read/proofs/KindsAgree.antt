@@ -1,17 +1,15 @@
 -- Each part's reader agrees with its pattern.
-use Rattle.std.proofs.Common.{◌≡◌, ℕ, ◌^◌, ◌-◌, Bool, true, false, cond, ◌||◌, List, [], ◌∷◌, ◌++◌, length, Option, Some, None, Result, Ok, Err, refl, sym, ap, subst, ◌∙◌}
-use Rattle.std.specs.Prelude.{codes, nat_le}
+use Rattle.std.proofs.Common.{◌≡◌, ℕ, ◌^◌, ◌-◌, Bool, true, false, cond, List, [], ◌∷◌, Option, Some, None, Result, Ok, Err, refl}
 use Rattle.dbc_model.specs.Numbers.{whole_of_number}
-use Rattle.dbc_model.specs.Decimals.{Decimal, decimal_of_number}
+use Rattle.dbc_model.specs.Decimals.{decimal_of_number}
 use Rattle.dbc_model.specs.declared.number.Whole.{Whole}
 use Rattle.dbc_model.specs.declared.number.Whole.TheVariants.{Fraction, TooLarge, Value}
 use Rattle.dbc_read.specs.declared.fault.Cause.{Cause}
 use Rattle.dbc_read.specs.declared.fault.Cause.TheVariants as causes
 use Rattle.dbc_read.specs.Tokens.{Token}
-use Rattle.dbc_read.specs.Classes.{has_word, has_mark, has_name, has_symbol, has_string, has_piece, has_whole, has_number, is_there, is_whole_number, where_true, where_within, bounded, there, text_of, whole_of, number_of, order_of, tag_of}
-use Rattle.dbc_read.specs.Pattern.{Class, Word, Mark, Name, Symbol, String, Whole as WholeNumber, Number, Order, Tag, Piece, Seen, plain, judged_so, is_of_class, has, verdict, Pattern, Done, ◌⇒◌, Either, Repeat, ◌then◌}
+use Rattle.dbc_read.specs.Classes.{has_word, has_mark, has_name, has_symbol, has_string, has_piece, has_whole, has_number, is_there, is_whole_number, where_true, bounded, there, text_of, whole_of, number_of, order_of, tag_of}
+use Rattle.dbc_read.specs.Pattern.{Word, Mark, Name, Symbol, String, Whole as WholeNumber, Number, Order, Tag, Piece, Seen, plain, judged_so, is_of_class, has, Pattern, Done, ◌⇒◌, Either, Repeat, ◌then◌}
 use Rattle.dbc_read.specs.Grammar as grammar
-use Rattle.dbc_read.specs.Reading.{Reader, value}
 use Rattle.dbc_read.specs.ReadingParts.{word_at, mark_at, name_at, symbol_at, text_at, piece_at, whole_at, id_at, number_at, order_at, tag_token_at, decimal_at, begins_decimal, int_at, begins_int, pair_at, names_from, symbols_from, pieces_from, comma_at, begins_receiver, receivers_from, receivers_at, texts_from, entry_at, entries_from}
 use Rattle.dbc_read.proofs.Shrinking.{Shrinks, Keeps, one_shrinks, value_keeps, bind_shrinks, bind_keeps, bind_later, choose_shrinks, choose_keeps, repeated_keeps, keep}
 use Rattle.dbc_read.proofs.Agree.{Agrees, Same, Rules, Begins, agree_then, agree_value, agree_one, agree_choose, agree_same, begins_one, begins_either, begins_perhaps, begins_then, begins_as}

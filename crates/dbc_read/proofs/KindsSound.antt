@@ -1,12 +1,12 @@
 -- What each part's reader reads is spelled by the part's form.
-use Rattle.std.proofs.Common.{◌≡◌, ℕ, ℤ, pos, neg_ℤ, ◌<◌, ◌^◌, ◌-◌, Bool, true, false, cond, ◌&&◌, ◌||◌, List, [], ◌∷◌, ◌++◌, Option, Some, None, Result, Ok, Err, refl, sym, ap, subst, ◌∙◌, inl, inr}
-use Rattle.std.specs.Prelude.{codes, nat_le, IsTrue}
+use Rattle.std.proofs.Common.{◌≡◌, ℕ, pos, neg_ℤ, ◌^◌, ◌-◌, Bool, true, false, cond, ◌&&◌, List, [], ◌∷◌, ◌++◌, Option, Some, None, Ok, Err, refl, sym, ap, subst, ◌∙◌, inl, inr}
+use Rattle.std.specs.Prelude.{nat_le, IsTrue}
 use Rattle.std.specs.List.{flat_map}
 use Rattle.std.specs.Str.{bytes_eq}
 use Rattle.std.proofs.lemmas.Slice.Eq.{bytes_eq-Decides}
-use Rattle.std.proofs.lemmas.Bool.{cases_Bool, and_parts}
+use Rattle.std.proofs.lemmas.Bool.{and_parts}
 use Rattle.dbc_model.specs.Lexical.{quoted, is_text, is_name, is_number}
-use Rattle.dbc_model.specs.Numbers.{mantissa_of, exponent_of, IsWholeNumber, whole_value, whole_of_number}
+use Rattle.dbc_model.specs.Numbers.{mantissa_of, exponent_of, whole_value, whole_of_number}
 use Rattle.dbc_model.specs.Decimals.{Decimal, decimal_of, decimal_of_number, SpellsDecimal}
 use Rattle.dbc_model.specs.Records.{is_symbol}
 use Rattle.dbc_model.specs.Kept.{is_piece, is_string, inside}
@@ -15,14 +15,12 @@ use Rattle.dbc_model.specs.declared.number.Whole.{Whole as WholeNumber}
 use Rattle.dbc_model.specs.declared.number.Whole.TheVariants.{Fraction, TooLarge, Value}
 use Rattle.dbc_model.proofs.NormalForms.{decimal_to}
 use Rattle.dbc_model.proofs.WholeNumbers.{whole_to}
-use Rattle.dbc_read.specs.declared.fault.Cause.{Cause}
 use Rattle.dbc_read.specs.declared.fault.Cause.TheVariants as causes
 use Rattle.dbc_read.specs.Tokens.{Token}
-use Rattle.dbc_read.specs.Classes.{has_word, has_mark, where_true, where_within, bounded, there, text_of, whole_of, number_of}
-use Rattle.dbc_read.specs.Forms.{Part, Is, Unsigned, IsOne, IsSign, Says, SaysPart, SpellsNumber, Spelled, signed}
-use Rattle.dbc_read.specs.Reading.{Reader, ◌>>=◌, value}
+use Rattle.dbc_read.specs.Classes.{has_word, has_mark, where_true, bounded, there, text_of, whole_of, number_of}
+use Rattle.dbc_read.specs.Forms.{Is, Unsigned, IsOne, IsSign, Says, SpellsNumber, signed}
 use Rattle.dbc_read.specs.ReadingParts.{word_at, mark_at, name_at, symbol_at, text_at, piece_at, whole_at, id_at, number_at, decimal_at, int_at, names_from, symbols_from, pieces_from}
-use Rattle.dbc_read.proofs.Sound.{Sound, Grows, Reads, reads_one, reads_behind, reads_as, reads_value, sound_reads, sound_choose, sound_one, grows_by_one, grows_repeated, sound_list}
+use Rattle.dbc_read.proofs.Sound.{Sound, Reads, reads_one, reads_behind, reads_as, reads_value, sound_reads, sound_choose, sound_one, grows_by_one, grows_repeated, sound_list}
 
 -- ---- one token
 
@@ -147,11 +145,11 @@ pub int_sound : Sound int_at (λ z. Is (Int z) ∷ [])
 unfolding int_at
 int_sound =
     sound_choose (has_mark 45) (sound_reads (λ z. Is (Int z)) (reads_as (reads_behind (λ _ z. Says (Int z)) minus_is (reads_value (λ n. neg_ℤ (pos n)) (whole_is 0 (2 ^ 63)))
-      (λ _ z tokens u v parts sign number. subst (λ z. Says (Int z) tokens) (sym number.1) (signed_whole true number.0 tokens u v parts sign number.2))) (λ z tokens y. y.1)))
+    (λ _ z tokens u v parts sign number. subst (λ z. Says (Int z) tokens) (sym number.1) (signed_whole true number.0 tokens u v parts sign number.2))) (λ z tokens y. y.1)))
     (sound_choose (has_mark 43) (sound_reads (λ z. Is (Int z)) (reads_as (reads_behind (λ _ z. Says (Int z)) plus_is (reads_value (λ n. pos n) (whole_is 0 (2 ^ 64 - 1)))
-      (λ _ z tokens u v parts sign number. subst (λ z. Says (Int z) tokens) (sym number.1) (signed_whole false number.0 tokens u v parts sign number.2))) (λ z tokens y. y.1)))
+    (λ _ z tokens u v parts sign number. subst (λ z. Says (Int z) tokens) (sym number.1) (signed_whole false number.0 tokens u v parts sign number.2))) (λ z tokens y. y.1)))
     (sound_reads (λ z. Is (Int z)) (reads_as (reads_value (λ n. pos n) (whole_is 0 (2 ^ 64 - 1)))
-      (λ z tokens number. subst (λ z. Says (Int z) tokens) (sym number.1) (signed_whole false number.0 tokens [] tokens refl (inl refl) number.2)))))
+    (λ z tokens number. subst (λ z. Says (Int z) tokens) (sym number.1) (signed_whole false number.0 tokens [] tokens refl (inl refl) number.2)))))
 
 -- ---- lists
 

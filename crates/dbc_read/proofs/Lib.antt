@@ -39,3 +39,9 @@ pub mod KindsProper
 pub mod MessagesProper
 pub mod RowsProper
 pub mod DatabasesProper
+pub mod NotesAgain
+pub mod AddingSound
+pub mod DatabasesSound
+pub mod StatementsSound
+pub mod StatementsAgree
+pub mod Readings

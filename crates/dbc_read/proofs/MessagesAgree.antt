@@ -1,5 +1,5 @@
 -- The readers of messages and signals agree with their patterns.
-use Rattle.std.proofs.Common.{◌≡◌, ℕ, suc, ◌+◌, ◌<◌, ◌≤◌, Bool, true, false, cond, List, [], ◌∷◌, ◌++◌, length, map, Result, Ok, Err, refl, sym, ap, subst, ◌∙◌, arith}
+use Rattle.std.proofs.Common.{◌≡◌, ℕ, suc, ◌+◌, Bool, true, false, cond, List, [], ◌∷◌, ◌++◌, length, Ok, Err, refl, sym, ap, subst, ◌∙◌, arith}
 use Rattle.std.specs.Prelude.{codes, nat_le, nat_lt, not}
 use Rattle.std.specs.List.{list_any}
 use Rattle.std.specs.Str.{bytes_eq}
@@ -7,15 +7,13 @@ use Rattle.std.proofs.lemmas.Bool.Decides.{leb_tells}
 use Rattle.std.proofs.lemmas.List.{length-map, map-append}
 use Rattle.dbc_model.specs.Lexical.{is_name}
 use Rattle.dbc_model.specs.Records.{Signal, Message, names_of}
-use Rattle.dbc_model.specs.declared.tag.Tag.{Tag}
 use Rattle.dbc_model.specs.declared.tag.Tag.TheVariants as tags
-use Rattle.dbc_read.specs.declared.fault.Cause.{Cause}
 use Rattle.dbc_read.specs.declared.fault.Cause.TheVariants as causes
-use Rattle.dbc_read.specs.Tokens.{Token, Cut, ◌▸◌}
+use Rattle.dbc_read.specs.Tokens.{◌▸◌}
 use Rattle.dbc_read.specs.Classes.{has_word, has_mark, has_name}
-use Rattle.dbc_read.specs.Pattern.{is_of_class, Mark, String, Whole, Order, Tag as TagClass, BeginsMessage, BeginsSignal, SignalName, Seen, one_message_more, one_signal_more, one_name_more, Pattern, Done, ◌⇒◌, Either, Repeat, ◌then◌}
+use Rattle.dbc_read.specs.Pattern.{is_of_class, Mark, Whole, Order, BeginsMessage, BeginsSignal, SignalName, Seen, one_name_more, Done, ◌⇒◌, Either, Repeat}
 use Rattle.dbc_read.specs.Grammar as grammar
-use Rattle.dbc_read.specs.Reading.{◌>>=◌, value}
+use Rattle.dbc_read.specs.Reading.{value}
 use Rattle.dbc_read.specs.ReadingParts.{tag_token_at, order_at, pair_at}
 use Rattle.dbc_read.specs.ReadingMessages.{begun, begin_message_at, head_at, begin_signal_at, fresh, signal_name_at, tag_at, sign_at, place_at, signal_at, signals_from, message_at}
 use Rattle.dbc_read.proofs.Shrinking.{Shrinks, Keeps, one_shrinks, value_keeps, bind_shrinks, bind_keeps, choose_keeps, keep}
@@ -47,16 +45,16 @@ unfolding begin_message_at
 begin_message_agrees seen count is =
     agree_one (λ u s. Began seen s) seen BeginsMessage _
     (λ t. subst (λ full. Rules (λ u s. Began seen s) (begun (has_word (codes "BO_") t) (nat_lt count 65535) causes.MessagesFull)
-      (cond (has_word (codes "BO_") t) (cond full (Err causes.MessagesFull) (Ok (record { messages = seen.messages + 1; signals = [] }))) (Err causes.Statement)))
-      (sym (ap (λ n. nat_le 65535 n) is ∙ full_or_fits count 65535)) (begun_message (has_word (codes "BO_") t) (nat_lt count 65535) seen))
+    (cond (has_word (codes "BO_") t) (cond full (Err causes.MessagesFull) (Ok (record { messages = seen.messages + 1; signals = [] }))) (Err causes.Statement)))
+    (sym (ap (λ n. nat_le 65535 n) is ∙ full_or_fits count 65535)) (begun_message (has_word (codes "BO_") t) (nat_lt count 65535) seen))
 
 begin_signal_agrees : (seen : Seen) (count : ℕ) → length seen.signals ≡ count → Agrees seen (begin_signal_at count) (BeginsSignal ⇒ Done) (Same seen)
 unfolding begin_signal_at
 begin_signal_agrees seen count is =
     agree_one (Same seen) seen BeginsSignal _
     (λ t. subst (λ full. Rules (Same seen) (begun (has_word (codes "SG_") t) (nat_lt count 999) causes.SignalsFull)
-      (cond (has_word (codes "SG_") t) (cond full (Err causes.SignalsFull) (Ok seen)) (Err causes.Statement)))
-      (sym (ap (λ n. nat_le 999 n) is ∙ full_or_fits count 999)) (begun_signal (has_word (codes "SG_") t) (nat_lt count 999) seen))
+    (cond (has_word (codes "SG_") t) (cond full (Err causes.SignalsFull) (Ok seen)) (Err causes.Statement)))
+    (sym (ap (λ n. nat_le 999 n) is ∙ full_or_fits count 999)) (begun_signal (has_word (codes "SG_") t) (nat_lt count 999) seen))
 
 -- one name more
 pub record Named (seen : Seen) (name : List ℕ) (s : Seen) : Type 0 where
@@ -65,7 +63,7 @@ pub record Named (seen : Seen) (name : List ℕ) (s : Seen) : Type 0 where
 
 fresh_name : (word repeated : Bool) (name : List ℕ) (seen : Seen)
     → Rules (Named seen) (cond word (cond repeated (Err causes.RepeatedSignal) (Ok name)) (Err causes.Statement))
-      (cond word (cond repeated (Err causes.RepeatedSignal) (Ok (record seen { signals = seen.signals ++ name ∷ [] }))) (Err causes.Statement))
+    (cond word (cond repeated (Err causes.RepeatedSignal) (Ok (record seen { signals = seen.signals ++ name ∷ [] }))) (Err causes.Statement))
 fresh_name true true name seen = refl
 fresh_name true false name seen = record { messages = refl; signals = refl }
 fresh_name false repeated name seen = refl
@@ -75,7 +73,7 @@ unfolding signal_name_at has_name
 signal_name_agrees seen names is =
     agree_one (Named seen) seen SignalName _
     (λ t. subst (λ mine. Rules (Named seen) (fresh mine t.bytes) (cond (is_name t.bytes) (one_name_more t.bytes seen) (Err causes.Statement))) is
-      (fresh_name (is_name t.bytes) (list_any (bytes_eq t.bytes) seen.signals) t.bytes seen))
+    (fresh_name (is_name t.bytes) (list_any (bytes_eq t.bytes) seen.signals) t.bytes seen))
 
 -- ---- heads
 
@@ -105,11 +103,11 @@ signal_agrees seen signals is =
     agree_bind (signal_name_agrees seen (names_of signals) is) λ name s named.
     agree_choose_then (value tags.Plain) tag_token_at _ (has_mark 58) (begins_mark 58 Done)
     (agree_then (mark_agrees s 58) λ _.
-      agree_then (place_agrees s) λ place. agree_then (pair_agrees s 40 44 41) λ scale. agree_then (pair_agrees s 91 124 93) λ limits.
-      agree_then (text_agrees s) λ unit. agree_then (receivers_agree s) λ receivers. agree_value named)
+    agree_then (place_agrees s) λ place. agree_then (pair_agrees s 40 44 41) λ scale. agree_then (pair_agrees s 91 124 93) λ limits.
+    agree_then (text_agrees s) λ unit. agree_then (receivers_agree s) λ receivers. agree_value named)
     (agree_then (tag_token_agrees s) λ tag. agree_then (mark_agrees s 58) λ _.
-      agree_then (place_agrees s) λ place. agree_then (pair_agrees s 40 44 41) λ scale. agree_then (pair_agrees s 91 124 93) λ limits.
-      agree_then (text_agrees s) λ unit. agree_then (receivers_agree s) λ receivers. agree_value named)
+    agree_then (place_agrees s) λ place. agree_then (pair_agrees s 40 44 41) λ scale. agree_then (pair_agrees s 91 124 93) λ limits.
+    agree_then (text_agrees s) λ unit. agree_then (receivers_agree s) λ receivers. agree_value named)
 
 -- a signal takes a token at least
 begin_signal_shrinks : (count : ℕ) → Shrinks (begin_signal_at count)
@@ -151,7 +149,7 @@ signal_shrinks signals =
     bind_keeps (keep (mark_shrinks 58)) λ _. bind_keeps place_keeps λ place. bind_keeps (pair_keeps 40 44 41) λ scale. bind_keeps (pair_keeps 91 124 93) λ limits.
     bind_keeps (keep text_shrinks) λ unit. bind_keeps receivers_keep λ receivers. value_keeps _
 
-begins_a_signal : Begins (has_word (codes "SG_")) grammar.signal
+pub begins_a_signal : Begins (has_word (codes "SG_")) grammar.signal
 begins_a_signal = begins_one (has_word (codes "SG_")) BeginsSignal _ (λ t seen. counted_class (has_word (codes "SG_") t) (nat_le 999 (length seen.signals)) seen)
   where
     counted_class : (word full : Bool) (seen : Seen) → is_of_class (cond word (cond full (Err causes.SignalsFull) (Ok seen)) (Err causes.Statement)) ≡ word

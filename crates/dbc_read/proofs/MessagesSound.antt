@@ -1,25 +1,23 @@
 -- What the readers of messages and signals read is spelled by their forms.
-use Rattle.std.proofs.Common.{◌≡◌, ℕ, Bool, true, false, cond, List, [], ◌∷◌, ◌++◌, length, Result, Ok, Err, refl, sym, ap, subst, ◌∙◌, append_assoc}
+use Rattle.std.proofs.Common.{◌≡◌, ℕ, Bool, true, false, cond, List, [], ◌∷◌, ◌++◌, length, Ok, Err, refl, sym, ap, subst, ◌∙◌, append_assoc}
 use Rattle.std.specs.Prelude.{codes, nat_lt}
 use Rattle.std.specs.List.{flat_map, list_any}
 use Rattle.std.specs.Str.{bytes_eq}
 use Rattle.std.proofs.lemmas.Slice.Eq.{bytes_eq-Decides}
 use Rattle.dbc_model.specs.Lexical.{is_name}
 use Rattle.dbc_model.specs.Decimals.{Decimal}
-use Rattle.dbc_model.specs.Records.{Head, Signal, Message, names_of}
+use Rattle.dbc_model.specs.Records.{Signal, names_of}
 use Rattle.dbc_model.specs.Layout.{Word, Mark, Name, Text, Whole, Number, Order, Layout, items_of}
 use Rattle.dbc_model.specs.CanonicalText.{head_layout, signal_name_layout, tag_layout, sign_mark, place_layout, pair_layout, spaced_mark, number_layout, mark_layout, scale_layout, limits_layout, spaced_text}
-use Rattle.dbc_model.specs.declared.tag.Tag.{Tag}
-use Rattle.dbc_model.specs.declared.tag.Tag.TheVariants as tags
 use Rattle.dbc_read.specs.declared.fault.Cause.{Cause}
 use Rattle.dbc_read.specs.declared.fault.Cause.TheVariants as causes
 use Rattle.dbc_read.specs.declared.messages.Place.{Place}
-use Rattle.dbc_read.specs.Tokens.{Token, Cut}
-use Rattle.dbc_read.specs.Classes.{has_word, has_name}
+use Rattle.dbc_read.specs.Tokens.{Token}
+use Rattle.dbc_read.specs.Classes.{has_word}
 use Rattle.dbc_read.specs.Forms.{Part, Is, Perhaps, of_layout}
 use Rattle.dbc_read.specs.Spelling.{receivers_form, signal_form, form, OfMessage}
-use Rattle.dbc_read.specs.Reading.{Reader, ◌>>=◌, value, choose}
-use Rattle.dbc_read.specs.ReadingParts.{mark_at, name_at, pair_at, comma_at, receivers_from, receivers_at}
+use Rattle.dbc_read.specs.Reading.{◌>>=◌}
+use Rattle.dbc_read.specs.ReadingParts.{name_at, pair_at, comma_at, receivers_from, receivers_at}
 use Rattle.dbc_read.specs.ReadingMessages.{begun, begin_message_at, head_at, begin_signal_at, fresh, signal_name_at, tag_at, sign_at, place_at, signal_at, signals_from, message_at}
 use Rattle.dbc_read.proofs.Sound.{Sound, sound_one, sound_then, sound_value, sound_start, sound_choose, sound_end, sound_same, sound_list, first_and, sound_first, grows_repeated, grows_behind, grows_in_view}
 use Rattle.dbc_read.proofs.KindsSound.{mark_sound, name_sound, text_sound, whole_sound, id_sound, decimal_sound}
@@ -120,29 +118,41 @@ six a b c d e f g = ap (λ (parts : List Part). parts ++ g) (append_assoc (((a +
 
 pub signal_form_is : (s : Signal) → signal_form s
     ≡ ((((((Is (Word (codes "SG_")) ∷ Is (Name s.name) ∷ of_layout (tag_layout s.tag)) ++ Is (Mark 58) ∷ [])
-      ++ place_form (record { start = s.start; length = s.length; intel = s.intel; signed = s.signed }))
-      ++ pair_form 40 44 41 (s.factor, s.offset)) ++ pair_form 91 124 93 (s.minimum, s.maximum)) ++ Is (Text s.unit) ∷ []) ++ receivers_form s.receivers
+    ++ place_form (record { start = s.start; length = s.length; intel = s.intel; signed = s.signed }))
+    ++ pair_form 40 44 41 (s.factor, s.offset)) ++ pair_form 91 124 93 (s.minimum, s.maximum)) ++ Is (Text s.unit) ∷ []) ++ receivers_form s.receivers
 unfolding signal_name_layout place_layout scale_layout limits_layout pair_layout spaced_mark number_layout mark_layout spaced_text items_of
 signal_form_is s =
     let behind : Layout = place_layout s ++ (scale_layout s ++ (limits_layout s ++ spaced_text s.unit)) in
     ap (λ (parts : List Part). parts ++ receivers_form s.receivers)
     (of_layout-append (signal_name_layout s) (tag_layout s.tag ++ behind) ∙ ap (λ (parts : List Part). Is (Word (codes "SG_")) ∷ Is (Name s.name) ∷ parts) (of_layout-append (tag_layout s.tag) behind))
     ∙ sym (six (Is (Word (codes "SG_")) ∷ Is (Name s.name) ∷ of_layout (tag_layout s.tag)) (Is (Mark 58) ∷ []) (place_form (record { start = s.start; length = s.length; intel = s.intel; signed = s.signed }))
-      (pair_form 40 44 41 (s.factor, s.offset)) (pair_form 91 124 93 (s.minimum, s.maximum)) (Is (Text s.unit) ∷ []) (receivers_form s.receivers))
+    (pair_form 40 44 41 (s.factor, s.offset)) (pair_form 91 124 93 (s.minimum, s.maximum)) (Is (Text s.unit) ∷ []) (receivers_form s.receivers))
 
 pub signal_sound : (signals : List Signal) → Sound (signal_at signals) signal_form
 unfolding signal_at
 signal_sound signals =
     sound_start (sound_then (begin_signal_sound (length signals)) λ _. sound_then (signal_name_sound (names_of signals)) λ name. sound_then tag_sound λ tag. sound_then (mark_sound 58) λ _.
     sound_then place_sound λ place. sound_then (pair_sound 40 44 41) λ scale. sound_then (pair_sound 91 124 93) λ limits. sound_then text_sound λ unit. sound_then receivers_sound λ receivers.
-    sound_value (signal_form_is (record { name = name; tag = tag; start = place.start; length = place.length; intel = place.intel; signed = place.signed; factor = scale.0; offset = scale.1;
-      minimum = limits.0; maximum = limits.1; unit = unit; receivers = receivers })))
+    sound_value (signal_form_is (record {
+      name = name;
+      tag = tag;
+      start = place.start;
+      length = place.length;
+      intel = place.intel;
+      signed = place.signed;
+      factor = scale.0;
+      offset = scale.1;
+      minimum = limits.0;
+      maximum = limits.1;
+      unit = unit;
+      receivers = receivers;
+    })))
 
 signals_sound : Sound (signals_from []) (flat_map signal_form)
 unfolding signals_from
 signals_sound = sound_list (grows_repeated _ _ signal_form (grows_in_view signal_at signal_sound))
 
-head_sound : (count : ℕ) → Sound (head_at count) (λ head. of_layout (head_layout head))
+pub head_sound : (count : ℕ) → Sound (head_at count) (λ head. of_layout (head_layout head))
 unfolding head_at head_layout items_of
 head_sound count =
     sound_start (sound_then (begin_message_sound count) λ _. sound_then id_sound λ number. sound_then name_sound λ name. sound_then (mark_sound 58) λ _. sound_then (whole_sound 0 1785) λ size.

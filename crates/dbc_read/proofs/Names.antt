@@ -1,5 +1,5 @@
 -- A name is a token, and no number.
-use Rattle.std.proofs.Common.{◌≡◌, ℕ, suc, ◌+◌, Bool, true, false, cond, ◌||◌, ◌&&◌, List, [], ◌∷◌, take, refl, sym, ap, ◌∙◌, arith, inl, inr}
+use Rattle.std.proofs.Common.{◌≡◌, ℕ, suc, ◌+◌, Bool, true, false, ◌||◌, ◌&&◌, List, [], ◌∷◌, take, refl, ap, ◌∙◌, arith, inl, inr}
 use Rattle.std.specs.Prelude.{not}
 use Rattle.std.specs.List.{list_any, list_all, before_first, after_first, prefix_len}
 use Rattle.std.proofs.lemmas.Bool.{cases_Bool}
@@ -8,7 +8,7 @@ use Rattle.dbc_model.specs.Lexical.{is_letter, is_digit, is_point, is_exponent_m
 use Rattle.dbc_model.specs.Numbers.{whole_of_number}
 use Rattle.dbc_model.specs.Kept.{is_piece, is_string, is_mark_but_semicolon}
 use Rattle.dbc_read.specs.Tokens.{Token}
-use Rattle.dbc_read.specs.Classes.{has_name, has_string, has_piece, has_whole, is_whole_number}
+use Rattle.dbc_read.specs.Classes.{has_name, has_string, has_piece, has_whole}
 
 -- the bytes before the first that passes, where the first byte doesn't
 keeps_first : (test : ℕ → Bool) (b : ℕ) (bytes : List ℕ) → test b ≡ false → (rest : List ℕ) × (before_first test (b ∷ bytes) ≡ b ∷ rest)

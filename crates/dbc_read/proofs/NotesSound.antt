@@ -1,15 +1,14 @@
 -- What the readers of comments and attributes read is spelled by their forms.
-use Rattle.std.proofs.Common.{◌≡◌, ℕ, List, [], ◌∷◌, ◌++◌, Option, Some, None, refl, sym, ap, ◌∙◌, append_assoc}
+use Rattle.std.proofs.Common.{◌≡◌, ℕ, List, [], ◌∷◌, ◌++◌, refl, sym, ap, ◌∙◌, append_assoc}
 use Rattle.std.specs.Prelude.{codes}
 use Rattle.std.specs.List.{flat_map}
 use Rattle.dbc_model.specs.Comments.{Comment}
 use Rattle.dbc_model.specs.Attributes.{AttrDef, AttrDefault, AttrRow}
-use Rattle.dbc_model.specs.Layout.{Word, Mark, Name, Text, Whole, Number, items_of}
-use Rattle.dbc_model.specs.CanonicalText.{word_layout, spaced_word, spaced_text, spaced_number, blank, number_layout, statement_end, target_layout, comment_key, comment_layout, object_word, object_layout, number_limits_layout, further_text, texts_layout, form_layout, definition_key, definition_layout, value_layout, default_key, default_layout, attribute_key, attribute_layout}
-use Rattle.dbc_model.specs.declared.definition.Object.{Object}
+use Rattle.dbc_model.specs.Layout.{Word, Mark, Text, items_of}
+use Rattle.dbc_model.specs.CanonicalText.{word_layout, spaced_word, spaced_text, spaced_number, blank, number_layout, statement_end, target_layout, comment_key, comment_layout, object_layout, number_limits_layout, further_text, texts_layout, form_layout, definition_key, definition_layout, value_layout, default_key, default_layout, attribute_key, attribute_layout}
 use Rattle.dbc_read.specs.Forms.{Part, Is, of_layout}
 use Rattle.dbc_read.specs.Spelling.{form, OfComment, Definition, Default, Attribute}
-use Rattle.dbc_read.specs.Reading.{◌>>=◌, value}
+use Rattle.dbc_read.specs.Reading.{◌>>=◌}
 use Rattle.dbc_read.specs.ReadingParts.{mark_at, text_at, texts_from}
 use Rattle.dbc_read.specs.ReadingAttributes.{node_target_at, message_target_at, signal_target_at, target_at, comment_at, object_at, limits_at, string_form_at, enumeration_at, form_at, definition_at, value_at, default_at, attribute_at}
 use Rattle.dbc_read.proofs.Sound.{Sound, sound_then, sound_value, sound_start, sound_choose, grows_repeated, first_and, sound_first, sound_both, sound_end, grows_behind}
@@ -105,7 +104,7 @@ definition_sound =
 
 -- ---- values
 
-given_sound : Sound value_at (λ given. of_layout (value_layout given))
+pub given_sound : Sound value_at (λ given. of_layout (value_layout given))
 unfolding value_at value_layout spaced_text spaced_number blank number_layout items_of
 given_sound = sound_choose _ (sound_start (sound_then text_sound λ text. sound_value refl)) (sound_start (sound_then decimal_sound λ number. sound_value refl))
 

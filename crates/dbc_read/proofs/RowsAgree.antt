@@ -1,13 +1,12 @@
 -- The readers of rows, comments and attributes agree with their patterns.
-use Rattle.std.proofs.Common.{◌≡◌, ℕ, ◌^◌, ◌-◌, Bool, true, false, List, [], ◌∷◌, ◌++◌, Option, Some, None, refl}
+use Rattle.std.proofs.Common.{◌^◌, ◌-◌, List, [], ◌∷◌, refl}
 use Rattle.std.specs.Prelude.{codes}
 use Rattle.dbc_model.specs.declared.mux_row.Range.{Range}
-use Rattle.dbc_read.specs.Tokens.{Token}
 use Rattle.dbc_read.specs.Classes.{has_word, has_mark, has_string}
-use Rattle.dbc_read.specs.Pattern.{Word, Mark, Name, String, Whole, Seen, Pattern, Done, ◌⇒◌, Either, Repeat, ◌then◌}
+use Rattle.dbc_read.specs.Pattern.{Word, Mark, Name, String, Whole, Seen, Done, ◌⇒◌, Either, Repeat, ◌then◌}
 use Rattle.dbc_read.specs.Grammar as grammar
-use Rattle.dbc_read.specs.ReadingTables.{table_at, values_at, colon_at, float_at, range_at, ranges_from, ranges_at, mux_at}
-use Rattle.dbc_read.specs.ReadingAttributes.{node_target_at, message_target_at, signal_target_at, target_at, comment_at, object_at, limits_at, string_form_at, enumeration_at, form_at, definition_at, value_at, default_at, attribute_at}
+use Rattle.dbc_read.specs.ReadingTables.{table_at, colon_at, float_at, range_at, ranges_from, ranges_at, mux_at}
+use Rattle.dbc_read.specs.ReadingAttributes.{node_target_at, message_target_at, signal_target_at, target_at, object_at, limits_at, string_form_at, enumeration_at, form_at, definition_at, value_at, default_at}
 use Rattle.dbc_read.specs.ReadingParts.{begins_decimal}
 use Rattle.dbc_read.proofs.Shrinking.{Shrinks, value_keeps, bind_shrinks, bind_keeps, keep}
 use Rattle.dbc_read.proofs.Agree.{Agrees, Same, agree_then, agree_value, agree_choose, agree_same}

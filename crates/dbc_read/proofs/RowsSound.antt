@@ -1,20 +1,20 @@
 -- What the readers of rows read is spelled by their forms.
-use Rattle.std.proofs.Common.{◌≡◌, ℕ, Bool, ◌^◌, ◌-◌, List, [], ◌∷◌, ◌++◌, map, refl, sym, ap, subst, ◌∙◌, inl, inr}
+use Rattle.std.proofs.Common.{◌≡◌, ℕ, Bool, ◌^◌, ◌-◌, List, [], ◌∷◌, ◌++◌, map, refl, ap, subst, ◌∙◌, inl, inr}
 use Rattle.std.specs.Prelude.{codes}
 use Rattle.std.specs.List.{flat_map}
 use Rattle.std.proofs.lemmas.List.{map-append}
 use Rattle.std.proofs.lemmas.List.Concat.{flat_map-append}
 use Rattle.dbc_model.specs.Records.{Entry, TableRow, ValueRow, FloatRow, MuxRow}
 use Rattle.dbc_model.specs.declared.mux_row.Range.{Range}
-use Rattle.dbc_model.specs.Layout.{Item, Word, Mark, Name, Text, Whole, Int, Layout, Element, item_of, items_of, separated}
+use Rattle.dbc_model.specs.Layout.{Word, Mark, Name, Text, Whole, Int, Layout, item_of, items_of}
 use Rattle.dbc_model.specs.CanonicalText.{word_layout, signal_key, spaced_name, spaced_end, statement_end, entry_layout, table_key, table_layout, values_key, values_layout, float_key, range_layout, further_range, ranges_layout, mux_key, mux_layout}
 use Rattle.dbc_read.specs.Tokens.{Token, Cut}
-use Rattle.dbc_read.specs.Forms.{Part, Is, Perhaps, SaysPart, Spelled, of_layout}
+use Rattle.dbc_read.specs.Forms.{Part, Is, Perhaps, SaysPart, of_layout}
 use Rattle.dbc_read.specs.Spelling.{form, Table, Values, Float, Mux}
 use Rattle.dbc_read.specs.Reading.{Reader, ◌>>=◌, value, choose}
 use Rattle.dbc_read.specs.ReadingParts.{mark_at, entry_at, entries_from}
 use Rattle.dbc_read.specs.ReadingTables.{table_at, values_at, colon_at, float_at, range_at, ranges_from, ranges_at, mux_at}
-use Rattle.dbc_read.proofs.Sound.{Spelt, ok_is, Sound, SoundAt, Grows, sound_then, sound_value, sound_start, sound_choose, grows_by_one, grows_repeated, sound_list, first_and, sound_first, sound_end, grows_behind}
+use Rattle.dbc_read.proofs.Sound.{Spelt, ok_is, Sound, sound_then, sound_value, sound_start, sound_choose, grows_by_one, grows_repeated, sound_list, first_and, sound_first, sound_end, grows_behind}
 use Rattle.dbc_read.proofs.KindsSound.{word_sound, mark_sound, name_sound, text_sound, whole_sound, id_sound, int_sound}
 
 -- ---- forms of layouts, one behind the other
@@ -55,7 +55,7 @@ unfolding table_layout table_key word_layout spaced_name spaced_end items_of
 table_form row =
     of_layout-append (table_key row) (flat_map entry_layout row.entries ++ spaced_end)
     ∙ ap (λ (parts : List Part). Is (Word (codes "VAL_TABLE_")) ∷ Is (Name row.name) ∷ parts)
-      (of_layout-append (flat_map entry_layout row.entries) spaced_end ∙ ap (λ (parts : List Part). parts ++ Is (Mark 59) ∷ []) (entries_form row.entries))
+    (of_layout-append (flat_map entry_layout row.entries) spaced_end ∙ ap (λ (parts : List Part). parts ++ Is (Mark 59) ∷ []) (entries_form row.entries))
 
 pub table_sound : Sound table_at (λ row. form (Table row))
 unfolding table_at
@@ -68,7 +68,7 @@ unfolding values_layout values_key word_layout signal_key spaced_end items_of
 values_form row =
     of_layout-append (values_key row) (flat_map entry_layout row.entries ++ spaced_end)
     ∙ ap (λ (parts : List Part). Is (Word (codes "VAL_")) ∷ Is (Whole row.number) ∷ Is (Name row.signal) ∷ parts)
-      (of_layout-append (flat_map entry_layout row.entries) spaced_end ∙ ap (λ (parts : List Part). parts ++ Is (Mark 59) ∷ []) (entries_form row.entries))
+    (of_layout-append (flat_map entry_layout row.entries) spaced_end ∙ ap (λ (parts : List Part). parts ++ Is (Mark 59) ∷ []) (entries_form row.entries))
 
 pub values_sound : Sound values_at (λ row. form (Values row))
 unfolding values_at
@@ -82,8 +82,10 @@ pub perhaps_mark : (test : Token → Bool) (mark : ℕ) {r : Reader (Unit {0})} 
 perhaps_mark test mark {r} h = sound_choose test (sound_other (λ tokens says. inr says) h) sound_missing
   where
     sound_other : ((tokens : List Token) → SaysPart (Is (Mark mark)) tokens → SaysPart (Perhaps mark) tokens) → Sound r (λ _. Is (Mark mark) ∷ []) → Sound r (λ _. Perhaps mark ∷ [])
-    sound_other other h = record { spelt = λ cut x e. (let y = h.spelt cut x e in
-      record { front = y.front; stands = y.stands; spelled = (y.spelled.0, y.spelled.1, y.spelled.2, other y.spelled.0 y.spelled.3, y.spelled.4) }) }
+    sound_other other h = record {
+      spelt = λ cut x e. (let y = h.spelt cut x e in
+          record { front = y.front; stands = y.stands; spelled = (y.spelled.0, y.spelled.1, y.spelled.2, other y.spelled.0 y.spelled.3, y.spelled.4) });
+    }
 
     sound_missing : Sound (value (tt {0})) (λ _. Perhaps mark ∷ [])
     sound_missing = record { spelt = λ cut x e. subst (λ (y : Unit {0} × Cut). Spelt (Perhaps mark ∷ []) cut y.1) (ok_is (tt, cut) x e) (record { front = []; stands = refl; spelled = ([], [], refl, inl refl, refl) }) }
@@ -132,8 +134,8 @@ unfolding mux_layout mux_key word_layout signal_key spaced_name statement_end it
 mux_form row =
     of_layout-append (mux_key row) (spaced_name row.switch ++ (ranges_layout row.ranges ++ statement_end))
     ∙ ap (λ (parts : List Part). Is (Word (codes "SG_MUL_VAL_")) ∷ Is (Whole row.number) ∷ Is (Name row.signal) ∷ parts)
-      (of_layout-append (spaced_name row.switch) (ranges_layout row.ranges ++ statement_end)
-      ∙ ap (λ (parts : List Part). Is (Name row.switch) ∷ parts) (of_layout-append (ranges_layout row.ranges) statement_end ∙ ap (λ (parts : List Part). parts ++ Is (Mark 59) ∷ []) (ranges_layout_form row.ranges)))
+    (of_layout-append (spaced_name row.switch) (ranges_layout row.ranges ++ statement_end)
+    ∙ ap (λ (parts : List Part). Is (Name row.switch) ∷ parts) (of_layout-append (ranges_layout row.ranges) statement_end ∙ ap (λ (parts : List Part). parts ++ Is (Mark 59) ∷ []) (ranges_layout_form row.ranges)))
 
 pub mux_sound : Sound mux_at (λ row. form (Mux row))
 unfolding mux_at

@@ -1,5 +1,5 @@
 -- Readers that leave fewer tokens than they met.
-use Rattle.std.proofs.Common.{◌≡◌, ℕ, ◌<◌, ◌≤◌, zero, suc, Bool, true, false, cond, Result, Ok, Err, refl, sym, ap, subst, ◌∙◌, arith}
+use Rattle.std.proofs.Common.{◌≡◌, ℕ, ◌<◌, ◌≤◌, zero, suc, Bool, true, false, cond, Result, Ok, Err, refl, sym, ap, subst, arith}
 use Rattle.dbc_read.specs.declared.fault.Cause.{Cause}
 use Rattle.dbc_read.specs.declared.fault.ReadFault.{ReadFault}
 use Rattle.dbc_read.specs.Tokens.{Token, Cut, End, Fault, ◌▸◌}

@@ -1,5 +1,5 @@
 -- What was read is spelled so.
-use Rattle.std.proofs.Common.{◌≡◌, ℕ, zero, suc, Bool, true, false, cond, List, [], ◌∷◌, ◌++◌, map, Result, Ok, Err, refl, sym, ap, subst, ◌∙◌, append_assoc, append-nil}
+use Rattle.std.proofs.Common.{◌≡◌, ℕ, zero, suc, Bool, true, false, cond, List, [], ◌∷◌, ◌++◌, Result, Ok, Err, refl, sym, ap, subst, ◌∙◌, append_assoc, append-nil}
 use Rattle.std.specs.List.{flat_map}
 use Rattle.std.proofs.lemmas.List.Concat.{flat_map-append}
 use Rattle.dbc_read.specs.declared.fault.Cause.{Cause}
@@ -107,9 +107,11 @@ grows_by_one {A} {one_at} {part} h = record {
   spelt = λ before cut x e. (
       let y = and_then-ok (one_at cut) _ x e in
       let is = ok_is (before ++ y.0.0 ∷ [], y.0.1) x y.2 in
-      let one = h.spelt cut y.0 y.1 in
-      (y.0.0 ∷ [], sym (ap (λ (w : List A × Cut). w.0) is),
-        subst (λ (rest : Cut). Spelt (part y.0.0 ++ []) cut rest) (ap (λ (w : List A × Cut). w.1) is) (subst (λ (parts : List Part). Spelt parts cut y.0.1) (sym (append-nil (part y.0.0))) one)));
+      let one = h.spelt cut y.0 y.1 in (
+        y.0.0 ∷ [],
+        sym (ap (λ (w : List A × Cut). w.0) is),
+        subst (λ (rest : Cut). Spelt (part y.0.0 ++ []) cut rest) (ap (λ (w : List A × Cut). w.1) is) (subst (λ (parts : List Part). Spelt parts cut y.0.1) (sym (append-nil (part y.0.0))) one),
+      ));
 }
 
 module _ {A : Type 0} (test : Token → Bool) (r : List A → Reader (List A)) (part : A → List Part) (grows : Grows r part) where
@@ -123,9 +125,11 @@ module _ {A : Type 0} (test : Token → Bool) (r : List A → Reader (List A)) (
   turn n below before true cut x e =
       let y = and_then-ok (r before cut) (turns n test r) x e in
       let first = grows.spelt before cut y.0 y.1 in
-      let rest = below y.0.0 y.0.1 x y.2 in
-      (first.0 ++ rest.0, rest.1 ∙ ap (λ (l : List A). l ++ rest.0) first.1 ∙ append_assoc before first.0 rest.0,
-        subst (λ (parts : List Part). Spelt parts cut x.1) (sym (flat_map-append part first.0 rest.0)) (spelt_both first.2 rest.2))
+      let rest = below y.0.0 y.0.1 x y.2 in (
+        first.0 ++ rest.0,
+        rest.1 ∙ ap (λ (l : List A). l ++ rest.0) first.1 ∙ append_assoc before first.0 rest.0,
+        subst (λ (parts : List Part). Spelt parts cut x.1) (sym (flat_map-append part first.0 rest.0)) (spelt_both first.2 rest.2),
+      )
 
   turns_grow : (n : ℕ) (before : List A) (cut : Cut) (x : List A × Cut) → turns n test r before cut ≡ Ok x → (more : List A) × (x.0 ≡ before ++ more) × Spelt (flat_map part more) cut x.1
   turns_grow zero before cut x e = stays before cut x e
@@ -225,9 +229,11 @@ grows_behind {A} {M} m one_at {part} h = record {
       let x = and_then-ok (m cut) _ y e in
       let z = and_then-ok (one_at x.0.1) _ y x.2 in
       let is = ok_is (before ++ z.0.0 ∷ [], z.0.1) y z.2 in
-      let both = h.spelt cut z.0 (ap (λ (o : Result (M × Cut) ReadFault). and_then o (λ _. one_at)) x.1 ∙ z.1) in
-      (z.0.0 ∷ [], sym (ap (λ (w : List A × Cut). w.0) is),
-        subst (λ (rest : Cut). Spelt (part z.0.0 ++ []) cut rest) (ap (λ (w : List A × Cut). w.1) is) (subst (λ (parts : List Part). Spelt parts cut z.0.1) (sym (append-nil (part z.0.0))) both)));
+      let both = h.spelt cut z.0 (ap (λ (o : Result (M × Cut) ReadFault). and_then o (λ _. one_at)) x.1 ∙ z.1) in (
+        z.0.0 ∷ [],
+        sym (ap (λ (w : List A × Cut). w.0) is),
+        subst (λ (rest : Cut). Spelt (part z.0.0 ++ []) cut rest) (ap (λ (w : List A × Cut). w.1) is) (subst (λ (parts : List Part). Spelt parts cut z.0.1) (sym (append-nil (part z.0.0))) both),
+      ));
 }
 
 -- one item more, read in view of those before

@@ -1,13 +1,13 @@
 -- Digits alone are the whole number that they write, and what is read as a tag or as a byte order is spelled so.
-use Rattle.std.proofs.Common.{◌≡◌, ℕ, suc, ◌+◌, ◌*◌, ◌-◌, ◌^◌, ℤ, pos, ◌-ℤ◌, Bool, true, false, cond, ◌&&◌, List, [], ◌∷◌, ◌++◌, take, drop, length, Option, Some, None, Result, Ok, Err, refl, sym, ap, subst, ◌∙◌, append-nil, arith, inl, inr}
+use Rattle.std.proofs.Common.{◌≡◌, ℕ, ◌*◌, ◌-◌, ◌^◌, ℤ, pos, ◌-ℤ◌, Bool, true, false, cond, ◌&&◌, List, [], ◌∷◌, ◌++◌, length, Option, Some, None, Result, Ok, Err, refl, sym, ap, subst, ◌∙◌, append-nil, arith}
 use Rattle.std.specs.Prelude.{codes, nat_le, ◌==◌}
-use Rattle.std.specs.List.{list_all, list_any, before_first, after_first, position_or_len, prefix_len}
+use Rattle.std.specs.List.{list_all, list_any, before_first, after_first}
 use Rattle.std.specs.Str.{bytes_eq}
 use Rattle.std.specs.Str.Parse.{digits_value, signed_digits_value}
-use Rattle.std.proofs.lemmas.Bool.{cases_Bool, and_parts, eqb-true}
+use Rattle.std.proofs.lemmas.Bool.{and_parts, eqb-true}
 use Rattle.std.proofs.lemmas.Grind.{common_steps}
 use Rattle.std.proofs.lemmas.Slice.Eq.{bytes_eq-Decides}
-use Rattle.dbc_model.specs.Lexical.{is_digit, is_digits, is_point, is_exponent_mark, is_number}
+use Rattle.dbc_model.specs.Lexical.{is_digit, is_digits, is_point, is_exponent_mark}
 use Rattle.dbc_model.specs.Numbers.{mantissa_of, exponent_of, IsWholeNumber, whole_of_number}
 use Rattle.dbc_model.specs.Layout.{Order, items_of}
 use Rattle.dbc_model.specs.CanonicalText.{tag_layout}
@@ -18,7 +18,7 @@ use Rattle.dbc_model.specs.declared.tag.Tag.TheVariants as tags
 use Rattle.dbc_read.specs.declared.fault.Cause.{Cause}
 use Rattle.dbc_read.specs.declared.fault.Cause.TheVariants as causes
 use Rattle.dbc_read.specs.Tokens.{Token}
-use Rattle.dbc_read.specs.Classes.{bounded, whole_of, one_or_zero, order_digit, order_of, tagged, counted, front, muxed_of, tag_of}
+use Rattle.dbc_read.specs.Classes.{bounded, whole_of, order_digit, order_of, tagged, counted, front, muxed_of, tag_of}
 use Rattle.dbc_read.specs.Forms.{Is, SpellsTag, Spelled, of_layout}
 use Rattle.dbc_read.specs.ReadingParts.{order_at, tag_token_at}
 use Rattle.dbc_read.proofs.Sound.{Sound, Reads, sound_one, reads_one}
@@ -80,9 +80,9 @@ digits_number digits n are e =
     let exponent : after_first is_exponent_mark digits ≡ [] = after_none is_exponent_mark digits mark in
     let spelled = (whole_spelled digits n e).1 in
     let value : mantissa_of digits ≡ digits_value 10 digits = ap (λ (front : List ℕ). digits_value 10 (front ++ after_first is_point (before_first is_exponent_mark digits))) whole
-        ∙ ap (λ (back : List ℕ). digits_value 10 (digits ++ back)) fraction ∙ ap (digits_value 10) (append-nil digits) in
+    ∙ ap (λ (back : List ℕ). digits_value 10 (digits ++ back)) fraction ∙ ap (digits_value 10) (append-nil digits) in
     let power : exponent_of digits ≡ pos 0 = ap (λ (back : List ℕ). signed_digits_value 10 back -ℤ pos (length (after_first is_point (before_first is_exponent_mark digits)))) exponent
-        ∙ ap (λ (back : List ℕ). signed_digits_value 10 [] -ℤ pos (length back)) fraction in
+    ∙ ap (λ (back : List ℕ). signed_digits_value 10 [] -ℤ pos (length back)) fraction in
     sym (power_none n (digits_value 10 digits) (subst (λ (m : ℕ). IsWholeNumber m (pos 0) n) value (subst (λ (z : ℤ). IsWholeNumber (mantissa_of digits) z n) power spelled)))
 
 -- ---- tags

@@ -1,23 +1,22 @@
 -- Reading a whole text meets the first fault of the pattern of texts.
-use Rattle.std.proofs.Common.{◌≡◌, ℕ, ◌<◌, ◌^◌, ◌-◌, Bool, true, false, cond, ◌||◌, List, [], ◌∷◌, ◌++◌, length, Option, Some, None, Result, Ok, Err, refl, sym, ap, subst, ◌∙◌}
+use Rattle.std.proofs.Common.{◌≡◌, ℕ, ◌<◌, ◌^◌, ◌-◌, Bool, true, false, cond, ◌||◌, List, [], Option, Result, Ok, Err, refl, sym, ap, subst}
 use Rattle.std.specs.Prelude.{codes}
-use Rattle.std.specs.List.{list_any}
 use Rattle.std.specs.Str.{bytes_eq}
 use Rattle.dbc_model.specs.Databases.{Database}
 use Rattle.dbc_read.specs.declared.fault.ReadFault.{ReadFault}
-use Rattle.dbc_read.specs.Tokens.{Token, Cut, End, Fault, ◌▸◌}
-use Rattle.dbc_read.specs.Classes.{has_word, has_mark, has_string, has_number, has_kept_word}
-use Rattle.dbc_read.specs.Pattern.{Word, Mark, String, Number, KeptWord, Seen, Pattern, Done, ◌⇒◌, Either, Repeat, ◌then◌, first_fault, nothing_seen}
+use Rattle.dbc_read.specs.Tokens.{Cut, End, Fault, ◌▸◌}
+use Rattle.dbc_read.specs.Classes.{has_word, has_number, has_kept_word}
+use Rattle.dbc_read.specs.Pattern.{Word, Mark, String, Number, KeptWord, Seen, Done, ◌⇒◌, Either, Repeat, ◌then◌, first_fault, nothing_seen}
 use Rattle.dbc_read.specs.Grammar as grammar
-use Rattle.dbc_read.specs.Reading.{Reader, size, and_then, ◌>>=◌, value, choose, choose_by, repeated, end_at}
-use Rattle.dbc_read.specs.ReadingParts.{word_at, text_at, id_at, begins_int, begins_decimal, entry_at, entries_from, names_from, symbols_from, pieces_from, texts_from, decimal_at}
+use Rattle.dbc_read.specs.Reading.{Reader, size, and_then, value, choose_by, end_at}
+use Rattle.dbc_read.specs.ReadingParts.{id_at, entry_at, entries_from, names_from, symbols_from, pieces_from, texts_from}
 use Rattle.dbc_read.specs.ReadingMessages.{begin_message_at, head_at, signals_from, message_at}
 use Rattle.dbc_read.specs.ReadingTables.{table_at, values_at, colon_at, float_at, range_at, ranges_from, ranges_at, mux_at}
 use Rattle.dbc_read.specs.ReadingAttributes.{node_target_at, message_target_at, signal_target_at, target_at, comment_at, object_at, limits_at, string_form_at, enumeration_at, form_at, definition_at, value_at, default_at, attribute_at}
-use Rattle.dbc_read.specs.ReadingDatabases.{symbols_into, nodes_into, begins_kept, kept_at, kept_into, message_into, table_into, values_into, float_into, mux_into, comment_into, definition_into, default_into, attribute_into, object_into, value_row_into, attribute_row_into, object_words, value_words, attribute_words, has_object_word, has_value_word, has_attribute_word, begins_statement, statement_into, statements_into, version_at, timing_numbers_at, timing_at, timed_into, empty_database, database_at}
+use Rattle.dbc_read.specs.ReadingDatabases.{symbols_into, nodes_into, begins_kept, kept_at, kept_into, message_into, table_into, values_into, float_into, mux_into, comment_into, definition_into, default_into, attribute_into, object_into, value_row_into, attribute_row_into, has_object_word, has_value_word, has_attribute_word, begins_statement, statement_into, statements_into, version_at, timing_numbers_at, timing_at, timed_into, empty_database, database_at}
 use Rattle.dbc_read.specs.Laws.{Judges}
 use Rattle.dbc_read.proofs.Shrinking.{Shrinks, Keeps, one_shrinks, value_keeps, bind_shrinks, bind_keeps, bind_later, choose_shrinks, choose_keeps, repeated_keeps, keep}
-use Rattle.dbc_read.proofs.Agree.{Agrees, Same, Follows, Begins, agree_bind, agree_then, agree_value, agree_choose, agree_repeated, begins_one, begins_either, begins_as}
+use Rattle.dbc_read.proofs.Agree.{Agrees, Same, Follows, Begins, agree_then, agree_value, agree_choose, agree_repeated, begins_one, begins_either, begins_as}
 use Rattle.dbc_read.proofs.KindsAgree.{begins_word, begins_number, plain_class, word_agrees, mark_agrees, text_agrees, number_agrees, word_shrinks, mark_shrinks, name_shrinks, symbol_shrinks, piece_shrinks, text_shrinks, whole_shrinks, decimal_shrinks, int_shrinks}
 use Rattle.dbc_read.proofs.MessagesAgree.{signal_shrinks}
 use Rattle.dbc_read.proofs.DatabasesAgree.{Counted, begins_objects, statement_agrees}
@@ -106,8 +105,8 @@ objects_shrink d =
     choose_shrinks _ (bind_shrinks (word_shrinks _) λ _. bind_keeps (keep (mark_shrinks 58)) λ _. bind_keeps (symbols_keep _) λ symbols. value_keeps _)
     (choose_shrinks _ (bind_shrinks (word_shrinks _) λ _. bind_keeps (keep (mark_shrinks 58)) λ _. bind_keeps (names_keep _) λ nodes. value_keeps _)
     (bind_shrinks (bind_shrinks (bind_shrinks (one_shrinks _) λ _. bind_keeps id_keeps λ number. bind_keeps (keep name_shrinks) λ name. bind_keeps (keep (mark_shrinks 58)) λ _.
-      bind_keeps (keep (whole_shrinks 0 1785)) λ size. bind_keeps (keep name_shrinks) λ sender. value_keeps _) λ head.
-      bind_keeps (repeated_keeps _ (λ s. bind_keeps (keep (signal_shrinks s)) λ signal. value_keeps _) []) λ signals. value_keeps _) λ message. value_keeps _))
+    bind_keeps (keep (whole_shrinks 0 1785)) λ size. bind_keeps (keep name_shrinks) λ sender. value_keeps _) λ head.
+    bind_keeps (repeated_keeps _ (λ s. bind_keeps (keep (signal_shrinks s)) λ signal. value_keeps _) []) λ signals. value_keeps _) λ message. value_keeps _))
 
 rows_shrink : (d : Database) → Shrinks (value_row_into d)
 unfolding value_row_into table_into values_into float_into mux_into table_at values_at float_at mux_at
@@ -116,7 +115,7 @@ rows_shrink d =
     (choose_shrinks _ (bind_shrinks (bind_shrinks (word_shrinks _) λ _. bind_keeps id_keeps λ number. bind_keeps (keep name_shrinks) λ name. bind_keeps (entries_keep _) λ entries. bind_keeps (keep (mark_shrinks 59)) λ _. value_keeps _) λ row. value_keeps _)
     (choose_shrinks _ (bind_shrinks (bind_shrinks (word_shrinks _) λ _. bind_keeps id_keeps λ number. bind_keeps (keep name_shrinks) λ name. bind_keeps colon_keeps λ _. bind_keeps (keep (whole_shrinks 0 2)) λ kind. bind_keeps (keep (mark_shrinks 59)) λ _. value_keeps _) λ row. value_keeps _)
     (bind_shrinks (bind_shrinks (word_shrinks _) λ _. bind_keeps id_keeps λ number. bind_keeps (keep name_shrinks) λ name. bind_keeps (keep name_shrinks) λ switch.
-      bind_keeps all_ranges_keep λ ranges. bind_keeps (keep (mark_shrinks 59)) λ _. value_keeps _) λ row. value_keeps _)))
+    bind_keeps all_ranges_keep λ ranges. bind_keeps (keep (mark_shrinks 59)) λ _. value_keeps _) λ row. value_keeps _)))
 
 notes_shrink : (d : Database) → Shrinks (attribute_row_into d)
 unfolding attribute_row_into comment_into definition_into default_into attribute_into comment_at definition_at default_at attribute_at
@@ -165,9 +164,11 @@ any_of_four false b c d = any_of_three b c d
 begins_a_statement : Begins begins_statement grammar.statement
 unfolding begins_statement has_object_word has_value_word has_attribute_word has_word
 begins_a_statement =
-    begins_as (λ t. rw (any_of_three (bytes_eq t.bytes (codes "NS_")) (bytes_eq t.bytes (codes "BU_")) (bytes_eq t.bytes (codes "BO_")),
+    begins_as (λ t. rw (
+      any_of_three (bytes_eq t.bytes (codes "NS_")) (bytes_eq t.bytes (codes "BU_")) (bytes_eq t.bytes (codes "BO_")),
       any_of_four (bytes_eq t.bytes (codes "VAL_TABLE_")) (bytes_eq t.bytes (codes "VAL_")) (bytes_eq t.bytes (codes "SIG_VALTYPE_")) (bytes_eq t.bytes (codes "SG_MUL_VAL_")),
-      any_of_four (bytes_eq t.bytes (codes "CM_")) (bytes_eq t.bytes (codes "BA_DEF_")) (bytes_eq t.bytes (codes "BA_DEF_DEF_")) (bytes_eq t.bytes (codes "BA_"))) refl)
+      any_of_four (bytes_eq t.bytes (codes "CM_")) (bytes_eq t.bytes (codes "BA_DEF_")) (bytes_eq t.bytes (codes "BA_DEF_DEF_")) (bytes_eq t.bytes (codes "BA_")),
+    ) refl)
     (begins_either Done begins_objects (begins_either Done begins_rows (begins_either Done begins_notes begins_kept_one)))
 
 statements_agree : (d : Database) (seen : Seen) → Counted d seen → Agrees seen (statements_into d) (Repeat grammar.statement Done) Counted
@@ -199,13 +200,13 @@ timed_agrees d seen has =
     agree_choose (has_word (codes "BS_")) (begins_word (codes "BS_") _)
     (agree_then (timing_agrees seen) λ timing. statements_agree (record d { bit_timing = timing }) seen (record { count = has.count })) (agree_value has)
 
-end_judges : {A : Type 0} (a : A) (seen : Seen) (rest : Cut) → Judges (and_then (end_at rest) (λ u. value a)) (first_fault Done seen rest)
+pub end_judges : {A : Type 0} (a : A) (seen : Seen) (rest : Cut) → Judges (and_then (end_at rest) (λ u. value a)) (first_fault Done seen rest)
 unfolding first_fault end_at
 end_judges a seen (End line) = refl
 end_judges a seen (Fault line) = refl
 end_judges a seen (t ▸ rest) = refl
 
-bind_judges : {A B : Type 0} (post : A → Seen → Type 0) (f : A → Reader B) (go : Seen → Cut → Option ReadFault) (o : Result (A × Cut) ReadFault) (total : Option ReadFault) → Follows post o go total
+pub bind_judges : {A B : Type 0} (post : A → Seen → Type 0) (f : A → Reader B) (go : Seen → Cut → Option ReadFault) (o : Result (A × Cut) ReadFault) (total : Option ReadFault) → Follows post o go total
     → ((a : A) (s : Seen) (rest : Cut) → post a s → Judges (f a rest) (go s rest)) → Judges (and_then o f) total
 bind_judges post f go (Ok x) total h k = subst (λ t. Judges (f x.0 x.1) t) (sym h.2) (k x.0 h.0 x.1 h.1)
 bind_judges post f go (Err e) total h k = h
@@ -219,5 +220,5 @@ database_judges cut =
     let timed = Either (grammar.timing then Repeat grammar.statement Done) Done Done in
     bind_judges (Same nothing_seen) _ (first_fault (Repeat grammar.statement timed)) (version_at cut) _ ((version_agrees nothing_seen).follows (Repeat grammar.statement timed) cut)
     (λ version s rest is. bind_judges Counted _ (first_fault timed) (statements_into (empty_database version) rest) _ ((statements_agree (empty_database version) s (begun_empty version s is)).follows timed rest)
-      (λ before s' rest' has. bind_judges Counted _ (first_fault Done) (timed_into before rest') _ ((timed_agrees before s' has).follows Done rest')
-        (λ all s'' end now. end_judges all s'' end)))
+    (λ before s' rest' has. bind_judges Counted _ (first_fault Done) (timed_into before rest') _ ((timed_agrees before s' has).follows Done rest')
+    (λ all s'' end now. end_judges all s'' end)))

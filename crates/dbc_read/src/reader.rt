@@ -1,9 +1,9 @@
 //! Whole texts: a database, or one statement.
 ghost use Rattle.std.specs.Prelude.{◌≡◌, [], IfOk, IfSome, IsTrue};
 ghost use Rattle.dbc_model.specs.Databases.{IsBitTiming, timing_fits};
-ghost use Rattle.dbc_read.specs.Scanner.{cut_of};
+ghost use Rattle.dbc_read.specs.Texts.{IsRead, IsReadAlone};
 ghost use Rattle.dbc_read.specs.Cursors.{left_at};
-ghost use Rattle.dbc_read.specs.Reading.{GivesTo, MakesTo, IsReading, fault_of};
+ghost use Rattle.dbc_read.specs.Reading.{GivesTo, MakesTo, fault_of};
 ghost use Rattle.dbc_read.specs.ReadingDatabases.{version_at, timing_numbers_at, timing_at, timed_into, empty_database, database_at, message_attribute_at, one_of_six_at, statement_at};
 
 use crate::attributes::{message_target, value};
@@ -134,9 +134,9 @@ fn fault_of(stopped: Stopped) -> ReadFault
 
 /// The database that a text spells, or the first fault of the text. Where memory runs out before that fault is met, the
 /// fault is [`Cause::Memory`].
-#[tactic(auto, using(crate::proofs::Faults::stopped_reading))]
+#[tactic(auto, using(crate::proofs::Readings::database_read))]
 pub fn read(alloc: Global, text: &[u8]) -> Result<Database, ReadFault>
-    ensures { IsReading result (database_at (cut_of 1 text.now)) }
+    ensures { IsRead text.now result }
 {
     let mut at = Cursor::new(text);
     match database(alloc, &mut at) {
@@ -196,9 +196,9 @@ fn statement(alloc: Global, at: &mut Cursor<'_>) -> Result<Statement, Stopped>
 /// The one statement that a text is: a `BO_` without signals, a `SG_`, a `VAL_TABLE_`, a `VAL_` of a signal, a
 /// `SG_MUL_VAL_` or a `BA_` of a message. Blanks and comments may stand before it and behind it. Any other text has a
 /// fault, as for [`read`].
-#[tactic(auto, using(crate::proofs::Faults::stopped_reading))]
+#[tactic(auto, using(crate::proofs::Readings::statement_read))]
 pub fn read_one(alloc: Global, text: &[u8]) -> Result<Statement, ReadFault>
-    ensures { IsReading result (statement_at (cut_of 1 text.now)) }
+    ensures { IsReadAlone text.now result }
 {
     let mut at = Cursor::new(text);
     match statement(alloc, &mut at) {

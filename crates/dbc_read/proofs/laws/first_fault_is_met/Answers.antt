@@ -1,6 +1,4 @@
 use Rattle.dbc_read.proofs.TextsAgree.{database_judges}
-use Rattle.dbc_read.proofs.NotesSound.{attribute_sound}
-use Rattle.dbc_read.proofs.MessagesSound.{message_sound}
 use Rattle.dbc_read.proofs.laws.first_fault_is_met.Goals as goal
 
 pub returns : goal.returns
