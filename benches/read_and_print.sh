@@ -17,7 +17,6 @@ program, folder = sys.argv[1:]
 
 
 def write(path, messages):
-    rows = []
     with open(path, "w") as out:
         out.write('VERSION "generated"\n\nNS_ :\n\tCM_\n\tBA_\n\nBS_:\n\nBU_: ' + " ".join("Node%d" % n for n in range(30)) + "\n\n")
         for message in range(messages):
@@ -25,10 +24,10 @@ def write(path, messages):
             for signal in range(4):
                 out.write(' SG_ Signal%d : %d|16@1+ (0.03125,-40) [-40|2007.96875] "km/h"  Node1,Node2\n' % (signal, 16 * signal))
             out.write("\n")
-            rows.append('VAL_ %d Signal0 0 "off" 1 "on" 2 "fault" ;\n' % (2147483648 + message))
         for message in range(messages):
             out.write('CM_ SG_ %d Signal1 "How fast it turns,\n in km/h";\n' % (2147483648 + message))
-        out.writelines(rows)
+        for message in range(messages):
+            out.write('VAL_ %d Signal0 0 "off" 1 "on" 2 "fault" ;\n' % (2147483648 + message))
 
 
 def run(words, sink):
