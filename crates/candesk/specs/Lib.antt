@@ -9,4 +9,5 @@ pub mod Line
 pub mod Lines
 pub mod Cuts
 pub mod Stream
+pub mod Printing
 pub mod Run

@@ -9,6 +9,8 @@ use std::alloc::{AllocError, Global};
 pub enum Command {
     /// Decodes the log on standard input.
     Decode,
+    /// Prints the canonical text of the database.
+    Print,
 }
 
 /// A job: a command, and the path of its database.
@@ -35,19 +37,36 @@ impl From<AllocError> for NoJob {
     }
 }
 
-// The command line: `candesk decode FILE`.
-fn command_line<'a>(alloc: Global) -> Result<clap::Command<'a>, AllocError> {
+// A subcommand that takes a FILE.
+fn on_file<'a>(
+    alloc: Global,
+    name: &'a str,
+    about: &'a str,
+) -> Result<clap::Command<'a>, AllocError> {
     let file = Arg::new(alloc, "FILE")
         .required(true)
         .help("The path of a DBC database");
-    let decode = clap::Command::new(alloc, "decode")
-        .about("Decodes a log of `candump -L` on standard input")
-        .arg(file)?;
+    clap::Command::new(alloc, name).about(about).arg(file)
+}
+
+// The command line: `candesk decode FILE`, `candesk print FILE`.
+fn command_line<'a>(alloc: Global) -> Result<clap::Command<'a>, AllocError> {
+    let decode = on_file(
+        alloc,
+        "decode",
+        "Decodes a log of `candump -L` on standard input",
+    )?;
+    let print = on_file(
+        alloc,
+        "print",
+        "Prints a database as its canonical text on standard output",
+    )?;
     clap::Command::new(alloc, "candesk")
         .about("Compiles CAN databases and decodes logs, with proved answers")
         .no_binary_name(true)
         .subcommand_required(true)
-        .subcommand(decode)
+        .subcommand(decode)?
+        .subcommand(print)
 }
 
 // What `clap`'s fault says of the words.
@@ -64,14 +83,16 @@ fn no_job(alloc: Global, fault: &clap::Error) -> NoJob {
 
 // The job that the matches name.
 fn job_in(alloc: Global, matches: &ArgMatches<'_>) -> Result<Job, NoJob> {
-    let Some(("decode", found)) = matches.subcommand() else {
-        return Err(NoJob::Usage);
+    let (command, found) = match matches.subcommand() {
+        Some(("decode", found)) => (Command::Decode, found),
+        Some(("print", found)) => (Command::Print, found),
+        _ => return Err(NoJob::Usage),
     };
     let Some(file) = found.get_str("FILE") else {
         return Err(NoJob::Usage);
     };
     Ok(Job {
-        command: Command::Decode,
+        command,
         file: String::from_str(alloc, file)?,
     })
 }

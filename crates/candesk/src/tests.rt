@@ -1,5 +1,7 @@
 //! What no contract says: fault lines and statuses, the words of the command line, and that runs succeed at all.
 
+mod printing;
+
 use crate::decoding::decode_run;
 use crate::fault::{RunFault, StreamFault};
 use crate::job::{Command, Job, NoJob, job_of};
@@ -32,13 +34,20 @@ fn decoded(alloc: Global, text: &[u8], log: &[u8]) -> Result<Limp, Fail> {
     Ok(to)
 }
 
-// How the words read: the file of a job, or the name of a refusal.
-fn outcome<'o>(job: &'o Result<Job, NoJob>) -> &'o str {
+fn command_name(command: Command) -> &'static str {
+    match command {
+        Command::Decode => "decode",
+        Command::Print => "print",
+    }
+}
+
+// How the words read: the command and the file of a job, or the name of a refusal.
+fn outcome<'o>(job: &'o Result<Job, NoJob>) -> (&'static str, &'o str) {
     match job {
-        Ok(job) => job.file.as_str(),
-        Err(NoJob::Usage) => "(usage)",
-        Err(NoJob::Help(_)) => "(help)",
-        Err(NoJob::Memory) => "(memory)",
+        Ok(job) => (command_name(job.command), job.file.as_str()),
+        Err(NoJob::Usage) => ("no job", "usage"),
+        Err(NoJob::Help(_)) => ("no job", "help"),
+        Err(NoJob::Memory) => ("no job", "memory"),
     }
 }
 
@@ -49,24 +58,33 @@ fn outcome_of(alloc: Global, line: &str) -> Result<String, Fail> {
         words.push(word)?;
     }
     let job = job_of(alloc, words.as_slice());
-    Ok(String::from_str(alloc, outcome(&job))?)
+    let (command, file) = outcome(&job);
+    Ok(format!(in alloc; "{command}: {file}")?)
 }
 
 #[test]
 fn words(rt: HostRuntime) -> Result<(), Fail> {
     let table = [
-        ("", "(usage)"),
-        ("frob", "(usage)"),
-        ("decode", "(usage)"),
-        ("decode a b", "(usage)"),
-        ("decode --frob a", "(usage)"),
-        ("--version", "(usage)"),
-        ("--help", "(help)"),
-        ("help", "(help)"),
-        ("decode -h", "(help)"),
-        ("decode f", "f"),
-        ("decode -- --f", "--f"),
-        ("decode -", "-"),
+        ("", "no job: usage"),
+        ("frob", "no job: usage"),
+        ("decode", "no job: usage"),
+        ("decode a b", "no job: usage"),
+        ("decode --frob a", "no job: usage"),
+        ("print", "no job: usage"),
+        ("print a b", "no job: usage"),
+        ("print --frob a", "no job: usage"),
+        ("print decode", "print: decode"),
+        ("--version", "no job: usage"),
+        ("--help", "no job: help"),
+        ("help", "no job: help"),
+        ("decode -h", "no job: help"),
+        ("print -h", "no job: help"),
+        ("help print", "no job: help"),
+        ("decode f", "decode: f"),
+        ("decode -- --f", "decode: --f"),
+        ("decode -", "decode: -"),
+        ("print f", "print: f"),
+        ("print -- --f", "print: --f"),
     ];
     for (line, wanted) in table {
         let outcome = outcome_of(rt.alloc(), line)?;

@@ -1,0 +1,60 @@
+#!/usr/bin/env bash
+# How fast `candesk print` is: megabytes per second and peak memory for a generated database of 65,535 messages of 4
+# signals each, with comments and rows of named values, and for its first half; the best of five runs, beside `cat` of
+# the same text. Needs python3.
+set -eu
+root=$(cd "$(dirname "$(readlink -f "$0")")/.." && pwd)
+work=$(mktemp -d)
+trap 'rm -rf "$work"' EXIT
+"$root/scripts/build"
+
+python3 - "$root/crates/candesk/out/candesk" "$work" <<'REPORT'
+import os
+import sys
+import time
+
+program, folder = sys.argv[1:]
+
+
+def write(path, messages):
+    with open(path, "w") as out:
+        out.write('VERSION "generated"\n\nNS_ :\n\tCM_\n\tBA_\n\nBS_:\n\nBU_: ' + " ".join("Node%d" % n for n in range(30)) + "\n\n")
+        for message in range(messages):
+            out.write("BO_ %d Message%d: 8 Node%d\n" % (2147483648 + message, message, message % 30))
+            for signal in range(4):
+                out.write(' SG_ Signal%d : %d|16@1+ (0.03125,-40) [-40|2007.96875] "km/h"  Node1,Node2\n' % (signal, 16 * signal))
+            out.write("\n")
+        for message in range(messages):
+            out.write('CM_ SG_ %d Signal1 "How fast it turns,\n in km/h";\n' % (2147483648 + message))
+        for message in range(messages):
+            out.write('VAL_ %d Signal0 0 "off" 1 "on" 2 "fault" ;\n' % (2147483648 + message))
+
+
+def run(words, sink):
+    """Seconds, and the most memory in MB."""
+    start = time.monotonic()
+    child = os.posix_spawnp(words[0], words, os.environ, file_actions=[(os.POSIX_SPAWN_OPEN, 1, sink, os.O_WRONLY | os.O_CREAT | os.O_TRUNC, 0o600)])
+    _, status, used = os.wait4(child, 0)
+    if status != 0:
+        sys.exit("%s ended with status %d" % (words[0], os.waitstatus_to_exitcode(status)))
+    return time.monotonic() - start, used.ru_maxrss / 1024
+
+
+def best(words, sink):
+    return min(run(words, sink) for _ in range(5))
+
+
+def report(messages):
+    text = os.path.join(folder, "text.dbc")
+    write(text, messages)
+    size = os.path.getsize(text) / 1e6
+    for name, sink in (("/dev/null", os.devnull), ("a file", os.path.join(folder, "printed"))):
+        taken, memory = best([program, "print", text], sink)
+        cat, _ = best(["cat", text], sink)
+        print("print of %d messages, %.1f MB, to %s: %.2f s, %.0f MB/s, at most %.0f MB of memory; cat: %.0f MB/s"
+              % (messages, size, name, taken, size / taken, memory, size / cat))
+
+
+report(32767)
+report(65535)
+REPORT
