@@ -54,3 +54,4 @@ pub mod StatementsAgain
 pub mod DatabasesAgain
 pub mod AloneAgain
 pub mod Readable
+pub mod Printed
