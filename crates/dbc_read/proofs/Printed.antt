@@ -5,12 +5,12 @@ use Rattle.std.specs.List.{flat_map}
 use Rattle.dbc_model.specs.Decimals.{IsDecimal}
 use Rattle.dbc_model.specs.Kept.{is_piece, is_string}
 use Rattle.dbc_model.specs.Lexical.{quoted, is_text, is_word, is_name, is_number, is_mark}
-use Rattle.dbc_model.specs.Layout.{Item, Word, Mark, Name, Symbol, Text, Whole, Int, Number, Switch, Muxed, Both, Order, Piece, Element, Space, Tab, LineEnd, Is, Layout, item_text, magnitude_text}
+use Rattle.dbc_model.specs.Layout.{Item, Word, Mark, Name, Symbol, Text, Whole, Int, Number, Switch, Muxed, Both, Order, Piece, Element, Space, Tab, LineEnd, Is, Layout, item_text, layout_text, items_of, magnitude_text}
 use Rattle.dbc_model.specs.Records.{is_symbol}
 use Rattle.dbc_read.specs.declared.token.Kind.{Kind}
 use Rattle.dbc_read.specs.declared.token.Kind.TheVariants as kinds
-use Rattle.dbc_read.specs.Tokens.{Token, IsToken}
-use Rattle.dbc_read.specs.Forms.{Says}
+use Rattle.dbc_read.specs.Tokens.{Token, End, IsToken, HasTokens}
+use Rattle.dbc_read.specs.Forms.{Part, Says, Spelled, ◌▸▸◌}
 
 -- ---- the tokens of an item
 
@@ -103,3 +103,20 @@ abbrev pub stand_apart : Layout → Bool
 stand_apart [] = true
 stand_apart (Is item ∷ layout) = (is_closed item || ends_item layout) && stand_apart layout
 stand_apart (blank ∷ layout) = stand_apart layout
+
+-- the tokens of all its items, in order
+abbrev pub all_lexemes : Layout → List Lexeme
+all_lexemes layout = flat_map lexemes (items_of layout)
+
+-- the text of a layout has the tokens of its items
+pub record LayoutTokens (line : ℕ) (layout : Layout) : Type 0 where
+  pub tokens : List Token
+  pub at : ℕ
+  pub has : HasTokens line (layout_text layout) (tokens ▸▸ End at)
+  pub have : HaveLexemes (all_lexemes layout) tokens
+
+-- ---- what tokens of a layout spell
+
+-- tokens that the items of the layout are printed as spell these parts
+pub record Shows (layout : Layout) (parts : List Part) : Type 0 where
+  pub shows : (tokens : List Token) → HaveLexemes (all_lexemes layout) tokens → Spelled parts tokens
