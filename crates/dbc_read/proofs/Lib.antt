@@ -57,3 +57,4 @@ pub mod Readable
 pub mod Printed
 pub mod Neat
 pub mod NeatStatements
+pub mod Shown
