@@ -58,3 +58,4 @@ pub mod Printed
 pub mod Neat
 pub mod NeatStatements
 pub mod Shown
+pub mod ShownStatements

@@ -24,7 +24,7 @@ use Rattle.dbc_model.specs.declared.definition.Form.TheVariants as forms
 use Rattle.dbc_model.specs.Layout.{Item, Word, Mark, Name, Symbol, Text, Whole, Int, Number, Switch, Muxed, Both, Order, Piece, Space, Tab, LineEnd, Is, Layout, separated}
 use Rattle.dbc_model.specs.CanonicalText.{blank, mark_layout, spaced_mark, number_layout, spaced_number, spaced_text, spaced_name, spaced_word, word_layout, signal_key, line_end, statement_end, spaced_end, version_layout, symbol_layout, symbols_title, symbols_layout, timing_numbers, perhaps_numbers, timing_title, timing_layout, nodes_title, nodes_layout, entry_layout, table_key, table_layout, values_key, values_layout, head_layout, signal_name_layout, tag_layout, sign_mark, place_layout, pair_layout, scale_layout, limits_layout, further_receiver, receivers_layout, signal_layout, message_layout, target_layout, comment_key, comment_layout, object_word, object_layout, number_limits_layout, further_text, texts_layout, form_layout, definition_key, definition_layout, value_layout, default_key, default_layout, attribute_key, attribute_layout, float_key, float_kind, float_layout, range_layout, further_range, ranges_layout, mux_key, mux_layout, piece_layout, kept_layout, front_layout, attributes_layout, rows_layout, database_layout}
 use Rattle.dbc_read.proofs.Printed.{IsItem, is_closed, ends_item, stand_apart}
-use Rattle.dbc_read.proofs.Neat.{Start, Middle, Close, Line, start_then, start_close, middle_both, middle_close, line_both, close_line, middle_none, line_none, middle_each, line_each, middle_separated, spaced, word_start}
+use Rattle.dbc_read.proofs.Neat.{AreItems, Start, Middle, Close, Line, start_then, start_close, middle_both, middle_close, line_both, close_line, middle_none, line_none, middle_each, line_each, middle_separated, spaced, word_start}
 
 -- ---- ends of statements
 
@@ -72,7 +72,7 @@ key_part number name is = middle_both (spaced (Whole number) tt) (spaced (Name n
 
 -- ---- version, symbols, bit timing, nodes
 
-version_neat : (version : List ℕ) → IsText version → Line (version_layout version)
+pub version_neat : (version : List ℕ) → IsText version → Line (version_layout version)
 unfolding version_layout
 version_neat version is = record { items = (refl, (is, tt)); apart = λ rest apart. apart }
 
@@ -84,7 +84,7 @@ title_neat : Line symbols_title
 unfolding symbols_title
 title_neat = record { items = (refl, (refl, tt)); apart = λ rest apart. apart }
 
-symbols_neat : (symbols : List (List ℕ)) → All IsSymbol symbols → Line (symbols_layout symbols)
+pub symbols_neat : (symbols : List (List ℕ)) → All IsSymbol symbols → Line (symbols_layout symbols)
 unfolding symbols_layout
 symbols_neat symbols are = line_both title_neat (line_each IsSymbol symbol_layout symbol_neat symbols are)
 
@@ -104,7 +104,7 @@ unfolding perhaps_numbers
 perhaps_neat None is = middle_none
 perhaps_neat (Some numbers) is = numbers_neat numbers is.numbers
 
-timing_title_neat : Line timing_title
+pub timing_title_neat : Line timing_title
 unfolding timing_title
 timing_title_neat = record { items = (refl, (refl, tt)); apart = λ rest apart. apart }
 
@@ -116,7 +116,7 @@ nodes_title_neat : Line nodes_title
 unfolding nodes_title
 nodes_title_neat = record { items = (refl, (refl, tt)); apart = λ rest apart. apart }
 
-nodes_neat : (nodes : List (List ℕ)) → All IsName nodes → Line (nodes_layout nodes)
+pub nodes_neat : (nodes : List (List ℕ)) → All IsName nodes → Line (nodes_layout nodes)
 unfolding nodes_layout
 nodes_neat nodes are = line_both nodes_title_neat (close_line (middle_close (middle_each IsName spaced_name name_part nodes are) end_closes))
 
@@ -126,11 +126,11 @@ entry_neat : (entry : Entry) → IsEntry entry → Middle (entry_layout entry)
 unfolding entry_layout
 entry_neat entry is = middle_both (spaced (Int entry.number) tt) (spaced (Text entry.text) is.text)
 
-table_neat : (row : TableRow) → IsTableRow row → Line (table_layout row)
+pub table_neat : (row : TableRow) → IsTableRow row → Line (table_layout row)
 unfolding table_layout table_key
 table_neat row is = start_close (start_then (start (codes "VAL_TABLE_") refl) (name_part row.name is.name)) (middle_close (middle_each IsEntry entry_layout entry_neat row.entries is.entries) spaced_closes)
 
-values_neat : (row : ValueRow) → IsValueRow row → Line (values_layout row)
+pub values_neat : (row : ValueRow) → IsValueRow row → Line (values_layout row)
 unfolding values_layout values_key
 values_neat row is = start_close (start_then (start (codes "VAL_") refl) (key_part row.number row.signal is.signal)) (middle_close (middle_each IsEntry entry_layout entry_neat row.entries is.entries) spaced_closes)
 
@@ -138,9 +138,13 @@ float_part : (row : FloatRow) → Middle (float_kind row)
 unfolding float_kind
 float_part row = middle_both (spaced (Mark 58) refl) (spaced (Whole row.kind) tt)
 
+pub float_key_part : (row : FloatRow) → IsFloatRow row → Start (float_key row)
+unfolding float_key
+float_key_part row is = start_then (start (codes "SIG_VALTYPE_") refl) (key_part row.number row.signal is.signal)
+
 float_neat : (row : FloatRow) → IsFloatRow row → Line (float_layout row)
-unfolding float_layout float_key
-float_neat row is = start_close (start_then (start (codes "SIG_VALTYPE_") refl) (key_part row.number row.signal is.signal)) (middle_close (float_part row) statement_closes)
+unfolding float_layout
+float_neat row is = start_close (float_key_part row is) (middle_close (float_part row) statement_closes)
 
 range_part : (range : Range) → IsRange range → Middle (range_layout range)
 unfolding range_layout
@@ -158,7 +162,7 @@ further_part range is = record {
   apart = λ rest ends apart. (spaced (Whole range.last) tt).apart rest ends apart;
 }
 
-mux_neat : (row : MuxRow) → IsMuxRow row → Line (mux_layout row)
+pub mux_neat : (row : MuxRow) → IsMuxRow row → Line (mux_layout row)
 unfolding mux_layout mux_key ranges_layout
 mux_neat row is =
     start_close (start_then (start (codes "SG_MUL_VAL_") refl) (key_part row.number row.signal is.signal))
@@ -166,7 +170,7 @@ mux_neat row is =
 
 -- ---- messages and signals
 
-head_neat : (head : Head) → IsHead head → Line (head_layout head)
+pub head_neat : (head : Head) → IsHead head → Line (head_layout head)
 unfolding head_layout
 head_neat head is = record { items = (refl, (tt, (is.name, (refl, (tt, (is.sender, tt)))))); apart = λ rest apart. apart }
 
@@ -214,6 +218,11 @@ receivers_part : (names : List (List ℕ)) → All IsName names → Middle (rece
 unfolding receivers_layout
 receivers_part names are = middle_separated IsName spaced_name further_receiver name_part receiver_part names are
 
+pub signal_front_items : (signal : Signal) → IsSignal signal
+    → AreItems (signal_name_layout signal ++ (tag_layout signal.tag ++ (place_layout signal ++ (scale_layout signal ++ (limits_layout signal ++ spaced_text signal.unit)))))
+signal_front_items signal is =
+    (middle_both (signal_name_part signal is.name) (middle_both (tag_part signal.tag) (middle_both (place_part signal) (middle_both (scale_part signal is) (middle_both (limits_part signal is) (text_part signal.unit is.unit)))))).items
+
 signal_neat : (signal : Signal) → IsSignal signal → Line (signal_layout signal)
 unfolding signal_layout
 signal_neat signal is =
@@ -233,7 +242,7 @@ target_part (targets.Node name) is = middle_both (spaced (Word (codes "BU_")) re
 target_part (targets.Message number) is = middle_both (spaced (Word (codes "BO_")) refl) (spaced (Whole number) tt)
 target_part (targets.Signal number name) is = middle_both (spaced (Word (codes "SG_")) refl) (middle_both (spaced (Whole number) tt) (spaced (Name name) is.1))
 
-comment_neat : (comment : Comment) → IsComment comment → Line (comment_layout comment)
+pub comment_neat : (comment : Comment) → IsComment comment → Line (comment_layout comment)
 unfolding comment_layout comment_key
 comment_neat comment is = start_close (start_then (start (codes "CM_") refl) (target_part comment.target is.target)) (middle_close (text_part comment.text is.text) statement_closes)
 
@@ -266,7 +275,7 @@ form_part (forms.Float limits) is = middle_both (word_part (codes "FLOAT") refl)
 form_part forms.Str is = word_part (codes "STRING") refl
 form_part (forms.Enumeration texts) is = middle_both (word_part (codes "ENUM") refl) (texts_part texts is)
 
-definition_neat : (definition : AttrDef) → IsAttrDef definition → Line (definition_layout definition)
+pub definition_neat : (definition : AttrDef) → IsAttrDef definition → Line (definition_layout definition)
 unfolding definition_layout definition_key
 definition_neat definition is =
     start_close (start_then (start (codes "BA_DEF_") refl) (middle_both (object_part definition.object) (text_part definition.name is.name))) (middle_close (form_part definition.form is.form) statement_closes)
@@ -276,11 +285,11 @@ unfolding value_layout
 value_part (values.Text text) is = text_part text is
 value_part (values.Decimal number) is = number_part number is
 
-default_neat : (row : AttrDefault) → IsAttrDefault row → Line (default_layout row)
+pub default_neat : (row : AttrDefault) → IsAttrDefault row → Line (default_layout row)
 unfolding default_layout default_key
 default_neat row is = start_close (start_then (start (codes "BA_DEF_DEF_") refl) (text_part row.name is.name)) (middle_close (value_part row.value is.value) statement_closes)
 
-attribute_neat : (row : AttrRow) → IsAttrRow row → Line (attribute_layout row)
+pub attribute_neat : (row : AttrRow) → IsAttrRow row → Line (attribute_layout row)
 unfolding attribute_layout attribute_key
 attribute_neat row is = start_close (start_then (start (codes "BA_") refl) (middle_both (text_part row.name is.name) (target_part row.target is.target))) (middle_close (value_part row.value is.value) statement_closes)
 
@@ -290,7 +299,7 @@ piece_neat : (bytes : List ℕ) → IsPiece bytes → Line (piece_layout bytes)
 unfolding piece_layout
 piece_neat bytes is = record { items = (is, tt); apart = λ rest apart. apart }
 
-kept_neat : (statement : Kept) → IsKept statement → Line (kept_layout statement)
+pub kept_neat : (statement : Kept) → IsKept statement → Line (kept_layout statement)
 unfolding kept_layout
 kept_neat statement is = line_both (line_each IsPiece piece_layout piece_neat statement.tokens is.tokens) (close_line statement_closes)
 
