@@ -59,3 +59,4 @@ pub mod Neat
 pub mod NeatStatements
 pub mod Shown
 pub mod ShownStatements
+pub mod Canonical
