@@ -55,3 +55,4 @@ pub mod DatabasesAgain
 pub mod AloneAgain
 pub mod Readable
 pub mod Printed
+pub mod DigitsPrinted
