@@ -25,7 +25,7 @@ all_of_values : (digits : List ℕ) → AllDigits 10 digits → list_all is_digi
 all_of_values [] all = refl
 all_of_values (c ∷ digits) all = and_from _ _ (digit_of_value c all.0) (all_of_values digits all.1)
 
-digits_from_all : (digits : List ℕ) → 0 < length digits → list_all is_digit digits ≡ true → is_digits digits ≡ true
+pub digits_from_all : (digits : List ℕ) → 0 < length digits → list_all is_digit digits ≡ true → is_digits digits ≡ true
 digits_from_all [] some all = absurd (omega arith)
 digits_from_all (c ∷ digits) some all = all
 

@@ -56,3 +56,4 @@ pub mod AloneAgain
 pub mod Readable
 pub mod Printed
 pub mod DigitsPrinted
+pub mod DecimalsPrinted

@@ -114,7 +114,7 @@ mantissa_parts m h = by (split_of is_point m)
         let same : b ≡ point = grind (arith, nat_tests) in
         (u, v, rw halves.before at three.0, rw halves.after at three.1, some_of u b v is any, inl (whole ∙ ap (λ (c : ℕ). u ++ c ∷ v) same))
 
-digits_parts : (digits : List ℕ) → is_digits digits ≡ true → (0 < length digits) × (list_all is_digit digits ≡ true)
+pub digits_parts : (digits : List ℕ) → is_digits digits ≡ true → (0 < length digits) × (list_all is_digit digits ≡ true)
 digits_parts [] h = absurd cc
 digits_parts (b ∷ digits) h = (omega arith, h)
 
