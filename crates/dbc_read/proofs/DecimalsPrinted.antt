@@ -161,3 +161,99 @@ reads_filled n behind short =
     enough : (behind n whole : ℕ) → whole ≡ behind + 1 - n + n → behind < whole
     enough behind n whole same = omega (arith, same)
 
+-- a sign and digits
+signed_plain : (digits : List ℕ) → is_digits digits ≡ true → signed_digits_value 10 digits ≡ pos (digits_value 10 digits)
+signed_plain [] are = absurd cc
+signed_plain (c ∷ digits) are = let first = (and_parts (is_digit c) (list_all is_digit digits) are).0 in rw (no_minus c first, no_plus c first) refl
+  where
+    no_minus : (c : ℕ) → is_digit c ≡ true → (c == 45) ≡ false
+    no_minus c is = grind (arith, nat_tests)
+
+    no_plus : (c : ℕ) → is_digit c ≡ true → (c == 43) ≡ false
+    no_plus c is = grind (arith, nat_tests)
+
+less_none : (e : ℤ) → (e -ℤ pos 0) ≡ e
+less_none e = omega (arith, ints)
+
+-- an exponent as it is printed
+abbrev IsShortExponent : ℤ → Type 0
+IsShortExponent (pos k) = k < 10 ^ 64
+IsShortExponent (negsuc k) = suc k < 10 ^ 64
+
+reads_exponent : (n : ℕ) (e : ℤ) → n < 10 ^ 64 → IsShortExponent e → Reads (with_exponent (decimal n) e) n e
+reads_exponent n (pos k) short near =
+    let number = reads_powered (decimal n) [] (decimal k) (digits_decimal n short) (refl, [], decimal k, refl, tt, some_decimal k near, all_decimal k near) in
+    let value : signed_digits_value 10 (decimal k) ≡ pos k = signed_plain (decimal k) (digits_decimal k near) ∙ ap pos (value_decimal k near) in
+    record { form = number.form; mantissa = number.mantissa ∙ value_decimal n short; exponent = number.exponent ∙ less_none (signed_digits_value 10 (decimal k)) ∙ value }
+reads_exponent n (negsuc k) short near =
+    let number = reads_powered (decimal n) (45 ∷ []) (decimal (suc k)) (digits_decimal n short) (refl, 45 ∷ [], decimal (suc k), refl, refl, some_decimal (suc k) near, all_decimal (suc k) near) in
+    let value : signed_digits_value 10 (45 ∷ decimal (suc k)) ≡ negsuc k = ap (λ (m : ℕ). neg_ℤ (pos m)) (value_decimal (suc k) near) in
+    record { form = number.form; mantissa = number.mantissa ∙ value_decimal n short; exponent = number.exponent ∙ less_none (signed_digits_value 10 (45 ∷ decimal (suc k))) ∙ value }
+
+-- ---- decimals
+
+-- the bounds of a decimal, also of zero
+short_mantissa : (d : Decimal) → IsDecimal d → d.mantissa < 10 ^ 64
+short_mantissa d is = elim (cases_eq d.mantissa 0) [
+  | inl none ↦ omega (arith, none)
+  | inr some ↦ (let bounds = bounds_of d.negative d.mantissa d.exponent some is.fits in omega (arith, bounds.digits))
+]
+
+near : (negative : Bool) (mantissa : ℕ) (exponent : ℤ) → IsTrue (decimal_fits negative mantissa exponent) → ((pos 0 -ℤ pos 400) ≤ℤ exponent) × (exponent ≤ℤ pos 400)
+unfolding decimal_fits
+near negative mantissa exponent fits = elim (cases_eq mantissa 0) [
+  | inl none ↦
+      let parts : (not negative && int_eq exponent (pos 0)) ≡ true = rw (eq-eqb mantissa 0 none) at fits in
+      let at_zero : exponent ≡ pos 0 = (Decides-int_eq exponent (pos 0)).0 (and_parts (not negative) (int_eq exponent (pos 0)) parts).1 in
+      (omega (arith, ints, at_zero), omega (arith, ints, at_zero))
+  | inr some ↦ (let bounds = bounds_of negative mantissa exponent some fits in (bounds.least, bounds.greatest))
+]
+
+short_exponent : (exponent : ℤ) → (pos 0 -ℤ pos 400) ≤ℤ exponent → exponent ≤ℤ pos 400 → IsShortExponent exponent
+short_exponent (pos k) least most = omega (arith, ints, most)
+short_exponent (negsuc k) least most = omega (arith, ints, least)
+
+spells : (text : List ℕ) (d : Decimal) (m : ℕ) (e : ℤ) → IsDecimal d → Reads text m e → HasValue d.negative m e d → SpellsDecimal d.negative text d
+spells text d m e is number value = record {
+  form = number.form;
+  is = record {
+    fits = is.fits;
+    value = subst (λ (k : ℕ). HasValue d.negative k (exponent_of text) d) (sym number.mantissa) (subst (λ (z : ℤ). HasValue d.negative m z d) (sym number.exponent) value);
+  };
+}
+
+either : (P : List ℕ → Type 0) (b : Bool) (x y : List ℕ) → P x → P y → P (cond b x y)
+either P true x y p q = p
+either P false x y p q = q
+
+same_value : (d : Decimal) (e : ℤ) → d.exponent ≡ e → HasValue d.negative d.mantissa e d
+same_value d e at = inr (0, sym (tens_none d.mantissa), at ∙ added_none e, refl)
+  where
+    added_none : (e : ℤ) → e ≡ (e +ℤ pos 0)
+    added_none e = omega (arith, ints)
+
+magnitude_at : (d : Decimal) (e : ℤ) → d.exponent ≡ e → IsDecimal d → IsShortExponent e → SpellsDecimal d.negative (magnitude_text (decimal d.mantissa) e) d
+unfolding magnitude_text
+magnitude_at d (pos count) at is small =
+    let short = short_mantissa d is in
+    let digits = decimal d.mantissa in
+    either (λ (text : List ℕ). SpellsDecimal d.negative text d) (nat_le (length digits + count) plain_digits) (digits ++ zeros count) (with_exponent digits (pos count))
+      (spells (digits ++ zeros count) d (d.mantissa * 10 ^ count) (pos 0) is (reads_whole d.mantissa count short) (inr (count, refl, at ∙ none_added count, refl)))
+      (spells (with_exponent digits (pos count)) d d.mantissa (pos count) is (reads_exponent d.mantissa (pos count) short small) (same_value d (pos count) at))
+  where
+    none_added : (count : ℕ) → pos count ≡ (pos 0 +ℤ pos count)
+    none_added count = omega (arith, ints)
+magnitude_at d (negsuc k) at is small =
+    let short = short_mantissa d is in
+    let digits = decimal d.mantissa in
+    either (λ (text : List ℕ). SpellsDecimal d.negative text d) (nat_le (suc k) plain_digits && nat_le (length digits) (plain_digits + suc k)) (point_before_last (suc k) (filled (suc k) digits)) (with_exponent digits (negsuc k))
+      (spells (point_before_last (suc k) (filled (suc k) digits)) d d.mantissa (pos 0 -ℤ pos (suc k)) is (reads_filled d.mantissa (suc k) short) (same_value d (pos 0 -ℤ pos (suc k)) (at ∙ below k)))
+      (spells (with_exponent digits (negsuc k)) d d.mantissa (negsuc k) is (reads_exponent d.mantissa (negsuc k) short small) (same_value d (negsuc k) at))
+  where
+    below : (k : ℕ) → negsuc k ≡ (pos 0 -ℤ pos (suc k))
+    below k = omega (arith, ints)
+
+pub magnitude_spells : (d : Decimal) → IsDecimal d → SpellsDecimal d.negative (magnitude_text (decimal d.mantissa) d.exponent) d
+magnitude_spells d is =
+    let bounds = near d.negative d.mantissa d.exponent is.fits in
+    magnitude_at d d.exponent refl is (short_exponent d.exponent bounds.0 bounds.1)

@@ -57,3 +57,4 @@ pub mod Readable
 pub mod Printed
 pub mod DigitsPrinted
 pub mod DecimalsPrinted
+pub mod ItemsPrinted
