@@ -1,17 +1,15 @@
 -- What a decimal is printed as spells it: digits and zeros, digits around a point, or digits and an exponent.
-use Rattle.std.proofs.Common.{◌≡◌, ◌≢◌, ℕ, zero, suc, ◌+◌, ◌-◌, ◌*◌, ◌<◌, ◌≤◌, ◌^◌, ℤ, pos, negsuc, ◌+ℤ◌, ◌-ℤ◌, ◌≤ℤ◌, Bool, true, false, cond, not, ◌&&◌, List, [], ◌∷◌, ◌++◌, length, take, drop, length-append, refl, sym, ap, subst, ◌∙◌, append-nil, arith, inl, inr}
-use Rattle.std.specs.Prelude.{codes, decimal, IsTrue, nat_le}
-use Rattle.std.specs.Fmt.{signed_decimal}
+use Rattle.std.proofs.Common.{◌≡◌, ℕ, zero, suc, ◌+◌, ◌-◌, ◌*◌, ◌<◌, ◌^◌, ℤ, pos, negsuc, ◌+ℤ◌, ◌-ℤ◌, ◌≤ℤ◌, Bool, true, false, cond, not, ◌&&◌, List, [], ◌∷◌, ◌++◌, length, take, drop, length-append, refl, sym, ap, subst, ◌∙◌, append-nil, arith, inl, inr}
+use Rattle.std.specs.Prelude.{decimal, IsTrue, nat_le}
 use Rattle.std.specs.List.{list_all, before_first, after_first}
 use Rattle.std.specs.Ordering.{int_eq}
 use Rattle.std.specs.Str.Parse.{digits_value, digits_value_after, signed_digits_value}
-use Rattle.std.proofs.Math.Nat.{zero-mul}
-use Rattle.std.proofs.lemmas.Bool.{and_parts, and_from, cases_Bool, cases_eq, eq-eqb, leb-true}
+use Rattle.std.proofs.lemmas.Bool.{and_parts, and_from, cases_eq, eq-eqb}
 use Rattle.std.proofs.lemmas.Bool.Decides.{Decides-int_eq, nat_tests}
 use Rattle.std.proofs.lemmas.Int.{ints}
 use Rattle.std.specs.Prelude.{neg_ℤ, ◌==◌}
 use Rattle.std.proofs.lemmas.List.{length-drop, take-append-drop, length-replicate}
-use Rattle.dbc_model.specs.Lexical.{point, is_digit, is_digits, is_signed_digits, is_point, is_exponent_mark, is_number}
+use Rattle.dbc_model.specs.Lexical.{point, is_digit, is_digits, is_point, is_exponent_mark, is_number}
 use Rattle.dbc_model.specs.Numbers.{mantissa_of, exponent_of}
 use Rattle.dbc_model.specs.Decimals.{Decimal, IsDecimal, HasValue, SpellsDecimal, decimal_fits}
 use Rattle.dbc_model.specs.Layout.{zeros, filled, point_before_last, with_exponent, magnitude_text, plain_digits}
@@ -238,8 +236,8 @@ magnitude_at d (pos count) at is small =
     let short = short_mantissa d is in
     let digits = decimal d.mantissa in
     either (λ (text : List ℕ). SpellsDecimal d.negative text d) (nat_le (length digits + count) plain_digits) (digits ++ zeros count) (with_exponent digits (pos count))
-      (spells (digits ++ zeros count) d (d.mantissa * 10 ^ count) (pos 0) is (reads_whole d.mantissa count short) (inr (count, refl, at ∙ none_added count, refl)))
-      (spells (with_exponent digits (pos count)) d d.mantissa (pos count) is (reads_exponent d.mantissa (pos count) short small) (same_value d (pos count) at))
+    (spells (digits ++ zeros count) d (d.mantissa * 10 ^ count) (pos 0) is (reads_whole d.mantissa count short) (inr (count, refl, at ∙ none_added count, refl)))
+    (spells (with_exponent digits (pos count)) d d.mantissa (pos count) is (reads_exponent d.mantissa (pos count) short small) (same_value d (pos count) at))
   where
     none_added : (count : ℕ) → pos count ≡ (pos 0 +ℤ pos count)
     none_added count = omega (arith, ints)
@@ -247,8 +245,8 @@ magnitude_at d (negsuc k) at is small =
     let short = short_mantissa d is in
     let digits = decimal d.mantissa in
     either (λ (text : List ℕ). SpellsDecimal d.negative text d) (nat_le (suc k) plain_digits && nat_le (length digits) (plain_digits + suc k)) (point_before_last (suc k) (filled (suc k) digits)) (with_exponent digits (negsuc k))
-      (spells (point_before_last (suc k) (filled (suc k) digits)) d d.mantissa (pos 0 -ℤ pos (suc k)) is (reads_filled d.mantissa (suc k) short) (same_value d (pos 0 -ℤ pos (suc k)) (at ∙ below k)))
-      (spells (with_exponent digits (negsuc k)) d d.mantissa (negsuc k) is (reads_exponent d.mantissa (negsuc k) short small) (same_value d (negsuc k) at))
+    (spells (point_before_last (suc k) (filled (suc k) digits)) d d.mantissa (pos 0 -ℤ pos (suc k)) is (reads_filled d.mantissa (suc k) short) (same_value d (pos 0 -ℤ pos (suc k)) (at ∙ below k)))
+    (spells (with_exponent digits (negsuc k)) d d.mantissa (negsuc k) is (reads_exponent d.mantissa (negsuc k) short small) (same_value d (negsuc k) at))
   where
     below : (k : ℕ) → negsuc k ≡ (pos 0 -ℤ pos (suc k))
     below k = omega (arith, ints)

@@ -1,13 +1,11 @@
 -- Each item is printed as tokens that say it.
-use Rattle.std.proofs.Common.{◌≡◌, ℕ, suc, ◌<◌, ◌^◌, ℤ, pos, negsuc, Bool, true, false, cond, ◌||◌, ◌&&◌, List, [], ◌∷◌, ◌++◌, length, refl, sym, ap, subst, ◌∙◌, append-nil, arith, inl, inr}
+use Rattle.std.proofs.Common.{◌≡◌, ℕ, suc, ◌<◌, ◌^◌, ℤ, pos, negsuc, Bool, true, false, cond, ◌||◌, ◌&&◌, List, [], ◌∷◌, ◌++◌, length, refl, sym, ap, subst, ◌∙◌, append-nil, arith, inl}
 use Rattle.std.specs.Prelude.{codes, decimal, IsTrue, not, ◌==◌}
-use Rattle.std.specs.List.{flat_map, list_all}
-use Rattle.std.specs.Fmt.{signed_decimal}
+use Rattle.std.specs.List.{flat_map}
 use Rattle.std.proofs.lemmas.Bool.{and_parts, eqb-true}
 use Rattle.std.proofs.lemmas.Slice.Eq.{bytes_eq-Decides}
 use Rattle.std.specs.Str.{bytes_eq}
 use Rattle.dbc_model.specs.Decimals.{Decimal, IsDecimal, SpellsDecimal}
-use Rattle.dbc_model.specs.Numbers.{IsWholeNumber}
 use Rattle.dbc_model.specs.Kept.{is_piece, is_string, is_mark_but_semicolon, inside}
 use Rattle.dbc_model.specs.Lexical.{quoted, is_text, is_word, is_name, is_number, is_mark, is_keyword}
 use Rattle.dbc_model.specs.Layout.{Item, Word, Mark, Name, Symbol, Text, Whole, Int, Number, Switch, Muxed, Both, Order, Piece, item_text, magnitude_text, sign_text, decimal_text}
@@ -17,7 +15,7 @@ use Rattle.dbc_read.specs.declared.token.Kind.TheVariants as kinds
 use Rattle.dbc_read.specs.Tokens.{Token, IsToken}
 use Rattle.dbc_read.specs.Forms.{Says, IsOne, IsSigned, SpellsNumber, SpellsTag, signed}
 use Rattle.dbc_read.proofs.Printed.{Lexeme, lexeme, sign_lexemes, kind_of_piece, lexemes, AreTokens, HaveLexemes, Printed, IsItem}
-use Rattle.dbc_read.proofs.DigitsPrinted.{digits_decimal, decimal_spells, tag_spells, tag_is_word}
+use Rattle.dbc_read.proofs.DigitsPrinted.{decimal_spells, tag_spells, tag_is_word}
 use Rattle.dbc_read.proofs.DecimalsPrinted.{magnitude_spells}
 use Rattle.dbc_read.proofs.TagsAgain.{spells_digits}
 
@@ -116,7 +114,6 @@ piece_token bytes is = by_kind (is_string bytes) (is_word bytes) (is_number byte
 -- ---- all items
 
 order_spells : (intel : Bool) → SpellsNumber (cond intel (codes "1") (codes "0")) (cond intel 1 0)
-unfolding IsWholeNumber
 order_spells true = spells_digits (codes "1") refl
 order_spells false = spells_digits (codes "0") refl
 
@@ -144,11 +141,11 @@ printed Switch is short = one_printed Switch kinds.Word (codes "M") (λ bytes. b
 printed (Muxed n) is short =
     let alone : codes "m" ++ (decimal n ++ []) ≡ codes "m" ++ decimal n = ap (λ (digits : List ℕ). codes "m" ++ digits) (append-nil (decimal n)) in
     one_printed (Muxed n) kinds.Word (codes "m" ++ decimal n) (λ bytes. SpellsTag bytes n []) refl refl
-      (subst (λ (bytes : List ℕ). is_word bytes ≡ true) alone (tag_is_word n [] short refl)) (λ tokens says. says)
-      (subst (λ (bytes : List ℕ). SpellsTag bytes n []) alone (tag_spells n [] short))
+    (subst (λ (bytes : List ℕ). is_word bytes ≡ true) alone (tag_is_word n [] short refl)) (λ tokens says. says)
+    (subst (λ (bytes : List ℕ). SpellsTag bytes n []) alone (tag_spells n [] short))
 printed (Both n) is short =
     one_printed (Both n) kinds.Word (codes "m" ++ (decimal n ++ codes "M")) (λ bytes. SpellsTag bytes n (codes "M")) refl refl
-      (tag_is_word n (codes "M") short refl) (λ tokens says. says) (tag_spells n (codes "M") short)
+    (tag_is_word n (codes "M") short refl) (λ tokens says. says) (tag_spells n (codes "M") short)
 printed (Order intel) is short =
     let spelled = order_spells intel in
     one_printed (Order intel) kinds.Number (cond intel (codes "1") (codes "0")) (λ bytes. SpellsNumber bytes (cond intel 1 0)) refl refl spelled.0 (λ tokens says. says) spelled
