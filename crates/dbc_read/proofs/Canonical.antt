@@ -188,4 +188,4 @@ pub canonical_gathers : (d : Database) → IsDatabase d → d ≡ gather (Some d
 canonical_gathers d is = sym (
     sym (gather_timed (Some d.version) (Symbols d.symbols ∷ []) (Nodes d.nodes ∷ canonical_rows d) (three d.bit_timing) d.bit_timing refl (rows_untimed d) (timing_kept d.bit_timing is.bit_timing))
     ∙ sym (joined_twice (first d) (Nodes d.nodes ∷ []) (canonical_rows d)) ∙ rows_joined (joined (first d) (Nodes d.nodes ∷ [])) d
-    ∙ rw (append-nil d.nodes) (ap (λ (l : List (List ℕ)). record d { symbols = l }) (append-nil d.symbols)))
+    ∙ rw (append-nil d.symbols, append-nil d.symbols, append-nil d.nodes) refl)

@@ -60,3 +60,6 @@ pub mod NeatStatements
 pub mod Shown
 pub mod ShownStatements
 pub mod Canonical
+pub mod DigitsPrinted
+pub mod DecimalsPrinted
+pub mod ItemsPrinted

@@ -1,12 +1,15 @@
 -- In the canonical text of a database each item stands apart from what stands behind it.
-use Rattle.std.proofs.Common.{◌≡◌, ℕ, Bool, true, false, ◌||◌, ◌&&◌, List, [], ◌∷◌, ◌++◌, Option, Some, None, refl, sym, ap, subst, ◌∙◌}
-use Rattle.std.specs.Prelude.{codes, All, IsTrue, IfSome}
+use Rattle.std.proofs.Common.{◌≡◌, ℕ, ◌<◌, ◌≤◌, ◌^◌, ◌-◌, ℤ, pos, negsuc, ◌≤ℤ◌, arith, Bool, true, false, ◌||◌, ◌&&◌, List, [], ◌∷◌, ◌++◌, Option, Some, None, refl, sym, ap, subst, ◌∙◌}
+use Rattle.std.specs.Prelude.{codes, nat_le, int_le, All, IsTrue, IfSome}
 use Rattle.std.specs.List.{flat_map}
+use Rattle.std.proofs.lemmas.Bool.{and_parts}
+use Rattle.std.proofs.lemmas.Grind.{common_steps}
+use Rattle.std.proofs.lemmas.Int.{ints}
 use Rattle.std.proofs.lemmas.List.Elements.{All-head, All-tail}
 use Rattle.dbc_model.specs.Databases.{Database, IsDatabase, IsBitTiming}
 use Rattle.dbc_model.specs.Decimals.{Decimal, IsDecimal}
 use Rattle.dbc_model.specs.Kept.{Kept, IsKept, IsPiece}
-use Rattle.dbc_model.specs.Records.{IsName, IsText, IsSymbol, is_symbol, Head, IsHead, Signal, IsSignal, Message, IsMessage, Entry, IsEntry, TableRow, IsTableRow, ValueRow, IsValueRow, FloatRow, IsFloatRow, MuxRow, IsMuxRow, IsRange}
+use Rattle.dbc_model.specs.Records.{IsNumber, IsTag, entry_fits, IsName, IsText, IsSymbol, is_symbol, Head, IsHead, Signal, IsSignal, Message, IsMessage, Entry, IsEntry, TableRow, IsTableRow, ValueRow, IsValueRow, FloatRow, IsFloatRow, MuxRow, IsMuxRow, IsRange}
 use Rattle.dbc_model.specs.Comments.{Comment, IsComment, IsTarget}
 use Rattle.dbc_model.specs.Attributes.{AttrDef, IsAttrDef, IsForm, IsLimits, AttrDefault, IsAttrDefault, AttrRow, IsAttrRow, IsAttrValue}
 use Rattle.dbc_model.specs.declared.tag.Tag.{Tag}
@@ -66,9 +69,36 @@ start : (word : List ℕ) → IsItem (Word word) → Start (word_layout word)
 unfolding word_layout
 start word is = word_start word is
 
-key_part : (number : ℕ) (name : List ℕ) → IsName name → Middle (signal_key number name)
+-- the bounds of numbers are below those of what is printed
+number_small : (n : ℕ) → n < 2 ^ 32 → IsItem (Whole n)
+number_small n h = omega (arith, h)
+
+within_ints : (a b : ℤ) → int_le a b ≡ true → a ≤ℤ b
+within_ints a b h = grind (arith, ints)
+
+entry_item : (z : ℤ) → IsTrue (entry_fits z) → IsItem (Int z)
+entry_item (pos n) fits =
+    let most = within_ints (pos n) (pos (2 ^ 64 - 1)) (and_parts (int_le (negsuc (2 ^ 63 - 1)) (pos n)) (int_le (pos n) (pos (2 ^ 64 - 1))) fits).1 in
+    omega (arith, ints, most)
+entry_item (negsuc n) fits =
+    let least = within_ints (negsuc (2 ^ 63 - 1)) (negsuc n) (and_parts (int_le (negsuc (2 ^ 63 - 1)) (negsuc n)) (int_le (negsuc n) (pos (2 ^ 64 - 1))) fits).0 in
+    omega (arith, ints, least)
+
+start_small : (n : ℕ) → n < 2 ^ 16 → IsItem (Whole n)
+start_small n h = omega (arith, h)
+
+length_small : (n : ℕ) → (nat_le 1 n && nat_le n 14280) ≡ true → IsItem (Whole n)
+length_small n h = let most : n ≤ 14280 = grind (arith, common_steps) in omega (arith, most)
+
+size_small : (n : ℕ) → nat_le n 1785 ≡ true → IsItem (Whole n)
+size_small n h = let most : n ≤ 1785 = grind (arith, common_steps) in omega (arith, most)
+
+pub kind_small : (n : ℕ) → nat_le n 2 ≡ true → IsItem (Whole n)
+kind_small n h = let most : n ≤ 2 = grind (arith, common_steps) in omega (arith, most)
+
+key_part : (number : ℕ) (name : List ℕ) → IsNumber number → IsName name → Middle (signal_key number name)
 unfolding signal_key
-key_part number name is = middle_both (spaced (Whole number) tt) (spaced (Name name) is)
+key_part number name small is = middle_both (spaced (Whole number) (number_small number small)) (spaced (Name name) is)
 
 -- ---- version, symbols, bit timing, nodes
 
@@ -124,7 +154,7 @@ nodes_neat nodes are = line_both nodes_title_neat (close_line (middle_close (mid
 
 entry_neat : (entry : Entry) → IsEntry entry → Middle (entry_layout entry)
 unfolding entry_layout
-entry_neat entry is = middle_both (spaced (Int entry.number) tt) (spaced (Text entry.text) is.text)
+entry_neat entry is = middle_both (spaced (Int entry.number) (entry_item entry.number is.fits)) (spaced (Text entry.text) is.text)
 
 pub table_neat : (row : TableRow) → IsTableRow row → Line (table_layout row)
 unfolding table_layout table_key
@@ -132,67 +162,67 @@ table_neat row is = start_close (start_then (start (codes "VAL_TABLE_") refl) (n
 
 pub values_neat : (row : ValueRow) → IsValueRow row → Line (values_layout row)
 unfolding values_layout values_key
-values_neat row is = start_close (start_then (start (codes "VAL_") refl) (key_part row.number row.signal is.signal)) (middle_close (middle_each IsEntry entry_layout entry_neat row.entries is.entries) spaced_closes)
+values_neat row is = start_close (start_then (start (codes "VAL_") refl) (key_part row.number row.signal is.number is.signal)) (middle_close (middle_each IsEntry entry_layout entry_neat row.entries is.entries) spaced_closes)
 
-float_part : (row : FloatRow) → Middle (float_kind row)
+float_part : (row : FloatRow) → IsFloatRow row → Middle (float_kind row)
 unfolding float_kind
-float_part row = middle_both (spaced (Mark 58) refl) (spaced (Whole row.kind) tt)
+float_part row is = middle_both (spaced (Mark 58) refl) (spaced (Whole row.kind) (kind_small row.kind is.fits))
 
 pub float_key_part : (row : FloatRow) → IsFloatRow row → Start (float_key row)
 unfolding float_key
-float_key_part row is = start_then (start (codes "SIG_VALTYPE_") refl) (key_part row.number row.signal is.signal)
+float_key_part row is = start_then (start (codes "SIG_VALTYPE_") refl) (key_part row.number row.signal is.number is.signal)
 
 float_neat : (row : FloatRow) → IsFloatRow row → Line (float_layout row)
 unfolding float_layout
-float_neat row is = start_close (float_key_part row is) (middle_close (float_part row) statement_closes)
+float_neat row is = start_close (float_key_part row is) (middle_close (float_part row is) statement_closes)
 
 range_part : (range : Range) → IsRange range → Middle (range_layout range)
 unfolding range_layout
 range_part range is = record {
-  items = (tt, (refl, (tt, tt)));
+  items = (is.first, (refl, (is.last, tt)));
   begins = λ rest ends. refl;
-  apart = λ rest ends apart. (spaced (Whole range.last) tt).apart rest ends apart;
+  apart = λ rest ends apart. (spaced (Whole range.last) is.last).apart rest ends apart;
 }
 
 further_part : (range : Range) → IsRange range → Middle (further_range range)
 unfolding further_range
 further_part range is = record {
-  items = (refl, (tt, (refl, (tt, tt))));
+  items = (refl, (is.first, (refl, (is.last, tt))));
   begins = λ rest ends. refl;
-  apart = λ rest ends apart. (spaced (Whole range.last) tt).apart rest ends apart;
+  apart = λ rest ends apart. (spaced (Whole range.last) is.last).apart rest ends apart;
 }
 
 pub mux_neat : (row : MuxRow) → IsMuxRow row → Line (mux_layout row)
 unfolding mux_layout mux_key ranges_layout
 mux_neat row is =
-    start_close (start_then (start (codes "SG_MUL_VAL_") refl) (key_part row.number row.signal is.signal))
+    start_close (start_then (start (codes "SG_MUL_VAL_") refl) (key_part row.number row.signal is.number is.signal))
     (middle_close (name_part row.switch is.switch) (middle_close (middle_separated IsRange range_layout further_range range_part further_part row.ranges is.ranges) statement_closes))
 
 -- ---- messages and signals
 
 pub head_neat : (head : Head) → IsHead head → Line (head_layout head)
 unfolding head_layout
-head_neat head is = record { items = (refl, (tt, (is.name, (refl, (tt, (is.sender, tt)))))); apart = λ rest apart. apart }
+head_neat head is = record { items = (refl, (number_small head.number is.number, (is.name, (refl, (size_small head.size is.size, (is.sender, tt)))))); apart = λ rest apart. apart }
 
 signal_name_part : (signal : Signal) → IsName signal.name → Middle (signal_name_layout signal)
 unfolding signal_name_layout
 signal_name_part signal is = middle_both (spaced (Word (codes "SG_")) refl) (spaced (Name signal.name) is)
 
-tag_part : (tag : Tag) → Middle (tag_layout tag)
+tag_part : (tag : Tag) → IsTag tag → Middle (tag_layout tag)
 unfolding tag_layout
-tag_part tags.Plain = middle_none
-tag_part tags.Switch = spaced Switch tt
-tag_part (tags.Muxed n) = spaced (Muxed n) tt
-tag_part (tags.Both n) = spaced (Both n) tt
+tag_part tags.Plain is = middle_none
+tag_part tags.Switch is = spaced Switch tt
+tag_part (tags.Muxed n) is = spaced (Muxed n) is
+tag_part (tags.Both n) is = spaced (Both n) is
 
 sign_is_mark : (signed : Bool) → IsItem (Mark (sign_mark signed))
 sign_is_mark true = refl
 sign_is_mark false = refl
 
-place_part : (signal : Signal) → Middle (place_layout signal)
+place_part : (signal : Signal) → IsSignal signal → Middle (place_layout signal)
 unfolding place_layout
-place_part signal = record {
-  items = (refl, (tt, (refl, (tt, (refl, (tt, (sign_is_mark signal.signed, tt)))))));
+place_part signal is = record {
+  items = (refl, (start_small signal.start is.start, (refl, (length_small signal.length is.fits, (refl, (tt, (sign_is_mark signal.signed, tt)))))));
   begins = λ rest ends. refl;
   apart = λ rest ends apart. apart;
 }
@@ -221,12 +251,12 @@ receivers_part names are = middle_separated IsName spaced_name further_receiver 
 pub signal_front_items : (signal : Signal) → IsSignal signal
     → AreItems (signal_name_layout signal ++ (tag_layout signal.tag ++ (place_layout signal ++ (scale_layout signal ++ (limits_layout signal ++ spaced_text signal.unit)))))
 signal_front_items signal is =
-    (middle_both (signal_name_part signal is.name) (middle_both (tag_part signal.tag) (middle_both (place_part signal) (middle_both (scale_part signal is) (middle_both (limits_part signal is) (text_part signal.unit is.unit)))))).items
+    (middle_both (signal_name_part signal is.name) (middle_both (tag_part signal.tag is.tag) (middle_both (place_part signal is) (middle_both (scale_part signal is) (middle_both (limits_part signal is) (text_part signal.unit is.unit)))))).items
 
 signal_neat : (signal : Signal) → IsSignal signal → Line (signal_layout signal)
 unfolding signal_layout
 signal_neat signal is =
-    close_line (middle_close (signal_name_part signal is.name) (middle_close (tag_part signal.tag) (middle_close (place_part signal) (middle_close (scale_part signal is) (middle_close (limits_part signal is)
+    close_line (middle_close (signal_name_part signal is.name) (middle_close (tag_part signal.tag is.tag) (middle_close (place_part signal is) (middle_close (scale_part signal is) (middle_close (limits_part signal is)
     (middle_close (text_part signal.unit is.unit) (middle_close (receivers_part signal.receivers is.receivers) end_closes)))))))
 
 message_neat : (message : Message) → IsMessage message → Line (message_layout message)
@@ -239,8 +269,8 @@ target_part : (target : Target) → IsTarget target → Middle (target_layout ta
 unfolding target_layout
 target_part targets.Whole is = middle_none
 target_part (targets.Node name) is = middle_both (spaced (Word (codes "BU_")) refl) (spaced (Name name) is)
-target_part (targets.Message number) is = middle_both (spaced (Word (codes "BO_")) refl) (spaced (Whole number) tt)
-target_part (targets.Signal number name) is = middle_both (spaced (Word (codes "SG_")) refl) (middle_both (spaced (Whole number) tt) (spaced (Name name) is.1))
+target_part (targets.Message number) is = middle_both (spaced (Word (codes "BO_")) refl) (spaced (Whole number) (number_small number is))
+target_part (targets.Signal number name) is = middle_both (spaced (Word (codes "SG_")) refl) (middle_both (spaced (Whole number) (number_small number is.0)) (spaced (Name name) is.1))
 
 pub comment_neat : (comment : Comment) → IsComment comment → Line (comment_layout comment)
 unfolding comment_layout comment_key

@@ -30,7 +30,7 @@ IsNumber bytes = (mantissa exponent : List ℕ) × (bytes ≡ mantissa ++ expone
 
 -- ---- a list at the first byte that passes a test
 
-abbrev fails_all : (ℕ → Bool) → List ℕ → Bool
+abbrev pub fails_all : (ℕ → Bool) → List ℕ → Bool
 fails_all p bytes = list_all (λ b. not (p b)) bytes
 
 -- no byte passes; or one does, and none before it
@@ -46,16 +46,16 @@ split_of p [] = inl refl
 split_of p (b ∷ s) = elim (cases_Bool (p b)) [ inl e ↦ inr ([], b, s, refl, e, refl) | inr e ↦ split_more p b s e (split_of p s) ]
 
 -- what stands before and behind that byte
-record Halves (p : ℕ → Bool) (s u v : List ℕ) (some : Bool) : Type 0 where
-  before : before_first p s ≡ u
-  after : after_first p s ≡ v
-  any : list_any p s ≡ some
+pub record Halves (p : ℕ → Bool) (s u v : List ℕ) (some : Bool) : Type 0 where
+  pub before : before_first p s ≡ u
+  pub after : after_first p s ≡ v
+  pub any : list_any p s ≡ some
 
 none_any : (p : ℕ → Bool) (s : List ℕ) → fails_all p s ≡ true → list_any p s ≡ false
 none_any p [] h = refl
 none_any p (b ∷ s) h = let both = and_parts (not (p b)) (fails_all p s) h in rw (not-true (p b) both.0) (none_any p s both.1)
 
-halves_none : (p : ℕ → Bool) (s : List ℕ) → fails_all p s ≡ true → Halves p s s [] false
+pub halves_none : (p : ℕ → Bool) (s : List ℕ) → fails_all p s ≡ true → Halves p s s [] false
 halves_none p s h =
     let n : position_or_len p (s ++ []) ≡ length s = all_stop (λ b. not (p b)) s [] h tt in
     let m : position_or_len p s ≡ length s = subst (λ t. position_or_len p t ≡ length s) (append-nil s) n in
@@ -69,7 +69,7 @@ halves_none p s h =
     past [] = refl
     past (b ∷ s) = let e : suc (length s) + 1 ≡ suc (length s + 1) = omega arith in rw e (past s)
 
-halves_some : (p : ℕ → Bool) (u : List ℕ) (b : ℕ) (v : List ℕ) → fails_all p u ≡ true → p b ≡ true → Halves p (u ++ b ∷ v) u v true
+pub halves_some : (p : ℕ → Bool) (u : List ℕ) (b : ℕ) (v : List ℕ) → fails_all p u ≡ true → p b ≡ true → Halves p (u ++ b ∷ v) u v true
 halves_some p u b v h is =
     let n : position_or_len p (u ++ b ∷ v) ≡ length u = all_stop (λ b. not (p b)) u (b ∷ v) h (not_from_true (p b) is) in
     record {
@@ -114,7 +114,7 @@ mantissa_parts m h = by (split_of is_point m)
         let same : b ≡ point = grind (arith, nat_tests) in
         (u, v, rw halves.before at three.0, rw halves.after at three.1, some_of u b v is any, inl (whole ∙ ap (λ (c : ℕ). u ++ c ∷ v) same))
 
-digits_parts : (digits : List ℕ) → is_digits digits ≡ true → (0 < length digits) × (list_all is_digit digits ≡ true)
+pub digits_parts : (digits : List ℕ) → is_digits digits ≡ true → (0 < length digits) × (list_all is_digit digits ≡ true)
 digits_parts [] h = absurd cc
 digits_parts (b ∷ digits) h = (omega arith, h)
 

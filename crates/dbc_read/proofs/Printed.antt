@@ -1,5 +1,5 @@
 -- What the items of a layout are printed as: the tokens of each, by their kinds and bytes.
-use Rattle.std.proofs.Common.{◌≡◌, ℕ, suc, ℤ, pos, negsuc, Bool, true, false, cond, ◌||◌, ◌&&◌, List, [], ◌∷◌, ◌++◌}
+use Rattle.std.proofs.Common.{◌≡◌, ℕ, suc, ◌<◌, ◌^◌, ℤ, pos, negsuc, Bool, true, false, cond, ◌||◌, ◌&&◌, List, [], ◌∷◌, ◌++◌}
 use Rattle.std.specs.Prelude.{codes, decimal, IsTrue}
 use Rattle.std.specs.List.{flat_map}
 use Rattle.dbc_model.specs.Decimals.{IsDecimal}
@@ -67,12 +67,13 @@ IsItem (Mark mark) = IsTrue (is_mark mark)
 IsItem (Name name) = IsTrue (is_name name)
 IsItem (Symbol word) = IsTrue (is_symbol word)
 IsItem (Text text) = IsTrue (is_text text)
-IsItem (Whole n) = Unit {0}
-IsItem (Int z) = Unit {0}
+IsItem (Whole n) = n < 2 ^ 64
+IsItem (Int (pos n)) = n < 2 ^ 64
+IsItem (Int (negsuc n)) = n < 2 ^ 63
 IsItem (Number d) = IsDecimal d
 IsItem Switch = Unit {0}
-IsItem (Muxed n) = Unit {0}
-IsItem (Both n) = Unit {0}
+IsItem (Muxed n) = n < 2 ^ 64
+IsItem (Both n) = n < 2 ^ 64
 IsItem (Order intel) = Unit {0}
 IsItem (Piece bytes) = IsTrue (is_piece bytes)
 

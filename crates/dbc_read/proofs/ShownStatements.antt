@@ -13,7 +13,7 @@ use Rattle.dbc_read.specs.Forms.{Part, Is as Shown, Perhaps, Unsigned, of_layout
 use Rattle.dbc_read.specs.Spelling.{form, Timing, OfMessage, Float, timing_form, receivers_form, signal_form}
 use Rattle.dbc_read.proofs.Printed.{IsItem, Printed, Shows}
 use Rattle.dbc_read.proofs.Neat.{AreItems, Line}
-use Rattle.dbc_read.proofs.NeatStatements.{float_key_part, head_neat, signal_front_items, timing_title_neat}
+use Rattle.dbc_read.proofs.NeatStatements.{kind_small, float_key_part, head_neat, signal_front_items, timing_title_neat}
 use Rattle.dbc_read.proofs.Shown.{shows_both, shows_none, shows_as, shows_each, shows_space, shows_end, shows_item, shows_perhaps, shows_unsigned, shows_layout}
 
 -- three numbers, or none
@@ -63,7 +63,7 @@ module _ (printed : (item : Item) → IsItem item → Printed item) where
   unfolding float_layout float_kind statement_end
   float_shown row is =
       shows_both (shows_layout printed (float_key row) (float_key_part row is).items)
-      (shows_both (shows_both shows_space (shows_both (shows_perhaps printed 58 refl) (shows_both shows_space (shows_item printed (Whole row.kind) tt)))) (shows_both (shows_item printed (Mark 59) refl) shows_end))
+      (shows_both (shows_both shows_space (shows_both (shows_perhaps printed 58 refl) (shows_both shows_space (shows_item printed (Whole row.kind) (kind_small row.kind is.fits))))) (shows_both (shows_item printed (Mark 59) refl) shows_end))
 
   -- ---- messages and signals
 

@@ -26,7 +26,7 @@ use Rattle.dbc_read.proofs.KindsAgain.{within, whole_is}
 
 -- ---- digits behind an `m`
 
-spells_digits : (digits : List ℕ) → is_digits digits ≡ true → SpellsNumber digits (digits_value 10 digits)
+pub spells_digits : (digits : List ℕ) → is_digits digits ≡ true → SpellsNumber digits (digits_value 10 digits)
 unfolding IsWholeNumber
 spells_digits digits are =
     let parts = digits_are digits are in
