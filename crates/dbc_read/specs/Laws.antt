@@ -1,6 +1,5 @@
 -- What is proved of reading.
 use Rattle.std.specs.Prelude.{◌≡◌, Option, Some, None, Result, Ok, Err}
-use Rattle.dbc_model.specs.Databases.{Database}
 use Rattle.dbc_read.specs.declared.fault.ReadFault.{ReadFault}
 use Rattle.dbc_read.specs.Tokens.{Cut}
 use Rattle.dbc_read.specs.Pattern.{first_fault, nothing_seen}
