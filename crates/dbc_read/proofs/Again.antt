@@ -1,11 +1,11 @@
 -- What is spelled is read.
-use Rattle.std.proofs.Common.{◌≡◌, ℕ, Bool, true, false, cond, ◌||◌, List, [], ◌∷◌, ◌++◌, Option, Some, None, Result, Ok, Err, refl, sym, ap, subst, ◌∙◌, append_assoc, append-nil}
+use Rattle.std.proofs.Common.{◌≡◌, ℕ, Bool, true, false, cond, List, [], ◌∷◌, ◌++◌, Result, Ok, refl, sym, ap, subst, ◌∙◌, append_assoc, append-nil}
 use Rattle.std.specs.Prelude.{All}
 use Rattle.std.specs.List.{flat_map}
 use Rattle.std.proofs.lemmas.List.Elements.{All-head, All-tail}
 use Rattle.dbc_read.specs.declared.fault.Cause.{Cause}
 use Rattle.dbc_read.specs.declared.fault.ReadFault.{ReadFault}
-use Rattle.dbc_read.specs.Tokens.{Token, Cut, End, Fault, ◌▸◌}
+use Rattle.dbc_read.specs.Tokens.{Token, Cut}
 use Rattle.dbc_read.specs.Forms.{Part, SaysPart, IsOne, Spelled, ◌▸▸◌}
 use Rattle.dbc_read.specs.Reading.{Reader, and_then, ◌>>=◌, value, token_at, answered, one, starts, choose, repeated}
 use Rattle.dbc_read.proofs.Sound.{all_then_twice}
@@ -174,7 +174,6 @@ module _ {A S : Type 0} (test : Token → Bool) (r : S → Reader S) (shrinks : 
     (opens : (s : S) (a : A) (more : List A) → Fits s (a ∷ more) → Opens test true (part a))
     (allows : (s : S) (a : A) (more : List A) → Fits s (a ∷ more) → Allows (part a) Anything May)
     (last : (cut : Cut) → Last cut → May cut × Stops test cut) where
-
   may_follow : (s : S) (more : List A) (tokens : List Token) (cut : Cut) → Fits s more → Spelled (flat_map part more) tokens → Last cut → May (tokens ▸▸ cut)
   may_follow s [] tokens cut fit spelled end = subst (λ (t : List Token). May (t ▸▸ cut)) (sym spelled) (last cut end).0
   may_follow s (a ∷ more) tokens cut fit spelled end =
@@ -215,4 +214,4 @@ module _ {A : Type 0} (test : Token → Bool) (r : List A → Reader (List A)) (
   takes_list list more are =
       subst (λ (made : List A). Takes (repeated test r list) made (flat_map part more) (Stops test)) (all_pushed list more)
       (takes_repeated test r shrinks part pushed AllAre Anything (Stops test) (λ list a more are. turn list a (All-head P a more are)) (λ list a more are. All-tail P a more are) (λ list a more are. opens a (All-head P a more are))
-        (λ list a more are. allows_anything) (λ cut stops. (tt, stops)) list more are)
+      (λ list a more are. allows_anything) (λ cut stops. (tt, stops)) list more are)

@@ -1,7 +1,6 @@
 -- Each part of a form that is spelled is read as what it stands for.
-use Rattle.std.proofs.Common.{◌≡◌, ℕ, suc, ◌+◌, ℤ, pos, negsuc, neg_ℤ, ◌≤ℤ◌, ◌<◌, ◌≤◌, ◌^◌, ◌-◌, Bool, true, false, cond, ◌&&◌, ◌||◌, List, [], ◌∷◌, ◌++◌, length, take, drop, length-append, Option, Some, None, Result, Ok, Err, refl, sym, ap, subst, ◌∙◌, arith, inl, inr, append-nil}
-use Rattle.std.specs.Prelude.{int_le, codes, nat_le, nat_lt, IsTrue}
-use Rattle.std.specs.List.{flat_map}
+use Rattle.std.proofs.Common.{◌≡◌, ℕ, ℤ, pos, negsuc, neg_ℤ, ◌≤ℤ◌, ◌<◌, ◌≤◌, ◌^◌, ◌-◌, Bool, true, false, cond, ◌&&◌, ◌||◌, List, [], ◌∷◌, ◌++◌, length, length-append, Some, Result, Ok, refl, sym, ap, subst, ◌∙◌, arith, inl, inr}
+use Rattle.std.specs.Prelude.{int_le, codes, nat_le, IsTrue}
 use Rattle.std.specs.Str.{bytes_eq}
 use Rattle.std.proofs.lemmas.Slice.Eq.{bytes_eq-Decides}
 use Rattle.std.proofs.lemmas.Bool.{cases_Bool, and_parts}
@@ -9,25 +8,22 @@ use Rattle.std.proofs.lemmas.Grind.{common_steps}
 use Rattle.std.proofs.lemmas.Int.{ints}
 use Rattle.std.proofs.lemmas.List.{take_at}
 use Rattle.dbc_model.specs.Lexical.{quote, quoted, is_text, is_name, is_number}
-use Rattle.dbc_model.specs.Numbers.{mantissa_of, exponent_of, IsWholeNumber, whole_value, whole_of_number}
-use Rattle.dbc_model.specs.Decimals.{Decimal, decimal_of, decimal_of_number, SpellsDecimal}
+use Rattle.dbc_model.specs.Numbers.{mantissa_of, exponent_of, whole_of_number}
+use Rattle.dbc_model.specs.Decimals.{Decimal, decimal_of_number, SpellsDecimal}
 use Rattle.dbc_model.specs.Records.{is_symbol, entry_fits}
 use Rattle.dbc_model.specs.Kept.{is_piece, is_string, inside}
 use Rattle.dbc_model.specs.Layout.{Word, Mark, Name, Symbol, Text, Whole, Int, Number, Piece}
-use Rattle.dbc_model.specs.declared.number.Whole.{Whole as WholeNumber}
 use Rattle.dbc_model.specs.declared.number.Whole.TheVariants.{Value}
 use Rattle.dbc_model.proofs.NormalForms.{decimal_from}
 use Rattle.dbc_model.proofs.WholeNumbers.{whole_from}
 use Rattle.dbc_read.specs.declared.fault.Cause.{Cause}
-use Rattle.dbc_read.specs.declared.fault.Cause.TheVariants as causes
-use Rattle.dbc_read.specs.declared.fault.ReadFault.{ReadFault}
 use Rattle.dbc_read.specs.Tokens.{Token, Cut, ◌▸◌}
-use Rattle.dbc_read.specs.Classes.{has_word, has_mark, has_whole, has_name, has_string, where_true, where_within, bounded, there, text_of, whole_of, number_of}
+use Rattle.dbc_read.specs.Classes.{has_word, has_mark, has_whole, where_true, text_of, whole_of, number_of}
 use Rattle.dbc_read.specs.Forms.{Part, Is, Unsigned, IsOne, IsSign, IsSigned, SpellsNumber, Spelled, signed, ◌▸▸◌}
-use Rattle.dbc_read.specs.Reading.{Reader, and_then, ◌>>=◌, value, token_at, answered, one, starts, choose}
+use Rattle.dbc_read.specs.Reading.{Reader, and_then, ◌>>=◌, value, token_at, answered, starts, choose}
 use Rattle.dbc_read.specs.ReadingParts.{word_at, mark_at, name_at, symbol_at, text_at, piece_at, whole_at, id_at, number_at, decimal_at, int_at, begins_int}
 use Rattle.dbc_read.proofs.Sound.{all_then_twice}
-use Rattle.dbc_read.proofs.Again.{Takes, Anything, Opens, takes_one, opens_one, alone}
+use Rattle.dbc_read.proofs.Again.{Takes, Anything, Opens, takes_one, alone}
 
 -- ---- tests of tokens
 

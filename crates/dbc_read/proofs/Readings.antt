@@ -1,5 +1,5 @@
 -- What is read of a text is what the text says.
-use Rattle.std.proofs.Common.{◌≡◌, ℕ, ◌⊎◌, List, Option, Some, Result, Ok, Err, refl, sym, ap, subst, ◌∙◌, inl, inr}
+use Rattle.std.proofs.Common.{◌≡◌, ℕ, ◌⊎◌, List, Result, Ok, Err, sym, ap, subst, ◌∙◌, inl, inr}
 use Rattle.dbc_model.specs.Databases.{Database}
 use Rattle.dbc_read.specs.declared.fault.ReadFault.{ReadFault}
 use Rattle.dbc_read.specs.declared.statement.Statement.{Statement}

@@ -1,24 +1,24 @@
 -- Lists and rows that are spelled are read.
-use Rattle.std.proofs.Common.{◌≡◌, ℕ, ◌<◌, ◌^◌, ◌-◌, Bool, true, false, ◌||◌, List, [], ◌∷◌, ◌++◌, length, ◌≤◌, Result, Ok, append-nil, refl, sym, ap, subst, ◌∙◌, arith, inl, inr}
-use Rattle.std.specs.Prelude.{codes, nat_le, All, IsTrue}
+use Rattle.std.proofs.Common.{◌≡◌, ℕ, ◌<◌, ◌^◌, ◌-◌, Bool, true, false, ◌||◌, List, [], ◌∷◌, ◌++◌, length, ◌≤◌, Ok, append-nil, refl, sym, ap, subst, ◌∙◌, arith, inl, inr}
+use Rattle.std.specs.Prelude.{codes, nat_le, All}
 use Rattle.std.proofs.lemmas.Grind.{common_steps}
 use Rattle.std.proofs.lemmas.List.Elements.{All-head, All-tail}
 use Rattle.std.specs.List.{flat_map}
 use Rattle.std.specs.Str.{bytes_eq}
-use Rattle.dbc_model.specs.Lexical.{is_name, is_number}
+use Rattle.dbc_model.specs.Lexical.{is_number}
 use Rattle.dbc_model.specs.Numbers.{whole_of_number}
-use Rattle.dbc_model.specs.Records.{IsName, Entry, IsEntry, TableRow, IsTableRow, ValueRow, IsValueRow, FloatRow, IsFloatRow, IsRange, MuxRow, IsMuxRow}
+use Rattle.dbc_model.specs.Records.{Entry, IsEntry, TableRow, IsTableRow, ValueRow, IsValueRow, FloatRow, IsFloatRow, IsRange, MuxRow, IsMuxRow}
 use Rattle.dbc_model.specs.declared.mux_row.Range.{Range}
-use Rattle.dbc_model.specs.Layout.{Word, Mark, Name, Text, Whole, Int}
+use Rattle.dbc_model.specs.Layout.{Word, Mark, Name, Whole}
 use Rattle.dbc_read.specs.Tokens.{Token, Cut}
-use Rattle.dbc_read.specs.Classes.{has_mark, has_name, has_whole, is_whole_number}
+use Rattle.dbc_read.specs.Classes.{has_mark, has_whole, is_whole_number}
 use Rattle.dbc_read.specs.Forms.{Part, Is, Perhaps, SaysPart, SpellsNumber, Spelled, ◌▸▸◌}
 use Rattle.dbc_read.specs.Spelling.{form, Table, Values, Float, Mux}
-use Rattle.dbc_read.specs.Reading.{starts, choose, value}
-use Rattle.dbc_read.specs.ReadingParts.{mark_at, begins_int, entry_at, entries_from, names_from}
+use Rattle.dbc_read.specs.Reading.{choose, value}
+use Rattle.dbc_read.specs.ReadingParts.{mark_at, begins_int, entry_at, entries_from}
 use Rattle.dbc_read.specs.ReadingTables.{table_at, values_at, colon_at, float_at, range_at, ranges_from, ranges_at, mux_at}
 use Rattle.dbc_read.proofs.Turns.{bind_shrinks, bind_keeps, keeps, value_keeps}
-use Rattle.dbc_read.proofs.Loops.{mark_shrinks, name_shrinks, entry_shrinks, range_shrinks}
+use Rattle.dbc_read.proofs.Loops.{mark_shrinks, entry_shrinks, range_shrinks}
 use Rattle.dbc_read.proofs.Sound.{first_and}
 use Rattle.dbc_read.proofs.RowsSound.{entry_form, table_form, values_form, float_form, range_form, further_form, mux_form}
 use Rattle.dbc_read.proofs.Again.{Takes, Anything, Opens, Stops, takes_value, takes_then, takes_next, takes_as, takes_where, takes_first, takes_none, opens_one, allows_stop, takes_list, alone}
@@ -129,7 +129,7 @@ mux_by row first more same is =
     takes_as (mux_form row ∙ ap (λ (ranges : List Range). Is (Word (codes "SG_MUL_VAL_")) ∷ Is (Whole row.number) ∷ Is (Name row.signal) ∷ Is (Name row.switch) ∷ (first_and range_form further_form ranges ++ Is (Mark 59) ∷ [])) same)
     (takes_next _ (word_takes (codes "SG_MUL_VAL_")) (takes_next _ (id_takes row.number is.number) (takes_next _ (name_takes row.signal) (takes_next _ (name_takes row.switch)
     (takes_then _ (ranges_take first more (subst (All IsRange) same is.ranges)) (allows_stop semicolon_is_no_comma) (takes_next _ (mark_takes 59)
-      (subst (λ (ranges : List Range). Takes (value (record row { ranges = ranges })) row [] Anything) same takes_value)))))))
+    (subst (λ (ranges : List Range). Takes (value (record row { ranges = ranges })) row [] Anything) same takes_value)))))))
 
 pub mux_takes : (row : MuxRow) → IsMuxRow row → Takes mux_at row (form (Mux row)) Anything
 mux_takes row is = let some = some_ranges row.ranges is.fit in mux_by row some.0 some.1 some.2 is

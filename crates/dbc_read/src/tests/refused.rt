@@ -214,23 +214,135 @@ fn reads_beginnings(rt: HostRuntime) {
     assert_eq!(rt; fault_of(rt.alloc(), EXAMPLE), None);
 }
 
-fn many_messages(alloc: Global, count: usize) -> Result<Vec<u8>, Fail> {
-    let mut text = Vec::new(alloc);
+// A text that has one part many times, and its first fault.
+struct Long {
+    before: &'static [u8],
+    part: &'static [u8],
+    count: usize,
+    behind: &'static [u8],
+    line: u64,
+    cause: Cause,
+}
+
+const LONG: &[Long] = &[
+    Long {
+        before: b"",
+        part: b"BO_ 1 A: 8 N\n",
+        count: 65536,
+        behind: b"",
+        line: 65536,
+        cause: Cause::MessagesFull,
+    },
+    Long {
+        before: b"BO_ ",
+        part: b"9",
+        count: 100_000,
+        behind: b" A: 8 N",
+        line: 1,
+        cause: Cause::Limit,
+    },
+    Long {
+        before: b"BO_ 1.",
+        part: b"0",
+        count: 100_000,
+        behind: b"1 A: 8 N",
+        line: 1,
+        cause: Cause::Statement,
+    },
+    Long {
+        before: b"BO_ 1 A: 8 N\n SG_ S : 0|8@1+ (",
+        part: b"9",
+        count: 100_000,
+        behind: b",0) [0|0] \"\"",
+        line: 2,
+        cause: Cause::Statement,
+    },
+    Long {
+        before: b"BO_ 1E",
+        part: b"9",
+        count: 1_000_000,
+        behind: b" A: 8 N",
+        line: 1,
+        cause: Cause::Limit,
+    },
+    Long {
+        before: b"BO_ 1E-",
+        part: b"9",
+        count: 1_000_000,
+        behind: b" A: 8 N",
+        line: 1,
+        cause: Cause::Statement,
+    },
+    Long {
+        before: b"BO_ 1 A: 8 N\n SG_ S : 0|8@1+ (1E",
+        part: b"9",
+        count: 1_000_000,
+        behind: b",0) [0|0] \"\"",
+        line: 2,
+        cause: Cause::Statement,
+    },
+    Long {
+        before: b"BO_ 1 A: 8 N\n SG_ S : 0|8@1+ (1,0) [-1E-",
+        part: b"9",
+        count: 1_000_000,
+        behind: b"|0] \"\"",
+        line: 2,
+        cause: Cause::Statement,
+    },
+    Long {
+        before: b"CM_ \"",
+        part: b"\\\"",
+        count: 500_000,
+        behind: b"",
+        line: 1,
+        cause: Cause::Token,
+    },
+    Long {
+        before: b"BU_:",
+        part: b"\n// A\n",
+        count: 500_000,
+        behind: b"8",
+        line: 1_000_001,
+        cause: Cause::Statement,
+    },
+];
+
+fn long_text(
+    alloc: Global,
+    before: &[u8],
+    part: &[u8],
+    count: usize,
+    behind: &[u8],
+) -> Result<Vec<u8>, Fail> {
+    let mut text = Vec::from_slice(alloc, before)?;
     for _ in 0..count {
-        text.extend_from_slice(b"BO_ 1 A: 8 N\n")?;
+        text.extend_from_slice(part)?;
     }
+    text.extend_from_slice(behind)?;
     Ok(text)
 }
 
 #[test]
-fn counts_messages(rt: HostRuntime) -> Result<(), Fail> {
-    let fault = ReadFault {
-        line: 65536,
-        cause: Cause::MessagesFull,
-    };
-    let text = many_messages(rt.alloc(), 65536)?;
-    assert_eq!(rt; fault_of(rt.alloc(), &text), Some(fault));
-    let text = many_messages(rt.alloc(), 65535)?;
+fn refuses_long_texts(rt: HostRuntime) -> Result<(), Fail> {
+    for long in LONG {
+        let text = long_text(rt.alloc(), long.before, long.part, long.count, long.behind)?;
+        let fault = ReadFault {
+            line: long.line,
+            cause: long.cause,
+        };
+        let before = long.before;
+        assert_eq!(rt;
+            fault_of(rt.alloc(), &text),
+            Some(fault),
+            "behind {before:?}"
+        );
+    }
+    Ok(())
+}
+
+#[test]
+fn reads_all_messages(rt: HostRuntime) -> Result<(), Fail> {
+    let text = long_text(rt.alloc(), b"", b"BO_ 1 A: 8 N\n", 65535, b"")?;
     assert_eq!(rt; fault_of(rt.alloc(), &text), None);
     Ok(())
 }
