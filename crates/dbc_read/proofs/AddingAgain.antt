@@ -1,34 +1,28 @@
 -- Each statement that is spelled is added to a database.
-use Rattle.std.proofs.Common.{◌≡◌, ℕ, suc, ◌+◌, ◌≤◌, Bool, true, false, cond, ◌||◌, ◌&&◌, List, [], ◌∷◌, ◌++◌, length, length-append, take, drop, Result, Ok, append_assoc, append-nil, refl, sym, ap, subst, ◌∙◌, arith}
-use Rattle.std.specs.Prelude.{codes, nat_le, nat_lt, All, IsTrue}
+use Rattle.std.proofs.Common.{◌≡◌, ℕ, Bool, true, false, List, [], ◌∷◌, ◌++◌, length, append_assoc, append-nil, refl, sym, ap, subst, ◌∙◌}
+use Rattle.std.specs.Prelude.{codes, nat_lt, IsTrue}
 use Rattle.std.specs.List.{flat_map, list_any}
 use Rattle.std.specs.Str.{bytes_eq}
-use Rattle.std.proofs.lemmas.Bool.{and_parts}
-use Rattle.std.proofs.lemmas.Grind.{common_steps}
-use Rattle.std.proofs.lemmas.List.{drop_at}
-use Rattle.std.proofs.lemmas.List.Elements.{All-head, All-drop}
-use Rattle.dbc_model.specs.Databases.{Database, IsDatabase, timing_fits}
-use Rattle.dbc_model.specs.Lexical.{is_name, is_keyword}
-use Rattle.dbc_model.specs.Kept.{Kept, IsKept, is_kept_word, kept_fits}
+use Rattle.dbc_model.specs.Databases.{Database}
+use Rattle.dbc_model.specs.Lexical.{is_name}
+use Rattle.dbc_model.specs.Kept.{Kept, IsKept}
 use Rattle.dbc_model.specs.Records.{is_symbol, TableRow, IsTableRow, ValueRow, IsValueRow, FloatRow, IsFloatRow, MuxRow, IsMuxRow, Message, IsMessage}
 use Rattle.dbc_model.specs.Comments.{Comment, IsComment}
 use Rattle.dbc_model.specs.Attributes.{AttrDef, IsAttrDef, AttrDefault, AttrRow, IsAttrRow}
-use Rattle.dbc_model.specs.Layout.{Word, Mark, Name, Symbol, Text, Whole, items_of}
-use Rattle.dbc_model.specs.CanonicalText.{word_layout, signal_key, table_key, table_layout, values_key, values_layout, float_key, mux_key, mux_layout, comment_key, comment_layout, definition_key, definition_layout, default_key, default_layout, attribute_key, attribute_layout, target_layout, value_layout, head_layout}
-use Rattle.dbc_read.specs.declared.fault.ReadFault.{ReadFault}
+use Rattle.dbc_model.specs.Layout.{Word, Mark, Name, Symbol, Text, items_of}
+use Rattle.dbc_model.specs.CanonicalText.{word_layout, signal_key, table_key, table_layout, values_key, values_layout, float_key, mux_key, mux_layout, definition_key, definition_layout, default_key, default_layout, target_layout, value_layout, head_layout}
 use Rattle.dbc_read.specs.Tokens.{Token, Cut}
 use Rattle.dbc_read.specs.Classes.{has_word, has_symbol, has_name}
 use Rattle.dbc_read.specs.Forms.{Part, Is, Spelled, of_layout, ◌▸▸◌}
-use Rattle.dbc_read.specs.Spelling.{AnyStatement, Symbols, Timing, Nodes, Table, OfMessage, OfComment, Definition, Default, Attribute, Values, Float, Mux, OfKept, form, timings_of, tables_of, messages_of, comments_of, definitions_of, attributes_of, values_of, floats_of, muxes_of, kept_of}
-use Rattle.dbc_read.specs.Reading.{Reader, ◌>>=◌, value, starts, choose, choose_by}
+use Rattle.dbc_read.specs.Spelling.{AnyStatement, Symbols, Nodes, Table, OfMessage, OfComment, Definition, Default, Attribute, Values, Float, Mux, OfKept, form}
+use Rattle.dbc_read.specs.Reading.{Reader, ◌>>=◌, value, choose_by}
 use Rattle.dbc_read.specs.ReadingParts.{names_from, symbols_from}
-use Rattle.dbc_read.specs.ReadingDatabases.{symbols_into, nodes_into, begins_kept, kept_into, message_into, table_into, values_into, float_into, mux_into, comment_into, definition_into, default_into, attribute_into, object_into, value_row_into, attribute_row_into, object_words, value_words, attribute_words, has_object_word, has_value_word, has_attribute_word, statement_into}
+use Rattle.dbc_read.specs.ReadingDatabases.{symbols_into, nodes_into, begins_kept, kept_into, message_into, table_into, values_into, float_into, mux_into, comment_into, definition_into, default_into, attribute_into, object_into, value_row_into, attribute_row_into, object_words, value_words, has_object_word, has_value_word, statement_into}
 use Rattle.dbc_read.proofs.Turns.{bind_shrinks, value_keeps}
 use Rattle.dbc_read.proofs.Loops.{name_shrinks, symbol_shrinks}
-use Rattle.dbc_read.proofs.RowsSound.{table_form, values_form, float_form, mux_form}
-use Rattle.dbc_read.proofs.NotesSound.{comment_form, definition_form, default_form, attribute_form}
-use Rattle.dbc_read.proofs.AddingSound.{joined, joined_none, joined_twice, symbols_are, nodes_are, piece_form}
-use Rattle.dbc_read.proofs.Again.{chosen-first, chosen-second, Takes, Anything, Opens, Stops, takes_value, takes_next, takes_last, takes_as, takes_where, takes_first, takes_second, opens_one, takes_list}
+use Rattle.dbc_read.proofs.NotesSound.{comment_form, attribute_form}
+use Rattle.dbc_read.proofs.AddingSound.{joined, joined_none, symbols_are, nodes_are, piece_form}
+use Rattle.dbc_read.proofs.Again.{chosen-first, chosen-second, Takes, Anything, Opens, Stops, takes_value, takes_next, takes_last, takes_as, takes_first, takes_second, opens_one, takes_list}
 use Rattle.dbc_read.proofs.KindsAgain.{word_takes, mark_takes, name_takes, symbol_takes}
 use Rattle.dbc_read.proofs.RowsAgain.{table_takes, values_take, float_takes, mux_takes}
 use Rattle.dbc_read.proofs.NotesAgain.{word_opens, comment_takes, definition_takes, default_takes, attribute_takes}

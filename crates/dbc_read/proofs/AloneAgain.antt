@@ -1,14 +1,14 @@
 -- One statement that tokens spell is read from them.
-use Rattle.std.proofs.Common.{◌≡◌, ℕ, Bool, true, false, List, [], ◌∷◌, ◌++◌, Result, Ok, append_assoc, refl, sym, ap, subst, ◌∙◌}
+use Rattle.std.proofs.Common.{◌≡◌, ℕ, Bool, List, [], ◌∷◌, Result, Ok, append_assoc, refl, sym, ap, subst, ◌∙◌}
 use Rattle.std.specs.Prelude.{codes}
 use Rattle.std.specs.Str.{bytes_eq}
 use Rattle.dbc_model.specs.Attributes.{AttrRow, IsAttrRow}
 use Rattle.dbc_model.specs.Comments.{IsTarget}
-use Rattle.dbc_model.specs.Records.{Head, IsHead, Signal, IsSignal, names_of}
+use Rattle.dbc_model.specs.Records.{Signal}
 use Rattle.dbc_model.specs.declared.target.Target.{Target}
 use Rattle.dbc_model.specs.declared.target.Target.TheVariants as targets
-use Rattle.dbc_model.specs.Layout.{Word, Mark, Text, Whole, items_of}
-use Rattle.dbc_model.specs.CanonicalText.{head_layout, word_layout, signal_name_layout, table_key, table_layout, values_key, values_layout, mux_key, mux_layout, attribute_key, attribute_layout, target_layout, value_layout}
+use Rattle.dbc_model.specs.Layout.{Word, Mark, Text, items_of}
+use Rattle.dbc_model.specs.CanonicalText.{head_layout, word_layout, table_key, table_layout, values_key, values_layout, mux_key, mux_layout, attribute_key, attribute_layout, target_layout, value_layout}
 use Rattle.dbc_read.specs.declared.fault.ReadFault.{ReadFault}
 use Rattle.dbc_read.specs.declared.statement.Statement.{Statement}
 use Rattle.dbc_read.specs.declared.statement.Statement.TheVariants as statements
@@ -16,7 +16,7 @@ use Rattle.dbc_read.specs.Tokens.{Token, Cut, End}
 use Rattle.dbc_read.specs.Classes.{has_word}
 use Rattle.dbc_read.specs.Forms.{Part, Is, of_layout, ◌▸▸◌}
 use Rattle.dbc_read.specs.Spelling.{form, signal_form, form_alone, Attribute, IsStatement, SpellsStatement}
-use Rattle.dbc_read.specs.Reading.{and_then, ◌>>=◌, value, starts, choose, end_at}
+use Rattle.dbc_read.specs.Reading.{and_then, ◌>>=◌, value, starts, end_at}
 use Rattle.dbc_read.specs.ReadingParts.{begins_receiver}
 use Rattle.dbc_read.specs.ReadingAttributes.{message_target_at}
 use Rattle.dbc_read.specs.ReadingDatabases.{message_attribute_at, one_of_six_at, statement_at}

@@ -1,8 +1,7 @@
 -- The statements of a database in the order in which they are printed, and that they gather to it.
-use Rattle.std.proofs.Common.{◌≡◌, ℕ, ◌≤◌, Bool, true, false, List, [], ◌∷◌, ◌++◌, map, length, Option, Some, None, append_assoc, append-nil, refl, sym, ap, subst, ◌∙◌, arith}
+use Rattle.std.proofs.Common.{◌≡◌, ◌≤◌, List, [], ◌∷◌, ◌++◌, map, length, Option, Some, None, append_assoc, append-nil, refl, sym, ap, subst, ◌∙◌, arith}
 use Rattle.std.specs.Prelude.{IfSome}
 use Rattle.std.specs.List.{flat_map}
-use Rattle.std.proofs.lemmas.List.Concat.{flat_map-append}
 use Rattle.dbc_model.specs.Databases.{Database, IsDatabase, IsBitTiming}
 use Rattle.dbc_model.specs.Decimals.{Decimal}
 use Rattle.dbc_model.specs.Records.{Message, TableRow, ValueRow, FloatRow, MuxRow}
@@ -39,17 +38,25 @@ place_each put follows [] rest placed = placed
 place_each put follows (x ∷ xs) rest placed = (follows x (map put xs ++ rest), place_each put follows xs rest placed)
 
 pub canonical_placed : (d : Database) → ArePlaced (canonical d)
-canonical_placed d = (tt, (tt, (tt,
-    place_each (λ row. Table row) (λ x rest. tt) d.tables _ (
-    place_each (λ message. OfMessage message) (λ x rest. tt) d.messages _ (
-    place_each (λ comment. OfComment comment) (λ x rest. tt) d.comments _ (
-    place_each (λ definition. Definition definition) (λ x rest. tt) d.definitions _ (
-    place_each (λ row. Default row) (λ x rest. tt) d.defaults _ (
-    place_each (λ row. Attribute row) (λ x rest. tt) d.attributes _ (
-    place_each (λ row. Values row) (λ x rest. tt) d.values _ (
-    place_each (λ row. Float row) (λ x rest. tt) d.floats _ (
-    place_each (λ row. Mux row) (λ x rest. tt) d.muxes _ (
-    subst ArePlaced (append-nil (map (λ row. OfKept row) d.kept)) (place_each (λ row. OfKept row) (λ x rest. tt) d.kept [] tt)))))))))))))
+canonical_placed d = (
+  tt,
+  (
+    tt,
+    (
+      tt,
+      place_each (λ row. Table row) (λ x rest. tt) d.tables _ (
+          place_each (λ message. OfMessage message) (λ x rest. tt) d.messages _ (
+          place_each (λ comment. OfComment comment) (λ x rest. tt) d.comments _ (
+          place_each (λ definition. Definition definition) (λ x rest. tt) d.definitions _ (
+          place_each (λ row. Default row) (λ x rest. tt) d.defaults _ (
+          place_each (λ row. Attribute row) (λ x rest. tt) d.attributes _ (
+          place_each (λ row. Values row) (λ x rest. tt) d.values _ (
+          place_each (λ row. Float row) (λ x rest. tt) d.floats _ (
+          place_each (λ row. Mux row) (λ x rest. tt) d.muxes _ (
+          subst ArePlaced (append-nil (map (λ row. OfKept row) d.kept)) (place_each (λ row. OfKept row) (λ x rest. tt) d.kept [] tt)))))))))),
+    ),
+  ),
+)
 
 -- ---- at most one bit timing
 
@@ -162,15 +169,15 @@ pub rows_joined : (e d : Database) → joined e (canonical_rows d) ≡ record e 
 }
 rows_joined e d =
     then_joined e _ (map (λ row. Table row) d.tables) _ (tables_joined e d.tables)
-    ∙ then_joined (record e { tables = e.tables ++ d.tables; }) _ (map (λ message. OfMessage message) d.messages) _ (messages_joined (record e { tables = e.tables ++ d.tables; }) d.messages)
-    ∙ then_joined (record e { tables = e.tables ++ d.tables; messages = e.messages ++ d.messages; }) _ (map (λ comment. OfComment comment) d.comments) _ (comments_joined (record e { tables = e.tables ++ d.tables; messages = e.messages ++ d.messages; }) d.comments)
-    ∙ then_joined (record e { tables = e.tables ++ d.tables; messages = e.messages ++ d.messages; comments = e.comments ++ d.comments; }) _ (map (λ definition. Definition definition) d.definitions) _ (definitions_joined (record e { tables = e.tables ++ d.tables; messages = e.messages ++ d.messages; comments = e.comments ++ d.comments; }) d.definitions)
-    ∙ then_joined (record e { tables = e.tables ++ d.tables; messages = e.messages ++ d.messages; comments = e.comments ++ d.comments; definitions = e.definitions ++ d.definitions; }) _ (map (λ row. Default row) d.defaults) _ (defaults_joined (record e { tables = e.tables ++ d.tables; messages = e.messages ++ d.messages; comments = e.comments ++ d.comments; definitions = e.definitions ++ d.definitions; }) d.defaults)
-    ∙ then_joined (record e { tables = e.tables ++ d.tables; messages = e.messages ++ d.messages; comments = e.comments ++ d.comments; definitions = e.definitions ++ d.definitions; defaults = e.defaults ++ d.defaults; }) _ (map (λ row. Attribute row) d.attributes) _ (attributes_joined (record e { tables = e.tables ++ d.tables; messages = e.messages ++ d.messages; comments = e.comments ++ d.comments; definitions = e.definitions ++ d.definitions; defaults = e.defaults ++ d.defaults; }) d.attributes)
-    ∙ then_joined (record e { tables = e.tables ++ d.tables; messages = e.messages ++ d.messages; comments = e.comments ++ d.comments; definitions = e.definitions ++ d.definitions; defaults = e.defaults ++ d.defaults; attributes = e.attributes ++ d.attributes; }) _ (map (λ row. Values row) d.values) _ (values_joined (record e { tables = e.tables ++ d.tables; messages = e.messages ++ d.messages; comments = e.comments ++ d.comments; definitions = e.definitions ++ d.definitions; defaults = e.defaults ++ d.defaults; attributes = e.attributes ++ d.attributes; }) d.values)
-    ∙ then_joined (record e { tables = e.tables ++ d.tables; messages = e.messages ++ d.messages; comments = e.comments ++ d.comments; definitions = e.definitions ++ d.definitions; defaults = e.defaults ++ d.defaults; attributes = e.attributes ++ d.attributes; values = e.values ++ d.values; }) _ (map (λ row. Float row) d.floats) _ (floats_joined (record e { tables = e.tables ++ d.tables; messages = e.messages ++ d.messages; comments = e.comments ++ d.comments; definitions = e.definitions ++ d.definitions; defaults = e.defaults ++ d.defaults; attributes = e.attributes ++ d.attributes; values = e.values ++ d.values; }) d.floats)
-    ∙ then_joined (record e { tables = e.tables ++ d.tables; messages = e.messages ++ d.messages; comments = e.comments ++ d.comments; definitions = e.definitions ++ d.definitions; defaults = e.defaults ++ d.defaults; attributes = e.attributes ++ d.attributes; values = e.values ++ d.values; floats = e.floats ++ d.floats; }) _ (map (λ row. Mux row) d.muxes) _ (muxes_joined (record e { tables = e.tables ++ d.tables; messages = e.messages ++ d.messages; comments = e.comments ++ d.comments; definitions = e.definitions ++ d.definitions; defaults = e.defaults ++ d.defaults; attributes = e.attributes ++ d.attributes; values = e.values ++ d.values; floats = e.floats ++ d.floats; }) d.muxes)
-    ∙ kept_joined (record e { tables = e.tables ++ d.tables; messages = e.messages ++ d.messages; comments = e.comments ++ d.comments; definitions = e.definitions ++ d.definitions; defaults = e.defaults ++ d.defaults; attributes = e.attributes ++ d.attributes; values = e.values ++ d.values; floats = e.floats ++ d.floats; muxes = e.muxes ++ d.muxes; }) d.kept
+    ∙ then_joined (record e { tables = e.tables ++ d.tables }) _ (map (λ message. OfMessage message) d.messages) _ (messages_joined (record e { tables = e.tables ++ d.tables }) d.messages)
+    ∙ then_joined (record e { tables = e.tables ++ d.tables; messages = e.messages ++ d.messages }) _ (map (λ comment. OfComment comment) d.comments) _ (comments_joined (record e { tables = e.tables ++ d.tables; messages = e.messages ++ d.messages }) d.comments)
+    ∙ then_joined (record e { tables = e.tables ++ d.tables; messages = e.messages ++ d.messages; comments = e.comments ++ d.comments }) _ (map (λ definition. Definition definition) d.definitions) _ (definitions_joined (record e { tables = e.tables ++ d.tables; messages = e.messages ++ d.messages; comments = e.comments ++ d.comments }) d.definitions)
+    ∙ then_joined (record e { tables = e.tables ++ d.tables; messages = e.messages ++ d.messages; comments = e.comments ++ d.comments; definitions = e.definitions ++ d.definitions }) _ (map (λ row. Default row) d.defaults) _ (defaults_joined (record e { tables = e.tables ++ d.tables; messages = e.messages ++ d.messages; comments = e.comments ++ d.comments; definitions = e.definitions ++ d.definitions }) d.defaults)
+    ∙ then_joined (record e { tables = e.tables ++ d.tables; messages = e.messages ++ d.messages; comments = e.comments ++ d.comments; definitions = e.definitions ++ d.definitions; defaults = e.defaults ++ d.defaults }) _ (map (λ row. Attribute row) d.attributes) _ (attributes_joined (record e { tables = e.tables ++ d.tables; messages = e.messages ++ d.messages; comments = e.comments ++ d.comments; definitions = e.definitions ++ d.definitions; defaults = e.defaults ++ d.defaults }) d.attributes)
+    ∙ then_joined (record e { tables = e.tables ++ d.tables; messages = e.messages ++ d.messages; comments = e.comments ++ d.comments; definitions = e.definitions ++ d.definitions; defaults = e.defaults ++ d.defaults; attributes = e.attributes ++ d.attributes }) _ (map (λ row. Values row) d.values) _ (values_joined (record e { tables = e.tables ++ d.tables; messages = e.messages ++ d.messages; comments = e.comments ++ d.comments; definitions = e.definitions ++ d.definitions; defaults = e.defaults ++ d.defaults; attributes = e.attributes ++ d.attributes }) d.values)
+    ∙ then_joined (record e { tables = e.tables ++ d.tables; messages = e.messages ++ d.messages; comments = e.comments ++ d.comments; definitions = e.definitions ++ d.definitions; defaults = e.defaults ++ d.defaults; attributes = e.attributes ++ d.attributes; values = e.values ++ d.values }) _ (map (λ row. Float row) d.floats) _ (floats_joined (record e { tables = e.tables ++ d.tables; messages = e.messages ++ d.messages; comments = e.comments ++ d.comments; definitions = e.definitions ++ d.definitions; defaults = e.defaults ++ d.defaults; attributes = e.attributes ++ d.attributes; values = e.values ++ d.values }) d.floats)
+    ∙ then_joined (record e { tables = e.tables ++ d.tables; messages = e.messages ++ d.messages; comments = e.comments ++ d.comments; definitions = e.definitions ++ d.definitions; defaults = e.defaults ++ d.defaults; attributes = e.attributes ++ d.attributes; values = e.values ++ d.values; floats = e.floats ++ d.floats }) _ (map (λ row. Mux row) d.muxes) _ (muxes_joined (record e { tables = e.tables ++ d.tables; messages = e.messages ++ d.messages; comments = e.comments ++ d.comments; definitions = e.definitions ++ d.definitions; defaults = e.defaults ++ d.defaults; attributes = e.attributes ++ d.attributes; values = e.values ++ d.values; floats = e.floats ++ d.floats }) d.muxes)
+    ∙ kept_joined (record e { tables = e.tables ++ d.tables; messages = e.messages ++ d.messages; comments = e.comments ++ d.comments; definitions = e.definitions ++ d.definitions; defaults = e.defaults ++ d.defaults; attributes = e.attributes ++ d.attributes; values = e.values ++ d.values; floats = e.floats ++ d.floats; muxes = e.muxes ++ d.muxes }) d.kept
 
 timing_kept : (timing : Option (List Decimal)) → IfSome timing IsBitTiming → timing_of (three timing ∷ []) ≡ timing
 timing_kept None h = refl

@@ -1,7 +1,7 @@
 -- A database that tokens spell is read from them.
-use Rattle.std.proofs.Common.{◌≡◌, ℕ, ◌+◌, ◌≤◌, Bool, true, false, ◌||◌, List, [], ◌∷◌, ◌++◌, length, Option, Some, None, Result, Ok, append-nil, refl, sym, ap, subst, ◌∙◌, ◌⊎◌, inl, inr, arith}
-use Rattle.std.specs.Prelude.{codes, not}
-use Rattle.std.specs.List.{flat_map, list_any, list_all}
+use Rattle.std.proofs.Common.{◌≡◌, ℕ, ◌+◌, ◌≤◌, Bool, true, false, ◌||◌, List, [], ◌∷◌, ◌++◌, length, Option, Some, None, Result, Ok, refl, sym, ap, subst, ◌∙◌, inl, inr, arith}
+use Rattle.std.specs.Prelude.{codes}
+use Rattle.std.specs.List.{flat_map, list_any}
 use Rattle.std.specs.Str.{bytes_eq}
 use Rattle.std.proofs.lemmas.List.Concat.{flat_map-append}
 use Rattle.dbc_model.specs.Databases.{Database, IsDatabase}
@@ -9,21 +9,21 @@ use Rattle.dbc_model.specs.Decimals.{Decimal, SpellsDecimal, decimal_of_number}
 use Rattle.dbc_model.specs.Lexical.{is_name, is_keyword, is_number}
 use Rattle.dbc_model.specs.Kept.{is_kept_word}
 use Rattle.dbc_model.specs.Records.{is_symbol}
-use Rattle.dbc_model.specs.Layout.{Word, Mark, items_of}
-use Rattle.dbc_model.specs.CanonicalText.{version_layout, timing_title}
+use Rattle.dbc_model.specs.Layout.{items_of}
+use Rattle.dbc_model.specs.CanonicalText.{version_layout}
 use Rattle.dbc_read.specs.declared.fault.ReadFault.{ReadFault}
-use Rattle.dbc_read.specs.Tokens.{Token, Cut, End, Fault, ◌▸◌}
+use Rattle.dbc_read.specs.Tokens.{Token, Cut, End}
 use Rattle.dbc_read.specs.Classes.{has_word, has_mark, has_symbol, has_name, has_number, has_kept_word, is_there}
-use Rattle.dbc_read.specs.Forms.{Part, Is, Unsigned, IsOne, Spelled, of_layout, ◌▸▸◌}
+use Rattle.dbc_read.specs.Forms.{Part, Unsigned, Spelled, ◌▸▸◌}
 use Rattle.dbc_read.specs.Spelling.{AnyStatement, Timing, form, timing_form, timings_of, messages_of, timing_of, version_form, version_text, gather, ArePlaced, Spells}
-use Rattle.dbc_read.specs.Reading.{Reader, and_then, ◌>>=◌, value, starts, choose, end_at}
-use Rattle.dbc_read.specs.ReadingParts.{word_at, text_at, begins_receiver}
+use Rattle.dbc_read.specs.Reading.{Reader, and_then, ◌>>=◌, value, starts, end_at}
+use Rattle.dbc_read.specs.ReadingParts.{begins_receiver}
 use Rattle.dbc_read.specs.ReadingDatabases.{object_words, value_words, attribute_words, has_object_word, has_value_word, has_attribute_word, begins_statement, statements_into, version_at, timing_numbers_at, timing_at, timed_into, empty_database, database_at}
 use Rattle.dbc_read.proofs.Sound.{all_then_twice}
 use Rattle.dbc_read.proofs.AddingSound.{joined}
 use Rattle.dbc_read.proofs.DatabasesSound.{timing_is, gather_untimed, gather_timed}
-use Rattle.dbc_read.proofs.StatementsFit.{AllFit, all_fit, fit_both, Parted, parted, placed_both}
-use Rattle.dbc_read.proofs.Again.{chosen-first, Halves, halves, Takes, Anything, Opens, Stops, Allows, takes_value, takes_next, takes_last, takes_as, takes_where, takes_first, takes_second, takes_none, opens_one, opens_as}
+use Rattle.dbc_read.proofs.StatementsFit.{AllFit, all_fit, fit_both, parted, placed_both}
+use Rattle.dbc_read.proofs.Again.{chosen-first, halves, Takes, Opens, Stops, takes_value, takes_next, takes_as, takes_where, takes_first, takes_none, opens_one, opens_as}
 use Rattle.dbc_read.proofs.KindsAgain.{word_takes, mark_takes, text_takes, unsigned_takes, decimal_from_number}
 use Rattle.dbc_read.proofs.NotesAgain.{word_opens}
 use Rattle.dbc_read.proofs.StatementsAgain.{MayAdd, Closes, no_start, statements_added}
@@ -112,9 +112,9 @@ timed_read version p numbers q tokens line may more spelled =
     ap (λ (t : List Token). behind_version (version_text version) (t ▸▸ End line)) half.parts ∙ ap (behind_version (version_text version)) (all_then_twice half.front half.rest (End line))
     ∙ ap (λ (o : Result (Database × Cut) ReadFault). and_then o (λ before. (timed_into before >>= λ all. (end_at >>= λ _. value all)))) first
     ∙ ap (λ (o : Result (Database × Cut) ReadFault). and_then o (λ all. (end_at >>= λ _. value all)))
-      (chosen-first (starts (has_word (codes "BS_")) behind) _ _ _ ((begins_timing numbers (flat_map form q)).opens half.rest (End line) half.second)
-        (ap (λ (c : Cut). (timing_at >>= λ timing. statements_into (record d { bit_timing = timing })) c) stands
-        ∙ ap (λ (o : Result (Option (List Decimal) × Cut) ReadFault). and_then o (λ timing. statements_into (record d { bit_timing = timing }))) timing ∙ last))
+    (chosen-first (starts (has_word (codes "BS_")) behind) _ _ _ ((begins_timing numbers (flat_map form q)).opens half.rest (End line) half.second)
+    (ap (λ (c : Cut). (timing_at >>= λ timing. statements_into (record d { bit_timing = timing })) c) stands
+    ∙ ap (λ (o : Result (Option (List Decimal) × Cut) ReadFault). and_then o (λ timing. statements_into (record d { bit_timing = timing }))) timing ∙ last))
     ∙ end_read (joined e q) line ∙ ap (λ (d : Database). Ok (d, End line)) (gather_timed version p q numbers (timing_of (numbers ∷ [])) may.no_timings more.no_timings refl)
 
 -- ---- all of it
@@ -134,8 +134,8 @@ behind_read version statements tokens line text spelled = elim (parted statement
       let placed = placed_both parts.before (Timing parts.numbers ∷ parts.behind) (subst ArePlaced parts.same text.placed) in
       subst (λ (all : List AnyStatement). behind_version (version_text version) (tokens ▸▸ End line) ≡ Ok (gather version all, End line)) (sym parts.same)
       (timed_read version parts.before parts.numbers parts.behind tokens line (record { fit = fit.0; no_timings = parts.none_before; placed = placed.0 })
-        (record { fit = subst (λ (n : ℕ). AllFit n parts.behind) (plus_none (length (flat_map messages_of parts.before))) fit.1.1; no_timings = parts.none_behind; placed = placed.1.1 })
-        (subst (λ (form_parts : List Part). Spelled form_parts tokens) (flat_map-append form parts.before (Timing parts.numbers ∷ parts.behind)) (subst (λ (all : List AnyStatement). Spelled (flat_map form all) tokens) parts.same spelled))))
+      (record { fit = subst (λ (n : ℕ). AllFit n parts.behind) (plus_none (length (flat_map messages_of parts.before))) fit.1.1; no_timings = parts.none_behind; placed = placed.1.1 })
+      (subst (λ (form_parts : List Part). Spelled form_parts tokens) (flat_map-append form parts.before (Timing parts.numbers ∷ parts.behind)) (subst (λ (all : List AnyStatement). Spelled (flat_map form all) tokens) parts.same spelled))))
 ]
   where
     plus_none : (n : ℕ) → (0 + n) + 0 ≡ n
@@ -150,10 +150,10 @@ no_version version statements tokens line text spelled = elim (parted statements
       let fit = fit_both 0 parts.before (Timing parts.numbers ∷ parts.behind) (subst (AllFit 0) parts.same text.fit) in
       let placed = placed_both parts.before (Timing parts.numbers ∷ parts.behind) (subst ArePlaced parts.same text.placed) in
       let half = halves (flat_map form parts.before) (timing_form parts.numbers ++ flat_map form parts.behind) tokens
-            (subst (λ (form_parts : List Part). Spelled form_parts tokens) (flat_map-append form parts.before (Timing parts.numbers ∷ parts.behind)) (subst (λ (all : List AnyStatement). Spelled (flat_map form all) tokens) parts.same spelled)) in
+      (subst (λ (form_parts : List Part). Spelled form_parts tokens) (flat_map-append form parts.before (Timing parts.numbers ∷ parts.behind)) (subst (λ (all : List AnyStatement). Spelled (flat_map form all) tokens) parts.same spelled)) in
       ap (λ (t : List Token). starts (λ t. bytes_eq t.bytes (codes "VERSION")) (t ▸▸ End line)) half.parts ∙ ap (starts (λ t. bytes_eq t.bytes (codes "VERSION"))) (all_then_twice half.front half.rest (End line))
       ∙ no_start (λ bytes. bytes_eq bytes (codes "VERSION")) 0 parts.before refl (record { fit = fit.0; no_timings = parts.none_before; placed = placed.0 }) half.front (half.rest ▸▸ End line) half.first
-        ((timing_no_version parts.numbers (flat_map form parts.behind)).opens half.rest (End line) half.second))
+      ((timing_no_version parts.numbers (flat_map form parts.behind)).opens half.rest (End line) half.second))
 ]
   where
     timing_no_version : (numbers : Option (Decimal × Decimal × Decimal)) (parts : List Part) → Opens (λ t. bytes_eq t.bytes (codes "VERSION")) false (timing_form numbers ++ parts)

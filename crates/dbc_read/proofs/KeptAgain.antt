@@ -1,27 +1,25 @@
 -- How statements begin that are spelled: which are kept as they stand, and which aren't.
-use Rattle.std.proofs.Common.{◌≡◌, ℕ, zero, suc, Bool, true, false, ◌||◌, ◌&&◌, List, [], ◌∷◌, ◌++◌, Ok, append_assoc, refl, sym, ap, subst, ◌∙◌, inl, inr}
-use Rattle.std.specs.Prelude.{codes, IsTrue, All}
-use Rattle.std.specs.List.{flat_map, list_any}
+use Rattle.std.proofs.Common.{◌≡◌, ℕ, zero, suc, Bool, true, false, ◌||◌, ◌&&◌, List, [], ◌∷◌, ◌++◌, refl, sym, ap, ◌∙◌, inl, inr}
+use Rattle.std.specs.Prelude.{codes, IsTrue}
+use Rattle.std.specs.List.{flat_map}
 use Rattle.std.specs.Str.{bytes_eq}
 use Rattle.std.proofs.lemmas.Bool.{cases_Bool, and_parts}
-use Rattle.std.proofs.lemmas.Slice.Eq.{bytes_eq-Decides}
-use Rattle.dbc_model.specs.Databases.{Database}
-use Rattle.dbc_model.specs.Lexical.{is_text, is_word, is_name, is_number, is_keyword, quoted}
-use Rattle.dbc_model.specs.Kept.{Kept, IsKept, is_piece, is_string, is_kept_word, begins, kept_fits}
-use Rattle.dbc_model.specs.Layout.{Word, Mark, Name, Text, Whole, Number, Piece, items_of}
+use Rattle.dbc_model.specs.Lexical.{is_text, is_word, is_name, is_number, quoted}
+use Rattle.dbc_model.specs.Kept.{Kept, is_piece, is_string, is_kept_word, begins, kept_fits}
+use Rattle.dbc_model.specs.Layout.{Word, Mark, Text, Whole, Piece, items_of}
 use Rattle.dbc_model.specs.CanonicalText.{spaced_text, spaced_number, blank, number_layout, target_layout, value_layout}
 use Rattle.dbc_model.specs.declared.target.Target.{Target}
 use Rattle.dbc_model.specs.declared.target.Target.TheVariants as targets
 use Rattle.dbc_model.specs.declared.attribute.AttrValue.{AttrValue}
 use Rattle.dbc_model.specs.declared.attribute.AttrValue.TheVariants as values
-use Rattle.dbc_read.specs.Tokens.{Token, Cut, End, Fault, ◌▸◌}
+use Rattle.dbc_read.specs.Tokens.{Token, Cut}
 use Rattle.dbc_read.specs.Classes.{has_word, has_name, has_string, has_piece, has_kept_word}
 use Rattle.dbc_read.specs.Cursors.{behind}
 use Rattle.dbc_read.specs.Forms.{Part, Is, SpellsNumber, IsOne, SaysPart, Spelled, of_layout, ◌▸▸◌}
 use Rattle.dbc_read.specs.Spelling.{form, OfKept}
-use Rattle.dbc_read.specs.Reading.{Reader, starts, choose_by}
+use Rattle.dbc_read.specs.Reading.{starts}
 use Rattle.dbc_read.specs.ReadingParts.{pieces_from}
-use Rattle.dbc_read.specs.ReadingDatabases.{first_tokens, begins_kept, kept_at, kept_into}
+use Rattle.dbc_read.specs.ReadingDatabases.{first_tokens, begins_kept, kept_at}
 use Rattle.dbc_read.proofs.Turns.{bind_shrinks, value_keeps}
 use Rattle.dbc_read.proofs.Loops.{piece_shrinks}
 use Rattle.dbc_read.proofs.KeptBeginnings.{kept_by_tokens, any_of_four}
@@ -129,7 +127,7 @@ unkept_attribute name target given parts = record {
       let two = (word_opens (λ bytes. bytes_eq bytes (codes "VAL_")) (codes "BA_") {parts = all} refl).opens tokens cut spelled in
       let three = (word_opens (λ bytes. bytes_eq bytes (codes "CM_")) (codes "BA_") {parts = all} refl).opens tokens cut spelled in
       let variable = third_opens (Is (Word (codes "BA_"))) (Is (Text name)) (λ bytes. bytes ≡ codes "BA_") (λ bytes. (bytes ≡ quoted name) × IsTrue (is_text name)) (λ tokens says. says) (λ tokens says. says)
-            (given_no_variable target given parts) tokens cut spelled in
+      (given_no_variable target given parts) tokens cut spelled in
       kept_by_tokens (tokens ▸▸ cut) ∙ rw (one, two, three, variable) (none (starts (has_word (codes "BA_")) (tokens ▸▸ cut)) (starts has_string (behind (tokens ▸▸ cut)))));
 }
   where

@@ -1,6 +1,6 @@
 -- Messages and signals that are spelled are read.
-use Rattle.std.proofs.Common.{◌≡◌, ℕ, suc, ◌+◌, ◌*◌, ◌<◌, ◌≤◌, ◌^◌, ◌-◌, Bool, true, false, cond, ◌||◌, ◌&&◌, ◌==◌, List, [], ◌∷◌, ◌++◌, length, take, drop, length-append, Option, Some, None, Result, Ok, Err, append_assoc, append-nil, refl, sym, ap, subst, ◌∙◌, arith, inl, inr}
-use Rattle.std.specs.Prelude.{codes, nat_le, nat_lt, not, map, All, IsTrue}
+use Rattle.std.proofs.Common.{◌≡◌, ℕ, suc, ◌+◌, ◌<◌, ◌≤◌, ◌^◌, Bool, true, false, cond, ◌||◌, ◌&&◌, List, [], ◌∷◌, ◌++◌, length, length-append, Ok, append_assoc, refl, sym, ap, subst, ◌∙◌, arith, inl, inr}
+use Rattle.std.specs.Prelude.{codes, nat_le, nat_lt, not, All, IsTrue}
 use Rattle.std.specs.List.{flat_map, list_any}
 use Rattle.std.specs.Str.{bytes_eq}
 use Rattle.std.proofs.lemmas.Bool.{cases_Bool, and_parts}
@@ -10,30 +10,25 @@ use Rattle.std.proofs.lemmas.List.Elements.{All-head, All-tail}
 use Rattle.std.proofs.lemmas.List.Folds.{list_any-append}
 use Rattle.std.proofs.lemmas.Slice.Eq.{bytes_eq-Decides}
 use Rattle.dbc_model.specs.Lexical.{is_name, is_keyword}
-use Rattle.dbc_model.specs.Numbers.{whole_of_number}
 use Rattle.dbc_model.specs.Decimals.{Decimal}
-use Rattle.dbc_model.specs.Records.{IsName, Head, IsHead, IsTag, Signal, IsSignal, Message, IsMessage, names_of, are_distinct, signals_fit}
-use Rattle.dbc_model.specs.Layout.{Word, Mark, Name, Text, Whole, Number, Switch, Muxed, Both, Order, items_of}
-use Rattle.dbc_model.specs.CanonicalText.{head_layout, tag_layout, sign_mark}
-use Rattle.dbc_model.specs.declared.number.Whole.TheVariants.{Value}
-use Rattle.dbc_model.specs.declared.tag.Tag.{Tag}
-use Rattle.dbc_model.specs.declared.tag.Tag.TheVariants as tags
+use Rattle.dbc_model.specs.Records.{Head, IsHead, Signal, IsSignal, Message, IsMessage, names_of, are_distinct, signals_fit}
+use Rattle.dbc_model.specs.Layout.{Word, Mark, Name, Text, Order, items_of}
+use Rattle.dbc_model.specs.CanonicalText.{head_layout, tag_layout}
 use Rattle.dbc_read.specs.declared.fault.Cause.{Cause}
 use Rattle.dbc_read.specs.declared.fault.Cause.TheVariants as causes
 use Rattle.dbc_read.specs.declared.messages.Place.{Place}
 use Rattle.dbc_read.specs.Tokens.{Token, Cut, End, Fault, ◌▸◌}
-use Rattle.dbc_read.specs.Classes.{has_word, has_mark, has_name, order_digit, order_of, front, counted, whole_of, muxed_of, tag_of}
-use Rattle.dbc_read.specs.Forms.{Part, Is, Perhaps, SpellsNumber, SpellsTag, IsOne, SaysPart, Spelled, of_layout, ◌▸▸◌}
+use Rattle.dbc_read.specs.Classes.{has_word, has_mark, has_name, order_digit, order_of}
+use Rattle.dbc_read.specs.Forms.{Part, Is, Perhaps, SpellsNumber, Spelled, of_layout, ◌▸▸◌}
 use Rattle.dbc_read.specs.Spelling.{receivers_form, signal_form, form, OfMessage}
-use Rattle.dbc_read.specs.Reading.{Reader, ◌>>=◌, value, one, starts, choose, repeated}
-use Rattle.dbc_read.specs.ReadingParts.{mark_at, name_at, order_at, tag_token_at, pair_at, comma_at, begins_receiver, receivers_from, receivers_at}
-use Rattle.dbc_read.specs.ReadingMessages.{begun, begin_message_at, head_at, begin_signal_at, fresh, signal_name_at, tag_at, sign_at, place_at, signal_at, signals_from, message_at}
-use Rattle.dbc_read.proofs.Turns.{Shrinks, bind_shrinks, after_shrinks, value_keeps}
+use Rattle.dbc_read.specs.Reading.{one, starts}
+use Rattle.dbc_read.specs.ReadingParts.{order_at, pair_at, comma_at, begins_receiver, receivers_from, receivers_at}
+use Rattle.dbc_read.specs.ReadingMessages.{begun, begin_message_at, head_at, begin_signal_at, fresh, signal_name_at, sign_at, place_at, signal_at, signals_from, message_at}
+use Rattle.dbc_read.proofs.Turns.{bind_shrinks, after_shrinks, value_keeps}
 use Rattle.dbc_read.proofs.Loops.{name_shrinks, comma_keeps}
 use Rattle.dbc_read.proofs.SignalLoop.{signal_shrinks}
-use Rattle.dbc_read.proofs.Sound.{first_and}
-use Rattle.dbc_read.proofs.MessagesSound.{sign_form, place_form, pair_form, name_form, further_name_form, signal_form_is}
-use Rattle.dbc_read.proofs.Again.{Takes, Anything, Opens, Stops, Allows, Halves, halves, takes_value, takes_then, takes_next, takes_as, takes_last, opens_as, allows_as, all_pushed, takes_where, takes_first, takes_second, takes_none, takes_one, opens_one, allows_stop, allows_anything, takes_list, takes_repeated, pushed, alone}
+use Rattle.dbc_read.proofs.MessagesSound.{sign_form, place_form, pair_form, further_name_form, signal_form_is}
+use Rattle.dbc_read.proofs.Again.{Takes, Anything, Opens, Stops, Allows, takes_value, takes_then, takes_next, takes_as, takes_last, opens_as, allows_as, all_pushed, takes_where, takes_first, takes_second, takes_none, takes_one, opens_one, allows_stop, takes_list, takes_repeated, pushed}
 use Rattle.dbc_read.proofs.KindsAgain.{is_the_word, is_the_mark, Within, within, number_whole, mark_takes, name_takes, text_takes, whole_takes, id_takes, decimal_takes}
 use Rattle.dbc_read.proofs.MessageNames.{same_either_way}
 use Rattle.dbc_read.proofs.TagsAgain.{tag_takes}
@@ -184,7 +179,7 @@ pub signal_takes : (signals : List Signal) (s : Signal) → IsSignal s → nat_l
 unfolding signal_at
 signal_takes signals s is room new =
     takes_as (signal_form_is s ∙ seven (Is (Word (codes "SG_")) ∷ Is (Name s.name) ∷ of_layout (tag_layout s.tag)) (Is (Mark 58) ∷ []) (place_form (place_of s)) (pair_form 40 44 41 (s.factor, s.offset))
-      (pair_form 91 124 93 (s.minimum, s.maximum)) (Is (Text s.unit) ∷ []) (receivers_form s.receivers))
+    (pair_form 91 124 93 (s.minimum, s.maximum)) (Is (Text s.unit) ∷ []) (receivers_form s.receivers))
     (takes_next _ (begin_signal_takes (length signals) room) (takes_next _ (signal_name_takes (names_of signals) s.name new)
     (takes_then _ (tag_takes s.tag is.tag) colon_stands (takes_next _ (mark_takes 58) (takes_next _ (place_takes (place_of s) is.start is.fits)
     (takes_next _ (pair_takes 40 44 41 (s.factor, s.offset)) (takes_next _ (pair_takes 91 124 93 (s.minimum, s.maximum)) (takes_next _ (text_takes s.unit)
@@ -238,9 +233,9 @@ unfolding signals_from
 signals_take signals more are =
     subst (λ (made : List Signal). Takes (signals_from signals) made (flat_map signal_form more) EndsSignals) (all_pushed signals more)
     (takes_repeated (has_word (codes "SG_")) _ (λ list. bind_shrinks (signal_shrinks list) λ signal. value_keeps _) signal_form pushed AreSignals (Stops begins_receiver) EndsSignals
-      (λ list s more are. (let one = fitting list s more are.fit in takes_last _ (signal_takes list s (All-head IsSignal s more are.each) one.room one.new) takes_value))
-      (λ list s more are. record { each = All-tail IsSignal s more are.each; fit = subst (λ (all : List Signal). IsTrue (signals_fit all)) (sym (append_assoc list (s ∷ []) more)) are.fit })
-      (λ list s more are. opens_as (signal_form_is s) signal_opens) (λ list s more are. allows_as (signal_form_is s) (allows_stop signal_no_receiver)) (λ cut ends. ends) signals more are)
+    (λ list s more are. (let one = fitting list s more are.fit in takes_last _ (signal_takes list s (All-head IsSignal s more are.each) one.room one.new) takes_value))
+    (λ list s more are. record { each = All-tail IsSignal s more are.each; fit = subst (λ (all : List Signal). IsTrue (signals_fit all)) (sym (append_assoc list (s ∷ []) more)) are.fit })
+    (λ list s more are. opens_as (signal_form_is s) signal_opens) (λ list s more are. allows_as (signal_form_is s) (allows_stop signal_no_receiver)) (λ cut ends. ends) signals more are)
 
 pub message_takes : (count : ℕ) (message : Message) → nat_lt count 65535 ≡ true → IsMessage message → Takes (message_at count) message (form (OfMessage message)) EndsSignals
 unfolding message_at

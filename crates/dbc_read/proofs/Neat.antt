@@ -1,10 +1,10 @@
 -- The layout of each statement: what its items are, and that each stands apart from what stands behind it.
-use Rattle.std.proofs.Common.{◌≡◌, ℕ, Bool, true, false, cond, ◌||◌, ◌&&◌, List, [], ◌∷◌, ◌++◌, append_assoc, append-nil, refl, sym, ap, subst, ◌∙◌}
-use Rattle.std.specs.Prelude.{codes, All, IsTrue}
+use Rattle.std.proofs.Common.{◌≡◌, ℕ, Bool, true, false, ◌||◌, ◌&&◌, List, [], ◌∷◌, ◌++◌, append_assoc, refl, sym, subst}
+use Rattle.std.specs.Prelude.{All}
 use Rattle.std.specs.List.{flat_map}
 use Rattle.std.proofs.lemmas.List.Elements.{All-head, All-tail}
 use Rattle.dbc_model.specs.Lexical.{is_word}
-use Rattle.dbc_model.specs.Layout.{Item, Word, Mark, Name, Symbol, Text, Whole, Int, Number, Switch, Muxed, Both, Order, Piece, Element, Space, Tab, LineEnd, Is, Layout, separated}
+use Rattle.dbc_model.specs.Layout.{Item, Word, Mark, Space, Tab, LineEnd, Is, Layout, separated}
 use Rattle.dbc_read.proofs.Printed.{IsItem, is_closed, ends_item, stand_apart}
 
 -- ---- items

@@ -1,7 +1,6 @@
 -- In the canonical text of a database each item stands apart from what stands behind it.
-use Rattle.std.proofs.Common.{◌≡◌, ℕ, ◌<◌, ◌≤◌, ◌^◌, ◌-◌, ℤ, pos, negsuc, ◌≤ℤ◌, arith, Bool, true, false, ◌||◌, ◌&&◌, List, [], ◌∷◌, ◌++◌, Option, Some, None, refl, sym, ap, subst, ◌∙◌}
+use Rattle.std.proofs.Common.{◌≡◌, ℕ, ◌<◌, ◌≤◌, ◌^◌, ◌-◌, ℤ, pos, negsuc, ◌≤ℤ◌, arith, Bool, true, false, ◌&&◌, List, [], ◌∷◌, ◌++◌, Option, Some, None, refl}
 use Rattle.std.specs.Prelude.{codes, nat_le, int_le, All, IsTrue, IfSome}
-use Rattle.std.specs.List.{flat_map}
 use Rattle.std.proofs.lemmas.Bool.{and_parts}
 use Rattle.std.proofs.lemmas.Grind.{common_steps}
 use Rattle.std.proofs.lemmas.Int.{ints}
@@ -9,7 +8,7 @@ use Rattle.std.proofs.lemmas.List.Elements.{All-head, All-tail}
 use Rattle.dbc_model.specs.Databases.{Database, IsDatabase, IsBitTiming}
 use Rattle.dbc_model.specs.Decimals.{Decimal, IsDecimal}
 use Rattle.dbc_model.specs.Kept.{Kept, IsKept, IsPiece}
-use Rattle.dbc_model.specs.Records.{IsNumber, IsTag, entry_fits, IsName, IsText, IsSymbol, is_symbol, Head, IsHead, Signal, IsSignal, Message, IsMessage, Entry, IsEntry, TableRow, IsTableRow, ValueRow, IsValueRow, FloatRow, IsFloatRow, MuxRow, IsMuxRow, IsRange}
+use Rattle.dbc_model.specs.Records.{IsNumber, IsTag, entry_fits, IsName, IsText, IsSymbol, Head, IsHead, Signal, IsSignal, Message, IsMessage, Entry, IsEntry, TableRow, IsTableRow, ValueRow, IsValueRow, FloatRow, IsFloatRow, MuxRow, IsMuxRow, IsRange}
 use Rattle.dbc_model.specs.Comments.{Comment, IsComment, IsTarget}
 use Rattle.dbc_model.specs.Attributes.{AttrDef, IsAttrDef, IsForm, IsLimits, AttrDefault, IsAttrDefault, AttrRow, IsAttrRow, IsAttrValue}
 use Rattle.dbc_model.specs.declared.tag.Tag.{Tag}
@@ -24,10 +23,10 @@ use Rattle.dbc_model.specs.declared.definition.Object.{Object}
 use Rattle.dbc_model.specs.declared.definition.Object.TheVariants as objects
 use Rattle.dbc_model.specs.declared.definition.Form.{Form}
 use Rattle.dbc_model.specs.declared.definition.Form.TheVariants as forms
-use Rattle.dbc_model.specs.Layout.{Item, Word, Mark, Name, Symbol, Text, Whole, Int, Number, Switch, Muxed, Both, Order, Piece, Space, Tab, LineEnd, Is, Layout, separated}
-use Rattle.dbc_model.specs.CanonicalText.{blank, mark_layout, spaced_mark, number_layout, spaced_number, spaced_text, spaced_name, spaced_word, word_layout, signal_key, line_end, statement_end, spaced_end, version_layout, symbol_layout, symbols_title, symbols_layout, timing_numbers, perhaps_numbers, timing_title, timing_layout, nodes_title, nodes_layout, entry_layout, table_key, table_layout, values_key, values_layout, head_layout, signal_name_layout, tag_layout, sign_mark, place_layout, pair_layout, scale_layout, limits_layout, further_receiver, receivers_layout, signal_layout, message_layout, target_layout, comment_key, comment_layout, object_word, object_layout, number_limits_layout, further_text, texts_layout, form_layout, definition_key, definition_layout, value_layout, default_key, default_layout, attribute_key, attribute_layout, float_key, float_kind, float_layout, range_layout, further_range, ranges_layout, mux_key, mux_layout, piece_layout, kept_layout, front_layout, attributes_layout, rows_layout, database_layout}
-use Rattle.dbc_read.proofs.Printed.{IsItem, is_closed, ends_item, stand_apart}
-use Rattle.dbc_read.proofs.Neat.{AreItems, Start, Middle, Close, Line, start_then, start_close, middle_both, middle_close, line_both, close_line, middle_none, line_none, middle_each, line_each, middle_separated, spaced, word_start}
+use Rattle.dbc_model.specs.Layout.{Word, Mark, Name, Text, Whole, Int, Number, Switch, Muxed, Both}
+use Rattle.dbc_model.specs.CanonicalText.{blank, mark_layout, spaced_mark, number_layout, spaced_number, spaced_text, spaced_name, spaced_word, word_layout, signal_key, line_end, statement_end, spaced_end, version_layout, symbol_layout, symbols_title, symbols_layout, timing_numbers, perhaps_numbers, timing_title, timing_layout, nodes_title, nodes_layout, entry_layout, table_key, table_layout, values_key, values_layout, head_layout, signal_name_layout, tag_layout, sign_mark, place_layout, pair_layout, scale_layout, limits_layout, further_receiver, receivers_layout, signal_layout, message_layout, target_layout, comment_key, comment_layout, object_layout, number_limits_layout, further_text, texts_layout, form_layout, definition_key, definition_layout, value_layout, default_key, default_layout, attribute_key, attribute_layout, float_key, float_kind, float_layout, range_layout, further_range, ranges_layout, mux_key, mux_layout, piece_layout, kept_layout, front_layout, attributes_layout, rows_layout, database_layout}
+use Rattle.dbc_read.proofs.Printed.{IsItem}
+use Rattle.dbc_read.proofs.Neat.{AreItems, Start, Middle, Close, Line, start_then, start_close, middle_both, middle_close, line_both, close_line, middle_none, middle_each, line_each, middle_separated, spaced, word_start}
 
 -- ---- ends of statements
 
@@ -339,9 +338,9 @@ pub database_neat : (d : Database) → IsDatabase d → Line (database_layout d)
 unfolding database_layout front_layout attributes_layout rows_layout
 database_neat d is =
     line_both (line_both (version_neat d.version is.version) (line_both (symbols_neat d.symbols is.symbols) (line_both (timing_neat d.bit_timing is.bit_timing) (line_both (nodes_neat d.nodes is.nodes)
-      (line_each IsTableRow table_layout table_neat d.tables is.tables)))))
+    (line_each IsTableRow table_layout table_neat d.tables is.tables)))))
     (line_both (line_each IsMessage message_layout message_neat d.messages is.messages) (line_both (line_each IsComment comment_layout comment_neat d.comments is.comments)
     (line_both (line_both (line_each IsAttrDef definition_layout definition_neat d.definitions is.definitions) (line_both (line_each IsAttrDefault default_layout default_neat d.defaults is.defaults)
-      (line_each IsAttrRow attribute_layout attribute_neat d.attributes is.attributes)))
+    (line_each IsAttrRow attribute_layout attribute_neat d.attributes is.attributes)))
     (line_both (line_each IsValueRow values_layout values_neat d.values is.values) (line_both (line_each IsFloatRow float_layout float_neat d.floats is.floats)
-      (line_both (line_each IsMuxRow mux_layout mux_neat d.muxes is.muxes) (line_each IsKept kept_layout kept_neat d.kept is.kept)))))))
+    (line_both (line_each IsMuxRow mux_layout mux_neat d.muxes is.muxes) (line_each IsKept kept_layout kept_neat d.kept is.kept)))))))

@@ -1,17 +1,17 @@
 -- Comments and attributes that are spelled are read.
-use Rattle.std.proofs.Common.{◌≡◌, ℕ, ◌<◌, Bool, true, false, cond, ◌||◌, ◌&&◌, List, [], ◌∷◌, ◌++◌, length, Option, Some, None, Result, Ok, append_assoc, append-nil, refl, sym, ap, subst, ◌∙◌, inl, inr}
-use Rattle.std.specs.Prelude.{codes, nat_le, All, IsTrue, IfSome}
+use Rattle.std.proofs.Common.{◌≡◌, ℕ, Bool, true, false, ◌||◌, List, [], ◌∷◌, ◌++◌, length, Option, Some, None, append_assoc, refl, sym, ap, subst, ◌∙◌, inl, inr}
+use Rattle.std.specs.Prelude.{codes, nat_le, All, IsTrue}
 use Rattle.std.specs.List.{flat_map}
 use Rattle.std.specs.Str.{bytes_eq}
-use Rattle.std.proofs.lemmas.Bool.{cases_Bool, and_parts}
-use Rattle.std.proofs.lemmas.List.Elements.{All-head, All-tail}
+use Rattle.std.proofs.lemmas.Bool.{cases_Bool}
+use Rattle.std.proofs.lemmas.List.Elements.{All-tail}
 use Rattle.std.proofs.lemmas.Slice.Eq.{bytes_eq-Decides}
 use Rattle.dbc_model.specs.Lexical.{quote, quoted, is_text, is_number}
 use Rattle.dbc_model.specs.Decimals.{Decimal, decimal_of_number, SpellsDecimal}
 use Rattle.dbc_model.specs.Kept.{is_string, inside}
 use Rattle.dbc_model.specs.Records.{IsText}
 use Rattle.dbc_model.specs.Comments.{Comment, IsTarget, IsComment}
-use Rattle.dbc_model.specs.Attributes.{AttrDef, IsAttrDef, IsForm, IsLimits, form_fits, AttrDefault, IsAttrDefault, IsAttrValue, AttrRow, IsAttrRow}
+use Rattle.dbc_model.specs.Attributes.{AttrDef, IsAttrDef, IsForm, form_fits, AttrDefault, AttrRow, IsAttrRow}
 use Rattle.dbc_model.specs.declared.target.Target.{Target}
 use Rattle.dbc_model.specs.declared.target.Target.TheVariants as targets
 use Rattle.dbc_model.specs.declared.attribute.AttrValue.{AttrValue}
@@ -21,22 +21,22 @@ use Rattle.dbc_model.specs.declared.definition.Object.{Object}
 use Rattle.dbc_model.specs.declared.definition.Object.TheVariants as objects
 use Rattle.dbc_model.specs.declared.definition.Form.{Form}
 use Rattle.dbc_model.specs.declared.definition.Form.TheVariants as forms
-use Rattle.dbc_model.specs.Layout.{Word, Mark, Name, Text, Whole, Number, items_of}
+use Rattle.dbc_model.specs.Layout.{Word, Mark, Text, Number, items_of}
 use Rattle.dbc_model.specs.CanonicalText.{spaced_word, spaced_text, spaced_number, blank, number_layout, target_layout, object_layout, number_limits_layout, texts_layout, form_layout, value_layout}
 use Rattle.dbc_read.specs.Tokens.{Token, Cut}
 use Rattle.dbc_read.specs.Classes.{has_word, has_mark, has_string, has_number, is_there}
-use Rattle.dbc_read.specs.Forms.{Part, Is, IsOne, IsSign, SaysPart, Spelled, of_layout, ◌▸▸◌}
+use Rattle.dbc_read.specs.Forms.{Part, Is, IsOne, IsSign, Spelled, of_layout, ◌▸▸◌}
 use Rattle.dbc_read.specs.Spelling.{form, OfComment, Definition, Default, Attribute}
-use Rattle.dbc_read.specs.Reading.{Reader, ◌>>=◌, starts, choose, value}
-use Rattle.dbc_read.specs.ReadingParts.{mark_at, text_at, texts_from, begins_decimal}
-use Rattle.dbc_read.specs.ReadingAttributes.{node_target_at, message_target_at, signal_target_at, target_at, comment_at, object_word_at, object_at, limits_at, limited_at, string_form_at, enumeration_at, form_at, definition_at, value_at, default_at, attribute_at}
+use Rattle.dbc_read.specs.Reading.{starts}
+use Rattle.dbc_read.specs.ReadingParts.{texts_from, begins_decimal}
+use Rattle.dbc_read.specs.ReadingAttributes.{node_target_at, message_target_at, signal_target_at, target_at, comment_at, object_at, limits_at, limited_at, string_form_at, enumeration_at, form_at, definition_at, value_at, default_at, attribute_at}
 use Rattle.dbc_read.proofs.Turns.{bind_shrinks, bind_keeps, keeps, value_keeps}
 use Rattle.dbc_read.proofs.Loops.{mark_shrinks, text_shrinks}
 use Rattle.dbc_read.proofs.Names.{no_digit_no_number}
-use Rattle.dbc_read.proofs.Sound.{all_then_twice, first_and}
+use Rattle.dbc_read.proofs.Sound.{all_then_twice}
 use Rattle.dbc_read.proofs.NotesSound.{text_form, further_text_form, comment_form, texts_layout_form, word_then, string_form, definition_form, default_form, attribute_form}
 use Rattle.dbc_read.proofs.Again.{Takes, Anything, Opens, Stops, Allows, takes_value, takes_then, takes_next, takes_as, takes_last, takes_where, takes_first, takes_second, takes_none, opens_one, allows_stop, allows_both, takes_list}
-use Rattle.dbc_read.proofs.KindsAgain.{is_the_mark, number_is_no_mark, decimal_from_number, word_takes, mark_takes, name_takes, text_takes, quoted_is_string, id_takes, decimal_takes}
+use Rattle.dbc_read.proofs.KindsAgain.{decimal_from_number, word_takes, mark_takes, name_takes, text_takes, quoted_is_string, id_takes, decimal_takes}
 use Rattle.dbc_read.proofs.RowsAgain.{mark_opens, mark_opens_itself, semicolon_is_no_comma}
 
 -- ---- what words, texts and numbers begin with
@@ -98,7 +98,7 @@ target_takes (targets.Signal number name) is =
     takes_second _ (word_opens (λ bytes. bytes_eq bytes (codes "BU_")) (codes "SG_") refl)
     (takes_second _ (word_opens (λ bytes. bytes_eq bytes (codes "BO_")) (codes "SG_") refl)
     (takes_first _ (word_opens (λ bytes. bytes_eq bytes (codes "SG_")) (codes "SG_") refl)
-      (takes_where (takes_next _ (word_takes (codes "SG_")) (takes_next _ (id_takes number is.0) (takes_next _ (name_takes name) takes_value))) (λ cut may. tt))))
+    (takes_where (takes_next _ (word_takes (codes "SG_")) (takes_next _ (id_takes number is.0) (takes_next _ (name_takes name) takes_value))) (λ cut may. tt))))
 
 pub text_no_target : {text : List ℕ} {parts : List Part} {May : Cut → Type 0} → Allows (Is (Text text) ∷ parts) May NoTarget
 text_no_target {text} {parts} {May} = allows_both (allows_stop (text_no_word (codes "BU_") refl)) (allows_both (allows_stop (text_no_word (codes "BO_") refl)) (allows_stop (text_no_word (codes "SG_") refl)))
@@ -224,8 +224,8 @@ pub definition_takes : (row : AttrDef) → IsAttrDef row → Takes definition_at
 unfolding definition_at
 definition_takes row is =
     takes_as (definition_form row
-      ∙ append_assoc ((Is (Word (codes "BA_DEF_")) ∷ of_layout (object_layout row.object)) ++ Is (Text row.name) ∷ []) (of_layout (form_layout row.form)) (Is (Mark 59) ∷ [])
-      ∙ append_assoc (Is (Word (codes "BA_DEF_")) ∷ of_layout (object_layout row.object)) (Is (Text row.name) ∷ []) (of_layout (form_layout row.form) ++ Is (Mark 59) ∷ []))
+    ∙ append_assoc ((Is (Word (codes "BA_DEF_")) ∷ of_layout (object_layout row.object)) ++ Is (Text row.name) ∷ []) (of_layout (form_layout row.form)) (Is (Mark 59) ∷ [])
+    ∙ append_assoc (Is (Word (codes "BA_DEF_")) ∷ of_layout (object_layout row.object)) (Is (Text row.name) ∷ []) (of_layout (form_layout row.form) ++ Is (Mark 59) ∷ []))
     (takes_next _ (word_takes (codes "BA_DEF_")) (takes_then _ (object_takes row.object) text_no_object (takes_next _ (text_takes row.name)
     (takes_then _ (form_takes row.form is.form is.fits) semicolon_ends (takes_next _ (mark_takes 59) takes_value)))))
 

@@ -1,11 +1,11 @@
 -- What the items of a layout are printed as: the tokens of each, by their kinds and bytes.
-use Rattle.std.proofs.Common.{◌≡◌, ℕ, suc, ◌<◌, ◌^◌, ℤ, pos, negsuc, Bool, true, false, cond, ◌||◌, ◌&&◌, List, [], ◌∷◌, ◌++◌}
+use Rattle.std.proofs.Common.{◌≡◌, ℕ, suc, ◌<◌, ◌^◌, pos, negsuc, Bool, true, false, cond, ◌||◌, ◌&&◌, List, [], ◌∷◌, ◌++◌}
 use Rattle.std.specs.Prelude.{codes, decimal, IsTrue}
 use Rattle.std.specs.List.{flat_map}
 use Rattle.dbc_model.specs.Decimals.{IsDecimal}
 use Rattle.dbc_model.specs.Kept.{is_piece, is_string}
 use Rattle.dbc_model.specs.Lexical.{quoted, is_text, is_word, is_name, is_number, is_mark}
-use Rattle.dbc_model.specs.Layout.{Item, Word, Mark, Name, Symbol, Text, Whole, Int, Number, Switch, Muxed, Both, Order, Piece, Element, Space, Tab, LineEnd, Is, Layout, item_text, layout_text, items_of, magnitude_text}
+use Rattle.dbc_model.specs.Layout.{Item, Word, Mark, Name, Symbol, Text, Whole, Int, Number, Switch, Muxed, Both, Order, Piece, Space, Tab, LineEnd, Is, Layout, item_text, layout_text, items_of, magnitude_text}
 use Rattle.dbc_model.specs.Records.{is_symbol}
 use Rattle.dbc_read.specs.declared.token.Kind.{Kind}
 use Rattle.dbc_read.specs.declared.token.Kind.TheVariants as kinds

@@ -1,15 +1,10 @@
 -- Tokens have no first fault exactly where they spell something, and then they spell it alone.
-use Rattle.std.proofs.Common.{◌≡◌, ℕ, List, Option, Some, None, Result, Ok, Err, refl, sym, ap, subst, ◌∙◌}
-use Rattle.std.specs.Prelude.{◌↔◌}
-use Rattle.dbc_model.specs.Databases.{Database}
+use Rattle.std.proofs.Common.{◌≡◌, Option, Some, None, Result, Ok, Err, refl, sym, ap, subst, ◌∙◌}
 use Rattle.dbc_read.specs.declared.fault.ReadFault.{ReadFault}
-use Rattle.dbc_read.specs.declared.statement.Statement.{Statement}
-use Rattle.dbc_read.specs.Tokens.{Token, Cut, End}
-use Rattle.dbc_read.specs.Forms.{◌▸▸◌}
-use Rattle.dbc_read.specs.Spelling.{Spells, SpellsStatement}
+use Rattle.dbc_read.specs.Tokens.{Cut, End}
 use Rattle.dbc_read.specs.Pattern.{first_fault, nothing_seen}
 use Rattle.dbc_read.specs.Grammar as grammar
-use Rattle.dbc_read.specs.Laws.{SpellDatabase, SpellStatement, FaultOrDatabase, FaultOrStatement, OneDatabase, OneStatement}
+use Rattle.dbc_read.specs.Laws.{FaultOrDatabase, FaultOrStatement, OneDatabase, OneStatement}
 use Rattle.dbc_read.specs.ReadingDatabases.{database_at, statement_at}
 use Rattle.dbc_read.proofs.Sound.{ok_is}
 use Rattle.dbc_read.proofs.Agree.{Judges}

@@ -1,18 +1,17 @@
 -- The tokens of each statement's layout spell the statement's form.
-use Rattle.std.proofs.Common.{◌≡◌, ℕ, Bool, true, false, not, ◌&&◌, List, [], ◌∷◌, ◌++◌, map, Option, Some, None, length, append_assoc, append-nil, refl, sym, ap, subst, ◌∙◌, arith}
-use Rattle.std.specs.Prelude.{codes, nat_le, All, IsTrue, IfSome}
-use Rattle.std.specs.List.{flat_map, list_all}
+use Rattle.std.proofs.Common.{◌≡◌, ℕ, Bool, true, false, not, List, [], ◌∷◌, ◌++◌, Option, Some, None, length, append_assoc, append-nil, refl, sym, ap, ◌∙◌, arith}
+use Rattle.std.specs.Prelude.{All, IfSome}
+use Rattle.std.specs.List.{list_all}
 use Rattle.std.proofs.lemmas.Bool.{and_parts}
 use Rattle.std.proofs.lemmas.List.Elements.{All-head, All-tail}
-use Rattle.dbc_model.specs.Databases.{Database, IsDatabase, IsBitTiming, timing_fits}
+use Rattle.dbc_model.specs.Databases.{IsBitTiming, timing_fits}
 use Rattle.dbc_model.specs.Decimals.{Decimal, IsDecimal}
 use Rattle.dbc_model.specs.Records.{IsName, Signal, IsSignal, Message, IsMessage, FloatRow, IsFloatRow}
-use Rattle.dbc_model.specs.Layout.{Item, Word, Mark, Name, Text, Whole, Number, Space, LineEnd, Is, Layout, items_of, separated}
+use Rattle.dbc_model.specs.Layout.{Item, Mark, Name, Whole, Layout}
 use Rattle.dbc_model.specs.CanonicalText.{blank, number_layout, spaced_number, spaced_mark, spaced_name, line_end, statement_end, timing_numbers, perhaps_numbers, timing_title, timing_layout, signal_name_layout, tag_layout, place_layout, scale_layout, limits_layout, spaced_text, further_receiver, receivers_layout, signal_layout, head_layout, message_layout, float_key, float_kind, float_layout}
-use Rattle.dbc_read.specs.Forms.{Part, Is as Shown, Perhaps, Unsigned, of_layout}
-use Rattle.dbc_read.specs.Spelling.{form, Timing, OfMessage, Float, timing_form, receivers_form, signal_form}
+use Rattle.dbc_read.specs.Forms.{Is as Shown, Perhaps, Unsigned, of_layout}
+use Rattle.dbc_read.specs.Spelling.{form, Timing, OfMessage, Float, receivers_form, signal_form}
 use Rattle.dbc_read.proofs.Printed.{IsItem, Printed, Shows}
-use Rattle.dbc_read.proofs.Neat.{AreItems, Line}
 use Rattle.dbc_read.proofs.NeatStatements.{kind_small, float_key_part, head_neat, signal_front_items, timing_title_neat}
 use Rattle.dbc_read.proofs.Shown.{shows_both, shows_none, shows_as, shows_each, shows_space, shows_end, shows_item, shows_perhaps, shows_unsigned, shows_layout}
 
@@ -53,8 +52,8 @@ module _ (printed : (item : Item) → IsItem item → Printed item) where
       let behind = All-tail IsDecimal a (b ∷ c ∷ []) is.numbers in
       shows_both (shows_layout printed timing_title timing_title_neat.items)
       (shows_both (shows_both (spaced_unsigned a (All-head IsDecimal a (b ∷ c ∷ []) is.numbers) (is_positive a.negative one.0)) (shows_both (mark_shown 58 refl)
-        (shows_both (spaced_unsigned b (All-head IsDecimal b (c ∷ []) behind) (is_positive b.negative two.0)) (shows_both (mark_shown 44 refl)
-        (spaced_unsigned c (All-head IsDecimal c [] (All-tail IsDecimal b (c ∷ []) behind)) (is_positive c.negative three.0)))))) end_shown)
+      (shows_both (spaced_unsigned b (All-head IsDecimal b (c ∷ []) behind) (is_positive b.negative two.0)) (shows_both (mark_shown 44 refl)
+      (spaced_unsigned c (All-head IsDecimal c [] (All-tail IsDecimal b (c ∷ []) behind)) (is_positive c.negative three.0)))))) end_shown)
   timing_shown (Some (a ∷ b ∷ c ∷ d ∷ more)) is fits = let three : length (a ∷ b ∷ c ∷ d ∷ more) ≡ 3 = is.three in absurd (omega (arith, three))
 
   -- ---- float types
@@ -87,7 +86,7 @@ module _ (printed : (item : Item) → IsItem item → Printed item) where
   signal_shown s is =
       shows_as (six (signal_name_layout s) (tag_layout s.tag) (place_layout s) (scale_layout s) (limits_layout s) (spaced_text s.unit) (receivers_layout s.receivers ++ line_end)) refl
       (shows_both (shows_layout printed (signal_name_layout s ++ (tag_layout s.tag ++ (place_layout s ++ (scale_layout s ++ (limits_layout s ++ spaced_text s.unit))))) (signal_front_items s is))
-        (shows_as refl (sym (append-nil (receivers_form s.receivers))) (shows_both (receivers_shown s.receivers is.receivers) end_shown)))
+      (shows_as refl (sym (append-nil (receivers_form s.receivers))) (shows_both (receivers_shown s.receivers is.receivers) end_shown)))
 
   pub message_shown : (message : Message) → IsMessage message → Shows (message_layout message) (form (OfMessage message))
   unfolding message_layout

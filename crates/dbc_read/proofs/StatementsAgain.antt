@@ -1,29 +1,28 @@
 -- Statements that are spelled, one after another, are added to a database.
-use Rattle.std.proofs.Common.{◌≡◌, ℕ, ◌+◌, Bool, true, false, ◌||◌, ◌&&◌, List, [], ◌∷◌, ◌++◌, length, length-append, Ok, append-nil, refl, sym, ap, subst, ◌∙◌}
+use Rattle.std.proofs.Common.{◌≡◌, ℕ, ◌+◌, Bool, true, false, ◌||◌, ◌&&◌, List, [], ◌∷◌, ◌++◌, length, length-append, Ok, refl, sym, ap, subst, ◌∙◌}
 use Rattle.std.specs.Prelude.{codes, not, IsTrue}
 use Rattle.std.specs.List.{flat_map, list_any, list_all}
 use Rattle.std.specs.Str.{bytes_eq}
 use Rattle.std.proofs.lemmas.Bool.{and_parts}
 use Rattle.std.proofs.lemmas.Slice.Eq.{bytes_eq-Decides}
 use Rattle.dbc_model.specs.Databases.{Database}
-use Rattle.dbc_model.specs.Lexical.{is_name, is_keyword, is_word, kept_words}
-use Rattle.dbc_model.specs.Kept.{Kept, IsKept, is_piece, is_string, is_kept_word, kept_fits, begins}
+use Rattle.dbc_model.specs.Lexical.{is_name, is_keyword, kept_words}
+use Rattle.dbc_model.specs.Kept.{is_piece, is_kept_word, kept_fits}
 use Rattle.dbc_model.specs.Records.{is_symbol, Message}
-use Rattle.dbc_model.specs.Layout.{Word, Piece, items_of}
+use Rattle.dbc_model.specs.Layout.{Piece, items_of}
 use Rattle.dbc_model.specs.CanonicalText.{word_layout, table_key, table_layout, values_key, values_layout, float_key, mux_key, mux_layout, comment_key, comment_layout, definition_key, definition_layout, default_key, default_layout, attribute_key, attribute_layout, head_layout}
 use Rattle.dbc_read.specs.Tokens.{Token, Cut}
 use Rattle.dbc_read.specs.Classes.{has_word, has_mark, has_symbol, has_name, has_kept_word}
-use Rattle.dbc_read.specs.Forms.{Part, Is, Spelled, of_layout, ◌▸▸◌}
-use Rattle.dbc_read.specs.Spelling.{AnyStatement, Symbols, Timing, Nodes, Table, OfMessage, OfComment, Definition, Default, Attribute, Values, Float, Mux, OfKept, form, timings_of, messages_of, EndsSymbols, FollowOn, ArePlaced}
+use Rattle.dbc_read.specs.Forms.{Part, Is, Spelled, ◌▸▸◌}
+use Rattle.dbc_read.specs.Spelling.{AnyStatement, Symbols, Timing, Nodes, Table, OfMessage, OfComment, Definition, Default, Attribute, Values, Float, Mux, OfKept, form, timings_of, messages_of, EndsSymbols, ArePlaced}
 use Rattle.dbc_read.specs.Reading.{starts}
 use Rattle.dbc_read.specs.ReadingParts.{begins_receiver}
 use Rattle.dbc_read.specs.ReadingDatabases.{object_words, value_words, attribute_words, has_object_word, has_value_word, has_attribute_word, begins_statement, statement_into, statements_into}
-use Rattle.dbc_read.proofs.MessageNames.{same_either_way}
 use Rattle.dbc_read.proofs.StatementLoop.{statements_on, statements_end}
 use Rattle.dbc_read.proofs.Sound.{all_then_twice}
 use Rattle.dbc_read.proofs.AddingSound.{joined, joined_none, joined_twice, symbols_are, nodes_are, piece_form, either_word}
 use Rattle.dbc_read.proofs.StatementsFit.{Fits, AllFit}
-use Rattle.dbc_read.proofs.Again.{Halves, halves, Takes, Opens, Stops, opens_one, opens_as}
+use Rattle.dbc_read.proofs.Again.{halves, Takes, Opens, Stops, opens_one, opens_as}
 use Rattle.dbc_read.proofs.NotesAgain.{word_opens}
 use Rattle.dbc_read.proofs.MessagesAgain.{EndsSignals}
 use Rattle.dbc_read.proofs.AddingAgain.{MayFollow, symbols_added, nodes_added, message_added, table_added, values_added, float_added, mux_added, comment_added, definition_added, default_added, attribute_added, kept_added}
@@ -212,9 +211,10 @@ may_follow count (Symbols symbols) more may tokens cut spelled closes = no_symbo
 may_follow count (Timing numbers) more may tokens cut spelled closes = tt
 may_follow count (Nodes nodes) more may tokens cut spelled closes = no_start is_name _ more refl (rest_fits count (Nodes nodes) more may) tokens cut spelled closes.names
 may_follow count (Table row) more may tokens cut spelled closes = tt
-may_follow count (OfMessage message) more may tokens cut spelled closes =
-    (no_start (λ bytes. bytes_eq bytes (44 ∷ []) || is_name bytes) _ more refl (rest_fits count (OfMessage message) more may) tokens cut spelled closes.signals.0,
-      no_start (λ bytes. bytes_eq bytes (codes "SG_")) _ more refl (rest_fits count (OfMessage message) more may) tokens cut spelled closes.signals.1)
+may_follow count (OfMessage message) more may tokens cut spelled closes = (
+  no_start (λ bytes. bytes_eq bytes (44 ∷ []) || is_name bytes) _ more refl (rest_fits count (OfMessage message) more may) tokens cut spelled closes.signals.0,
+  no_start (λ bytes. bytes_eq bytes (codes "SG_")) _ more refl (rest_fits count (OfMessage message) more may) tokens cut spelled closes.signals.1,
+)
 may_follow count (OfComment comment) more may tokens cut spelled closes = tt
 may_follow count (Definition definition) more may tokens cut spelled closes = tt
 may_follow count (Default row) more may tokens cut spelled closes = tt

@@ -1,6 +1,6 @@
 -- The statements of a database, one after another: each is proper, and there is room for each message.
-use Rattle.std.proofs.Common.{◌≡◌, ℕ, suc, ◌+◌, ◌≤◌, ◌<◌, Bool, true, false, ◌&&◌, List, [], ◌∷◌, ◌++◌, length, length-append, Option, refl, sym, ap, subst, ◌∙◌, append_assoc, inl, inr, ◌⊎◌, arith}
-use Rattle.std.specs.Prelude.{nat_le, nat_lt, All, IsTrue}
+use Rattle.std.proofs.Common.{◌≡◌, ℕ, suc, ◌+◌, ◌≤◌, true, List, [], ◌∷◌, ◌++◌, length, length-append, Option, refl, sym, ap, subst, inl, inr, ◌⊎◌, arith}
+use Rattle.std.specs.Prelude.{nat_le, nat_lt, All}
 use Rattle.std.specs.List.{flat_map}
 use Rattle.std.proofs.lemmas.Bool.{and_parts}
 use Rattle.std.proofs.lemmas.Grind.{common_steps}
@@ -50,9 +50,10 @@ fits_first d (Timing numbers) more is = tt
 fits_first d (Nodes nodes) more is = tt
 fits_first d (Table row) more is = one_of IsTableRow d.tables row (flat_map tables_of more) is.tables
 fits_first d (OfMessage message) more is =
-    let count = and_parts (timing_fits d.bit_timing) (nat_le (length (d.messages ++ message ∷ flat_map messages_of more)) 65535) is.fits in
-    (room (length d.messages) (length (flat_map messages_of more)) (subst (λ (n : ℕ). nat_le n 65535 ≡ true) (length-append d.messages (message ∷ flat_map messages_of more)) count.1),
-      one_of IsMessage d.messages message (flat_map messages_of more) is.messages)
+    let count = and_parts (timing_fits d.bit_timing) (nat_le (length (d.messages ++ message ∷ flat_map messages_of more)) 65535) is.fits in (
+      room (length d.messages) (length (flat_map messages_of more)) (subst (λ (n : ℕ). nat_le n 65535 ≡ true) (length-append d.messages (message ∷ flat_map messages_of more)) count.1),
+      one_of IsMessage d.messages message (flat_map messages_of more) is.messages,
+    )
 fits_first d (OfComment comment) more is = one_of IsComment d.comments comment (flat_map comments_of more) is.comments
 fits_first d (Definition definition) more is = one_of IsAttrDef d.definitions definition (flat_map definitions_of more) is.definitions
 fits_first d (Default row) more is = tt
@@ -64,9 +65,11 @@ fits_first d (OfKept row) more is = one_of IsKept d.kept row (flat_map kept_of m
 
 pub all_fit : (d : Database) (statements : List AnyStatement) → IsDatabase (joined d statements) → AllFit (length d.messages) statements
 all_fit d [] is = tt
-all_fit d (s ∷ more) is =
-    (fits_first d s more is, subst (λ (n : ℕ). AllFit n more) (length-append d.messages (flat_map messages_of (s ∷ [])))
-      (all_fit (joined d (s ∷ [])) more (subst (λ (e : Database). IsDatabase e) (sym (joined_twice d (s ∷ []) more)) is)))
+all_fit d (s ∷ more) is = (
+  fits_first d s more is,
+  subst (λ (n : ℕ). AllFit n more) (length-append d.messages (flat_map messages_of (s ∷ [])))
+      (all_fit (joined d (s ∷ [])) more (subst (λ (e : Database). IsDatabase e) (sym (joined_twice d (s ∷ []) more)) is)),
+)
 
 pub fit_both : (count : ℕ) (xs ys : List AnyStatement) → AllFit count (xs ++ ys) → AllFit count xs × AllFit (count + length (flat_map messages_of xs)) ys
 fit_both count [] ys fit = (tt, subst (λ (n : ℕ). AllFit n ys) (plus_none count) fit)

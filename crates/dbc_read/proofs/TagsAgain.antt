@@ -1,27 +1,26 @@
 -- Tags of signals that are spelled are read.
-use Rattle.std.proofs.Common.{◌≡◌, ℕ, suc, ◌+◌, ◌*◌, ◌<◌, ◌≤◌, ◌^◌, ◌-◌, ℤ, pos, Bool, true, false, cond, ◌&&◌, ◌==◌, List, [], ◌∷◌, ◌++◌, length, take, length-append, Option, Some, Result, Ok, append-nil, refl, sym, ap, subst, ◌∙◌, arith}
-use Rattle.std.specs.Prelude.{codes, IsTrue}
-use Rattle.std.specs.List.{list_all, list_any}
+use Rattle.std.proofs.Common.{◌≡◌, ℕ, ◌*◌, ◌<◌, ◌^◌, ◌-◌, ℤ, pos, true, false, List, [], ◌∷◌, ◌++◌, length, length-append, Ok, append-nil, refl, sym, ap, subst, arith}
+use Rattle.std.specs.Prelude.{codes}
+use Rattle.std.specs.List.{list_all}
 use Rattle.std.specs.Str.{bytes_eq}
 use Rattle.std.specs.Str.Parse.{digits_value}
 use Rattle.std.proofs.lemmas.Grind.{common_steps}
 use Rattle.std.proofs.lemmas.List.{take_at}
 use Rattle.std.proofs.lemmas.Slice.Eq.{bytes_eq-Decides}
 use Rattle.dbc_model.specs.Lexical.{is_digit, is_digits}
-use Rattle.dbc_model.specs.Numbers.{mantissa_of, exponent_of, IsWholeNumber}
+use Rattle.dbc_model.specs.Numbers.{mantissa_of, IsWholeNumber}
 use Rattle.dbc_model.specs.Records.{IsTag}
 use Rattle.dbc_model.specs.Layout.{Switch, Muxed, Both, items_of}
 use Rattle.dbc_model.specs.CanonicalText.{tag_layout}
 use Rattle.dbc_model.specs.declared.tag.Tag.{Tag}
 use Rattle.dbc_model.specs.declared.tag.Tag.TheVariants as tags
-use Rattle.dbc_read.specs.Tokens.{Token, Cut}
-use Rattle.dbc_read.specs.Classes.{has_mark, tagged, front, counted, whole_of, muxed_of, tag_of}
-use Rattle.dbc_read.specs.Forms.{Part, Is, SpellsNumber, SpellsTag, of_layout, ◌▸▸◌}
-use Rattle.dbc_read.specs.Reading.{starts, choose, value}
+use Rattle.dbc_read.specs.Classes.{has_mark, tagged, front, counted, muxed_of, tag_of}
+use Rattle.dbc_read.specs.Forms.{Is, SpellsNumber, SpellsTag, of_layout}
+use Rattle.dbc_read.specs.Reading.{starts}
 use Rattle.dbc_read.specs.ReadingParts.{tag_token_at}
 use Rattle.dbc_read.specs.ReadingMessages.{tag_at}
 use Rattle.dbc_read.proofs.TagsSound.{digits_are}
-use Rattle.dbc_read.proofs.Again.{Takes, Anything, Opens, takes_where, takes_second, takes_one, opens_one}
+use Rattle.dbc_read.proofs.Again.{Takes, takes_where, takes_second, takes_one, opens_one}
 use Rattle.dbc_read.proofs.KindsAgain.{within, whole_is}
 
 -- ---- digits behind an `m`
@@ -29,9 +28,11 @@ use Rattle.dbc_read.proofs.KindsAgain.{within, whole_is}
 pub spells_digits : (digits : List ℕ) → is_digits digits ≡ true → SpellsNumber digits (digits_value 10 digits)
 unfolding IsWholeNumber
 spells_digits digits are =
-    let parts = digits_are digits are in
-    (parts.form, subst (λ (z : ℤ). IsWholeNumber (mantissa_of digits) z (digits_value 10 digits)) (sym parts.exponent)
-      (subst (λ (m : ℕ). IsWholeNumber m (pos 0) (digits_value 10 digits)) (sym parts.mantissa) (times_one (digits_value 10 digits))))
+    let parts = digits_are digits are in (
+      parts.form,
+      subst (λ (z : ℤ). IsWholeNumber (mantissa_of digits) z (digits_value 10 digits)) (sym parts.exponent)
+          (subst (λ (m : ℕ). IsWholeNumber m (pos 0) (digits_value 10 digits)) (sym parts.mantissa) (times_one (digits_value 10 digits))),
+    )
   where
     times_one : (n : ℕ) → n ≡ n * 10 ^ 0
     times_one n = omega arith

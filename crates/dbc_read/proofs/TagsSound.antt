@@ -90,9 +90,9 @@ digits_are digits are =
     record {
       form = rw (whole, fraction, mantissa, mark, all, some_digit digits are) refl;
       mantissa = ap (λ (front : List ℕ). digits_value 10 (front ++ after_first is_point (before_first is_exponent_mark digits))) whole
-        ∙ ap (λ (back : List ℕ). digits_value 10 (digits ++ back)) fraction ∙ ap (digits_value 10) (append-nil digits);
+          ∙ ap (λ (back : List ℕ). digits_value 10 (digits ++ back)) fraction ∙ ap (digits_value 10) (append-nil digits);
       exponent = ap (λ (back : List ℕ). signed_digits_value 10 back -ℤ pos (length (after_first is_point (before_first is_exponent_mark digits)))) exponent
-        ∙ ap (λ (back : List ℕ). signed_digits_value 10 [] -ℤ pos (length back)) fraction;
+          ∙ ap (λ (back : List ℕ). signed_digits_value 10 [] -ℤ pos (length back)) fraction;
     }
 
 -- digits alone are the number that they write

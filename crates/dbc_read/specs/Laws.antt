@@ -1,7 +1,6 @@
 -- What is proved of texts: they spell a database exactly where they have no fault, and then one alone.
-use Rattle.std.specs.Prelude.{◌≡◌, ◌↔◌, ℕ, List, Option, Some, None, Result, Ok, Err}
+use Rattle.std.specs.Prelude.{◌≡◌, ◌↔◌, ℕ, List, None}
 use Rattle.dbc_model.specs.Databases.{Database}
-use Rattle.dbc_read.specs.declared.fault.ReadFault.{ReadFault}
 use Rattle.dbc_read.specs.declared.statement.Statement.{Statement}
 use Rattle.dbc_read.specs.Tokens.{Token, Cut, End}
 use Rattle.dbc_read.specs.Forms.{◌▸▸◌}
