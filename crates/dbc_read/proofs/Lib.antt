@@ -57,9 +57,12 @@ pub mod Readable
 pub mod Printed
 pub mod Neat
 pub mod NeatStatements
+pub mod LongestTokens
+pub mod LayoutTexts
 pub mod Shown
 pub mod ShownStatements
 pub mod Canonical
+pub mod PrintLaw
 pub mod DigitsPrinted
 pub mod DecimalsPrinted
 pub mod ItemsPrinted

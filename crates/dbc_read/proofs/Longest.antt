@@ -51,7 +51,7 @@ any_all b q (m ∷ ms) h all =
     elim (or_cases (eqb b m) (list_any (λ m. eqb b m) ms) h) [ inl e ↦ rw (eqb-true b m e) both.0 | inr e ↦ any_all b q ms e both.1 ]
 
 -- a mark begins no token of a kind that begins with none of the marks
-no_other : (b : ℕ) (k : Kind) → is_mark b ≡ true → list_all (λ m. not (begins k m)) (codes ":;|@()[],+-") ≡ true → begins k b ≡ true → ⊥
+pub no_other : (b : ℕ) (k : Kind) → is_mark b ≡ true → list_all (λ m. not (begins k m)) (codes ":;|@()[],+-") ≡ true → begins k b ≡ true → ⊥
 no_other b k h all e = let one = any_all b (λ m. not (begins k m)) (codes ":;|@()[],+-") h all in let two = not-true (begins k b) one in cc
 
 -- no byte begins tokens of two kinds
