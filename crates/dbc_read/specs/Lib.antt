@@ -15,3 +15,4 @@ pub mod Forms
 pub mod Spelling
 pub mod Texts
 pub mod Laws
+pub mod PrintLaws

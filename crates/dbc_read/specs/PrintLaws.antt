@@ -1,0 +1,27 @@
+-- Printing and reading: the tokens of what is printed spell it, and nothing else.
+use Rattle.std.specs.Prelude.{◌≡◌, ℕ, Bool, not, IsTrue, List, [], ◌∷◌, ◌++◌, All, Option, Some, None}
+use Rattle.dbc_model.specs.Lexical.{line_feed}
+use Rattle.dbc_model.specs.Layout.{Layout, layout_text}
+use Rattle.dbc_model.specs.CanonicalText.{canonical_text}
+use Rattle.dbc_model.specs.Databases.{Database, IsDatabase}
+use Rattle.dbc_read.specs.Tokens.{Token, Cut, End, HasTokens}
+use Rattle.dbc_read.specs.Forms.{Part, Spelled, ◌▸▸◌}
+use Rattle.dbc_read.specs.Texts.{HasDatabase}
+
+-- Each such value has a line: a text that ends where it ends, whose tokens spell the value by its form, and of such
+-- values that one alone.
+abbrev pub PrintedAlone : {A : Type 0} → (A → Type 0) → (A → Layout) → (A → List Part) → Type 0
+PrintedAlone {A} IsSuch layout form =
+    (a : A) → IsSuch a → (line : ℕ) → (tokens : List Token) × (at : ℕ) × HasTokens line (layout_text (layout a)) (tokens ▸▸ End at) × Spelled (form a) tokens
+    × ((other : A) → IsSuch other → Spelled (form other) tokens → other ≡ a)
+
+-- a text that ends in a line feed, and another behind it, have the tokens of both
+abbrev pub LinesJoin : Type 0
+LinesJoin =
+    (line at : ℕ) (text more : List ℕ) (tokens : List Token) (cut : Cut) → HasTokens line (text ++ line_feed ∷ []) (tokens ▸▸ End at) → HasTokens at more cut
+    → HasTokens line ((text ++ line_feed ∷ []) ++ more) (tokens ▸▸ cut)
+
+-- the canonical text of a database has that database, and no other
+abbrev pub PrintLaw : Type 0
+PrintLaw =
+    (database : Database) → IsDatabase database → HasDatabase (canonical_text database) database × ((other : Database) → HasDatabase (canonical_text database) other → other ≡ database)
