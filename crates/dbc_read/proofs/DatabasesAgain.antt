@@ -30,7 +30,7 @@ use Rattle.dbc_read.proofs.StatementsAgain.{MayAdd, Closes, no_start, statements
 
 -- ---- the version
 
-version_takes : (version : Option (List ℕ)) → Takes version_at (version_text version) (version_form version) (Stops (has_word (codes "VERSION")))
+pub version_takes : (version : Option (List ℕ)) → Takes version_at (version_text version) (version_form version) (Stops (has_word (codes "VERSION")))
 unfolding version_at version_layout items_of has_word
 version_takes None = takes_none _ _ (λ cut may. may) (takes_where takes_value (λ cut may. tt))
 version_takes (Some version) =
@@ -42,7 +42,7 @@ number_opens : (d : Decimal) {parts : List Part} → Opens (has_number false) tr
 unfolding has_number
 number_opens d {parts} = opens_one (Unsigned d) (λ bytes. SpellsDecimal false bytes d) (λ tokens says. says) (λ t e. ap is_there (decimal_from_number false t.bytes d e))
 
-timing_takes : (numbers : Option (Decimal × Decimal × Decimal)) → Takes timing_at (timing_of (numbers ∷ [])) (timing_form numbers) (Stops (has_number false))
+pub timing_takes : (numbers : Option (Decimal × Decimal × Decimal)) → Takes timing_at (timing_of (numbers ∷ [])) (timing_form numbers) (Stops (has_number false))
 unfolding timing_at timing_numbers_at
 timing_takes None = takes_as (timing_is None) (takes_next _ (word_takes (codes "BS_")) (takes_next _ (mark_takes 58) (takes_none _ _ (λ cut may. may) (takes_where takes_value (λ cut may. tt)))))
 timing_takes (Some numbers) =

@@ -63,6 +63,7 @@ pub mod Shown
 pub mod ShownStatements
 pub mod Canonical
 pub mod PrintLaw
+pub mod PrintedLines
 pub mod DigitsPrinted
 pub mod DecimalsPrinted
 pub mod ItemsPrinted

@@ -137,7 +137,7 @@ pub timing_title_neat : Line timing_title
 unfolding timing_title
 timing_title_neat = record { items = (refl, (refl, tt)); apart = λ rest apart. apart }
 
-timing_neat : (timing : Option (List Decimal)) → IfSome timing IsBitTiming → Line (timing_layout timing)
+pub timing_neat : (timing : Option (List Decimal)) → IfSome timing IsBitTiming → Line (timing_layout timing)
 unfolding timing_layout
 timing_neat timing is = line_both timing_title_neat (close_line (middle_close (perhaps_neat timing is) end_closes))
 
@@ -171,7 +171,7 @@ pub float_key_part : (row : FloatRow) → IsFloatRow row → Start (float_key ro
 unfolding float_key
 float_key_part row is = start_then (start (codes "SIG_VALTYPE_") refl) (key_part row.number row.signal is.number is.signal)
 
-float_neat : (row : FloatRow) → IsFloatRow row → Line (float_layout row)
+pub float_neat : (row : FloatRow) → IsFloatRow row → Line (float_layout row)
 unfolding float_layout
 float_neat row is = start_close (float_key_part row is) (middle_close (float_part row is) statement_closes)
 
@@ -258,7 +258,7 @@ signal_neat signal is =
     close_line (middle_close (signal_name_part signal is.name) (middle_close (tag_part signal.tag is.tag) (middle_close (place_part signal is) (middle_close (scale_part signal is) (middle_close (limits_part signal is)
     (middle_close (text_part signal.unit is.unit) (middle_close (receivers_part signal.receivers is.receivers) end_closes)))))))
 
-message_neat : (message : Message) → IsMessage message → Line (message_layout message)
+pub message_neat : (message : Message) → IsMessage message → Line (message_layout message)
 unfolding message_layout
 message_neat message is = line_both (head_neat message.head is.head) (line_each IsSignal signal_layout signal_neat message.signals is.signals)
 

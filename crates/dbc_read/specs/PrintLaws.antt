@@ -1,11 +1,13 @@
 -- Printing and reading: the tokens of what is printed spell it, and nothing else.
-use Rattle.std.specs.Prelude.{◌≡◌, ℕ, Bool, not, IsTrue, List, [], ◌∷◌, ◌++◌, All, Option, Some, None}
+use Rattle.std.specs.Prelude.{◌≡◌, ℕ, IsTrue, IfSome, List, [], ◌∷◌, ◌++◌, Option}
 use Rattle.dbc_model.specs.Lexical.{line_feed}
 use Rattle.dbc_model.specs.Layout.{Layout, layout_text}
 use Rattle.dbc_model.specs.CanonicalText.{canonical_text}
-use Rattle.dbc_model.specs.Databases.{Database, IsDatabase}
+use Rattle.dbc_model.specs.Databases.{Database, IsDatabase, IsBitTiming, timing_fits}
+use Rattle.dbc_model.specs.Decimals.{Decimal}
 use Rattle.dbc_read.specs.Tokens.{Token, Cut, End, HasTokens}
 use Rattle.dbc_read.specs.Forms.{Part, Spelled, ◌▸▸◌}
+use Rattle.dbc_read.specs.Spelling.{timing_of}
 use Rattle.dbc_read.specs.Texts.{HasDatabase}
 
 -- Each such value has a line: a text that ends where it ends, whose tokens spell the value by its form, and of such
@@ -14,6 +16,10 @@ abbrev pub PrintedAlone : {A : Type 0} → (A → Type 0) → (A → Layout) →
 PrintedAlone {A} IsSuch layout form =
     (a : A) → IsSuch a → (line : ℕ) → (tokens : List Token) × (at : ℕ) × HasTokens line (layout_text (layout a)) (tokens ▸▸ End at) × Spelled (form a) tokens
     × ((other : A) → IsSuch other → Spelled (form other) tokens → other ≡ a)
+
+-- the numbers of a bit timing: decimals, and none negative
+abbrev pub IsTiming : Option (Decimal × Decimal × Decimal) → Type 0
+IsTiming numbers = IfSome (timing_of (numbers ∷ [])) IsBitTiming × IsTrue (timing_fits (timing_of (numbers ∷ [])))
 
 -- a text that ends in a line feed, and another behind it, have the tokens of both
 abbrev pub LinesJoin : Type 0

@@ -1,7 +1,9 @@
-//! Reading of a DBC text: how it is cut into tokens, and the faults that reading ends with.
+//! Reading of a DBC text: how it is cut into tokens, the database that they spell, and the fault that reading ends with.
 //!
 //! [`tokens`] gives the tokens of a text one after another and takes no memory. Which tokens a text has is told by
-//! the definitions of `specs/Tokens.antt`, apart from how they are found; [`laws`] says that both agree.
+//! the definitions of `specs/Tokens.antt`, apart from how they are found; [`laws`] says that both agree. [`read`] and
+//! [`read_one`] give what the tokens spell by `specs/Spelling.antt`, or the first fault of `specs/Pattern.antt`; [`laws`]
+//! says that a text has the one or the other, and [`print_laws`] that what is printed is spelled.
 #![tactic(auto)]
 
 mod attributes;
@@ -15,6 +17,7 @@ mod lengths;
 mod messages;
 mod numerals;
 mod parts;
+pub mod print_laws;
 mod reader;
 mod statement;
 mod statements;

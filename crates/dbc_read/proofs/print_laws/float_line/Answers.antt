@@ -1,0 +1,5 @@
+use Rattle.dbc_read.proofs.PrintedLines.{float_line}
+use Rattle.dbc_read.proofs.print_laws.float_line.Goals as goal
+
+pub returns : goal.returns
+returns c = float_line

@@ -1,0 +1,5 @@
+use Rattle.dbc_read.proofs.PrintedLines.{nodes_line}
+use Rattle.dbc_read.proofs.print_laws.nodes_line.Goals as goal
+
+pub returns : goal.returns
+returns c = nodes_line

@@ -1,0 +1,5 @@
+use Rattle.dbc_read.proofs.PrintLaw.{print_law}
+use Rattle.dbc_read.proofs.print_laws.printed_database.Goals as goal
+
+pub returns : goal.returns
+returns c = print_law

@@ -1,0 +1,5 @@
+use Rattle.dbc_read.proofs.PrintedLines.{symbols_lines}
+use Rattle.dbc_read.proofs.print_laws.symbols_lines.Goals as goal
+
+pub returns : goal.returns
+returns c = symbols_lines
