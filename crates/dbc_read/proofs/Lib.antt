@@ -67,3 +67,4 @@ pub mod PrintedLines
 pub mod DigitsPrinted
 pub mod DecimalsPrinted
 pub mod ItemsPrinted
+pub mod LinesJoin

@@ -104,7 +104,7 @@ text_is s n e =
 abbrev pub NoLonger : List ℕ → ℕ → Type 0
 NoLonger s n = (k : Kind) (front others : List ℕ) → front ++ others ≡ s → IsToken k front → length front ≤ n
 
-kind_there : (k j : Kind) (b : ℕ) (s front others : List ℕ) → begins k b ≡ true → front ++ others ≡ b ∷ s → IsToken j front → j ≡ k
+pub kind_there : (k j : Kind) (b : ℕ) (s front others : List ℕ) → begins k b ≡ true → front ++ others ≡ b ∷ s → IsToken j front → j ≡ k
 kind_there k j b s front others is whole h =
     let x = token_begins j front h in
     let one : (x.0 ∷ x.1) ++ others ≡ b ∷ s = subst (λ t. t ++ others ≡ b ∷ s) x.2 whole in
