@@ -6,7 +6,7 @@ ghost use Rattle.dbc_model.specs.Attributes.{IsAttrDef, IsAttrDefault, IsAttrRow
 ghost use Rattle.dbc_model.specs.Kept.{IsKept};
 ghost use Rattle.dbc_model.specs.CanonicalText.{version_layout, symbols_layout, timing_layout, nodes_layout, table_layout, message_layout, comment_layout, definition_layout, default_layout, attribute_layout, values_layout, float_layout, mux_layout, kept_layout};
 ghost use Rattle.dbc_read.specs.Spelling.{Symbols, Timing, Nodes, Table, OfMessage, OfComment, Definition, Default, Attribute, Values, Float, Mux, OfKept, form, version_form, timing_of};
-ghost use Rattle.dbc_read.specs.PrintLaws.{PrintedAlone, IsTiming, PrintLaw};
+ghost use Rattle.dbc_read.specs.PrintLaws.{PrintedAlone, IsTiming, LinesJoin, PrintLaw};
 
 /// The line of a version has the tokens of its form, and they spell it alone.
 pub fn version_line()
@@ -76,6 +76,11 @@ pub fn mux_line()
 /// The line of a statement that is kept as it stands has the tokens of its form, and they spell it alone.
 pub fn kept_line()
     ensures { PrintedAlone IsKept kept_layout (λ statement. form (OfKept statement)) }
+{}
+
+/// A text that ends in a line feed, and another behind it, have the tokens of both.
+pub fn lines_join()
+    ensures { LinesJoin }
 {}
 
 /// The tokens of a database's canonical text spell that database and no other.

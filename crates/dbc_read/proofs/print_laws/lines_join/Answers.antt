@@ -1,0 +1,5 @@
+use Rattle.dbc_read.proofs.LinesJoin.{lines_join}
+use Rattle.dbc_read.proofs.print_laws.lines_join.Goals as goal
+
+pub returns : goal.returns
+returns c = lines_join
