@@ -21,14 +21,15 @@ use Rattle.dbc_read.specs.Reading.{Reader, and_then, ◌>>=◌, value, starts, s
 use Rattle.dbc_read.specs.Spelling.{AnyStatement, Symbols, Nodes, Table, OfMessage, OfComment, Definition, Default, Attribute, Values, Float, Mux, OfKept, form, EndsSymbols, FollowOn, symbols_of, timings_of, nodes_of, tables_of, messages_of, comments_of, definitions_of, defaults_of, attributes_of, values_of, floats_of, muxes_of, kept_of}
 use Rattle.dbc_read.specs.ReadingParts.{word_at, mark_at, names_from, symbols_from}
 use Rattle.dbc_read.proofs.KeptBeginnings.{kept_by_tokens}
-use Rattle.dbc_read.proofs.Shrinking.{and_then-ok, Shrinks, bind_shrinks, value_keeps}
-use Rattle.dbc_read.proofs.KindsAgree.{symbol_shrinks}
+use Rattle.dbc_read.proofs.Turns.{and_then_ok, Shrinks, bind_shrinks, value_keeps}
+use Rattle.dbc_read.proofs.Loops.{symbol_shrinks}
 use Rattle.dbc_read.specs.ReadingDatabases.{symbols_into, nodes_into, begins_kept, kept_at, kept_into, message_into, table_into, values_into, float_into, mux_into, comment_into, definition_into, default_into, attribute_into, object_into, value_row_into, attribute_row_into, statement_into}
 use Rattle.dbc_read.proofs.KindsSound.{symbol_sound, name_sound, pieces_sound, mark_sound, word_sound}
 use Rattle.dbc_read.proofs.RowsSound.{of_layout-append, of_layout-items, table_sound, values_sound, float_sound, mux_sound}
 use Rattle.dbc_read.proofs.NotesSound.{comment_sound, definition_sound, default_sound, attribute_sound}
 use Rattle.dbc_read.proofs.MessagesSound.{message_sound}
-use Rattle.dbc_read.proofs.Sound.{Spelt, spelt_both, Sound, Grows, ok_is, grows_by_one, grows_repeated, sound_start, sound_then, sound_value}
+use Rattle.dbc_read.proofs.Turns.{ok_is}
+use Rattle.dbc_read.proofs.Sound.{Spelt, spelt_both, Sound, Grows, grows_by_one, grows_repeated, sound_start, sound_then, sound_value}
 
 -- ---- a database and statements more
 
@@ -114,7 +115,7 @@ adds_one : {A : Type 0} {d : Database} {r : Reader A} (put : A → AnyStatement)
     → ((a : A) (cut rest : Cut) (behind : List AnyStatement) → Spelt (form (put a)) cut rest → starts has_symbol cut ≡ false → EndsSymbols (put a ∷ behind)) → Adds d (r >>= λ a. value (add a))
 adds_one {A} {d} {r} put {add} sound joins no_timing before ends = record {
   adds = λ cut x e. (
-      let y = and_then-ok (r cut) _ x e in
+      let y = and_then_ok (r cut) _ x e in
       subst (λ (z : Database × Cut). Adding d cut z) (ok_is (add y.0.0, y.0.1) x y.2)
       (record {
         statement = put y.0.0;
@@ -203,9 +204,9 @@ titled_spelt : {X : Type 0} (word : List ℕ) (from : List X → Reader (List X)
     → (word_at word >>= λ _. (mark_at 58 >>= λ _. (from before >>= λ list. value (add list)))) cut ≡ Ok x
     → (more : List X) × (x.0 ≡ add (before ++ more)) × Spelt (Is (Word word) ∷ Is (Mark 58) ∷ flat_map part more) cut x.1 × (middle : Cut) × (from before middle ≡ Ok (before ++ more, x.1))
 titled_spelt {X} word from {part} add grows before cut x e =
-    let a = and_then-ok (word_at word cut) _ x e in
-    let b = and_then-ok (mark_at 58 a.0.1) _ x a.2 in
-    let c = and_then-ok (from before b.0.1) _ x b.2 in
+    let a = and_then_ok (word_at word cut) _ x e in
+    let b = and_then_ok (mark_at 58 a.0.1) _ x a.2 in
+    let c = and_then_ok (from before b.0.1) _ x b.2 in
     let list = grows.spelt before b.0.1 c.0 c.1 in
     let is = ok_is (add c.0.0, c.0.1) x c.2 in
     let rest = ap (λ (w : Database × Cut). w.1) is in (
@@ -226,7 +227,7 @@ module _ {S : Type 0} (test : Token → Bool) (r : S → Reader S) (shrinks : (s
       → (s : S) (b : Bool) (cut : Cut) (x : S × Cut) → starts test cut ≡ b → size cut ≤ suc n → cond b (and_then (r s cut) (turns n test r)) (Ok (s, cut)) ≡ Ok x → starts test x.1 ≡ false
   turn_stops n below s false cut x is fuel e = subst (λ (y : S × Cut). starts test y.1 ≡ false) (ok_is (s, cut) x e) is
   turn_stops n below s true cut x is fuel e =
-      let y = and_then-ok (r s cut) (turns n test r) x e in
+      let y = and_then_ok (r s cut) (turns n test r) x e in
       below y.0.0 y.0.1 x (omega (arith, (shrinks s).less cut y.0 y.1)) y.2
 
   turns_stop : (n : ℕ) (s : S) (cut : Cut) (x : S × Cut) → size cut ≤ n → turns n test r s cut ≡ Ok x → starts test x.1 ≡ false
@@ -341,7 +342,7 @@ begins_as_symbol (t ▸ cut) e =
 kept_adding : (d : Database) (cut : Cut) (x : Database × Cut) → begins_kept cut ≡ true → kept_into d cut ≡ Ok x → Adding d cut x
 unfolding kept_into
 kept_adding d cut x begins e =
-    let y = and_then-ok (kept_at cut) _ x e in
+    let y = and_then_ok (kept_at cut) _ x e in
     let add = λ (row : Kept). record d { kept = d.kept ++ row ∷ [] } in
     subst (λ (z : Database × Cut). Adding d cut z) (ok_is (add y.0.0, y.0.1) x y.2)
     (record {

@@ -7,7 +7,7 @@ use Rattle.dbc_read.specs.declared.fault.ReadFault.{ReadFault}
 use Rattle.dbc_read.specs.Tokens.{Token, Cut, End, Fault, ◌▸◌}
 use Rattle.dbc_read.specs.Pattern.{Class, Seen, verdict, is_of_class, has, Pattern, Done, ◌⇒◌, Either, Repeat, ◌then◌, may_end, Left, first_of, left_then, after, fault_in, ruled, judged, first_fault}
 use Rattle.dbc_read.specs.Reading.{Reader, and_then, ◌>>=◌, value, token_at, answered, one, starts, choose, size, turns, repeated}
-use Rattle.dbc_read.proofs.Shrinking.{Shrinks}
+use Rattle.dbc_read.proofs.Turns.{Shrinks}
 
 -- ---- laws of patterns
 

@@ -14,10 +14,11 @@ use Rattle.dbc_read.specs.Reading.{and_then, ◌>>=◌, value, starts, size, tur
 use Rattle.dbc_read.specs.ReadingParts.{word_at, text_at}
 use Rattle.dbc_read.specs.ReadingDatabases.{begins_statement, statement_into, statements_into, version_at, timing_numbers_at, timing_at, timed_into, empty_database, database_at}
 use Rattle.dbc_read.specs.Spelling.{AnyStatement, Timing, form, timing_form, EndsSymbols, ArePlaced, symbols_of, timings_of, nodes_of, tables_of, messages_of, comments_of, definitions_of, defaults_of, attributes_of, values_of, floats_of, muxes_of, kept_of, timing_of, version_form, version_text, gather, Spells}
-use Rattle.dbc_read.proofs.Shrinking.{and_then-ok}
+use Rattle.dbc_read.proofs.Turns.{and_then_ok}
 use Rattle.dbc_read.proofs.KindsSound.{mark_sound, word_sound, text_sound, unsigned_sound}
 use Rattle.dbc_read.proofs.AddingSound.{joined, joined_none, joined_twice, Adding, statement_adds}
-use Rattle.dbc_read.proofs.Sound.{Spelt, spelt_both, spelt_none, Sound, ok_is, sound_start, sound_then, sound_value, sound_choose, sound_end}
+use Rattle.dbc_read.proofs.Turns.{ok_is}
+use Rattle.dbc_read.proofs.Sound.{Spelt, spelt_both, spelt_none, Sound, sound_start, sound_then, sound_value, sound_choose, sound_end}
 
 -- ---- many statements
 
@@ -54,7 +55,7 @@ turn_joins : (n : ℕ) → ((d : Database) (cut : Cut) (x : Database × Cut) →
     → (d : Database) (b : Bool) (cut : Cut) (x : Database × Cut) → cond b (and_then (statement_into d cut) (turns n begins_statement statement_into)) (Ok (d, cut)) ≡ Ok x → Joins d cut x
 turn_joins n below d false cut x e = subst (λ (y : Database × Cut). Joins d cut y) (ok_is (d, cut) x e) (joins_none d cut)
 turn_joins n below d true cut x e =
-    let y = and_then-ok (statement_into d cut) (turns n begins_statement statement_into) x e in
+    let y = and_then_ok (statement_into d cut) (turns n begins_statement statement_into) x e in
     joins_more d cut y.0 x ((statement_adds d).adds cut y.0 y.1) (below y.0.0 y.0.1 x y.2)
 
 turns_join : (n : ℕ) (d : Database) (cut : Cut) (x : Database × Cut) → turns n begins_statement statement_into d cut ≡ Ok x → Joins d cut x
@@ -190,7 +191,7 @@ all_gathered version cut y x h e proper = by_test (starts (has_word (codes "BS_"
   where
     by_test : (b : Bool) → cond b ((timing_at >>= λ timing. statements_into (record y.0 { bit_timing = timing })) y.1) (Ok y) ≡ Ok x → Gathered version cut x
     by_test true e =
-        let t = and_then-ok (timing_at y.1) _ x e in
+        let t = and_then_ok (timing_at y.1) _ x e in
         all_timed version cut y t.0 x h t.1 (statements_join (record y.0 { bit_timing = t.0.0 }) t.0.1 x t.2) proper.bit_timing
     by_test false e = all_untimed version cut x (subst (λ (z : Database × Cut). Joins (empty_database (version_text version)) cut z) (ok_is y x e) h)
 
@@ -211,10 +212,10 @@ same_database a b c d e = ap (λ (x : Database × Cut). x.0) (ok_is (a, c) (b, d
 pub database_sound : (cut : Cut) (d : Database) (rest : Cut) → database_at cut ≡ Ok (d, rest) → IsDatabase d → (tokens : List Token) × (line : ℕ) × (cut ≡ (tokens ▸▸ End line)) × Spells tokens d
 unfolding database_at
 database_sound cut d rest e proper =
-    let a = and_then-ok (version_at cut) _ (d, rest) e in
-    let b = and_then-ok (statements_into (empty_database a.0.0) a.0.1) _ (d, rest) a.2 in
-    let c = and_then-ok (timed_into b.0.0 b.0.1) _ (d, rest) b.2 in
-    let f = and_then-ok (end_at c.0.1) _ (d, rest) c.2 in
+    let a = and_then_ok (version_at cut) _ (d, rest) e in
+    let b = and_then_ok (statements_into (empty_database a.0.0) a.0.1) _ (d, rest) a.2 in
+    let c = and_then_ok (timed_into b.0.0 b.0.1) _ (d, rest) b.2 in
+    let f = and_then_ok (end_at c.0.1) _ (d, rest) c.2 in
     let same : c.0.0 ≡ d = same_database c.0.0 d f.0.1 rest f.2 in
     let version = version_spelt cut a.0 a.1 in
     let first = subst (λ (text : List ℕ). Joins (empty_database text) a.0.1 b.0) (sym version.is) (statements_join (empty_database a.0.0) a.0.1 b.0 b.1) in

@@ -11,7 +11,8 @@ use Rattle.dbc_read.specs.Classes.{has_word, has_mark, has_name, has_symbol, has
 use Rattle.dbc_read.specs.Pattern.{Word, Mark, Name, Symbol, String, Whole as WholeNumber, Number, Order, Tag, Piece, Seen, plain, judged_so, is_of_class, has, Pattern, Done, ◌⇒◌, Either, Repeat, ◌then◌}
 use Rattle.dbc_read.specs.Grammar as grammar
 use Rattle.dbc_read.specs.ReadingParts.{word_at, mark_at, name_at, symbol_at, text_at, piece_at, whole_at, id_at, number_at, order_at, tag_token_at, decimal_at, begins_decimal, int_at, begins_int, pair_at, names_from, symbols_from, pieces_from, comma_at, begins_receiver, receivers_from, receivers_at, texts_from, entry_at, entries_from}
-use Rattle.dbc_read.proofs.Shrinking.{Shrinks, Keeps, one_shrinks, value_keeps, bind_shrinks, bind_keeps, bind_later, choose_shrinks, choose_keeps, repeated_keeps, keep}
+use Rattle.dbc_read.proofs.Turns.{value_keeps, bind_shrinks, bind_keeps, after_shrinks, keeps}
+use Rattle.dbc_read.proofs.Loops.{mark_shrinks, name_shrinks, symbol_shrinks, piece_shrinks, text_shrinks, entry_shrinks, comma_keeps}
 use Rattle.dbc_read.proofs.Agree.{Agrees, Same, Rules, Begins, agree_then, agree_value, agree_one, agree_choose, agree_same, begins_one, begins_either, begins_perhaps, begins_then, begins_as}
 
 -- ---- classes
@@ -149,53 +150,6 @@ pair_agrees seen opening between closing =
     agree_then (mark_agrees seen opening) λ _. agree_then (decimal_agrees seen) λ first. agree_then (mark_agrees seen between) λ _.
     agree_then (decimal_agrees seen) λ second. agree_then (mark_agrees seen closing) λ _. agree_value refl
 
--- ---- readers that take a token at least
-
-pub word_shrinks : (word : List ℕ) → Shrinks (word_at word)
-unfolding word_at
-word_shrinks word = one_shrinks _
-
-pub mark_shrinks : (mark : ℕ) → Shrinks (mark_at mark)
-unfolding mark_at
-mark_shrinks mark = one_shrinks _
-
-pub name_shrinks : Shrinks name_at
-unfolding name_at
-name_shrinks = one_shrinks _
-
-pub symbol_shrinks : Shrinks symbol_at
-unfolding symbol_at
-symbol_shrinks = one_shrinks _
-
-pub piece_shrinks : Shrinks piece_at
-unfolding piece_at
-piece_shrinks = one_shrinks _
-
-pub text_shrinks : Shrinks text_at
-unfolding text_at
-text_shrinks = one_shrinks _
-
-pub whole_shrinks : (least most : ℕ) → Shrinks (whole_at least most)
-unfolding whole_at
-whole_shrinks least most = one_shrinks _
-
-pub number_shrinks : (negative : Bool) → Shrinks (number_at negative)
-unfolding number_at
-number_shrinks negative = one_shrinks _
-
-pub decimal_shrinks : Shrinks decimal_at
-unfolding decimal_at
-decimal_shrinks =
-    choose_shrinks (has_mark 45) (bind_shrinks (mark_shrinks 45) λ _. keep (number_shrinks true))
-    (choose_shrinks (has_mark 43) (bind_shrinks (mark_shrinks 43) λ _. keep (number_shrinks false)) (number_shrinks false))
-
-pub int_shrinks : Shrinks int_at
-unfolding int_at
-int_shrinks =
-    choose_shrinks (has_mark 45) (bind_shrinks (mark_shrinks 45) λ _. bind_keeps (keep (whole_shrinks 0 (2 ^ 63))) λ n. value_keeps _)
-    (choose_shrinks (has_mark 43) (bind_shrinks (mark_shrinks 43) λ _. bind_keeps (keep (whole_shrinks 0 (2 ^ 64 - 1))) λ n. value_keeps _)
-    (bind_shrinks (whole_shrinks 0 (2 ^ 64 - 1)) λ n. value_keeps _))
-
 -- ---- lists
 
 pub names_agree : (seen : Seen) (names : List (List ℕ)) → Agrees seen (names_from names) (Repeat (Name ⇒ Done) Done) (Same seen)
@@ -217,10 +171,6 @@ comma_agrees : (seen : Seen) → Agrees seen comma_at (Either (Mark 44 ⇒ Done)
 unfolding comma_at
 comma_agrees seen = agree_choose (has_mark 44) (begins_mark 44 Done) (mark_agrees seen 44) (agree_value refl)
 
-comma_keeps : Keeps comma_at
-unfolding comma_at
-comma_keeps = choose_keeps (has_mark 44) (keep (mark_shrinks 44)) (value_keeps tt)
-
 begins_a_receiver : Begins begins_receiver (Either (Mark 44 ⇒ Done) Done (Name ⇒ Done))
 unfolding begins_receiver
 begins_a_receiver = begins_as (λ t. refl) (begins_perhaps (begins_mark 44 Done) (begins_name Done))
@@ -228,7 +178,7 @@ begins_a_receiver = begins_as (λ t. refl) (begins_perhaps (begins_mark 44 Done)
 further_receivers_agree : (seen : Seen) (names : List (List ℕ)) → Agrees seen (receivers_from names) (Repeat (Either (Mark 44 ⇒ Done) Done (Name ⇒ Done)) Done) (Same seen)
 unfolding receivers_from
 further_receivers_agree seen names =
-    agree_same begins_receiver _ (λ s. bind_later comma_keeps λ _. bind_shrinks name_shrinks λ name. value_keeps _) begins_a_receiver
+    agree_same begins_receiver _ (λ s. after_shrinks comma_keeps λ _. bind_shrinks name_shrinks λ name. value_keeps _) begins_a_receiver
     (λ s. agree_then (comma_agrees seen) λ _. agree_then (name_agrees seen) λ name. agree_value refl) names
 
 pub receivers_agree : (seen : Seen) → Agrees seen receivers_at grammar.receivers (Same seen)
@@ -239,26 +189,14 @@ receivers_agree seen =
 pub texts_agree : (seen : Seen) (texts : List (List ℕ)) → Agrees seen (texts_from texts) (Repeat (Mark 44 ⇒ String ⇒ Done) Done) (Same seen)
 unfolding texts_from
 texts_agree seen texts =
-    agree_same (has_mark 44) _ (λ s. bind_shrinks (mark_shrinks 44) λ _. bind_keeps (keep text_shrinks) λ text. value_keeps _) (begins_mark 44 _)
+    agree_same (has_mark 44) _ (λ s. bind_shrinks (mark_shrinks 44) λ _. bind_keeps (keeps text_shrinks) λ text. value_keeps _) (begins_mark 44 _)
     (λ s. agree_then (mark_agrees seen 44) λ _. agree_then (text_agrees seen) λ text. agree_value refl) texts
 
 entry_agrees : (seen : Seen) → Agrees seen entry_at (grammar.entry_number then String ⇒ Done) (Same seen)
 unfolding entry_at
 entry_agrees seen = agree_then (int_agrees seen) λ n. agree_then (text_agrees seen) λ text. agree_value refl
 
-entry_shrinks : Shrinks entry_at
-unfolding entry_at
-entry_shrinks = bind_shrinks int_shrinks λ n. bind_keeps (keep text_shrinks) λ text. value_keeps _
-
 pub entries_agree : (seen : Seen) (entries : List _) → Agrees seen (entries_from entries) (Repeat (grammar.entry_number then String ⇒ Done) Done) (Same seen)
 unfolding entries_from
 entries_agree seen entries =
     agree_same begins_int _ (λ s. bind_shrinks entry_shrinks λ entry. value_keeps _) (begins_an_int _) (λ s. agree_then (entry_agrees seen) λ entry. agree_value refl) entries
-
-further_receivers_keep : (names : List (List ℕ)) → Keeps (receivers_from names)
-unfolding receivers_from
-further_receivers_keep names = repeated_keeps begins_receiver (λ s. bind_keeps comma_keeps λ _. bind_keeps (keep name_shrinks) λ name. value_keeps _) names
-
-pub receivers_keep : Keeps receivers_at
-unfolding receivers_at
-receivers_keep = choose_keeps has_name (bind_keeps (keep name_shrinks) λ name. further_receivers_keep (name ∷ [])) (value_keeps _)

@@ -1,15 +1,13 @@
 -- The text of a layout has the tokens of its items.
-use Rattle.std.proofs.Common.{◌≡◌, ℕ, suc, ◌+◌, ℤ, pos, negsuc, Bool, true, false, not, cond, ◌||◌, ◌&&◌, ◌==◌, List, [], ◌∷◌, ◌++◌, length, refl, sym, ap, subst, ◌∙◌, append_assoc, append-nil, arith, ◌⊎◌, inl, inr}
+use Rattle.std.proofs.Common.{◌≡◌, ℕ, suc, ◌+◌, pos, negsuc, Bool, true, false, not, cond, ◌||◌, List, [], ◌∷◌, ◌++◌, refl, sym, ap, subst, ◌∙◌, append_assoc, arith, ◌⊎◌, inl, inr}
 use Rattle.std.specs.Prelude.{codes, decimal, IsTrue}
 use Rattle.std.specs.List.{flat_map}
-use Rattle.std.proofs.lemmas.Bool.{cases_Bool, and_parts}
-use Rattle.std.proofs.lemmas.Bool.Decides.{nat_tests}
+use Rattle.std.proofs.lemmas.Bool.{and_parts}
 use Rattle.std.proofs.lemmas.List.Sums.{sum_by-cons}
-use Rattle.dbc_model.specs.Lexical.{quote, quoted, is_point, is_word_byte, is_mark, is_blank, is_line_feed}
+use Rattle.dbc_model.specs.Lexical.{quoted, is_point, is_word_byte, is_mark, is_blank, is_line_feed}
 use Rattle.dbc_model.specs.Layout.{Item, Word, Mark, Name, Symbol, Text, Whole, Int, Number, Switch, Muxed, Both, Order, Piece, magnitude_text, Element, Space, Tab, LineEnd, Is, Layout, item_text, layout_text, element_text, items_of}
-use Rattle.dbc_read.specs.declared.token.Kind.{Kind}
 use Rattle.dbc_read.specs.declared.token.Kind.TheVariants as kinds
-use Rattle.dbc_read.specs.Tokens.{Token, Cut, End, Fault, ◌▸◌, IsGap, Part, Blank, IsLongest, line_feeds, HasTokens}
+use Rattle.dbc_read.specs.Tokens.{Token, Cut, End, Fault, ◌▸◌, IsGap, Blank, IsLongest, line_feeds, HasTokens}
 use Rattle.dbc_read.specs.Forms.{◌▸▸◌}
 use Rattle.dbc_read.proofs.Sound.{all_then_twice}
 use Rattle.dbc_read.proofs.Longest.{any_all}
@@ -179,5 +177,5 @@ layout_tokens (Tab ∷ layout) are apart line = blank_more line 9 Tab layout ref
 layout_tokens (LineEnd ∷ layout) are apart line = blank_more line 10 LineEnd layout refl refl refl (layout_tokens layout are apart (line + line_feeds (10 ∷ [])))
 layout_tokens (Is item ∷ layout) are apart line =
     let parts = and_parts (is_closed item || ends_item layout) (stand_apart layout) apart in
-    let either : (is_closed item ≡ true) ⊎ EndsToken (layout_text layout) = elim (either_so (is_closed item) (ends_item layout) parts.0) [ | inl closed ↦ inl closed | inr ends ↦ inr (layout_ends layout are.1 ends) ] in
+    let either : (is_closed item ≡ true) ⊎ EndsToken (layout_text layout) = elim (either_so (is_closed item) (ends_item layout) parts.0) [ inl closed ↦ inl closed | inr ends ↦ inr (layout_ends layout are.1 ends) ] in
     item_more line item layout are.0 either (layout_tokens layout are.1 parts.1)

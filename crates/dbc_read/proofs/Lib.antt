@@ -17,7 +17,6 @@ pub mod StatementLoop
 pub mod KeptBeginnings
 pub mod Unsigned
 pub mod Faults
-pub mod Shrinking
 pub mod Agree
 pub mod KindsAgree
 pub mod RowsAgree

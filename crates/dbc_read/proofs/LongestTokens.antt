@@ -1,19 +1,18 @@
 -- Where something stands behind a token that can't be part of it, the token is the longest at its place.
-use Rattle.std.proofs.Common.{◌≡◌, ℕ, zero, suc, ◌+◌, ◌<◌, ◌≤◌, Bool, true, false, not, cond, eqb, ◌&&◌, ◌||◌, ◌==◌, List, [], ◌∷◌, ◌++◌, length, take, drop, Option, Some, None, refl, sym, ap, subst, ◌∙◌, append_assoc, append-nil, arith, ◌⊎◌, inl, inr}
+use Rattle.std.proofs.Common.{◌≡◌, ℕ, suc, ◌+◌, ◌<◌, true, false, ◌||◌, ◌==◌, List, [], ◌∷◌, ◌++◌, length, drop, Some, refl, sym, ap, subst, ◌∙◌, append_assoc, arith, ◌⊎◌, inl, inr}
 use Rattle.std.specs.List.{list_all, prefix_len}
-use Rattle.std.specs.Option.{option_map}
-use Rattle.std.proofs.lemmas.Bool.{cases_Bool, and_parts, eqb-true, ne_eqb, not-true}
+use Rattle.std.proofs.lemmas.Bool.{cases_Bool, and_parts, ne_eqb}
 use Rattle.std.proofs.lemmas.Bool.Decides.{nat_tests}
-use Rattle.std.proofs.lemmas.List.{drop_at, take_at, length-append}
+use Rattle.std.proofs.lemmas.List.{drop_at, length-append}
 use Rattle.dbc_read.specs.declared.token.Kind.{Kind}
 use Rattle.dbc_read.specs.declared.token.Kind.TheVariants as kinds
 use Rattle.dbc_model.specs.Lexical.{quote, point, is_point, is_sign, is_digit, is_letter, is_word_byte, is_mark, is_exponent_mark, is_text, quoted, is_number}
 use Rattle.dbc_read.specs.Tokens.{IsToken, IsLongest}
-use Rattle.dbc_read.specs.Scanner.{text_len, fraction_len, mantissa_len, sign_len, power_len, exponent_len, number_len, token_at}
+use Rattle.dbc_read.specs.Scanner.{fraction_len, mantissa_len, sign_len, power_len, exponent_len, number_len, token_at}
 use Rattle.dbc_read.proofs.Runs.{Stops, all_stop}
-use Rattle.dbc_read.proofs.NumberParts.{IsMantissa, IsSign, IsExponent, IsNumber, number_parts, is_mantissa_byte}
+use Rattle.dbc_read.proofs.NumberParts.{IsMantissa, IsSign, IsExponent, number_parts, is_mantissa_byte}
 use Rattle.dbc_read.proofs.Strings.{text_found}
-use Rattle.dbc_read.proofs.Longest.{begins, no_other, token_begins, IsFound, token_found}
+use Rattle.dbc_read.proofs.Longest.{no_other, token_begins, IsFound, token_found}
 
 -- ---- what ends a word or a number
 
@@ -63,10 +62,10 @@ word_there b bytes rest letter all ends =
     rw (letter_no_quote b letter, letter, all_stop is_word_byte bytes rest all (word_stops rest ends)) (ap (λ (n : ℕ). Some (kinds.Word, n)) long)
 
 mark_no_quote : (b : ℕ) → is_mark b ≡ true → (b == quote) ≡ false
-mark_no_quote b is = elim (cases_Bool (b == quote)) [ | inr e ↦ e | inl e ↦ absurd (no_other b kinds.Text is refl e) ]
+mark_no_quote b is = elim (cases_Bool (b == quote)) [ inr e ↦ e | inl e ↦ absurd (no_other b kinds.Text is refl e) ]
 
 mark_no_letter : (b : ℕ) → is_mark b ≡ true → is_letter b ≡ false
-mark_no_letter b is = elim (cases_Bool (is_letter b)) [ | inr e ↦ e | inl e ↦ absurd (no_other b kinds.Word is refl e) ]
+mark_no_letter b is = elim (cases_Bool (is_letter b)) [ inr e ↦ e | inl e ↦ absurd (no_other b kinds.Word is refl e) ]
 
 mark_there : (mark : ℕ) (rest : List ℕ) → is_mark mark ≡ true → token_at (mark ∷ rest) ≡ Some (kinds.Mark, 1)
 unfolding token_at
@@ -189,7 +188,7 @@ digit_first b e = (no_quote b e, no_letter b e)
     no_letter b e = grind (arith, nat_tests)
 
 digit_no_mark : (b : ℕ) → is_mantissa_byte b ≡ true → is_mark b ≡ false
-digit_no_mark b is = elim (cases_Bool (is_mark b)) [ | inr e ↦ e | inl e ↦ absurd (no_other b kinds.Number e refl is) ]
+digit_no_mark b is = elim (cases_Bool (is_mark b)) [ inr e ↦ e | inl e ↦ absurd (no_other b kinds.Number e refl is) ]
 
 number_found : (b : ℕ) (behind : List ℕ) (n : ℕ) → number_len (b ∷ behind) ≡ suc n → is_mantissa_byte b ≡ true → token_at (b ∷ behind) ≡ Some (kinds.Number, suc n)
 unfolding token_at

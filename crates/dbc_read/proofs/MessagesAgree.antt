@@ -14,11 +14,12 @@ use Rattle.dbc_read.specs.Classes.{has_word, has_mark, has_name}
 use Rattle.dbc_read.specs.Pattern.{is_of_class, Mark, Whole, Order, BeginsMessage, BeginsSignal, SignalName, Seen, one_name_more, Done, ◌⇒◌, Either, Repeat}
 use Rattle.dbc_read.specs.Grammar as grammar
 use Rattle.dbc_read.specs.Reading.{value}
-use Rattle.dbc_read.specs.ReadingParts.{tag_token_at, order_at, pair_at}
+use Rattle.dbc_read.specs.ReadingParts.{tag_token_at}
 use Rattle.dbc_read.specs.ReadingMessages.{begun, begin_message_at, head_at, begin_signal_at, fresh, signal_name_at, tag_at, sign_at, place_at, signal_at, signals_from, message_at}
-use Rattle.dbc_read.proofs.Shrinking.{Shrinks, Keeps, one_shrinks, value_keeps, bind_shrinks, bind_keeps, choose_keeps, keep}
+use Rattle.dbc_read.proofs.Turns.{value_keeps, bind_shrinks}
+use Rattle.dbc_read.proofs.SignalLoop.{signal_shrinks}
 use Rattle.dbc_read.proofs.Agree.{Agrees, Same, Rules, agree_bind, agree_then, agree_value, agree_one, agree_choose, agree_choose_then, agree_repeated, Begins, begins_one}
-use Rattle.dbc_read.proofs.KindsAgree.{mark_agrees, name_agrees, text_agrees, whole_agrees, id_agrees, order_agrees, tag_token_agrees, pair_agrees, receivers_agree, begins_mark, mark_shrinks, whole_shrinks, text_shrinks, decimal_shrinks, receivers_keep}
+use Rattle.dbc_read.proofs.KindsAgree.{mark_agrees, name_agrees, text_agrees, whole_agrees, id_agrees, order_agrees, tag_token_agrees, pair_agrees, receivers_agree, begins_mark}
 
 -- ---- counts
 
@@ -108,46 +109,6 @@ signal_agrees seen signals is =
     (agree_then (tag_token_agrees s) λ tag. agree_then (mark_agrees s 58) λ _.
     agree_then (place_agrees s) λ place. agree_then (pair_agrees s 40 44 41) λ scale. agree_then (pair_agrees s 91 124 93) λ limits.
     agree_then (text_agrees s) λ unit. agree_then (receivers_agree s) λ receivers. agree_value named)
-
--- a signal takes a token at least
-begin_signal_shrinks : (count : ℕ) → Shrinks (begin_signal_at count)
-unfolding begin_signal_at
-begin_signal_shrinks count = one_shrinks _
-
-sign_keeps : Keeps sign_at
-unfolding sign_at
-sign_keeps = choose_keeps (has_mark 45) (bind_keeps (keep (mark_shrinks 45)) λ _. value_keeps _) (bind_keeps (keep (mark_shrinks 43)) λ _. value_keeps _)
-
-tag_keeps : Keeps tag_at
-unfolding tag_at tag_token_at
-tag_keeps = choose_keeps (has_mark 58) (value_keeps _) (keep (one_shrinks _))
-
-name_of_signal_keeps : (names : List (List ℕ)) → Keeps (signal_name_at names)
-unfolding signal_name_at
-name_of_signal_keeps names = keep (one_shrinks _)
-
-order_keeps : Keeps order_at
-unfolding order_at
-order_keeps = keep (one_shrinks _)
-
-place_keeps : Keeps place_at
-unfolding place_at
-place_keeps =
-    bind_keeps (keep (whole_shrinks 0 65535)) λ start. bind_keeps (keep (mark_shrinks 124)) λ _. bind_keeps (keep (whole_shrinks 1 14280)) λ length.
-    bind_keeps (keep (mark_shrinks 64)) λ _. bind_keeps order_keeps λ intel. bind_keeps sign_keeps λ signed. value_keeps _
-
-pair_keeps : (opening between closing : ℕ) → Keeps (pair_at opening between closing)
-unfolding pair_at
-pair_keeps opening between closing =
-    bind_keeps (keep (mark_shrinks opening)) λ _. bind_keeps (keep decimal_shrinks) λ first. bind_keeps (keep (mark_shrinks between)) λ _.
-    bind_keeps (keep decimal_shrinks) λ second. bind_keeps (keep (mark_shrinks closing)) λ _. value_keeps _
-
-pub signal_shrinks : (signals : List Signal) → Shrinks (signal_at signals)
-unfolding signal_at
-signal_shrinks signals =
-    bind_shrinks (begin_signal_shrinks (length signals)) λ _. bind_keeps (name_of_signal_keeps (names_of signals)) λ name. bind_keeps tag_keeps λ tag.
-    bind_keeps (keep (mark_shrinks 58)) λ _. bind_keeps place_keeps λ place. bind_keeps (pair_keeps 40 44 41) λ scale. bind_keeps (pair_keeps 91 124 93) λ limits.
-    bind_keeps (keep text_shrinks) λ unit. bind_keeps receivers_keep λ receivers. value_keeps _
 
 pub begins_a_signal : Begins (has_word (codes "SG_")) grammar.signal
 begins_a_signal = begins_one (has_word (codes "SG_")) BeginsSignal _ (λ t seen. counted_class (has_word (codes "SG_") t) (nat_le 999 (length seen.signals)) seen)

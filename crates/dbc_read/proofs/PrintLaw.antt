@@ -1,29 +1,27 @@
 -- What is printed is spelled: the tokens of a database's canonical text spell that database.
-use Rattle.std.proofs.Common.{◌≡◌, ℕ, Bool, true, false, ◌&&◌, List, [], ◌∷◌, ◌++◌, map, Option, Some, append_assoc, append-nil, refl, sym, ap, subst, ◌∙◌}
-use Rattle.std.specs.Prelude.{nat_le, All}
+use Rattle.std.proofs.Common.{◌≡◌, ℕ, true, List, [], ◌∷◌, ◌++◌, map, Some, append_assoc, append-nil, refl, sym, ap, ◌∙◌}
 use Rattle.std.specs.List.{flat_map}
 use Rattle.std.proofs.lemmas.Bool.{and_parts}
-use Rattle.std.proofs.lemmas.List.Concat.{flat_map-append}
 use Rattle.dbc_model.specs.Databases.{Database, IsDatabase, timing_fits}
 use Rattle.dbc_model.specs.Records.{IsTableRow, IsMessage, IsValueRow, IsFloatRow, IsMuxRow, TableRow, Message, ValueRow, FloatRow, MuxRow}
 use Rattle.dbc_model.specs.Comments.{Comment, IsComment}
 use Rattle.dbc_model.specs.Attributes.{AttrDef, IsAttrDef, AttrDefault, IsAttrDefault, AttrRow, IsAttrRow}
 use Rattle.dbc_model.specs.Kept.{Kept, IsKept}
-use Rattle.dbc_model.specs.Layout.{Item, Layout, Space, Tab, LineEnd, Is, layout_text}
-use Rattle.dbc_model.specs.CanonicalText.{version_layout, symbols_layout, timing_layout, nodes_layout, table_layout, message_layout, comment_layout, definition_layout, default_layout, attribute_layout, values_layout, float_layout, mux_layout, kept_layout, front_layout, attributes_layout, rows_layout, database_layout, canonical_text}
-use Rattle.dbc_read.specs.Tokens.{Token, Cut, End}
-use Rattle.dbc_read.specs.Forms.{Part, Spelled, ◌▸▸◌}
-use Rattle.dbc_read.specs.Spelling.{AnyStatement, Symbols, Timing, Nodes, Table, OfMessage, OfComment, Definition, Default, Attribute, Values, Float, Mux, OfKept, form, version_form, Spells}
+use Rattle.dbc_model.specs.Layout.{Layout, Space, Tab, LineEnd, Is}
+use Rattle.dbc_model.specs.CanonicalText.{version_layout, symbols_layout, timing_layout, nodes_layout, table_layout, comment_layout, definition_layout, default_layout, attribute_layout, values_layout, float_layout, mux_layout, kept_layout, front_layout, attributes_layout, rows_layout, database_layout, canonical_text}
+use Rattle.dbc_read.specs.Tokens.{Cut, End}
+use Rattle.dbc_read.specs.Forms.{Part, ◌▸▸◌}
+use Rattle.dbc_read.specs.Spelling.{AnyStatement, Symbols, Timing, Nodes, Table, OfMessage, OfComment, Definition, Default, Attribute, Values, Float, Mux, OfKept, form, version_form}
 use Rattle.dbc_read.specs.Texts.{HasDatabase}
 use Rattle.dbc_read.specs.PrintLaws.{PrintLaw}
 use Rattle.dbc_read.specs.Reading.{value}
 use Rattle.dbc_read.specs.ReadingDatabases.{database_at}
 use Rattle.dbc_read.proofs.CutLaws.{cut_unique}
-use Rattle.dbc_read.proofs.Sound.{ok_is}
+use Rattle.dbc_read.proofs.Turns.{ok_is}
 use Rattle.dbc_read.proofs.DatabasesAgain.{database_again}
-use Rattle.dbc_read.proofs.Printed.{Printed, ArePrinted, LayoutTokens, Shows, stand_apart}
+use Rattle.dbc_read.proofs.Printed.{ArePrinted, Shows, stand_apart}
 use Rattle.dbc_read.proofs.ItemsPrinted.{printed}
-use Rattle.dbc_read.proofs.Neat.{AreItems, Line}
+use Rattle.dbc_read.proofs.Neat.{AreItems}
 use Rattle.dbc_read.proofs.NeatStatements.{version_neat, symbols_neat, nodes_neat, table_neat, values_neat, mux_neat, comment_neat, definition_neat, default_neat, attribute_neat, kept_neat, database_neat}
 use Rattle.dbc_read.proofs.Shown.{shows_both, shows_as, shows_each, shows_layout}
 use Rattle.dbc_read.proofs.ShownStatements.{three, timing_shown, float_shown, message_shown}
@@ -44,8 +42,8 @@ put_last put (x ∷ xs) = ap (λ (l : List Part). form (put x) ++ l) (put_last p
 
 rows_form : (d : Database) → flat_map form (canonical_rows d)
     ≡ flat_map (λ (row : TableRow). form (Table row)) d.tables ++ (flat_map (λ (message : Message). form (OfMessage message)) d.messages ++ (flat_map (λ (comment : Comment). form (OfComment comment)) d.comments
-      ++ (flat_map (λ (definition : AttrDef). form (Definition definition)) d.definitions ++ (flat_map (λ (row : AttrDefault). form (Default row)) d.defaults ++ (flat_map (λ (row : AttrRow). form (Attribute row)) d.attributes
-      ++ (flat_map (λ (row : ValueRow). form (Values row)) d.values ++ (flat_map (λ (row : FloatRow). form (Float row)) d.floats ++ (flat_map (λ (row : MuxRow). form (Mux row)) d.muxes ++ flat_map (λ (row : Kept). form (OfKept row)) d.kept))))))))
+    ++ (flat_map (λ (definition : AttrDef). form (Definition definition)) d.definitions ++ (flat_map (λ (row : AttrDefault). form (Default row)) d.defaults ++ (flat_map (λ (row : AttrRow). form (Attribute row)) d.attributes
+    ++ (flat_map (λ (row : ValueRow). form (Values row)) d.values ++ (flat_map (λ (row : FloatRow). form (Float row)) d.floats ++ (flat_map (λ (row : MuxRow). form (Mux row)) d.muxes ++ flat_map (λ (row : Kept). form (OfKept row)) d.kept))))))))
 rows_form d =
     put_form (λ row. Table row) d.tables _ _ (put_form (λ message. OfMessage message) d.messages _ _ (put_form (λ comment. OfComment comment) d.comments _ _ (put_form (λ definition. Definition definition) d.definitions _ _
     (put_form (λ row. Default row) d.defaults _ _ (put_form (λ row. Attribute row) d.attributes _ _ (put_form (λ row. Values row) d.values _ _ (put_form (λ row. Float row) d.floats _ _ (put_form (λ row. Mux row) d.muxes _ _
@@ -67,9 +65,9 @@ canonical_shown d is =
     shows_as refl
     (ap (λ (parts : List Part). version_form (Some d.version) ++ (form (Symbols d.symbols) ++ (form (Timing (three d.bit_timing)) ++ (form (Nodes d.nodes) ++ parts)))) (rows_form d)
     ∙ sym (regroup (version_form (Some d.version)) (form (Symbols d.symbols)) (form (Timing (three d.bit_timing))) (form (Nodes d.nodes)) (flat_map (λ (row : TableRow). form (Table row)) d.tables)
-      (flat_map (λ (message : Message). form (OfMessage message)) d.messages) (flat_map (λ (comment : Comment). form (OfComment comment)) d.comments) (flat_map (λ (definition : AttrDef). form (Definition definition)) d.definitions)
-      (flat_map (λ (row : AttrDefault). form (Default row)) d.defaults) (flat_map (λ (row : AttrRow). form (Attribute row)) d.attributes)
-      (flat_map (λ (row : ValueRow). form (Values row)) d.values ++ (flat_map (λ (row : FloatRow). form (Float row)) d.floats ++ (flat_map (λ (row : MuxRow). form (Mux row)) d.muxes ++ flat_map (λ (row : Kept). form (OfKept row)) d.kept)))))
+    (flat_map (λ (message : Message). form (OfMessage message)) d.messages) (flat_map (λ (comment : Comment). form (OfComment comment)) d.comments) (flat_map (λ (definition : AttrDef). form (Definition definition)) d.definitions)
+    (flat_map (λ (row : AttrDefault). form (Default row)) d.defaults) (flat_map (λ (row : AttrRow). form (Attribute row)) d.attributes)
+    (flat_map (λ (row : ValueRow). form (Values row)) d.values ++ (flat_map (λ (row : FloatRow). form (Float row)) d.floats ++ (flat_map (λ (row : MuxRow). form (Mux row)) d.muxes ++ flat_map (λ (row : Kept). form (OfKept row)) d.kept)))))
     (shows_both front (shows_both (shows_each IsMessage (message_shown printed) d.messages is.messages)
     (shows_both (shows_each IsComment (λ row is. shows_layout printed (comment_layout row) (comment_neat row is).items) d.comments is.comments) (shows_both attributes rows))))
   where
@@ -111,16 +109,20 @@ unfolding canonical_text
 canonical_has d is =
     let neat = database_neat d is in
     let apart : stand_apart (database_layout d) ≡ true = ap stand_apart (sym (append-nil (database_layout d))) ∙ neat.apart [] refl in
-    let tokens = layout_tokens (database_layout d) (items_printed (database_layout d) neat.items) apart 1 in
-    (tokens.tokens, tokens.at, tokens.has, record {
-      version = Some d.version;
-      statements = canonical d;
-      spelled = (canonical_shown d is).shows tokens.tokens tokens.have;
-      placed = canonical_placed d;
-      one_timing = one_timing d;
-      gathered = canonical_gathers d is;
-      proper = is;
-    })
+    let tokens = layout_tokens (database_layout d) (items_printed (database_layout d) neat.items) apart 1 in (
+      tokens.tokens,
+      tokens.at,
+      tokens.has,
+      record {
+        version = Some d.version;
+        statements = canonical d;
+        spelled = (canonical_shown d is).shows tokens.tokens tokens.have;
+        placed = canonical_placed d;
+        one_timing = one_timing d;
+        gathered = canonical_gathers d is;
+        proper = is;
+      },
+    )
 
 -- two databases of one text are one
 one_of_text : (text : List ℕ) (a b : Database) → HasDatabase text a → HasDatabase text b → a ≡ b

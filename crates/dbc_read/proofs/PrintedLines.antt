@@ -1,21 +1,21 @@
 -- The line of each kind of statement has the tokens of its form, and spells that value alone.
-use Rattle.std.proofs.Common.{◌≡◌, ℕ, Bool, true, false, List, [], ◌∷◌, ◌++◌, Option, Some, None, Ok, append-nil, refl, sym, ap, subst, ◌∙◌}
-use Rattle.std.specs.Prelude.{All, IsTrue, IfSome}
-use Rattle.dbc_model.specs.Databases.{Database, IsBitTiming, timing_fits}
+use Rattle.std.proofs.Common.{◌≡◌, ℕ, Bool, true, List, [], ◌∷◌, Option, Some, None, append-nil, refl, sym, ap, ◌∙◌}
+use Rattle.std.specs.Prelude.{All}
+use Rattle.dbc_model.specs.Databases.{Database}
 use Rattle.dbc_model.specs.Decimals.{Decimal}
 use Rattle.dbc_model.specs.Records.{IsName, IsText, IsSymbol, IsTableRow, IsMessage, IsValueRow, IsFloatRow, IsMuxRow}
 use Rattle.dbc_model.specs.Comments.{IsComment}
 use Rattle.dbc_model.specs.Attributes.{IsAttrDef, IsAttrDefault, IsAttrRow}
 use Rattle.dbc_model.specs.Kept.{IsKept}
-use Rattle.dbc_model.specs.Layout.{Layout, Space, Tab, LineEnd, Is}
+use Rattle.dbc_model.specs.Layout.{Layout}
 use Rattle.dbc_model.specs.CanonicalText.{version_layout, symbols_layout, timing_layout, nodes_layout, table_layout, message_layout, comment_layout, definition_layout, default_layout, attribute_layout, values_layout, float_layout, mux_layout, kept_layout}
 use Rattle.dbc_read.specs.Tokens.{Token, Cut, End}
-use Rattle.dbc_read.specs.Forms.{Part, Spelled, ◌▸▸◌}
+use Rattle.dbc_read.specs.Forms.{Part, Spelled}
 use Rattle.dbc_read.specs.Reading.{Reader, starts}
 use Rattle.dbc_read.specs.ReadingDatabases.{empty_database}
 use Rattle.dbc_read.specs.Spelling.{Symbols, Timing, Nodes, Table, OfMessage, OfComment, Definition, Default, Attribute, Values, Float, Mux, OfKept, form, version_form, timing_of}
 use Rattle.dbc_read.specs.PrintLaws.{PrintedAlone, IsTiming}
-use Rattle.dbc_read.proofs.Sound.{ok_is}
+use Rattle.dbc_read.proofs.Turns.{ok_is}
 use Rattle.dbc_read.proofs.AddingSound.{joined}
 use Rattle.dbc_read.proofs.Again.{Takes, Stops}
 use Rattle.dbc_read.proofs.RowsAgain.{table_takes, values_take, float_takes, mux_takes}
@@ -24,9 +24,9 @@ use Rattle.dbc_read.proofs.MessagesAgain.{message_takes}
 use Rattle.dbc_read.proofs.KeptAgain.{kept_takes}
 use Rattle.dbc_read.proofs.AddingAgain.{symbols_added, nodes_added}
 use Rattle.dbc_read.proofs.DatabasesAgain.{version_takes, timing_takes}
-use Rattle.dbc_read.proofs.Printed.{LayoutTokens, Shows, stand_apart}
+use Rattle.dbc_read.proofs.Printed.{Shows, stand_apart}
 use Rattle.dbc_read.proofs.ItemsPrinted.{printed}
-use Rattle.dbc_read.proofs.Neat.{AreItems, Line}
+use Rattle.dbc_read.proofs.Neat.{Line}
 use Rattle.dbc_read.proofs.NeatStatements.{version_neat, symbols_neat, timing_neat, nodes_neat, table_neat, message_neat, values_neat, float_neat, mux_neat, comment_neat, definition_neat, default_neat, attribute_neat, kept_neat}
 use Rattle.dbc_read.proofs.Shown.{shows_layout, shows_as}
 use Rattle.dbc_read.proofs.ShownStatements.{three, timing_shown, float_shown, message_shown}

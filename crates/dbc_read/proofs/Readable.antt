@@ -6,7 +6,7 @@ use Rattle.dbc_read.specs.Pattern.{first_fault, nothing_seen}
 use Rattle.dbc_read.specs.Grammar as grammar
 use Rattle.dbc_read.specs.Laws.{FaultOrDatabase, FaultOrStatement, OneDatabase, OneStatement}
 use Rattle.dbc_read.specs.ReadingDatabases.{database_at, statement_at}
-use Rattle.dbc_read.proofs.Sound.{ok_is}
+use Rattle.dbc_read.proofs.Turns.{ok_is}
 use Rattle.dbc_read.proofs.Agree.{Judges}
 use Rattle.dbc_read.proofs.TextsAgree.{database_judges}
 use Rattle.dbc_read.proofs.StatementsAgree.{statement_judges}

@@ -8,9 +8,10 @@ use Rattle.dbc_read.specs.Grammar as grammar
 use Rattle.dbc_read.specs.ReadingTables.{table_at, colon_at, float_at, range_at, ranges_from, ranges_at, mux_at}
 use Rattle.dbc_read.specs.ReadingAttributes.{node_target_at, message_target_at, signal_target_at, target_at, object_at, limits_at, string_form_at, enumeration_at, form_at, definition_at, value_at, default_at}
 use Rattle.dbc_read.specs.ReadingParts.{begins_decimal}
-use Rattle.dbc_read.proofs.Shrinking.{Shrinks, value_keeps, bind_shrinks, bind_keeps, keep}
+use Rattle.dbc_read.proofs.Turns.{value_keeps, bind_shrinks, bind_keeps, keeps}
+use Rattle.dbc_read.proofs.Loops.{mark_shrinks, range_shrinks}
 use Rattle.dbc_read.proofs.Agree.{Agrees, Same, agree_then, agree_value, agree_choose, agree_same}
-use Rattle.dbc_read.proofs.KindsAgree.{word_agrees, mark_agrees, name_agrees, text_agrees, whole_agrees, id_agrees, decimal_agrees, entries_agree, texts_agree, begins_word, begins_mark, begins_string, begins_a_decimal, mark_shrinks, whole_shrinks}
+use Rattle.dbc_read.proofs.KindsAgree.{word_agrees, mark_agrees, name_agrees, text_agrees, whole_agrees, id_agrees, decimal_agrees, entries_agree, texts_agree, begins_word, begins_mark, begins_string, begins_a_decimal}
 
 -- ---- tables
 
@@ -35,15 +36,10 @@ unfolding range_at
 range_agrees seen =
     agree_then (whole_agrees seen 0 (2 ^ 64 - 1)) λ first. agree_then (mark_agrees seen 45) λ _. agree_then (whole_agrees seen 0 (2 ^ 64 - 1)) λ last. agree_value refl
 
-range_shrinks : Shrinks range_at
-unfolding range_at
-range_shrinks =
-    bind_shrinks (whole_shrinks 0 (2 ^ 64 - 1)) λ first. bind_keeps (keep (mark_shrinks 45)) λ _. bind_keeps (keep (whole_shrinks 0 (2 ^ 64 - 1))) λ last. value_keeps _
-
 ranges_agree : (seen : Seen) (ranges : List Range) → Agrees seen (ranges_from ranges) (Repeat (Mark 44 ⇒ grammar.range) Done) (Same seen)
 unfolding ranges_from
 ranges_agree seen ranges =
-    agree_same (has_mark 44) _ (λ s. bind_shrinks (mark_shrinks 44) λ _. bind_keeps (keep range_shrinks) λ range. value_keeps _) (begins_mark 44 _)
+    agree_same (has_mark 44) _ (λ s. bind_shrinks (mark_shrinks 44) λ _. bind_keeps (keeps range_shrinks) λ range. value_keeps _) (begins_mark 44 _)
     (λ s. agree_then (mark_agrees seen 44) λ _. agree_then (range_agrees seen) λ range. agree_value refl) ranges
 
 all_ranges_agree : (seen : Seen) → Agrees seen ranges_at (grammar.range then Repeat (Mark 44 ⇒ grammar.range) Done) (Same seen)

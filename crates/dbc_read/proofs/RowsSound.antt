@@ -14,7 +14,8 @@ use Rattle.dbc_read.specs.Spelling.{form, Table, Values, Float, Mux}
 use Rattle.dbc_read.specs.Reading.{Reader, ◌>>=◌, value, choose}
 use Rattle.dbc_read.specs.ReadingParts.{mark_at, entry_at, entries_from}
 use Rattle.dbc_read.specs.ReadingTables.{table_at, values_at, colon_at, float_at, range_at, ranges_from, ranges_at, mux_at}
-use Rattle.dbc_read.proofs.Sound.{Spelt, ok_is, Sound, sound_then, sound_value, sound_start, sound_choose, grows_by_one, grows_repeated, sound_list, first_and, sound_first, sound_end, grows_behind}
+use Rattle.dbc_read.proofs.Turns.{ok_is}
+use Rattle.dbc_read.proofs.Sound.{Spelt, Sound, sound_then, sound_value, sound_start, sound_choose, grows_by_one, grows_repeated, sound_list, first_and, sound_first, sound_end, grows_behind}
 use Rattle.dbc_read.proofs.KindsSound.{word_sound, mark_sound, name_sound, text_sound, whole_sound, id_sound, int_sound}
 
 -- ---- forms of layouts, one behind the other

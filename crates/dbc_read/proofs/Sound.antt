@@ -7,7 +7,7 @@ use Rattle.dbc_read.specs.declared.fault.ReadFault.{ReadFault}
 use Rattle.dbc_read.specs.Tokens.{Token, Cut, End, Fault, ◌▸◌}
 use Rattle.dbc_read.specs.Forms.{Part, SaysPart, Spelled, ◌▸▸◌}
 use Rattle.dbc_read.specs.Reading.{Reader, and_then, ◌>>=◌, value, token_at, answered, one, starts, choose, size, turns, repeated}
-use Rattle.dbc_read.proofs.Shrinking.{and_then-ok}
+use Rattle.dbc_read.proofs.Turns.{and_then_ok, ok_is}
 
 pub all_then_twice : (u v : List Token) (cut : Cut) → ((u ++ v) ▸▸ cut) ≡ (u ▸▸ (v ▸▸ cut))
 all_then_twice [] v cut = refl
@@ -45,14 +45,11 @@ pub record SoundAt {B : Type 0} (before : List Part) (r : Reader B) (form : B �
 abbrev pub read : {A : Type 0} → A → Result A ReadFault
 read x = Ok x
 
-pub ok_is : {A : Type 0} (x y : A) → read x ≡ Ok y → x ≡ y
-ok_is x y e = cc
-
 pub sound_then : {A B : Type 0} {before : List Part} {r : Reader A} {f : A → Reader B} {parts : A → List Part} {form : B → List Part}
     → Sound r parts → ((a : A) → SoundAt (before ++ parts a) (f a) form) → SoundAt before (r >>= f) form
 sound_then {A} {B} {before} {r} {f} {parts} {form} h k = record {
   spelt = λ cut y e. (
-      let x = and_then-ok (r cut) f y e in
+      let x = and_then_ok (r cut) f y e in
       let one = h.spelt cut x.0 x.1 in
       let two = (k x.0.0).spelt x.0.1 y x.2 in
       (parts x.0.0 ++ two.0, two.1 ∙ append_assoc before (parts x.0.0) two.0, spelt_both one two.2));
@@ -105,7 +102,7 @@ pub record Grows {A : Type 0} (r : List A → Reader (List A)) (part : A → Lis
 pub grows_by_one : {A : Type 0} {one_at : Reader A} {part : A → List Part} → Sound one_at part → Grows (λ before. one_at >>= λ a. value (before ++ a ∷ [])) part
 grows_by_one {A} {one_at} {part} h = record {
   spelt = λ before cut x e. (
-      let y = and_then-ok (one_at cut) _ x e in
+      let y = and_then_ok (one_at cut) _ x e in
       let is = ok_is (before ++ y.0.0 ∷ [], y.0.1) x y.2 in
       let one = h.spelt cut y.0 y.1 in (
         y.0.0 ∷ [],
@@ -123,7 +120,7 @@ module _ {A : Type 0} (test : Token → Bool) (r : List A → Reader (List A)) (
       → (before : List A) (b : Bool) (cut : Cut) (x : List A × Cut) → cond b (and_then (r before cut) (turns n test r)) (Ok (before, cut)) ≡ Ok x → (more : List A) × (x.0 ≡ before ++ more) × Spelt (flat_map part more) cut x.1
   turn n below before false cut x e = stays before cut x e
   turn n below before true cut x e =
-      let y = and_then-ok (r before cut) (turns n test r) x e in
+      let y = and_then_ok (r before cut) (turns n test r) x e in
       let first = grows.spelt before cut y.0 y.1 in
       let rest = below y.0.0 y.0.1 x y.2 in (
         first.0 ++ rest.0,
@@ -175,7 +172,7 @@ pub reads_behind : {A B : Type 0} {r : Reader A} {r' : Reader B} {P : A → List
     → Reads (r >>= λ a. r') (λ b tokens. (a : A) × S a b tokens)
 reads_behind {A} {B} {r} {r'} {P} {Q} S h k join = record {
   reads = λ cut y e. (
-      let x = and_then-ok (r cut) _ y e in
+      let x = and_then_ok (r cut) _ y e in
       let one = h.reads cut x.0 x.1 in
       let two = k.reads x.0.1 y x.2 in
       (one.0 ++ two.0, one.1 ∙ ap (λ c. one.0 ▸▸ c) two.1 ∙ sym (all_then_twice one.0 two.0 y.1), (x.0.0, join x.0.0 y.0 (one.0 ++ two.0) one.0 two.0 refl one.2 two.2)));
@@ -185,7 +182,7 @@ reads_behind {A} {B} {r} {r'} {P} {Q} S h k join = record {
 pub reads_value : {A B : Type 0} {r : Reader A} {P : A → List Token → Type 0} (f : A → B) → Reads r P → Reads (r >>= λ a. value (f a)) (λ b tokens. (a : A) × (b ≡ f a) × P a tokens)
 reads_value {A} {B} {r} {P} f h = record {
   reads = λ cut y e. (
-      let x = and_then-ok (r cut) _ y e in
+      let x = and_then_ok (r cut) _ y e in
       let one = h.reads cut x.0 x.1 in
       let is = ok_is (f x.0.0, x.0.1) y x.2 in
       (one.0, one.1 ∙ ap (λ c. one.0 ▸▸ c) (ap (λ (w : B × Cut). w.1) is), (x.0.0, sym (ap (λ (w : B × Cut). w.0) is), one.2)));
@@ -201,7 +198,7 @@ pub sound_first : {A : Type 0} {one_at : Reader A} {more_from : List A → Reade
     → Sound (one_at >>= λ a. more_from (a ∷ [])) (first_and first further)
 sound_first {A} {one_at} {more_from} {first} {further} h k = record {
   spelt = λ cut y e. (
-      let x = and_then-ok (one_at cut) _ y e in
+      let x = and_then_ok (one_at cut) _ y e in
       let more = k.spelt (x.0.0 ∷ []) x.0.1 y x.2 in
       subst (λ (list : List A). Spelt (first_and first further list) cut y.1) (sym more.1) (spelt_both (h.spelt cut x.0 x.1) more.2));
 }
@@ -211,8 +208,8 @@ pub sound_both : {A B C : Type 0} {before : List Part} (r : Reader A) (f : A →
     → Sound (r >>= f) parts → ((b : B) → SoundAt (before ++ parts b) (g b) form) → SoundAt before (r >>= λ a. (f a >>= g)) form
 sound_both {A} {B} {C} {before} r f {g} {parts} {form} h k = record {
   spelt = λ cut y e. (
-      let x = and_then-ok (r cut) _ y e in
-      let z = and_then-ok (f x.0.0 x.0.1) g y x.2 in
+      let x = and_then_ok (r cut) _ y e in
+      let z = and_then_ok (f x.0.0 x.0.1) g y x.2 in
       let one = h.spelt cut z.0 (ap (λ (o : Result (A × Cut) ReadFault). and_then o f) x.1 ∙ z.1) in
       let two = (k z.0.0).spelt z.0.1 y z.2 in
       (parts z.0.0 ++ two.0, two.1 ∙ append_assoc before (parts z.0.0) two.0, spelt_both one two.2));
@@ -226,8 +223,8 @@ sound_end {B} {before} {r} {parts} {form} h same = record { spelt = λ cut x e. 
 pub grows_behind : {A M : Type 0} (m : Reader M) (one_at : Reader A) {part : A → List Part} → Sound (m >>= λ _. one_at) part → Grows (λ before. m >>= λ _. (one_at >>= λ a. value (before ++ a ∷ []))) part
 grows_behind {A} {M} m one_at {part} h = record {
   spelt = λ before cut y e. (
-      let x = and_then-ok (m cut) _ y e in
-      let z = and_then-ok (one_at x.0.1) _ y x.2 in
+      let x = and_then_ok (m cut) _ y e in
+      let z = and_then_ok (one_at x.0.1) _ y x.2 in
       let is = ok_is (before ++ z.0.0 ∷ [], z.0.1) y z.2 in
       let both = h.spelt cut z.0 (ap (λ (o : Result (M × Cut) ReadFault). and_then o (λ _. one_at)) x.1 ∙ z.1) in (
         z.0.0 ∷ [],

@@ -10,13 +10,14 @@ use Rattle.dbc_read.specs.Reading.{value, end_at}
 use Rattle.dbc_read.specs.ReadingAttributes.{message_target_at}
 use Rattle.dbc_read.specs.ReadingDatabases.{message_attribute_at, one_of_six_at, statement_at}
 use Rattle.dbc_read.specs.Spelling.{form, Attribute, form_alone, IsStatement, SpellsStatement}
-use Rattle.dbc_read.proofs.Shrinking.{and_then-ok}
+use Rattle.dbc_read.proofs.Turns.{and_then_ok}
 use Rattle.dbc_read.proofs.KindsSound.{word_sound, mark_sound, text_sound, id_sound}
 use Rattle.dbc_read.proofs.RowsSound.{table_sound, values_sound, mux_sound}
 use Rattle.dbc_read.proofs.NotesSound.{given_sound, attribute_form}
 use Rattle.dbc_read.proofs.MessagesSound.{head_sound, signal_sound}
 use Rattle.dbc_read.proofs.DatabasesSound.{ends_there, up_to}
-use Rattle.dbc_read.proofs.Sound.{Sound, ok_is, sound_start, sound_then, sound_value, sound_choose}
+use Rattle.dbc_read.proofs.Turns.{ok_is}
+use Rattle.dbc_read.proofs.Sound.{Sound, sound_start, sound_then, sound_value, sound_choose}
 
 -- ---- an attribute of a message
 
@@ -47,8 +48,8 @@ same_statement a b c d e = ap (λ (x : Statement × Cut). x.0) (ok_is (a, c) (b,
 pub statement_sound : (cut : Cut) (s : Statement) (rest : Cut) → statement_at cut ≡ Ok (s, rest) → IsStatement s → (tokens : List Token) × (line : ℕ) × (cut ≡ (tokens ▸▸ End line)) × SpellsStatement tokens s
 unfolding statement_at
 statement_sound cut s rest e proper =
-    let a = and_then-ok (one_of_six_at cut) _ (s, rest) e in
-    let b = and_then-ok (end_at a.0.1) _ (s, rest) a.2 in
+    let a = and_then_ok (one_of_six_at cut) _ (s, rest) e in
+    let b = and_then_ok (end_at a.0.1) _ (s, rest) a.2 in
     let end = ends_there a.0.1 b.0 b.1 in
     let spelt = one_of_six_sound.spelt cut a.0 a.1 in (
       spelt.front,
