@@ -67,3 +67,4 @@ pub mod DigitsPrinted
 pub mod DecimalsPrinted
 pub mod ItemsPrinted
 pub mod LinesJoin
+pub mod OneReadings

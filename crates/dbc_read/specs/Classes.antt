@@ -62,7 +62,7 @@ has_number negative t = is_there (decimal_of_number negative t.bytes)
 
 -- ---- what a token stands for, or why it can't stand there
 
--- the token's bytes where they pass the test
+-- the value where the token passes the test
 abbrev pub where_true : {A : Type 0} → Bool → A → Result A Cause
 where_true true x = Ok x
 where_true false x = Err causes.Statement

@@ -19,7 +19,7 @@ entry_number =
     Either (Mark 45 ⇒ Whole 0 (2 ^ 63) ⇒ Done)
     (Either (Mark 43 ⇒ Whole 0 (2 ^ 64 - 1) ⇒ Done) (Whole 0 (2 ^ 64 - 1) ⇒ Done) Done) Done
 
--- the number of a message, and a name
+-- the number of a message
 abbrev pub number : Pattern
 number = Whole 0 (2 ^ 32 - 1) ⇒ Done
 

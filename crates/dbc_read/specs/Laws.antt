@@ -1,5 +1,5 @@
--- What is proved of texts: they spell a database exactly where they have no fault, and then one alone.
-use Rattle.std.specs.Prelude.{◌≡◌, ◌↔◌, ℕ, List, None}
+-- What is proved of tokens and of texts: they spell a database exactly where they have no fault, and then one alone.
+use Rattle.std.specs.Prelude.{◌≡◌, ◌↔◌, ◌⊎◌, ℕ, List, None}
 use Rattle.dbc_model.specs.Databases.{Database}
 use Rattle.dbc_read.specs.declared.statement.Statement.{Statement}
 use Rattle.dbc_read.specs.Tokens.{Token, Cut, End}
@@ -7,6 +7,7 @@ use Rattle.dbc_read.specs.Forms.{◌▸▸◌}
 use Rattle.dbc_read.specs.Spelling.{Spells, SpellsStatement}
 use Rattle.dbc_read.specs.Pattern.{first_fault, nothing_seen}
 use Rattle.dbc_read.specs.Grammar as grammar
+use Rattle.dbc_read.specs.Texts.{HasDatabase, HasStatement, HasFirstFault}
 
 -- the tokens run to the end of the text, and spell a database
 abbrev pub SpellDatabase : Cut → Type 0
@@ -26,3 +27,22 @@ OneDatabase = (tokens : List Token) (a b : Database) → Spells tokens a → Spe
 
 abbrev pub OneStatement : Type 0
 OneStatement = (tokens : List Token) (a b : Statement) → SpellsStatement tokens a → SpellsStatement tokens b → a ≡ b
+
+-- ---- the same of texts
+
+-- there is such a value, and no other
+abbrev pub OneAlone : {A : Type 0} → (A → Type 0) → Type 0
+OneAlone {A} IsSuch = (a : A) × IsSuch a × ((other : A) → IsSuch other → other ≡ a)
+
+-- there is no such value
+abbrev pub NoneIs : {A : Type 0} → (A → Type 0) → Type 0
+NoneIs {A} IsSuch = (a : A) → IsSuch a → ⊥
+
+-- a text has one database and no first fault, or one first fault and no database
+abbrev pub OneReading : Type 0
+OneReading = (text : List ℕ) → (OneAlone (HasDatabase text) × NoneIs (HasFirstFault grammar.text text)) ⊎ (OneAlone (HasFirstFault grammar.text text) × NoneIs (HasDatabase text))
+
+-- a text is one statement and has no first fault as such, or has one first fault and is none
+abbrev pub OneReadingAlone : Type 0
+OneReadingAlone =
+    (text : List ℕ) → (OneAlone (HasStatement text) × NoneIs (HasFirstFault grammar.one_statement text)) ⊎ (OneAlone (HasFirstFault grammar.one_statement text) × NoneIs (HasStatement text))

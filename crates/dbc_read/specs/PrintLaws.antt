@@ -10,10 +10,9 @@ use Rattle.dbc_read.specs.Forms.{Part, Spelled, ◌▸▸◌}
 use Rattle.dbc_read.specs.Spelling.{timing_of}
 use Rattle.dbc_read.specs.Texts.{HasDatabase}
 
--- Each such value has a line: a text that ends where it ends, whose tokens spell the value by its form, and of such
--- values that one alone.
-abbrev pub PrintedAlone : {A : Type 0} → (A → Type 0) → (A → Layout) → (A → List Part) → Type 0
-PrintedAlone {A} IsSuch layout form =
+-- each such value is printed as a text whose tokens spell it by its form, and spell no other such value
+abbrev pub PrintedUniquely : {A : Type 0} → (A → Type 0) → (A → Layout) → (A → List Part) → Type 0
+PrintedUniquely {A} IsSuch layout form =
     (a : A) → IsSuch a → (line : ℕ) → (tokens : List Token) × (at : ℕ) × HasTokens line (layout_text (layout a)) (tokens ▸▸ End at) × Spelled (form a) tokens
     × ((other : A) → IsSuch other → Spelled (form other) tokens → other ≡ a)
 

@@ -175,7 +175,7 @@ gather version statements = record {
 }
 
 -- The tokens spell the database: perhaps a version, and then statements in their places, at most one of them a bit
--- timing; and the database is one.
+-- timing; and the database is within all bounds.
 pub record Spells (tokens : List Token) (database : Database) : Type 0 where
   pub version : Option (List ℕ)
   pub statements : List AnyStatement

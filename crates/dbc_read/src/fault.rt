@@ -9,7 +9,7 @@ pub enum Cause {
     /// No token begins here, or a string has no end.
     #[error("1 Token")]
     Token = 1,
-    /// The text up to and with this token begins no text that is accepted, or the text ends within a statement.
+    /// This token can't stand here, whatever follows it; or the text ends where it may not.
     #[error("2 Statement")]
     Statement = 2,
     /// A second signal of one name in a message.
@@ -21,7 +21,7 @@ pub enum Cause {
     /// A signal of a message after its 999th.
     #[error("5 SignalsFull")]
     SignalsFull = 5,
-    /// A whole number outside the bound of its place.
+    /// A whole number, or that of a tag, outside the bound of its place.
     #[error("6 Limit")]
     Limit = 6,
     /// Want of memory, whatever the text.

@@ -2,7 +2,7 @@
 ghost use Rattle.std.specs.Prelude.{◌≡◌, ◌↔◌, ℕ, List};
 ghost use Rattle.dbc_read.specs.Tokens.{Cut, HasTokens};
 ghost use Rattle.dbc_read.specs.Scanner.{cut_of};
-ghost use Rattle.dbc_read.specs.Laws.{FaultOrDatabase, FaultOrStatement, OneDatabase, OneStatement};
+ghost use Rattle.dbc_read.specs.Laws.{FaultOrDatabase, FaultOrStatement, OneDatabase, OneReading, OneReadingAlone, OneStatement};
 
 /// A text has exactly one list of tokens with its end or fault, and it is the one that the scanner finds.
 pub fn one_cut()
@@ -27,4 +27,14 @@ pub fn fault_or_statement()
 /// Tokens spell one statement at most.
 pub fn one_statement()
     ensures { OneStatement }
+{}
+
+/// A text has one database and no first fault, or one first fault and no database.
+pub fn one_reading()
+    ensures { OneReading }
+{}
+
+/// A text is one statement and has no first fault as such, or has one first fault and is none.
+pub fn one_reading_alone()
+    ensures { OneReadingAlone }
 {}

@@ -1,4 +1,4 @@
-//! Laws of printing: what is printed is spelled, and spelled alone. The functions do nothing: what they ensure is the law.
+//! Laws of printing: what is printed is spelled, and nothing else is. The functions do nothing: what they ensure is the law.
 ghost use Rattle.std.specs.Prelude.{[], ◌∷◌, All, Some};
 ghost use Rattle.dbc_model.specs.Records.{IsName, IsText, IsSymbol, IsTableRow, IsMessage, IsValueRow, IsFloatRow, IsMuxRow};
 ghost use Rattle.dbc_model.specs.Comments.{IsComment};
@@ -6,76 +6,76 @@ ghost use Rattle.dbc_model.specs.Attributes.{IsAttrDef, IsAttrDefault, IsAttrRow
 ghost use Rattle.dbc_model.specs.Kept.{IsKept};
 ghost use Rattle.dbc_model.specs.CanonicalText.{version_layout, symbols_layout, timing_layout, nodes_layout, table_layout, message_layout, comment_layout, definition_layout, default_layout, attribute_layout, values_layout, float_layout, mux_layout, kept_layout};
 ghost use Rattle.dbc_read.specs.Spelling.{Symbols, Timing, Nodes, Table, OfMessage, OfComment, Definition, Default, Attribute, Values, Float, Mux, OfKept, form, version_form, timing_of};
-ghost use Rattle.dbc_read.specs.PrintLaws.{PrintedAlone, IsTiming, LinesJoin, PrintLaw};
+ghost use Rattle.dbc_read.specs.PrintLaws.{PrintedUniquely, IsTiming, LinesJoin, PrintLaw};
 
-/// The line of a version has the tokens of its form, and they spell it alone.
+/// The line of a version has the tokens of its form, and they spell it and nothing else.
 pub fn version_line()
-    ensures { PrintedAlone IsText version_layout (λ version. version_form (Some version)) }
+    ensures { PrintedUniquely IsText version_layout (λ version. version_form (Some version)) }
 {}
 
-/// The lines of a list of symbols have the tokens of its form, and they spell it alone.
+/// The lines of a list of symbols have the tokens of its form, and they spell it and nothing else.
 pub fn symbols_lines()
-    ensures { PrintedAlone (All IsSymbol) symbols_layout (λ symbols. form (Symbols symbols)) }
+    ensures { PrintedUniquely (All IsSymbol) symbols_layout (λ symbols. form (Symbols symbols)) }
 {}
 
-/// The line of a bit timing has the tokens of its form, and they spell it alone.
+/// The line of a bit timing has the tokens of its form, and they spell it and nothing else.
 pub fn bit_timing_line()
-    ensures { PrintedAlone IsTiming (λ numbers. timing_layout (timing_of (numbers ∷ []))) (λ numbers. form (Timing numbers)) }
+    ensures { PrintedUniquely IsTiming (λ numbers. timing_layout (timing_of (numbers ∷ []))) (λ numbers. form (Timing numbers)) }
 {}
 
-/// The line of a list of nodes has the tokens of its form, and they spell it alone.
+/// The line of a list of nodes has the tokens of its form, and they spell it and nothing else.
 pub fn nodes_line()
-    ensures { PrintedAlone (All IsName) nodes_layout (λ nodes. form (Nodes nodes)) }
+    ensures { PrintedUniquely (All IsName) nodes_layout (λ nodes. form (Nodes nodes)) }
 {}
 
-/// The line of a value table has the tokens of its form, and they spell it alone.
+/// The line of a value table has the tokens of its form, and they spell it and nothing else.
 pub fn table_line()
-    ensures { PrintedAlone IsTableRow table_layout (λ row. form (Table row)) }
+    ensures { PrintedUniquely IsTableRow table_layout (λ row. form (Table row)) }
 {}
 
-/// The lines of a message with its signals have the tokens of its form, and they spell it alone.
+/// The lines of a message with its signals have the tokens of its form, and they spell it and nothing else.
 pub fn message_lines()
-    ensures { PrintedAlone IsMessage message_layout (λ message. form (OfMessage message)) }
+    ensures { PrintedUniquely IsMessage message_layout (λ message. form (OfMessage message)) }
 {}
 
-/// The lines of a comment have the tokens of its form, and they spell it alone.
+/// The lines of a comment have the tokens of its form, and they spell it and nothing else.
 pub fn comment_line()
-    ensures { PrintedAlone IsComment comment_layout (λ comment. form (OfComment comment)) }
+    ensures { PrintedUniquely IsComment comment_layout (λ comment. form (OfComment comment)) }
 {}
 
-/// The line of an attribute's definition has the tokens of its form, and they spell it alone.
+/// The line of an attribute's definition has the tokens of its form, and they spell it and nothing else.
 pub fn definition_line()
-    ensures { PrintedAlone IsAttrDef definition_layout (λ definition. form (Definition definition)) }
+    ensures { PrintedUniquely IsAttrDef definition_layout (λ definition. form (Definition definition)) }
 {}
 
-/// The line of an attribute's default has the tokens of its form, and they spell it alone.
+/// The line of an attribute's default has the tokens of its form, and they spell it and nothing else.
 pub fn default_line()
-    ensures { PrintedAlone IsAttrDefault default_layout (λ row. form (Default row)) }
+    ensures { PrintedUniquely IsAttrDefault default_layout (λ row. form (Default row)) }
 {}
 
-/// The line of an attribute has the tokens of its form, and they spell it alone.
+/// The line of an attribute has the tokens of its form, and they spell it and nothing else.
 pub fn attribute_line()
-    ensures { PrintedAlone IsAttrRow attribute_layout (λ row. form (Attribute row)) }
+    ensures { PrintedUniquely IsAttrRow attribute_layout (λ row. form (Attribute row)) }
 {}
 
-/// The line of a signal's named values has the tokens of its form, and they spell it alone.
+/// The line of a signal's named values has the tokens of its form, and they spell it and nothing else.
 pub fn values_line()
-    ensures { PrintedAlone IsValueRow values_layout (λ row. form (Values row)) }
+    ensures { PrintedUniquely IsValueRow values_layout (λ row. form (Values row)) }
 {}
 
-/// The line of a signal's float type has the tokens of its form, and they spell it alone.
+/// The line of a signal's float type has the tokens of its form, and they spell it and nothing else.
 pub fn float_line()
-    ensures { PrintedAlone IsFloatRow float_layout (λ row. form (Float row)) }
+    ensures { PrintedUniquely IsFloatRow float_layout (λ row. form (Float row)) }
 {}
 
-/// The line of a signal's extended multiplexing has the tokens of its form, and they spell it alone.
+/// The line of a signal's extended multiplexing has the tokens of its form, and they spell it and nothing else.
 pub fn mux_line()
-    ensures { PrintedAlone IsMuxRow mux_layout (λ row. form (Mux row)) }
+    ensures { PrintedUniquely IsMuxRow mux_layout (λ row. form (Mux row)) }
 {}
 
-/// The line of a statement that is kept as it stands has the tokens of its form, and they spell it alone.
+/// The line of a statement that is kept as it stands has the tokens of its form, and they spell it and nothing else.
 pub fn kept_line()
-    ensures { PrintedAlone IsKept kept_layout (λ statement. form (OfKept statement)) }
+    ensures { PrintedUniquely IsKept kept_layout (λ statement. form (OfKept statement)) }
 {}
 
 /// A text that ends in a line feed, and another behind it, have the tokens of both.

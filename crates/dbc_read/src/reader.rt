@@ -132,8 +132,8 @@ fn fault_of(stopped: Stopped) -> ReadFault
     }
 }
 
-/// The database that a text spells, or the first fault of the text. Where memory runs out before that fault is met, the
-/// fault is [`Cause::Memory`].
+/// The database that a text spells, or the first fault of the text. Where memory runs out first, the fault is
+/// [`Cause::Memory`], and it names no line.
 #[tactic(auto, using(crate::proofs::Readings::database_read))]
 pub fn read(alloc: Global, text: &[u8]) -> Result<Database, ReadFault>
     ensures { IsRead text.now result }

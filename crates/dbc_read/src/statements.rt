@@ -24,6 +24,7 @@ fn add_symbols(alloc: Global, at: &mut Cursor<'_>, database: &mut Database) -> R
     word(at, b"NS_")?;
     mark(at, b':')?;
     let read = symbols(alloc, at, &mut database.symbols);
+    // that the list is one of symbols again is what the database's own bounds need
     let _ = database.symbols.as_slice();
     read
 }
@@ -36,6 +37,7 @@ fn add_nodes(alloc: Global, at: &mut Cursor<'_>, database: &mut Database) -> Res
     word(at, b"BU_")?;
     mark(at, b':')?;
     let read = names(alloc, at, &mut database.nodes);
+    // as for symbols
     let _ = database.nodes.as_slice();
     read
 }
