@@ -68,3 +68,4 @@ pub mod DecimalsPrinted
 pub mod ItemsPrinted
 pub mod LinesJoin
 pub mod OneReadings
+pub mod FaultLines

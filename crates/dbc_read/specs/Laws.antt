@@ -1,11 +1,13 @@
 -- What is proved of tokens and of texts: they spell a database exactly where they have no fault, and then one alone.
-use Rattle.std.specs.Prelude.{◌≡◌, ◌↔◌, ◌⊎◌, ℕ, List, None}
+use Rattle.std.specs.Prelude.{◌≡◌, ◌≢◌, ◌↔◌, ◌⊎◌, ℕ, ◌+◌, ◌≤◌, List, None}
 use Rattle.dbc_model.specs.Databases.{Database}
+use Rattle.dbc_read.specs.declared.fault.Cause.TheVariants as causes
+use Rattle.dbc_read.specs.declared.fault.ReadFault.{ReadFault}
 use Rattle.dbc_read.specs.declared.statement.Statement.{Statement}
-use Rattle.dbc_read.specs.Tokens.{Token, Cut, End}
+use Rattle.dbc_read.specs.Tokens.{Token, Cut, End, line_feeds}
 use Rattle.dbc_read.specs.Forms.{◌▸▸◌}
 use Rattle.dbc_read.specs.Spelling.{Spells, SpellsStatement}
-use Rattle.dbc_read.specs.Pattern.{first_fault, nothing_seen}
+use Rattle.dbc_read.specs.Pattern.{Pattern, first_fault, nothing_seen}
 use Rattle.dbc_read.specs.Grammar as grammar
 use Rattle.dbc_read.specs.Texts.{HasDatabase, HasStatement, HasFirstFault}
 
@@ -46,3 +48,7 @@ OneReading = (text : List ℕ) → (OneAlone (HasDatabase text) × NoneIs (HasFi
 abbrev pub OneReadingAlone : Type 0
 OneReadingAlone =
     (text : List ℕ) → (OneAlone (HasStatement text) × NoneIs (HasFirstFault grammar.one_statement text)) ⊎ (OneAlone (HasFirstFault grammar.one_statement text) × NoneIs (HasStatement text))
+
+-- a first fault names a line of the text, and is none of want of memory
+abbrev pub FaultsAreOfTexts : Type 0
+FaultsAreOfTexts = (pattern : Pattern) (text : List ℕ) (fault : ReadFault) → HasFirstFault pattern text fault → (1 ≤ fault.line) × (fault.line ≤ 1 + line_feeds text) × (fault.cause ≢ causes.Memory)

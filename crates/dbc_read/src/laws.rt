@@ -2,7 +2,7 @@
 ghost use Rattle.std.specs.Prelude.{◌≡◌, ◌↔◌, ℕ, List};
 ghost use Rattle.dbc_read.specs.Tokens.{Cut, HasTokens};
 ghost use Rattle.dbc_read.specs.Scanner.{cut_of};
-ghost use Rattle.dbc_read.specs.Laws.{FaultOrDatabase, FaultOrStatement, OneDatabase, OneReading, OneReadingAlone, OneStatement};
+ghost use Rattle.dbc_read.specs.Laws.{FaultOrDatabase, FaultOrStatement, FaultsAreOfTexts, OneDatabase, OneReading, OneReadingAlone, OneStatement};
 
 /// A text has exactly one list of tokens with its end or fault, and it is the one that the scanner finds.
 pub fn one_cut()
@@ -37,4 +37,9 @@ pub fn one_reading()
 /// A text is one statement and has no first fault as such, or has one first fault and is none.
 pub fn one_reading_alone()
     ensures { OneReadingAlone }
+{}
+
+/// A first fault names a line of its text, and is none of want of memory.
+pub fn faults_are_of_texts()
+    ensures { FaultsAreOfTexts }
 {}
