@@ -66,3 +66,4 @@ pub mod PrintLaw
 pub mod DigitsPrinted
 pub mod DecimalsPrinted
 pub mod ItemsPrinted
+pub mod Reprinted
