@@ -1,5 +1,5 @@
 -- What was printed, read again: the canonical text of a database has that database alone, and no fault.
-use Rattle.std.proofs.Common.{◌≡◌, ◌⊎◌, ℕ, List, Option, Some, None, Result, Ok, Err, sym, ap, ◌∙◌, inl, inr}
+use Rattle.std.proofs.Common.{◌≡◌, ◌⊎◌, ℕ, List, Some, None, Ok, sym, ap, ◌∙◌, inl, inr}
 use Rattle.dbc_model.specs.Databases.{Database, IsDatabase}
 use Rattle.dbc_model.specs.CanonicalText.{canonical_text}
 use Rattle.dbc_read.specs.declared.fault.Cause.TheVariants as causes
@@ -12,6 +12,7 @@ use Rattle.dbc_read.specs.Grammar as grammar
 use Rattle.dbc_read.specs.Reading.{memory_fault}
 use Rattle.dbc_read.specs.ReadingDatabases.{database_at}
 use Rattle.dbc_read.specs.Texts.{HasDatabase, HasFirstFault}
+use Rattle.dbc_read.specs.PrintLaws.{PrintLaw}
 use Rattle.dbc_read.proofs.CutLaws.{cut_unique}
 use Rattle.dbc_read.proofs.Sound.{ok_is}
 use Rattle.dbc_read.proofs.DatabasesAgain.{database_again}
@@ -40,6 +41,10 @@ no_fault_of text d fault has found =
 
 pub printed_read : (d other : Database) → HasDatabase (canonical_text d) other → IsDatabase d → other ≡ d
 printed_read d other has is = one_of_text (canonical_text d) other d has (canonical_has d is)
+
+-- the whole law
+pub print_law : PrintLaw
+print_law d is = (canonical_has d is, λ other has. printed_read d other has is)
 
 pub printed_accepted : (d : Database) (fault : ReadFault) → HasFirstFault grammar.text (canonical_text d) fault → IsDatabase d → ⊥
 printed_accepted d fault found is = no_fault_of (canonical_text d) d fault (canonical_has d is) found

@@ -40,8 +40,8 @@ fn printed(alloc: Global, database: &Database) -> Result<Vec<u8>, Memory>
     }
 }
 
-/// Prints the database into memory and reads that text, which gives the same database. So what
-/// [`print`](dbc_model::print) wrote of a database can be read, has no fault, and prints as the same bytes again.
+/// Prints the database into memory and reads that text. It fails only where memory is refused for the text or for the
+/// database read from it: what [`print`](dbc_model::print) wrote has no fault.
 pub fn reread(alloc: Global, database: &Database) -> Result<Database, Memory>
     ensures same { IfOk result (λ again. again ≡ database.now) }
     ensures bytes { IfOk result (λ again. canonical_text again ≡ canonical_text database.now) }
