@@ -69,3 +69,4 @@ pub mod ItemsPrinted
 pub mod LinesJoin
 pub mod OneReadings
 pub mod FaultLines
+pub mod Reprinted

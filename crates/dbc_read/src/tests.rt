@@ -1,4 +1,5 @@
 //! Tests of whole texts.
 
 mod refused;
+mod reread;
 mod spelled;
