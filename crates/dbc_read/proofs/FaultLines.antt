@@ -1,5 +1,5 @@
 -- A first fault names a line of its text, and is none of want of memory.
-use Rattle.std.proofs.Common.{◌≡◌, ◌≢◌, ℕ, ◌+◌, ◌≤◌, ◌^◌, ◌-◌, Bool, true, false, cond, List, [], ◌∷◌, ◌++◌, Option, Some, None, Result, Ok, Err, refl, sym, ap, subst, ◌∙◌, arith}
+use Rattle.std.proofs.Common.{◌≡◌, ◌≢◌, ℕ, ◌+◌, ◌≤◌, ◌^◌, ◌-◌, Bool, true, false, cond, List, [], ◌∷◌, ◌++◌, Option, Some, None, Result, Ok, Err, ap, subst, ◌∙◌, arith}
 use Rattle.std.specs.Prelude.{codes, nat_le, ◌==◌, ◌&&◌, length}
 use Rattle.std.specs.List.{list_any}
 use Rattle.std.specs.Str.{bytes_eq}
@@ -14,9 +14,8 @@ use Rattle.dbc_read.specs.declared.fault.Cause.{Cause}
 use Rattle.dbc_read.specs.declared.fault.Cause.TheVariants as causes
 use Rattle.dbc_read.specs.declared.fault.ReadFault.{ReadFault}
 use Rattle.dbc_read.specs.Tokens.{Token, Cut, End, Fault, ◌▸◌, HasTokens, line_feeds}
-use Rattle.dbc_read.specs.Classes.{has_word, has_mark, has_name, has_symbol, has_string, has_piece, has_kept_word, has_number, bounded, whole_of, order_digit, one_or_zero, order_of, tagged, counted, front, muxed_of, tag_of}
+use Rattle.dbc_read.specs.Classes.{has_word, has_mark, has_name, has_symbol, has_string, has_piece, has_kept_word, has_number, bounded, whole_of, order_digit, order_of, tagged, counted, front, muxed_of, tag_of}
 use Rattle.dbc_read.specs.Pattern.{Class, Word, Mark, Name, Symbol, String, Whole, Number, Order, Tag as TagClass, Piece, KeptWord, BeginsMessage, BeginsSignal, SignalName, Seen, plain, judged_so, verdict, Pattern, may_end, Left, after, fault_in, ruled, judged, first_fault, nothing_seen}
-use Rattle.dbc_read.specs.Texts.{HasFirstFault}
 use Rattle.dbc_read.specs.Laws.{FaultsAreOfTexts}
 
 -- ---- causes

@@ -1,15 +1,13 @@
 -- A text has one reading: a value that its tokens spell, or a first fault.
-use Rattle.std.proofs.Common.{◌≡◌, ℕ, List, [], ◌∷◌, Option, Some, None, Result, Ok, Err, refl, sym, ap, subst, ◌∙◌, ◌⊎◌, inl, inr}
-use Rattle.dbc_model.specs.Databases.{Database}
+use Rattle.std.proofs.Common.{◌≡◌, ℕ, List, [], ◌∷◌, Option, Some, None, refl, sym, ap, subst, ◌∙◌, ◌⊎◌, inl, inr}
 use Rattle.dbc_read.specs.declared.fault.ReadFault.{ReadFault}
-use Rattle.dbc_read.specs.declared.statement.Statement.{Statement}
-use Rattle.dbc_read.specs.Tokens.{Token, Cut, End, ◌▸◌, HasTokens}
+use Rattle.dbc_read.specs.Tokens.{Token, Cut, End, HasTokens}
 use Rattle.dbc_read.specs.Scanner.{cut_of}
 use Rattle.dbc_read.specs.Forms.{◌▸▸◌}
 use Rattle.dbc_read.specs.Pattern.{Pattern, first_fault, nothing_seen}
 use Rattle.dbc_read.specs.Grammar as grammar
 use Rattle.dbc_read.specs.Spelling.{Spells, SpellsStatement}
-use Rattle.dbc_read.specs.Texts.{HasDatabase, HasStatement, HasFirstFault}
+use Rattle.dbc_read.specs.Texts.{HasFirstFault}
 use Rattle.dbc_read.specs.Laws.{OneAlone, NoneIs, OneReading, OneReadingAlone}
 use Rattle.dbc_read.proofs.CutLaws.{cut_is, cut_unique}
 use Rattle.dbc_read.proofs.Readable.{fault_or_database, one_database, fault_or_statement, one_statement}
@@ -60,10 +58,13 @@ module _ {A : Type 0} (pattern : Pattern) (Spell : List Token → A → Type 0)
           let has : Has text spelled.2 = (spelled.0, spelled.1, subst (HasTokens 1 text) spelled.3 (cut_is 1 text), spelled.4) in
           inl ((spelled.2, has, λ other has_other. same_text text other spelled.2 has_other has), no_fault pattern text e)
       by_fault (Some fault) e =
-          inr (one_fault pattern text fault e, λ a has. (
-            let none = where_none (has.0 ▸▸ End has.1) (has.0, has.1, a, refl, has.3) in
-            let both : None ≡ Some fault = sym none ∙ ap (first_fault pattern nothing_seen) (cut_unique 1 text (has.0 ▸▸ End has.1) has.2) ∙ e in
-            cc))
+          inr (
+            one_fault pattern text fault e,
+            λ a has. (
+                let none = where_none (has.0 ▸▸ End has.1) (has.0, has.1, a, refl, has.3) in
+                let both : None ≡ Some fault = sym none ∙ ap (first_fault pattern nothing_seen) (cut_unique 1 text (has.0 ▸▸ End has.1) has.2) ∙ e in
+                cc),
+          )
 
 pub one_reading : OneReading
 one_reading text = one_value grammar.text Spells (λ cut. (fault_or_database cut).0) (λ cut. (fault_or_database cut).1) one_database text

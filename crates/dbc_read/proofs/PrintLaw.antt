@@ -1,5 +1,5 @@
 -- What is printed is spelled: the tokens of a database's canonical text spell that database.
-use Rattle.std.proofs.Common.{◌≡◌, ℕ, true, List, [], ◌∷◌, ◌++◌, map, Some, append_assoc, append-nil, refl, sym, ap, ◌∙◌}
+use Rattle.std.proofs.Common.{◌≡◌, true, List, [], ◌∷◌, ◌++◌, map, Some, append_assoc, append-nil, refl, sym, ap, ◌∙◌}
 use Rattle.std.specs.List.{flat_map}
 use Rattle.std.proofs.lemmas.Bool.{and_parts}
 use Rattle.dbc_model.specs.Databases.{Database, IsDatabase, timing_fits}
@@ -9,16 +9,9 @@ use Rattle.dbc_model.specs.Attributes.{AttrDef, IsAttrDef, AttrDefault, IsAttrDe
 use Rattle.dbc_model.specs.Kept.{Kept, IsKept}
 use Rattle.dbc_model.specs.Layout.{Layout, Space, Tab, LineEnd, Is}
 use Rattle.dbc_model.specs.CanonicalText.{version_layout, symbols_layout, timing_layout, nodes_layout, table_layout, comment_layout, definition_layout, default_layout, attribute_layout, values_layout, float_layout, mux_layout, kept_layout, front_layout, attributes_layout, rows_layout, database_layout, canonical_text}
-use Rattle.dbc_read.specs.Tokens.{Cut, End}
-use Rattle.dbc_read.specs.Forms.{Part, ◌▸▸◌}
+use Rattle.dbc_read.specs.Forms.{Part}
 use Rattle.dbc_read.specs.Spelling.{AnyStatement, Symbols, Timing, Nodes, Table, OfMessage, OfComment, Definition, Default, Attribute, Values, Float, Mux, OfKept, form, version_form}
 use Rattle.dbc_read.specs.Texts.{HasDatabase}
-use Rattle.dbc_read.specs.PrintLaws.{PrintLaw}
-use Rattle.dbc_read.specs.Reading.{value}
-use Rattle.dbc_read.specs.ReadingDatabases.{database_at}
-use Rattle.dbc_read.proofs.CutLaws.{cut_unique}
-use Rattle.dbc_read.proofs.Turns.{ok_is}
-use Rattle.dbc_read.proofs.DatabasesAgain.{database_again}
 use Rattle.dbc_read.proofs.Printed.{ArePrinted, Shows, stand_apart}
 use Rattle.dbc_read.proofs.ItemsPrinted.{printed}
 use Rattle.dbc_read.proofs.Neat.{AreItems}
@@ -123,15 +116,3 @@ canonical_has d is =
         proper = is;
       },
     )
-
--- two databases of one text are one
-one_of_text : (text : List ℕ) (a b : Database) → HasDatabase text a → HasDatabase text b → a ≡ b
-one_of_text text a b (tokens, at, has, spells) (others, end, also, spell) =
-    let same : (tokens ▸▸ End at) ≡ (others ▸▸ End end) = cut_unique 1 text (tokens ▸▸ End at) has ∙ sym (cut_unique 1 text (others ▸▸ End end) also) in
-    same_read a b (End at) (End end) (sym (database_again tokens at a spells) ∙ ap database_at same ∙ database_again others end b spell)
-  where
-    same_read : (a b : Database) (c d : Cut) → value a c ≡ value b d → a ≡ b
-    same_read a b c d e = ap (λ (x : Database × Cut). x.0) (ok_is (a, c) (b, d) e)
-
-pub print_law : PrintLaw
-print_law d is = (canonical_has d is, λ other has. one_of_text (canonical_text d) other d has (canonical_has d is))

@@ -14,7 +14,7 @@ use Rattle.dbc_read.specs.ReadingDatabases.{database_at}
 use Rattle.dbc_read.specs.Texts.{HasDatabase, HasFirstFault}
 use Rattle.dbc_read.specs.PrintLaws.{PrintLaw}
 use Rattle.dbc_read.proofs.CutLaws.{cut_unique}
-use Rattle.dbc_read.proofs.Sound.{ok_is}
+use Rattle.dbc_read.proofs.Turns.{ok_is}
 use Rattle.dbc_read.proofs.DatabasesAgain.{database_again}
 use Rattle.dbc_read.proofs.Readable.{fault_or_database}
 use Rattle.dbc_read.proofs.PrintLaw.{canonical_has}

@@ -1,4 +1,4 @@
-use Rattle.dbc_read.proofs.PrintLaw.{print_law}
+use Rattle.dbc_read.proofs.Reprinted.{print_law}
 use Rattle.dbc_read.proofs.print_laws.printed_database.Goals as goal
 
 pub returns : goal.returns
