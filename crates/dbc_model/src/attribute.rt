@@ -35,7 +35,9 @@ impl Copied for AttrValue {
 /// The value that an attribute has where no row gives another: `BA_DEF_DEF_ "name" value;`.
 #[derive(Drop)]
 pub struct AttrDefault {
+    /// The attribute's name.
     pub name: Text,
+    /// The value where no row gives one.
     pub value: AttrValue,
 }
 
@@ -75,8 +77,11 @@ impl Copied for AttrDefault {
 /// The value of an attribute of one object: `BA_ "name" target value;`.
 #[derive(Drop)]
 pub struct AttrRow {
+    /// The attribute's name.
     pub name: Text,
+    /// What has the attribute.
     pub target: Target,
+    /// Its value.
     pub value: AttrValue,
 }
 

@@ -10,7 +10,9 @@ use std::marker::Model;
 /// A comment: `CM_ target "text";`.
 #[derive(Drop)]
 pub struct Comment {
+    /// What it speaks of.
     pub target: Target,
+    /// What it says.
     pub text: Text,
 }
 

@@ -25,19 +25,33 @@ use std::marker::Model;
 /// The bit timing is the baud rate and the two bit timing registers, as `BS_` gives them.
 #[derive(Drop)]
 pub struct Database {
+    /// What `VERSION` says, or the empty text.
     pub version: Text,
+    /// The words of `NS_`.
     pub symbols: List<Symbol>,
+    /// The numbers of `BS_`: the baud rate and two bit timing registers.
     pub bit_timing: Option<[Decimal; 3]>,
+    /// The nodes of `BU_`.
     pub nodes: List<Name>,
+    /// Value tables, `VAL_TABLE_`.
     pub tables: List<TableRow>,
+    /// Messages with their signals, `BO_` and `SG_`.
     pub messages: List<Message>,
+    /// Comments, `CM_`.
     pub comments: List<Comment>,
+    /// Attribute definitions, `BA_DEF_`.
     pub definitions: List<AttrDef>,
+    /// Defaults of attributes, `BA_DEF_DEF_`.
     pub defaults: List<AttrDefault>,
+    /// Attributes, `BA_`.
     pub attributes: List<AttrRow>,
+    /// Named values of signals, `VAL_`.
     pub values: List<ValueRow>,
+    /// Float types of signals, `SIG_VALTYPE_`.
     pub floats: List<FloatRow>,
+    /// Extended multiplexing, `SG_MUL_VAL_`.
     pub muxes: List<MuxRow>,
+    /// Statements that are kept as they stand.
     pub kept: List<Kept>,
 }
 

@@ -24,7 +24,9 @@ pub enum Object {
 /// The least and the greatest value of a number. That values lie between them is not asked.
 #[derive(Clone, Copy, Debug, PartialEq, Eq)]
 pub struct Limits {
+    /// The least value.
     pub minimum: Decimal,
+    /// The greatest value.
     pub maximum: Decimal,
 }
 
@@ -65,8 +67,11 @@ impl Copied for Form {
 /// database.
 #[derive(Drop)]
 pub struct AttrDef {
+    /// The kind of object that has the attribute, or none for the database.
     pub object: Option<Object>,
+    /// The attribute's name.
     pub name: Text,
+    /// What its values are.
     pub form: Form,
 }
 

@@ -10,7 +10,9 @@ use std::marker::Model;
 /// A raw value and the text that is shown for it.
 #[derive(Drop)]
 pub struct Entry {
+    /// The raw value.
     pub number: i128,
+    /// Its name.
     pub text: Text,
 }
 

@@ -11,8 +11,11 @@ use std::marker::Model;
 /// IEEE 754 float of 32 bits and 2 for one of 64.
 #[derive(Drop)]
 pub struct FloatRow {
+    /// The number of the message.
     pub number: u32,
+    /// The name of the signal.
     pub signal: Name,
+    /// 0 for a whole number, 1 for a float of 32 bits, 2 for one of 64.
     pub kind: u8,
 }
 

@@ -11,9 +11,13 @@ use std::marker::Model;
 /// the size is in bytes.
 #[derive(Drop)]
 pub struct Head {
+    /// The identifier, with bit 31 set where it has 29 bits.
     pub number: u32,
+    /// The message's name.
     pub name: Name,
+    /// How many bytes of data the message has.
     pub size: u16,
+    /// The node that sends it, or `Vector__XXX`.
     pub sender: Name,
 }
 

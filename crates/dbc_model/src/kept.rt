@@ -17,6 +17,7 @@ use std::marker::Model;
 /// may follow.
 #[derive(Drop)]
 pub struct Kept {
+    /// Its tokens, without the semicolon that ends it.
     pub tokens: List<Piece>,
 }
 

@@ -14,7 +14,9 @@ use std::marker::Model;
 /// A message: its first line, and its signals in the order of the text. No two signals have one name.
 #[derive(Drop)]
 pub struct Message {
+    /// Its first line.
     pub head: Head,
+    /// Its signals, of different names.
     pub signals: List<Signal>,
 }
 

@@ -10,7 +10,9 @@ use std::marker::Model;
 /// The numbers from `first` to `last`, both included. There are none where `first` is the greater.
 #[derive(Clone, Copy, Debug, PartialEq, Eq)]
 pub struct Range {
+    /// The first number.
     pub first: u64,
+    /// The last number.
     pub last: u64,
 }
 
@@ -18,9 +20,13 @@ pub struct Range {
 /// `SG_MUL_VAL_ number signal switch ranges ;`.
 #[derive(Drop)]
 pub struct MuxRow {
+    /// The number of the message.
     pub number: u32,
+    /// The name of the signal that is switched.
     pub signal: Name,
+    /// The name of the signal that switches it.
     pub switch: Name,
+    /// The numbers of the switch with which the signal is there.
     pub ranges: List<Range>,
 }
 

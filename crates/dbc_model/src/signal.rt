@@ -16,17 +16,29 @@ use std::marker::Model;
 /// physical value is `factor · raw + offset`.
 #[derive(Drop)]
 pub struct Signal {
+    /// The signal's name.
     pub name: Name,
+    /// What it is in multiplexing.
     pub tag: Tag,
+    /// The position of its start bit: the least significant bit in Intel order, the most significant in Motorola order.
     pub start: u16,
+    /// How many bits it has.
     pub length: u16,
+    /// Whether the order is Intel's (`1`) and not Motorola's (`0`).
     pub intel: bool,
+    /// Whether raw values are two's complement (`-`) and not unsigned (`+`).
     pub signed: bool,
+    /// What a raw value is multiplied by.
     pub factor: Decimal,
+    /// What is then added.
     pub offset: Decimal,
+    /// The least value, as the database says it; it bounds nothing.
     pub minimum: Decimal,
+    /// The greatest value, as the database says it; it bounds nothing.
     pub maximum: Decimal,
+    /// The unit of values, or the empty text.
     pub unit: Text,
+    /// The nodes that receive it.
     pub receivers: List<Name>,
 }
 

@@ -10,7 +10,9 @@ use std::marker::Model;
 /// A value table: `VAL_TABLE_ name entries ;`.
 #[derive(Drop)]
 pub struct TableRow {
+    /// The table's name.
     pub name: Name,
+    /// Its values, in the order of the text.
     pub entries: List<Entry>,
 }
 

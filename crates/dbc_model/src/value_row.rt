@@ -10,8 +10,11 @@ use std::marker::Model;
 /// The named values of a signal: `VAL_ number signal entries ;`.
 #[derive(Drop)]
 pub struct ValueRow {
+    /// The number of the message.
     pub number: u32,
+    /// The name of the signal.
     pub signal: Name,
+    /// The named values, in the order of the text.
     pub entries: List<Entry>,
 }
 
