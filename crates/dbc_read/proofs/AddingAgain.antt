@@ -1,5 +1,5 @@
 -- Each statement that is spelled is added to a database.
-use Rattle.std.proofs.Common.{◌≡◌, ℕ, Bool, true, false, List, [], ◌∷◌, ◌++◌, length, append_assoc, append-nil, refl, sym, ap, subst, ◌∙◌}
+use Rattle.std.proofs.Common.{◌≡◌, ℕ, Bool, true, false, List, [], ◌∷◌, ◌++◌, length, append_assoc, refl, sym, ap, subst, ◌∙◌}
 use Rattle.std.specs.Prelude.{codes, nat_lt, IsTrue}
 use Rattle.std.specs.List.{flat_map, list_any}
 use Rattle.std.specs.Str.{bytes_eq}
@@ -21,7 +21,7 @@ use Rattle.dbc_read.specs.ReadingDatabases.{symbols_into, nodes_into, begins_kep
 use Rattle.dbc_read.proofs.Turns.{bind_shrinks, value_keeps}
 use Rattle.dbc_read.proofs.Loops.{name_shrinks, symbol_shrinks}
 use Rattle.dbc_read.proofs.NotesSound.{comment_form, attribute_form}
-use Rattle.dbc_read.proofs.AddingSound.{joined, joined_none, symbols_are, nodes_are, piece_form}
+use Rattle.dbc_read.proofs.AddingSound.{joined, joined_none, symbols_joined, nodes_joined, symbols_are, nodes_are, piece_form}
 use Rattle.dbc_read.proofs.Again.{chosen-first, chosen-second, Takes, Anything, Opens, Stops, takes_value, takes_next, takes_last, takes_as, takes_first, takes_second, opens_one, takes_list}
 use Rattle.dbc_read.proofs.KindsAgain.{word_takes, mark_takes, name_takes, symbol_takes}
 use Rattle.dbc_read.proofs.RowsAgain.{table_takes, values_take, float_takes, mux_takes}
@@ -97,12 +97,6 @@ unfolding names_from Anyhow has_name
 names_take before more =
     takes_list has_name _ (λ list. bind_shrinks name_shrinks λ name. value_keeps _) (λ name. Is (Name name) ∷ []) Anyhow (λ list name is. takes_next _ (name_takes name) takes_value)
     (λ name is. opens_one (Is (Name name)) (λ bytes. (bytes ≡ name) × IsTrue (is_name name)) (λ tokens says. says) (λ t is. ap is_name is.0 ∙ is.1)) before more (λ i name less. tt)
-
-symbols_joined : (d : Database) (more : List (List ℕ)) → record d { symbols = d.symbols ++ more } ≡ joined d (Symbols more ∷ [])
-symbols_joined d more = ap (λ (e : Database). record e { symbols = d.symbols ++ more }) (sym (joined_none d)) ∙ ap (λ (list : List (List ℕ)). record (joined d []) { symbols = d.symbols ++ list }) (sym (append-nil more))
-
-nodes_joined : (d : Database) (more : List (List ℕ)) → record d { nodes = d.nodes ++ more } ≡ joined d (Nodes more ∷ [])
-nodes_joined d more = ap (λ (e : Database). record e { nodes = d.nodes ++ more }) (sym (joined_none d)) ∙ ap (λ (list : List (List ℕ)). record (joined d []) { nodes = d.nodes ++ list }) (sym (append-nil more))
 
 pub symbols_added : (d : Database) (symbols : List (List ℕ)) → Takes (statement_into d) (joined d (Symbols symbols ∷ [])) (form (Symbols symbols)) (Stops has_symbol)
 unfolding object_into symbols_into

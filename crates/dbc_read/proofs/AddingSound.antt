@@ -263,6 +263,12 @@ nodes_are nodes =
     sym (of_layout-append nodes_title (flat_map spaced_name nodes ++ line_end) ∙ ap (λ (parts : List Part). Is (Word (codes "BU_")) ∷ Is (Mark 58) ∷ parts)
     (of_layout-append (flat_map spaced_name nodes) line_end ∙ append-nil _ ∙ of_layout-items spaced_name nodes))
 
+pub symbols_joined : (d : Database) (more : List (List ℕ)) → record d { symbols = d.symbols ++ more } ≡ joined d (Symbols more ∷ [])
+symbols_joined d more = ap (λ (e : Database). record e { symbols = d.symbols ++ more }) (sym (joined_none d)) ∙ ap (λ (list : List (List ℕ)). record (joined d []) { symbols = d.symbols ++ list }) (sym (append-nil more))
+
+pub nodes_joined : (d : Database) (more : List (List ℕ)) → record d { nodes = d.nodes ++ more } ≡ joined d (Nodes more ∷ [])
+nodes_joined d more = ap (λ (e : Database). record e { nodes = d.nodes ++ more }) (sym (joined_none d)) ∙ ap (λ (list : List (List ℕ)). record (joined d []) { nodes = d.nodes ++ list }) (sym (append-nil more))
+
 symbols_adds : (d : Database) → Adds d (symbols_into d)
 unfolding symbols_into is_symbol
 symbols_adds d = record {
@@ -277,9 +283,6 @@ symbols_adds d = record {
         ends = λ behind none. absurd (no_first (codes "NS_") _ cut x.1 refl y.2 none);
       });
 }
-  where
-    symbols_joined : (d : Database) (more : List (List ℕ)) → record d { symbols = d.symbols ++ more } ≡ joined d (Symbols more ∷ [])
-    symbols_joined d more = ap (λ (e : Database). record e { symbols = d.symbols ++ more }) (sym (joined_none d)) ∙ ap (λ (list : List (List ℕ)). record (joined d []) { symbols = d.symbols ++ list }) (sym (append-nil more))
 
 nodes_adds : (d : Database) → Adds d (nodes_into d)
 unfolding nodes_into
@@ -295,9 +298,6 @@ nodes_adds d = record {
         ends = λ behind none. tt;
       });
 }
-  where
-    nodes_joined : (d : Database) (more : List (List ℕ)) → record d { nodes = d.nodes ++ more } ≡ joined d (Nodes more ∷ [])
-    nodes_joined d more = ap (λ (e : Database). record e { nodes = d.nodes ++ more }) (sym (joined_none d)) ∙ ap (λ (list : List (List ℕ)). record (joined d []) { nodes = d.nodes ++ list }) (sym (append-nil more))
 
 -- ---- statements that are kept
 

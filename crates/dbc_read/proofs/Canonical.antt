@@ -1,18 +1,15 @@
 -- The statements of a database in the order in which they are printed, and that they gather to it.
-use Rattle.std.proofs.Common.{◌≡◌, ◌≤◌, List, [], ◌∷◌, ◌++◌, map, length, Option, Some, None, append_assoc, append-nil, refl, sym, ap, subst, ◌∙◌, arith}
-use Rattle.std.specs.Prelude.{IfSome}
+use Rattle.std.proofs.Common.{◌≡◌, ◌≤◌, List, [], ◌∷◌, ◌++◌, map, length, Some, append_assoc, append-nil, refl, sym, ap, subst, ◌∙◌, arith}
 use Rattle.std.specs.List.{flat_map}
-use Rattle.dbc_model.specs.Databases.{Database, IsDatabase, IsBitTiming}
-use Rattle.dbc_model.specs.Decimals.{Decimal}
+use Rattle.dbc_model.specs.Databases.{Database, IsDatabase}
 use Rattle.dbc_model.specs.Records.{Message, TableRow, ValueRow, FloatRow, MuxRow}
 use Rattle.dbc_model.specs.Comments.{Comment}
 use Rattle.dbc_model.specs.Attributes.{AttrDef, AttrDefault, AttrRow}
 use Rattle.dbc_model.specs.Kept.{Kept}
 use Rattle.dbc_read.specs.ReadingDatabases.{empty_database}
-use Rattle.dbc_read.specs.Spelling.{AnyStatement, Symbols, Timing, Nodes, Table, OfMessage, OfComment, Definition, Default, Attribute, Values, Float, Mux, OfKept, timings_of, timing_of, FollowOn, ArePlaced, gather}
+use Rattle.dbc_read.specs.Spelling.{AnyStatement, Symbols, Timing, Nodes, Table, OfMessage, OfComment, Definition, Default, Attribute, Values, Float, Mux, OfKept, timings_of, FollowOn, ArePlaced, gather}
 use Rattle.dbc_read.proofs.AddingSound.{joined, joined_none, joined_twice}
-use Rattle.dbc_read.proofs.DatabasesSound.{gather_timed}
-use Rattle.dbc_read.proofs.ShownStatements.{three}
+use Rattle.dbc_read.proofs.DatabasesSound.{three_numbers, timing_kept, gather_timed}
 
 -- the statements behind the first three
 abbrev pub canonical_rows : Database → List AnyStatement
@@ -29,7 +26,7 @@ canonical_rows d =
     ++ map (λ row. OfKept row) d.kept))))))))
 
 abbrev pub canonical : Database → List AnyStatement
-canonical d = Symbols d.symbols ∷ Timing (three d.bit_timing) ∷ Nodes d.nodes ∷ canonical_rows d
+canonical d = Symbols d.symbols ∷ Timing (three_numbers d.bit_timing) ∷ Nodes d.nodes ∷ canonical_rows d
 
 -- ---- their places
 
@@ -179,20 +176,12 @@ rows_joined e d =
     ∙ then_joined (record e { tables = e.tables ++ d.tables; messages = e.messages ++ d.messages; comments = e.comments ++ d.comments; definitions = e.definitions ++ d.definitions; defaults = e.defaults ++ d.defaults; attributes = e.attributes ++ d.attributes; values = e.values ++ d.values; floats = e.floats ++ d.floats }) _ (map (λ row. Mux row) d.muxes) _ (muxes_joined (record e { tables = e.tables ++ d.tables; messages = e.messages ++ d.messages; comments = e.comments ++ d.comments; definitions = e.definitions ++ d.definitions; defaults = e.defaults ++ d.defaults; attributes = e.attributes ++ d.attributes; values = e.values ++ d.values; floats = e.floats ++ d.floats }) d.muxes)
     ∙ kept_joined (record e { tables = e.tables ++ d.tables; messages = e.messages ++ d.messages; comments = e.comments ++ d.comments; definitions = e.definitions ++ d.definitions; defaults = e.defaults ++ d.defaults; attributes = e.attributes ++ d.attributes; values = e.values ++ d.values; floats = e.floats ++ d.floats; muxes = e.muxes ++ d.muxes }) d.kept
 
-timing_kept : (timing : Option (List Decimal)) → IfSome timing IsBitTiming → timing_of (three timing ∷ []) ≡ timing
-timing_kept None h = refl
-timing_kept (Some []) h = absurd cc
-timing_kept (Some (a ∷ [])) h = let three : length (a ∷ []) ≡ 3 = h.three in absurd (omega (arith, three))
-timing_kept (Some (a ∷ b ∷ [])) h = let three : length (a ∷ b ∷ []) ≡ 3 = h.three in absurd (omega (arith, three))
-timing_kept (Some (a ∷ b ∷ c ∷ [])) h = refl
-timing_kept (Some (a ∷ b ∷ c ∷ d ∷ more)) h = let three : length (a ∷ b ∷ c ∷ d ∷ more) ≡ 3 = h.three in absurd (omega (arith, three))
-
 abbrev first : Database → Database
 first d = record (joined (empty_database d.version) (Symbols d.symbols ∷ [])) { bit_timing = d.bit_timing }
 
 -- they gather to the database
 pub canonical_gathers : (d : Database) → IsDatabase d → d ≡ gather (Some d.version) (canonical d)
 canonical_gathers d is = sym (
-    sym (gather_timed (Some d.version) (Symbols d.symbols ∷ []) (Nodes d.nodes ∷ canonical_rows d) (three d.bit_timing) d.bit_timing refl (rows_untimed d) (timing_kept d.bit_timing is.bit_timing))
+    sym (gather_timed (Some d.version) (Symbols d.symbols ∷ []) (Nodes d.nodes ∷ canonical_rows d) (three_numbers d.bit_timing) d.bit_timing refl (rows_untimed d) (timing_kept d.bit_timing is.bit_timing))
     ∙ sym (joined_twice (first d) (Nodes d.nodes ∷ []) (canonical_rows d)) ∙ rows_joined (joined (first d) (Nodes d.nodes ∷ [])) d
     ∙ rw (append-nil d.symbols, append-nil d.symbols, append-nil d.nodes) refl)

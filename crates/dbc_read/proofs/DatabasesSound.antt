@@ -88,7 +88,7 @@ version_spelt cut x e = by_test (starts (has_word (codes "VERSION")) cut) x e
 
 -- ---- the bit timing
 
-abbrev three_numbers : Option (List Decimal) → Option (Decimal × Decimal × Decimal)
+abbrev pub three_numbers : Option (List Decimal) → Option (Decimal × Decimal × Decimal)
 three_numbers (Some (a ∷ b ∷ c ∷ [])) = Some (a, b, c)
 three_numbers timing = None
 
@@ -113,7 +113,7 @@ timing_sound =
     sound_end (sound_choose (has_number false) timing_numbers_sound (sound_start (sound_value refl))) λ timing. timing_is (three_numbers timing))
 
 -- a proper bit timing is three numbers
-timing_kept : (timing : Option (List Decimal)) → IfSome timing IsBitTiming → timing_of (three_numbers timing ∷ []) ≡ timing
+pub timing_kept : (timing : Option (List Decimal)) → IfSome timing IsBitTiming → timing_of (three_numbers timing ∷ []) ≡ timing
 timing_kept None h = refl
 timing_kept (Some []) h = absurd cc
 timing_kept (Some (a ∷ [])) h = let three : length (a ∷ []) ≡ 3 = h.three in absurd (omega (arith, three))

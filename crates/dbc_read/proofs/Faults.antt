@@ -4,7 +4,8 @@ use Rattle.dbc_read.specs.declared.fault.ReadFault.{ReadFault}
 use Rattle.dbc_read.specs.declared.stopped.Stopped.{Stopped}
 use Rattle.dbc_read.specs.declared.stopped.Stopped.TheVariants as stops
 use Rattle.dbc_read.specs.Tokens.{Cut}
-use Rattle.dbc_read.specs.Reading.{Fails, fault_of, memory_fault}
+use Rattle.dbc_read.specs.Reading.{Fails, fault_of}
+use Rattle.dbc_read.specs.Pattern.{memory_fault}
 
 pub stopped_reading : {A : Type 0} (stopped : Stopped) (read : Result (A × Cut) ReadFault) → Fails stopped read → (fault_of stopped ≡ memory_fault) ⊎ (read ≡ Err (fault_of stopped))
 stopped_reading stops.Memory read h = inl refl

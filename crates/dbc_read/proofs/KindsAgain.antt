@@ -174,7 +174,7 @@ decimal_takes d =
 
 -- ---- whole numbers with a sign
 
-within_ints : (a b : ℤ) → int_le a b ≡ true → a ≤ℤ b
+pub within_ints : (a b : ℤ) → int_le a b ≡ true → a ≤ℤ b
 within_ints a b h = grind (arith, ints)
 
 entry_sign : (negative : Bool) (n : ℕ) → entry_fits (signed negative n) ≡ true → Within 0 (cond negative (2 ^ 63) (2 ^ 64 - 1)) n

@@ -1,5 +1,5 @@
 -- In the canonical text of a database each item stands apart from what stands behind it.
-use Rattle.std.proofs.Common.{◌≡◌, ℕ, ◌<◌, ◌≤◌, ◌^◌, ◌-◌, ℤ, pos, negsuc, ◌≤ℤ◌, arith, Bool, true, false, ◌&&◌, List, [], ◌∷◌, ◌++◌, Option, Some, None, refl}
+use Rattle.std.proofs.Common.{◌≡◌, ℕ, ◌<◌, ◌≤◌, ◌^◌, ◌-◌, ℤ, pos, negsuc, arith, Bool, true, false, ◌&&◌, List, [], ◌∷◌, ◌++◌, Option, Some, None, refl}
 use Rattle.std.specs.Prelude.{codes, nat_le, int_le, All, IsTrue, IfSome}
 use Rattle.std.proofs.lemmas.Bool.{and_parts}
 use Rattle.std.proofs.lemmas.Grind.{common_steps}
@@ -25,6 +25,7 @@ use Rattle.dbc_model.specs.declared.definition.Form.{Form}
 use Rattle.dbc_model.specs.declared.definition.Form.TheVariants as forms
 use Rattle.dbc_model.specs.Layout.{Word, Mark, Name, Text, Whole, Int, Number, Switch, Muxed, Both}
 use Rattle.dbc_model.specs.CanonicalText.{blank, mark_layout, spaced_mark, number_layout, spaced_number, spaced_text, spaced_name, spaced_word, word_layout, signal_key, line_end, statement_end, spaced_end, version_layout, symbol_layout, symbols_title, symbols_layout, timing_numbers, perhaps_numbers, timing_title, timing_layout, nodes_title, nodes_layout, entry_layout, table_key, table_layout, values_key, values_layout, head_layout, signal_name_layout, tag_layout, sign_mark, place_layout, pair_layout, scale_layout, limits_layout, further_receiver, receivers_layout, signal_layout, message_layout, target_layout, comment_key, comment_layout, object_layout, number_limits_layout, further_text, texts_layout, form_layout, definition_key, definition_layout, value_layout, default_key, default_layout, attribute_key, attribute_layout, float_key, float_kind, float_layout, range_layout, further_range, ranges_layout, mux_key, mux_layout, piece_layout, kept_layout, front_layout, attributes_layout, rows_layout, database_layout}
+use Rattle.dbc_read.proofs.KindsAgain.{within_ints}
 use Rattle.dbc_read.proofs.Printed.{IsItem}
 use Rattle.dbc_read.proofs.Neat.{AreItems, Start, Middle, Close, Line, start_then, start_close, middle_both, middle_close, line_both, close_line, middle_none, middle_each, line_each, middle_separated, spaced, word_start}
 
@@ -71,9 +72,6 @@ start word is = word_start word is
 -- the bounds of numbers are below those of what is printed
 number_small : (n : ℕ) → n < 2 ^ 32 → IsItem (Whole n)
 number_small n h = omega (arith, h)
-
-within_ints : (a b : ℤ) → int_le a b ≡ true → a ≤ℤ b
-within_ints a b h = grind (arith, ints)
 
 entry_item : (z : ℤ) → IsTrue (entry_fits z) → IsItem (Int z)
 entry_item (pos n) fits =

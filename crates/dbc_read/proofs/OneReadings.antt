@@ -8,7 +8,7 @@ use Rattle.dbc_read.specs.Pattern.{Pattern, first_fault, nothing_seen}
 use Rattle.dbc_read.specs.Grammar as grammar
 use Rattle.dbc_read.specs.Spelling.{Spells, SpellsStatement}
 use Rattle.dbc_read.specs.Texts.{HasFirstFault}
-use Rattle.dbc_read.specs.Laws.{OneAlone, NoneIs, OneReading, OneReadingAlone}
+use Rattle.dbc_read.specs.Laws.{ExactlyOne, NoSuch, OneReading, OneReadingAlone}
 use Rattle.dbc_read.proofs.CutLaws.{cut_is, cut_unique}
 use Rattle.dbc_read.proofs.Readable.{fault_or_database, one_database, fault_or_statement, one_statement}
 
@@ -17,10 +17,10 @@ use Rattle.dbc_read.proofs.Readable.{fault_or_database, one_database, fault_or_s
 fault_is : (pattern : Pattern) (text : List ℕ) (fault : ReadFault) → HasFirstFault pattern text fault → first_fault pattern nothing_seen (cut_of 1 text) ≡ Some fault
 fault_is pattern text fault (cut, has, e) = ap (first_fault pattern nothing_seen) (sym (cut_unique 1 text cut has)) ∙ e
 
-no_fault : (pattern : Pattern) (text : List ℕ) → first_fault pattern nothing_seen (cut_of 1 text) ≡ None → NoneIs (HasFirstFault pattern text)
+no_fault : (pattern : Pattern) (text : List ℕ) → first_fault pattern nothing_seen (cut_of 1 text) ≡ None → NoSuch (HasFirstFault pattern text)
 no_fault pattern text none fault has = let both : None ≡ Some fault = sym none ∙ fault_is pattern text fault has in cc
 
-one_fault : (pattern : Pattern) (text : List ℕ) (fault : ReadFault) → first_fault pattern nothing_seen (cut_of 1 text) ≡ Some fault → OneAlone (HasFirstFault pattern text)
+one_fault : (pattern : Pattern) (text : List ℕ) (fault : ReadFault) → first_fault pattern nothing_seen (cut_of 1 text) ≡ Some fault → ExactlyOne (HasFirstFault pattern text)
 one_fault pattern text fault e =
     (fault, (cut_of 1 text, cut_is 1 text, e), λ other has. (let both : Some other ≡ Some fault = sym (fault_is pattern text other has) ∙ e in cc))
 
@@ -49,10 +49,10 @@ module _ {A : Type 0} (pattern : Pattern) (Spell : List Token → A → Type 0)
       same_tokens : (tokens others : List Token) (at end : ℕ) → (tokens ▸▸ End at) ≡ (others ▸▸ End end) → Spell tokens a → Spell others b → a ≡ b
       same_tokens tokens others at end same spells spell = alone tokens a b spells (subst (λ (l : List Token). Spell l b) (sym (tokens_same tokens others at end same)) spell)
 
-  pub one_value : (text : List ℕ) → (OneAlone (Has text) × NoneIs (HasFirstFault pattern text)) ⊎ (OneAlone (HasFirstFault pattern text) × NoneIs (Has text))
+  pub one_value : (text : List ℕ) → (ExactlyOne (Has text) × NoSuch (HasFirstFault pattern text)) ⊎ (ExactlyOne (HasFirstFault pattern text) × NoSuch (Has text))
   one_value text = by_fault (first_fault pattern nothing_seen (cut_of 1 text)) refl
     where
-      by_fault : (fault : Option ReadFault) → first_fault pattern nothing_seen (cut_of 1 text) ≡ fault → (OneAlone (Has text) × NoneIs (HasFirstFault pattern text)) ⊎ (OneAlone (HasFirstFault pattern text) × NoneIs (Has text))
+      by_fault : (fault : Option ReadFault) → first_fault pattern nothing_seen (cut_of 1 text) ≡ fault → (ExactlyOne (Has text) × NoSuch (HasFirstFault pattern text)) ⊎ (ExactlyOne (HasFirstFault pattern text) × NoSuch (Has text))
       by_fault None e =
           let spelled = none_where (cut_of 1 text) e in
           let has : Has text spelled.2 = (spelled.0, spelled.1, subst (HasTokens 1 text) spelled.3 (cut_is 1 text), spelled.4) in

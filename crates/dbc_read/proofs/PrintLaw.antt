@@ -17,7 +17,8 @@ use Rattle.dbc_read.proofs.ItemsPrinted.{printed}
 use Rattle.dbc_read.proofs.Neat.{AreItems}
 use Rattle.dbc_read.proofs.NeatStatements.{version_neat, symbols_neat, nodes_neat, table_neat, values_neat, mux_neat, comment_neat, definition_neat, default_neat, attribute_neat, kept_neat, database_neat}
 use Rattle.dbc_read.proofs.Shown.{shows_both, shows_as, shows_each, shows_layout}
-use Rattle.dbc_read.proofs.ShownStatements.{three, timing_shown, float_shown, message_shown}
+use Rattle.dbc_read.proofs.DatabasesSound.{three_numbers}
+use Rattle.dbc_read.proofs.ShownStatements.{timing_shown, float_shown, message_shown}
 use Rattle.dbc_read.proofs.Canonical.{canonical_rows, canonical, canonical_placed, one_timing, canonical_gathers}
 use Rattle.dbc_read.proofs.LayoutTexts.{layout_tokens}
 
@@ -56,8 +57,8 @@ canonical_shown : (d : Database) → IsDatabase d → Shows (database_layout d) 
 unfolding database_layout front_layout attributes_layout rows_layout
 canonical_shown d is =
     shows_as refl
-    (ap (λ (parts : List Part). version_form (Some d.version) ++ (form (Symbols d.symbols) ++ (form (Timing (three d.bit_timing)) ++ (form (Nodes d.nodes) ++ parts)))) (rows_form d)
-    ∙ sym (regroup (version_form (Some d.version)) (form (Symbols d.symbols)) (form (Timing (three d.bit_timing))) (form (Nodes d.nodes)) (flat_map (λ (row : TableRow). form (Table row)) d.tables)
+    (ap (λ (parts : List Part). version_form (Some d.version) ++ (form (Symbols d.symbols) ++ (form (Timing (three_numbers d.bit_timing)) ++ (form (Nodes d.nodes) ++ parts)))) (rows_form d)
+    ∙ sym (regroup (version_form (Some d.version)) (form (Symbols d.symbols)) (form (Timing (three_numbers d.bit_timing))) (form (Nodes d.nodes)) (flat_map (λ (row : TableRow). form (Table row)) d.tables)
     (flat_map (λ (message : Message). form (OfMessage message)) d.messages) (flat_map (λ (comment : Comment). form (OfComment comment)) d.comments) (flat_map (λ (definition : AttrDef). form (Definition definition)) d.definitions)
     (flat_map (λ (row : AttrDefault). form (Default row)) d.defaults) (flat_map (λ (row : AttrRow). form (Attribute row)) d.attributes)
     (flat_map (λ (row : ValueRow). form (Values row)) d.values ++ (flat_map (λ (row : FloatRow). form (Float row)) d.floats ++ (flat_map (λ (row : MuxRow). form (Mux row)) d.muxes ++ flat_map (λ (row : Kept). form (OfKept row)) d.kept)))))
@@ -65,7 +66,7 @@ canonical_shown d is =
     (shows_both (shows_each IsComment (λ row is. shows_layout printed (comment_layout row) (comment_neat row is).items) d.comments is.comments) (shows_both attributes rows))))
   where
     front : Shows (version_layout d.version ++ (symbols_layout d.symbols ++ (timing_layout d.bit_timing ++ (nodes_layout d.nodes ++ flat_map table_layout d.tables))))
-        (version_form (Some d.version) ++ (form (Symbols d.symbols) ++ (form (Timing (three d.bit_timing)) ++ (form (Nodes d.nodes) ++ flat_map (λ (row : TableRow). form (Table row)) d.tables))))
+        (version_form (Some d.version) ++ (form (Symbols d.symbols) ++ (form (Timing (three_numbers d.bit_timing)) ++ (form (Nodes d.nodes) ++ flat_map (λ (row : TableRow). form (Table row)) d.tables))))
     front =
         shows_both (shows_layout printed (version_layout d.version) (version_neat d.version is.version).items)
         (shows_both (shows_layout printed (symbols_layout d.symbols) (symbols_neat d.symbols is.symbols).items)

@@ -29,7 +29,8 @@ use Rattle.dbc_read.proofs.ItemsPrinted.{printed}
 use Rattle.dbc_read.proofs.Neat.{Line}
 use Rattle.dbc_read.proofs.NeatStatements.{version_neat, symbols_neat, timing_neat, nodes_neat, table_neat, message_neat, values_neat, float_neat, mux_neat, comment_neat, definition_neat, default_neat, attribute_neat, kept_neat}
 use Rattle.dbc_read.proofs.Shown.{shows_layout, shows_as}
-use Rattle.dbc_read.proofs.ShownStatements.{three, timing_shown, float_shown, message_shown}
+use Rattle.dbc_read.proofs.DatabasesSound.{three_numbers}
+use Rattle.dbc_read.proofs.ShownStatements.{timing_shown, float_shown, message_shown}
 use Rattle.dbc_read.proofs.LayoutTexts.{layout_tokens}
 use Rattle.dbc_read.proofs.PrintLaw.{items_printed}
 
@@ -73,9 +74,9 @@ same_timing : (a b : Option (Decimal × Decimal × Decimal)) → timing_of (a �
 same_timing None None same = refl
 same_timing None (Some b) same = absurd cc
 same_timing (Some a) None same = absurd cc
-same_timing (Some a) (Some b) same = ap three same
+same_timing (Some a) (Some b) same = ap three_numbers same
 
-three_of : (numbers : Option (Decimal × Decimal × Decimal)) → three (timing_of (numbers ∷ [])) ≡ numbers
+three_of : (numbers : Option (Decimal × Decimal × Decimal)) → three_numbers (timing_of (numbers ∷ [])) ≡ numbers
 three_of None = refl
 three_of (Some numbers) = refl
 

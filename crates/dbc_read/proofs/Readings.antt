@@ -8,10 +8,10 @@ use Rattle.dbc_read.specs.declared.stopped.Stopped.TheVariants as stops
 use Rattle.dbc_read.specs.Tokens.{Cut, End, HasTokens}
 use Rattle.dbc_read.specs.Scanner.{cut_of}
 use Rattle.dbc_read.specs.Forms.{◌▸▸◌}
-use Rattle.dbc_read.specs.Pattern.{Pattern, first_fault, nothing_seen}
 use Rattle.dbc_read.specs.Grammar as grammar
 use Rattle.dbc_read.proofs.Agree.{Judges}
-use Rattle.dbc_read.specs.Reading.{Fails, fault_of, memory_fault}
+use Rattle.dbc_read.specs.Reading.{Fails, fault_of}
+use Rattle.dbc_read.specs.Pattern.{Pattern, first_fault, nothing_seen, memory_fault}
 use Rattle.dbc_read.specs.ReadingDatabases.{database_at, statement_at}
 use Rattle.dbc_read.specs.Texts.{HasDatabase, HasStatement, HasFirstFault}
 use Rattle.dbc_read.proofs.CutLaws.{cut_is}

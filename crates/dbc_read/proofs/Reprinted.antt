@@ -7,9 +7,8 @@ use Rattle.dbc_read.specs.declared.fault.ReadFault.{ReadFault}
 use Rattle.dbc_read.specs.Tokens.{Cut, End}
 use Rattle.dbc_read.specs.Scanner.{cut_of}
 use Rattle.dbc_read.specs.Forms.{◌▸▸◌}
-use Rattle.dbc_read.specs.Pattern.{first_fault, nothing_seen}
 use Rattle.dbc_read.specs.Grammar as grammar
-use Rattle.dbc_read.specs.Reading.{memory_fault}
+use Rattle.dbc_read.specs.Pattern.{first_fault, nothing_seen, memory_fault}
 use Rattle.dbc_read.specs.ReadingDatabases.{database_at}
 use Rattle.dbc_read.specs.Texts.{HasDatabase, HasFirstFault}
 use Rattle.dbc_read.specs.PrintLaws.{PrintLaw}

@@ -11,14 +11,10 @@ use Rattle.dbc_model.specs.Layout.{Item, Mark, Name, Whole, Layout}
 use Rattle.dbc_model.specs.CanonicalText.{blank, number_layout, spaced_number, spaced_mark, spaced_name, line_end, statement_end, timing_numbers, perhaps_numbers, timing_title, timing_layout, signal_name_layout, tag_layout, place_layout, scale_layout, limits_layout, spaced_text, further_receiver, receivers_layout, signal_layout, head_layout, message_layout, float_key, float_kind, float_layout}
 use Rattle.dbc_read.specs.Forms.{Is as Shown, Perhaps, Unsigned, of_layout}
 use Rattle.dbc_read.specs.Spelling.{form, Timing, OfMessage, Float, receivers_form, signal_form}
+use Rattle.dbc_read.proofs.DatabasesSound.{three_numbers}
 use Rattle.dbc_read.proofs.Printed.{IsItem, Printed, Shows}
 use Rattle.dbc_read.proofs.NeatStatements.{kind_small, float_key_part, head_neat, signal_front_items, timing_title_neat}
 use Rattle.dbc_read.proofs.Shown.{shows_both, shows_none, shows_as, shows_each, shows_space, shows_end, shows_item, shows_perhaps, shows_unsigned, shows_layout}
-
--- three numbers, or none
-abbrev pub three : Option (List Decimal) → Option (Decimal × Decimal × Decimal)
-three (Some (a ∷ b ∷ c ∷ [])) = Some (a, b, c)
-three timing = None
 
 module _ (printed : (item : Item) → IsItem item → Printed item) where
   -- ---- bit timing
@@ -39,7 +35,7 @@ module _ (printed : (item : Item) → IsItem item → Printed item) where
   is_positive true e = absurd cc
   is_positive false e = refl
 
-  pub timing_shown : (timing : Option (List Decimal)) → IfSome timing IsBitTiming → timing_fits timing ≡ true → Shows (timing_layout timing) (form (Timing (three timing)))
+  pub timing_shown : (timing : Option (List Decimal)) → IfSome timing IsBitTiming → timing_fits timing ≡ true → Shows (timing_layout timing) (form (Timing (three_numbers timing)))
   unfolding timing_layout perhaps_numbers timing_numbers
   timing_shown None is fits = shows_as refl (sym (append-nil (of_layout timing_title))) (shows_both (shows_layout printed timing_title timing_title_neat.items) end_shown)
   timing_shown (Some []) is fits = absurd cc

@@ -33,21 +33,21 @@ OneStatement = (tokens : List Token) (a b : Statement) → SpellsStatement token
 -- ---- the same of texts
 
 -- there is such a value, and no other
-abbrev pub OneAlone : {A : Type 0} → (A → Type 0) → Type 0
-OneAlone {A} IsSuch = (a : A) × IsSuch a × ((other : A) → IsSuch other → other ≡ a)
+abbrev pub ExactlyOne : {A : Type 0} → (A → Type 0) → Type 0
+ExactlyOne {A} IsSuch = (a : A) × IsSuch a × ((other : A) → IsSuch other → other ≡ a)
 
 -- there is no such value
-abbrev pub NoneIs : {A : Type 0} → (A → Type 0) → Type 0
-NoneIs {A} IsSuch = (a : A) → IsSuch a → ⊥
+abbrev pub NoSuch : {A : Type 0} → (A → Type 0) → Type 0
+NoSuch {A} IsSuch = (a : A) → IsSuch a → ⊥
 
 -- a text has one database and no first fault, or one first fault and no database
 abbrev pub OneReading : Type 0
-OneReading = (text : List ℕ) → (OneAlone (HasDatabase text) × NoneIs (HasFirstFault grammar.text text)) ⊎ (OneAlone (HasFirstFault grammar.text text) × NoneIs (HasDatabase text))
+OneReading = (text : List ℕ) → (ExactlyOne (HasDatabase text) × NoSuch (HasFirstFault grammar.text text)) ⊎ (ExactlyOne (HasFirstFault grammar.text text) × NoSuch (HasDatabase text))
 
 -- a text is one statement and has no first fault as such, or has one first fault and is none
 abbrev pub OneReadingAlone : Type 0
 OneReadingAlone =
-    (text : List ℕ) → (OneAlone (HasStatement text) × NoneIs (HasFirstFault grammar.one_statement text)) ⊎ (OneAlone (HasFirstFault grammar.one_statement text) × NoneIs (HasStatement text))
+    (text : List ℕ) → (ExactlyOne (HasStatement text) × NoSuch (HasFirstFault grammar.one_statement text)) ⊎ (ExactlyOne (HasFirstFault grammar.one_statement text) × NoSuch (HasStatement text))
 
 -- a first fault names a line of the text, and is none of want of memory
 abbrev pub FaultsAreOfTexts : Type 0

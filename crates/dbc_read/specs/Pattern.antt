@@ -139,6 +139,10 @@ after (Repeat a p) t seen = first_of (left_then (after a t seen) (Repeat a p)) (
 abbrev pub fault_in : ℕ → Cause → ReadFault
 fault_in line cause = record { line = line; cause = cause }
 
+-- want of memory, which is a fault of no line
+abbrev pub memory_fault : ReadFault
+memory_fault = fault_in 0 causes.Memory
+
 abbrev pub ruled : ℕ → Result Seen Cause → (Seen → Option ReadFault) → Option ReadFault
 ruled line (Ok seen) go = go seen
 ruled line (Err cause) go = Some (fault_in line cause)

@@ -9,6 +9,7 @@ use Rattle.dbc_read.specs.declared.stopped.Stopped.TheVariants as stops
 use Rattle.dbc_read.specs.declared.token.Token as tokens
 use Rattle.dbc_read.specs.Tokens.{Token, Cut, End, Fault, ◌▸◌}
 use Rattle.dbc_read.specs.Views.{token_of}
+use Rattle.dbc_read.specs.Pattern.{fault_in, memory_fault}
 
 abbrev pub Reader : Type 0 → Type 0
 Reader A = Cut → Result (A × Cut) ReadFault
@@ -25,20 +26,17 @@ abbrev pub ◌>>=◌ : {A B : Type 0} → Reader A → (A → Reader B) → Read
 abbrev pub value : {A : Type 0} → A → Reader A
 value x cut = Ok (x, cut)
 
-abbrev pub fault_at : ℕ → Cause → ReadFault
-fault_at line cause = record { line = line; cause = cause }
-
 -- ---- one token
 
 -- any token
 unfoldable pub token_at : Reader Token
-token_at (End line) = Err (fault_at line causes.Statement)
-token_at (Fault line) = Err (fault_at line causes.Token)
+token_at (End line) = Err (fault_in line causes.Statement)
+token_at (Fault line) = Err (fault_in line causes.Token)
 token_at (t ▸ cut) = Ok (t, cut)
 
 abbrev pub answered : {A : Type 0} → Token → Result A Cause → Reader A
 answered t (Ok x) cut = Ok (x, cut)
-answered t (Err cause) cut = Err (fault_at t.line cause)
+answered t (Err cause) cut = Err (fault_in t.line cause)
 
 -- a token, by what it stands for
 abbrev pub one : {A : Type 0} → (Token → Result A Cause) → Reader A
@@ -47,8 +45,8 @@ one judge cut = and_then (token_at cut) (λ t. answered t (judge t))
 -- the text ends here
 unfoldable pub end_at : Reader (Unit {0})
 end_at (End line) = Ok (tt, End line)
-end_at (Fault line) = Err (fault_at line causes.Token)
-end_at (t ▸ cut) = Err (fault_at t.line causes.Statement)
+end_at (Fault line) = Err (fault_in line causes.Token)
+end_at (t ▸ cut) = Err (fault_in t.line causes.Statement)
 
 -- ---- choice and repetition
 
@@ -102,10 +100,6 @@ GivesTo (Err stopped) left read = Fails stopped read
 abbrev pub MakesTo : {A X : Type 0} → Result X Stopped → A → Cut → Result (A × Cut) ReadFault → Type 0
 MakesTo (Ok u) made left read = read ≡ Ok (made, left)
 MakesTo (Err stopped) made left read = Fails stopped read
-
--- the fault of want of memory
-abbrev pub memory_fault : ReadFault
-memory_fault = fault_at 0 causes.Memory
 
 -- the fault that a stop is for those who read texts
 abbrev pub fault_of : Stopped → ReadFault

@@ -6,9 +6,8 @@ use Rattle.dbc_read.specs.declared.statement.Statement.{Statement}
 use Rattle.dbc_read.specs.Tokens.{Token, Cut, End, HasTokens}
 use Rattle.dbc_read.specs.Forms.{◌▸▸◌}
 use Rattle.dbc_read.specs.Spelling.{Spells, SpellsStatement}
-use Rattle.dbc_read.specs.Pattern.{Pattern, first_fault, nothing_seen}
+use Rattle.dbc_read.specs.Pattern.{Pattern, first_fault, nothing_seen, memory_fault}
 use Rattle.dbc_read.specs.Grammar as grammar
-use Rattle.dbc_read.specs.Reading.{memory_fault}
 
 -- the text is cut into tokens to its end, and they spell the database
 abbrev pub HasDatabase : List ℕ → Database → Type 0
