@@ -3,6 +3,7 @@
 -- files: one space between parts, none before a statement's last semicolon but behind entries and kept tokens.
 use Rattle.std.specs.Prelude.{ℕ, Bool, List, [], ◌∷◌, ◌++◌, Option, Some, None, codes, if◌then◌else◌}
 use Rattle.std.specs.List.{flat_map}
+use Rattle.dbc_model.specs.Lexical.{opening_parenthesis, closing_parenthesis, plus, comma, minus, colon, semicolon, at_sign, opening_bracket, closing_bracket, bar}
 use Rattle.dbc_model.specs.Decimals.{Decimal}
 use Rattle.dbc_model.specs.Layout.{Word, Mark, Name, Symbol, Text, Whole, Int, Number, Switch, Muxed, Both, Order, Piece, Space, Tab, LineEnd, Is, Layout, layout_text, separated}
 use Rattle.dbc_model.specs.Records.{Head, Signal, Message, Entry, TableRow, ValueRow, FloatRow, MuxRow}
@@ -61,11 +62,11 @@ line_end = LineEnd ∷ []
 
 -- the end of a statement
 unfoldable pub statement_end : Layout
-statement_end = Is (Mark 59) ∷ LineEnd ∷ []
+statement_end = Is (Mark semicolon) ∷ LineEnd ∷ []
 
 -- the end of a statement behind entries
 unfoldable pub spaced_end : Layout
-spaced_end = Space ∷ Is (Mark 59) ∷ LineEnd ∷ []
+spaced_end = Space ∷ Is (Mark semicolon) ∷ LineEnd ∷ []
 
 -- ---- version, symbols, bit timing, nodes
 
@@ -78,7 +79,7 @@ unfoldable pub symbol_layout : List ℕ → Layout
 symbol_layout word = Tab ∷ Is (Symbol word) ∷ LineEnd ∷ []
 
 unfoldable pub symbols_title : Layout
-symbols_title = Is (Word (codes "NS_")) ∷ Space ∷ Is (Mark 58) ∷ LineEnd ∷ []
+symbols_title = Is (Word (codes "NS_")) ∷ Space ∷ Is (Mark colon) ∷ LineEnd ∷ []
 
 -- `NS_ :`
 unfoldable pub symbols_layout : List (List ℕ) → Layout
@@ -86,7 +87,7 @@ symbols_layout symbols = symbols_title ++ flat_map symbol_layout symbols
 
 -- ` a : b , c`
 unfoldable pub timing_numbers : List Decimal → Layout
-timing_numbers (a ∷ b ∷ c ∷ []) = spaced_number a ++ (spaced_mark 58 ++ (spaced_number b ++ (spaced_mark 44 ++ spaced_number c)))
+timing_numbers (a ∷ b ∷ c ∷ []) = spaced_number a ++ (spaced_mark colon ++ (spaced_number b ++ (spaced_mark comma ++ spaced_number c)))
 timing_numbers numbers = []
 
 unfoldable pub perhaps_numbers : Option (List Decimal) → Layout
@@ -94,14 +95,14 @@ perhaps_numbers None = []
 perhaps_numbers (Some numbers) = timing_numbers numbers
 
 unfoldable pub timing_title : Layout
-timing_title = Is (Word (codes "BS_")) ∷ Is (Mark 58) ∷ []
+timing_title = Is (Word (codes "BS_")) ∷ Is (Mark colon) ∷ []
 
 -- `BS_:`, or `BS_: a : b , c`
 unfoldable pub timing_layout : Option (List Decimal) → Layout
 timing_layout timing = timing_title ++ (perhaps_numbers timing ++ line_end)
 
 unfoldable pub nodes_title : Layout
-nodes_title = Is (Word (codes "BU_")) ∷ Is (Mark 58) ∷ []
+nodes_title = Is (Word (codes "BU_")) ∷ Is (Mark colon) ∷ []
 
 -- `BU_: n n`
 unfoldable pub nodes_layout : List (List ℕ) → Layout
@@ -134,7 +135,7 @@ values_layout row = values_key row ++ (flat_map entry_layout row.entries ++ spac
 -- `BO_ number name: size sender`
 unfoldable pub head_layout : Head → Layout
 head_layout head =
-    Is (Word (codes "BO_")) ∷ Space ∷ Is (Whole head.number) ∷ Space ∷ Is (Name head.name) ∷ Is (Mark 58) ∷ Space ∷ Is (Whole head.size) ∷ Space ∷ Is (Name head.sender) ∷ LineEnd ∷ []
+    Is (Word (codes "BO_")) ∷ Space ∷ Is (Whole head.number) ∷ Space ∷ Is (Name head.name) ∷ Is (Mark colon) ∷ Space ∷ Is (Whole head.size) ∷ Space ∷ Is (Name head.sender) ∷ LineEnd ∷ []
 
 -- ` SG_ name`
 unfoldable pub signal_name_layout : Signal → Layout
@@ -149,12 +150,12 @@ tag_layout (tags.Both n) = Space ∷ Is (Both n) ∷ []
 
 -- `+` for unsigned and `-` for signed
 abbrev pub sign_mark : Bool → ℕ
-sign_mark signed = if signed then 45 else 43
+sign_mark signed = if signed then minus else plus
 
 -- ` : start|length@order` and the sign
 unfoldable pub place_layout : Signal → Layout
 place_layout signal =
-    Space ∷ Is (Mark 58) ∷ Space ∷ Is (Whole signal.start) ∷ Is (Mark 124) ∷ Is (Whole signal.length) ∷ Is (Mark 64) ∷ Is (Order signal.intel) ∷ Is (Mark (sign_mark signal.signed)) ∷ []
+    Space ∷ Is (Mark colon) ∷ Space ∷ Is (Whole signal.start) ∷ Is (Mark bar) ∷ Is (Whole signal.length) ∷ Is (Mark at_sign) ∷ Is (Order signal.intel) ∷ Is (Mark (sign_mark signal.signed)) ∷ []
 
 -- two numbers, with a mark before, between and behind them
 unfoldable pub pair_layout : ℕ → Decimal → ℕ → Decimal → ℕ → Layout
@@ -163,14 +164,14 @@ pair_layout opening first between second closing =
 
 -- ` (factor,offset)`
 unfoldable pub scale_layout : Signal → Layout
-scale_layout signal = pair_layout 40 signal.factor 44 signal.offset 41
+scale_layout signal = pair_layout opening_parenthesis signal.factor comma signal.offset closing_parenthesis
 
 -- ` [min|max]`
 unfoldable pub limits_layout : Signal → Layout
-limits_layout signal = pair_layout 91 signal.minimum 124 signal.maximum 93
+limits_layout signal = pair_layout opening_bracket signal.minimum bar signal.maximum closing_bracket
 
 unfoldable pub further_receiver : List ℕ → Layout
-further_receiver name = Is (Mark 44) ∷ Is (Name name) ∷ []
+further_receiver name = Is (Mark comma) ∷ Is (Name name) ∷ []
 
 -- ` n,n,n`, or nothing
 unfoldable pub receivers_layout : List (List ℕ) → Layout
@@ -223,7 +224,7 @@ number_limits_layout None = []
 number_limits_layout (Some limits) = spaced_number limits.minimum ++ spaced_number limits.maximum
 
 unfoldable pub further_text : List ℕ → Layout
-further_text text = Is (Mark 44) ∷ Is (Text text) ∷ []
+further_text text = Is (Mark comma) ∷ Is (Text text) ∷ []
 
 -- ` "a","b"`
 unfoldable pub texts_layout : List (List ℕ) → Layout
@@ -273,7 +274,7 @@ unfoldable pub float_key : FloatRow → Layout
 float_key row = word_layout (codes "SIG_VALTYPE_") ++ signal_key row.number row.signal
 
 unfoldable pub float_kind : FloatRow → Layout
-float_kind row = Space ∷ Is (Mark 58) ∷ Space ∷ Is (Whole row.kind) ∷ []
+float_kind row = Space ∷ Is (Mark colon) ∷ Space ∷ Is (Whole row.kind) ∷ []
 
 -- `SIG_VALTYPE_ id s : t;`
 unfoldable pub float_layout : FloatRow → Layout
@@ -281,11 +282,11 @@ float_layout row = float_key row ++ (float_kind row ++ statement_end)
 
 -- ` a-b`
 unfoldable pub range_layout : Range → Layout
-range_layout range = Space ∷ Is (Whole range.first) ∷ Is (Mark 45) ∷ Is (Whole range.last) ∷ []
+range_layout range = Space ∷ Is (Whole range.first) ∷ Is (Mark minus) ∷ Is (Whole range.last) ∷ []
 
 -- `, a-b`
 unfoldable pub further_range : Range → Layout
-further_range range = Is (Mark 44) ∷ Space ∷ Is (Whole range.first) ∷ Is (Mark 45) ∷ Is (Whole range.last) ∷ []
+further_range range = Is (Mark comma) ∷ Space ∷ Is (Whole range.first) ∷ Is (Mark minus) ∷ Is (Whole range.last) ∷ []
 
 unfoldable pub ranges_layout : List Range → Layout
 ranges_layout ranges = separated range_layout further_range ranges

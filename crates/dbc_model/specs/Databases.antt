@@ -30,9 +30,13 @@ abbrev pub timing_fits : Option (List Decimal) → Bool
 timing_fits None = true
 timing_fits (Some numbers) = list_all (λ number. not number.negative) numbers
 
--- at most 65,535 messages, and a bit timing without a negative number
+-- the most messages of a database
+abbrev pub most_messages : ℕ
+most_messages = 65535
+
+-- at most so many messages, and a bit timing without a negative number
 abbrev pub database_fits : Option (List Decimal) → List Message → Bool
-database_fits timing messages = timing_fits timing && nat_le (length messages) 65535
+database_fits timing messages = timing_fits timing && nat_le (length messages) most_messages
 
 -- a bit timing is three numbers: the baud rate and two registers ("Bit Timing Definition")
 pub record IsBitTiming (timing : List Decimal) : Type 0 where

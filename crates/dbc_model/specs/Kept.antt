@@ -4,12 +4,9 @@
 use Rattle.std.specs.Prelude.{ℕ, ◌-◌, Bool, true, false, not, ◌||◌, ◌&&◌, ◌==◌, List, [], ◌∷◌, length, take, drop, codes, All, IsTrue}
 use Rattle.std.specs.List.{list_any}
 use Rattle.std.specs.Str.{bytes_eq}
-use Rattle.dbc_model.specs.Lexical.{quoted, is_text, is_word, is_name, is_number, is_mark, kept_words}
+use Rattle.dbc_model.specs.Lexical.{semicolon, quoted, is_text, is_word, is_name, is_number, is_mark, is_kept_word}
 
 -- ---- tokens
-
-abbrev pub semicolon : ℕ
-semicolon = 59
 
 -- what stands between the first byte and the last
 abbrev pub inside : List ℕ → List ℕ
@@ -35,9 +32,6 @@ abbrev pub begins : List (List ℕ → Bool) → List (List ℕ) → Bool
 begins [] tokens = true
 begins (test ∷ tests) [] = false
 begins (test ∷ tests) (token ∷ tokens) = test token && begins tests tokens
-
-abbrev pub is_kept_word : List ℕ → Bool
-is_kept_word word = list_any (bytes_eq word) kept_words
 
 -- how a kept statement may begin: with one of their words; as the named values, the comment or the attribute of an
 -- environment variable

@@ -9,11 +9,35 @@ use Rattle.std.specs.Str.{bytes_eq}
 
 -- ---- bytes
 
+abbrev pub tab : ℕ
+tab = 9
+
 abbrev pub line_feed : ℕ
 line_feed = 10
 
+abbrev pub carriage_return : ℕ
+carriage_return = 13
+
+abbrev pub space : ℕ
+space = 32
+
 abbrev pub quote : ℕ
 quote = 34
+
+abbrev pub opening_parenthesis : ℕ
+opening_parenthesis = 40
+
+abbrev pub closing_parenthesis : ℕ
+closing_parenthesis = 41
+
+abbrev pub plus : ℕ
+plus = 43
+
+abbrev pub comma : ℕ
+comma = 44
+
+abbrev pub minus : ℕ
+minus = 45
 
 abbrev pub point : ℕ
 point = 46
@@ -21,15 +45,33 @@ point = 46
 abbrev pub slash : ℕ
 slash = 47
 
-abbrev pub underscore : ℕ
-underscore = 95
+abbrev pub colon : ℕ
+colon = 58
+
+abbrev pub semicolon : ℕ
+semicolon = 59
+
+abbrev pub at_sign : ℕ
+at_sign = 64
+
+abbrev pub opening_bracket : ℕ
+opening_bracket = 91
 
 abbrev pub backslash : ℕ
 backslash = 92
 
+abbrev pub closing_bracket : ℕ
+closing_bracket = 93
+
+abbrev pub underscore : ℕ
+underscore = 95
+
+abbrev pub bar : ℕ
+bar = 124
+
 -- space, tab, carriage return, line feed
 abbrev pub is_blank : ℕ → Bool
-is_blank b = b == 32 || b == 9 || b == 13 || b == line_feed
+is_blank b = b == space || b == tab || b == carriage_return || b == line_feed
 
 abbrev pub is_line_feed : ℕ → Bool
 is_line_feed b = b == line_feed
@@ -50,7 +92,7 @@ is_mark b = list_any (λ mark. b == mark) (codes ":;|@()[],+-")
 
 -- `+` or `-`
 abbrev pub is_sign : ℕ → Bool
-is_sign b = b == 43 || b == 45
+is_sign b = b == plus || b == minus
 
 -- `E` or `e`
 abbrev pub is_exponent_mark : ℕ → Bool
@@ -78,6 +120,9 @@ kept_words =
     codes "BO_TX_BU_" ∷ codes "EV_" ∷ codes "ENVVAR_DATA_" ∷ codes "EV_DATA_" ∷ codes "SIG_GROUP_" ∷ codes "SGTYPE_" ∷ codes "SGTYPE_VAL_"
     ∷ codes "SIG_TYPE_REF_" ∷ codes "SIGTYPE_VALTYPE_" ∷ codes "BA_DEF_SGTYPE_" ∷ codes "BA_SGTYPE_" ∷ codes "BA_DEF_REL_" ∷ codes "BA_REL_"
     ∷ codes "BA_DEF_DEF_REL_" ∷ codes "CAT_DEF_" ∷ codes "CAT_" ∷ []
+
+abbrev pub is_kept_word : List ℕ → Bool
+is_kept_word word = list_any (bytes_eq word) kept_words
 
 -- the words that stand only inside other statements
 abbrev pub relation_words : List (List ℕ)

@@ -45,9 +45,12 @@ pub record Head : Type 0 where
   pub size : ℕ
   pub sender : List ℕ
 
--- at most 1,785 bytes, the greatest size of a J1939 transport message
+-- the most bytes of a message: the greatest size of a J1939 transport message
+abbrev pub most_bytes : ℕ
+most_bytes = 1785
+
 abbrev pub head_fits : ℕ → Bool
-head_fits size = nat_le size 1785
+head_fits size = nat_le size most_bytes
 
 pub record IsHead (head : Head) : Type 0 where
   pub number : IsNumber head.number
@@ -76,9 +79,13 @@ pub record Signal : Type 0 where
   pub unit : List ℕ
   pub receivers : List (List ℕ)
 
--- at least one bit, and at most those of 1,785 bytes
+-- the most bits of a signal: those of the greatest message
+abbrev pub most_bits : ℕ
+most_bits = 14280
+
+-- at least one bit
 abbrev pub signal_fits : ℕ → Bool
-signal_fits bits = nat_le 1 bits && nat_le bits 14280
+signal_fits bits = nat_le 1 bits && nat_le bits most_bits
 
 pub record IsSignal (signal : Signal) : Type 0 where
   pub name : IsName signal.name
@@ -104,9 +111,13 @@ abbrev pub are_distinct : List (List ℕ) → Bool
 are_distinct [] = true
 are_distinct (name ∷ names) = not (list_any (bytes_eq name) names) && are_distinct names
 
--- at most 999 signals, of different names
+-- the most signals of a message
+abbrev pub most_signals : ℕ
+most_signals = 999
+
+-- the signals have different names
 unfoldable pub signals_fit : List Signal → Bool
-signals_fit signals = nat_le (length signals) 999 && are_distinct (names_of signals)
+signals_fit signals = nat_le (length signals) most_signals && are_distinct (names_of signals)
 
 pub record IsMessage (message : Message) : Type 0 where
   pub head : IsHead message.head

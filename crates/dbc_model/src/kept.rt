@@ -1,8 +1,8 @@
 //! Statements that are kept as they stand.
 ghost use Rattle.std.specs.Prelude.{◌≡◌, [], ◌∷◌, Some, None, if◌then◌else◌, codes};
 ghost use Rattle.std.specs.Str.{bytes_eq};
-ghost use Rattle.dbc_model.specs.Lexical.{is_name};
-ghost use Rattle.dbc_model.specs.Kept.{begins, is_kept_word, is_string, kept_fits};
+ghost use Rattle.dbc_model.specs.Lexical.{is_name, is_kept_word};
+ghost use Rattle.dbc_model.specs.Kept.{begins, is_string, kept_fits};
 
 use crate::list::{Checked, Copied, List};
 use crate::memory::Memory;

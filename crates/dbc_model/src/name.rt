@@ -2,7 +2,7 @@
 ghost use Rattle.std.specs.Prelude.{◌≡◌, IfOk, IsTrue, Some, None, if◌then◌else◌};
 ghost use Rattle.std.specs.List.{list_any, list_all};
 ghost use Rattle.std.specs.Str.{bytes_eq};
-ghost use Rattle.dbc_model.specs.Lexical.{is_name, is_word, is_keyword, is_letter, is_word_byte, statement_words, kept_words, relation_words};
+ghost use Rattle.dbc_model.specs.Lexical.{is_name, is_word, is_keyword, is_letter, is_word_byte, is_kept_word, statement_words, relation_words};
 
 use crate::list::{Checked, Copied};
 use crate::memory::Memory;
@@ -26,13 +26,15 @@ impl Model for Name {
     ghost invariant = { λ name. IsTrue (is_name name.bytes.items) };
 }
 
-fn is_letter(b: u8) -> bool
+/// Whether the byte is an ASCII letter or an underscore.
+pub fn is_letter(b: u8) -> bool
     ensures { result ≡ is_letter b }
 {
     b.is_ascii_alphabetic() || b == b'_'
 }
 
-fn is_word_byte(b: u8) -> bool
+/// Whether the byte is an ASCII letter, a digit or an underscore.
+pub fn is_word_byte(b: u8) -> bool
     ensures { result ≡ is_word_byte b }
 {
     is_letter(b) || b.is_ascii_digit()
@@ -78,8 +80,9 @@ fn is_statement_word(word: &[u8]) -> bool
         || same(word, b"SG_MUL_VAL_")
 }
 
-pub(crate) fn is_kept_word(word: &[u8]) -> bool
-    ensures { result ≡ list_any (bytes_eq word.now) kept_words }
+/// Whether statements that begin with this word are kept as they stand.
+pub fn is_kept_word(word: &[u8]) -> bool
+    ensures { result ≡ is_kept_word word.now }
 {
     same(word, b"BO_TX_BU_")
         || same(word, b"EV_")

@@ -1,6 +1,6 @@
 //! Numbers: which bytes are one, and what its digits and its exponent say, exactly.
 ghost use Rattle.std.specs.Prelude.{◌≡◌, ℕ, ℤ, pos, ◌+ℤ◌, ◌-ℤ◌, unsigned_abs, ◌+◌, ◌*◌, ◌^◌, ◌<◌, ◌≤◌, false, take, drop, length, nat_lt, Some, None, MatchOption, IsTrue, min, if◌then◌else◌};
-ghost use Rattle.std.specs.List.{list_any, list_all, position_or_len};
+ghost use Rattle.std.specs.List.{list_any, list_all, position_or_len, prefix_len};
 ghost use Rattle.std.specs.Str.Parse.{digits_value, digits_value_after, signed_digits_value, without_leading_sign};
 ghost use Rattle.dbc_model.specs.Lexical.{is_digit, is_sign, is_point, is_exponent_mark, is_mantissa, is_digits, is_signed_digits, is_number};
 ghost use Rattle.dbc_model.specs.Numbers.{mantissa_of, exponent_of, IsWhole, SpellsWhole, whole_of_number, at_most_36_digits, HasDigits, StandsFor, IsReduced};
@@ -56,6 +56,14 @@ fn are_digits(bytes: &[u8]) -> bool
     ensures { result ≡ list_all is_digit bytes.now }
 {
     bytes.iter().all(|b| b.is_ascii_digit())
+}
+
+/// How many digits stand at the front.
+pub fn digits_len(bytes: &[u8]) -> usize
+    ensures value { result ≡ prefix_len is_digit bytes.now }
+    ensures in_range { result ≤ length bytes.now }
+{
+    bytes.iter().take_while(|b| b.is_ascii_digit()).count()
 }
 
 fn has_digit(bytes: &[u8]) -> bool

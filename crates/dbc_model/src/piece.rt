@@ -27,9 +27,9 @@ impl Model for Piece {
     ghost invariant = { λ piece. IsTrue (is_piece piece.bytes.items) };
 }
 
-// Whether the bytes are a text between quotes.
+/// Whether the bytes are a text between quotes.
 #[tactic(auto, using(crate::proofs::Strings::quoted_by_ends), unfolding(crate::specs::Kept::is_string))]
-pub(crate) fn is_string(bytes: &[u8]) -> bool
+pub fn is_string(bytes: &[u8]) -> bool
     ensures { result ≡ is_string bytes.now }
 {
     match bytes {

@@ -7,7 +7,7 @@ use Rattle.std.proofs.lemmas.List.Concat.{flat_map-append}
 use Rattle.dbc_model.specs.Databases.{Database, IsDatabase}
 use Rattle.dbc_model.specs.Decimals.{Decimal, SpellsDecimal, decimal_of_number}
 use Rattle.dbc_model.specs.Lexical.{is_name, is_keyword, is_number}
-use Rattle.dbc_model.specs.Kept.{is_kept_word}
+use Rattle.dbc_model.specs.Lexical.{is_kept_word}
 use Rattle.dbc_model.specs.Records.{is_symbol}
 use Rattle.dbc_model.specs.Layout.{items_of}
 use Rattle.dbc_model.specs.CanonicalText.{version_layout}

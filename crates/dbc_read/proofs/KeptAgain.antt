@@ -4,8 +4,8 @@ use Rattle.std.specs.Prelude.{codes, IsTrue}
 use Rattle.std.specs.List.{flat_map}
 use Rattle.std.specs.Str.{bytes_eq}
 use Rattle.std.proofs.lemmas.Bool.{cases_Bool, and_parts}
-use Rattle.dbc_model.specs.Lexical.{is_text, is_word, is_name, is_number, quoted}
-use Rattle.dbc_model.specs.Kept.{Kept, is_piece, is_string, is_kept_word, begins, kept_fits}
+use Rattle.dbc_model.specs.Lexical.{is_kept_word, is_text, is_word, is_name, is_number, quoted}
+use Rattle.dbc_model.specs.Kept.{Kept, is_piece, is_string, begins, kept_fits}
 use Rattle.dbc_model.specs.Layout.{Word, Mark, Text, Whole, Piece, items_of}
 use Rattle.dbc_model.specs.CanonicalText.{spaced_text, spaced_number, blank, number_layout, target_layout, value_layout}
 use Rattle.dbc_model.specs.declared.target.Target.{Target}

@@ -1,14 +1,13 @@
 //! Classes of tokens.
 ghost use Rattle.std.specs.Prelude.{◌≡◌, false};
 ghost use Rattle.std.specs.Str.{bytes_eq};
-ghost use Rattle.dbc_model.specs.Lexical.{is_text};
 ghost use Rattle.dbc_read.specs.Views.{token_of};
 ghost use Rattle.dbc_read.specs.Classes.{has_word, has_mark, has_name, has_symbol, has_string, has_piece, has_whole, has_number, has_kept_word};
 ghost use Rattle.dbc_read.specs.ReadingParts.{begins_decimal, begins_int, begins_receiver};
 ghost use Rattle.dbc_read.specs.ReadingDatabases.{has_object_word, has_value_word, has_attribute_word, begins_statement};
 
 use crate::token::Token;
-use dbc_model::{Decimal, Whole, is_name, is_piece, is_symbol, whole_of};
+use dbc_model::{Decimal, Whole, is_kept_word, is_name, is_piece, is_string, is_symbol, whole_of};
 
 fn same(a: &[u8], b: &[u8]) -> bool
     ensures { result ≡ bytes_eq a.now b.now }
@@ -46,30 +45,12 @@ pub fn has_symbol(token: Token<'_>) -> bool
     is_symbol(token.bytes)
 }
 
-// Whether the bytes may stand between the quotes of a string.
-#[tactic(auto, unfolding(dbc_model::specs::Lexical::is_text))]
-fn is_text(bytes: &[u8]) -> bool
-    ensures { result ≡ is_text bytes.now }
-{
-    let mut after_backslash = false;
-    for b in bytes {
-        if *b == b'"' && !after_backslash {
-            return false;
-        }
-        after_backslash = *b == b'\\';
-    }
-    !after_backslash
-}
-
 /// Whether the token is a string.
-#[tactic(auto, using(dbc_model::proofs::Strings::quoted_by_ends), unfolding(crate::specs::Classes::has_string, dbc_model::specs::Kept::is_string))]
+#[tactic(auto, unfolding(crate::specs::Classes::has_string))]
 pub fn has_string(token: Token<'_>) -> bool
     ensures { result ≡ has_string (token_of token.entry) }
 {
-    match token.bytes {
-        [first, text @ .., last] => *first == b'"' && *last == b'"' && is_text(text),
-        _ => false,
-    }
+    is_string(token.bytes)
 }
 
 /// Whether the token is no semicolon.
@@ -128,23 +109,7 @@ pub fn begins_receiver(token: Token<'_>) -> bool
 pub fn has_kept_word(token: Token<'_>) -> bool
     ensures { result ≡ has_kept_word (token_of token.entry) }
 {
-    let word = token.bytes;
-    same(word, b"BO_TX_BU_")
-        || same(word, b"EV_")
-        || same(word, b"ENVVAR_DATA_")
-        || same(word, b"EV_DATA_")
-        || same(word, b"SIG_GROUP_")
-        || same(word, b"SGTYPE_")
-        || same(word, b"SGTYPE_VAL_")
-        || same(word, b"SIG_TYPE_REF_")
-        || same(word, b"SIGTYPE_VALTYPE_")
-        || same(word, b"BA_DEF_SGTYPE_")
-        || same(word, b"BA_SGTYPE_")
-        || same(word, b"BA_DEF_REL_")
-        || same(word, b"BA_REL_")
-        || same(word, b"BA_DEF_DEF_REL_")
-        || same(word, b"CAT_DEF_")
-        || same(word, b"CAT_")
+    is_kept_word(token.bytes)
 }
 
 #[tactic(auto, unfolding(crate::specs::ReadingDatabases::has_object_word))]

@@ -5,24 +5,13 @@ ghost use Rattle.dbc_model.specs.Lexical.{backslash, is_blank, is_digit, is_lett
 ghost use Rattle.dbc_read.specs.Scanner.{gap_len, text_len, mantissa_len, sign_len, exponent_len, number_len, token_at};
 
 use crate::token::Kind;
+use dbc_model::{digits_len, is_letter, is_word_byte};
 use memchr::memchr;
 
 fn is_blank(b: u8) -> bool
     ensures { result ≡ is_blank b }
 {
     matches!(b, b' ' | b'\t' | b'\r' | b'\n')
-}
-
-fn is_letter(b: u8) -> bool
-    ensures { result ≡ is_letter b }
-{
-    b.is_ascii_alphabetic() || b == b'_'
-}
-
-fn is_word_byte(b: u8) -> bool
-    ensures { result ≡ is_word_byte b }
-{
-    is_letter(b) || b.is_ascii_digit()
 }
 
 fn is_mark(b: u8) -> bool
@@ -32,13 +21,6 @@ fn is_mark(b: u8) -> bool
         b,
         b':' | b';' | b'|' | b'@' | b'(' | b')' | b'[' | b']' | b',' | b'+' | b'-'
     )
-}
-
-fn digits_len(bytes: &[u8]) -> usize
-    ensures value { result ≡ prefix_len is_digit bytes.now }
-    ensures in_range { result ≤ length bytes.now }
-{
-    bytes.iter().take_while(|b| b.is_ascii_digit()).count()
 }
 
 fn word_len(bytes: &[u8]) -> usize

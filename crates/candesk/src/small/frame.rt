@@ -1,10 +1,10 @@
 //! The frame of a log line.
 ghost use Rattle.std.specs.Prelude.{◌≡◌, ◌≤◌, ◌<◌, [], ◌∷◌, length, option_map, not};
 ghost use Rattle.std.specs.List.{prefix_len};
-ghost use Rattle.dbc_model.specs.Lexical.{is_digit};
 ghost use Rattle.candesk.specs.Frame.{is_log_blank, first_word, behind_first_word, is_stamp, is_seconds_end, is_fraction_end, closes_stamp, identifier_of, data_of, frame_of_word, frame_of, frame_view};
 
 use arrayvec::ArrayVec;
+use dbc_model::digits_len;
 
 /// A data frame with an 11-bit identifier.
 #[derive(Drop)]
@@ -33,14 +33,6 @@ fn blanks_len(bytes: &[u8]) -> usize
     ensures in_range { result ≤ length bytes.now }
 {
     bytes.iter().take_while(|b| is_log_blank(**b)).count()
-}
-
-// How many digits stand at the front.
-fn digits_len(bytes: &[u8]) -> usize
-    ensures value { result ≡ prefix_len is_digit bytes.now }
-    ensures in_range { result ≤ length bytes.now }
-{
-    bytes.iter().take_while(|b| b.is_ascii_digit()).count()
 }
 
 // The first word, and what stands behind it and its blanks.
