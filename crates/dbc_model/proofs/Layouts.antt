@@ -5,9 +5,9 @@ use Rattle.std.specs.List.{flat_map}
 use Rattle.std.specs.Result.{IsErr}
 use Rattle.std.proofs.Math.Seq.{take-length}
 use Rattle.std.proofs.lemmas.List.Concat.{flat_map-append}
-use Rattle.dbc_model.specs.Device.{Written, Broke, Passes, Sends}
-use Rattle.dbc_model.specs.Layout.{Layout, element_text, layout_text, separated}
-use Rattle.dbc_model.proofs.Writes.{Passes-nil, Sends-after, Sends-stop}
+use Rattle.byte_devices.specs.Device.{Written, Broke, Passes, Sends}
+use Rattle.dbc_records.specs.Layout.{Layout, element_text, layout_text, separated}
+use Rattle.byte_devices.proofs.Writes.{Passes-nil, Sends-after, Sends-stop}
 
 pub layout_text-append : (xs ys : Layout) → layout_text (xs ++ ys) ≡ layout_text xs ++ layout_text ys
 unfolding layout_text

@@ -3,8 +3,8 @@ use Rattle.std.proofs.Common.{◌≡◌, ℕ, suc, ℤ, pos, negsuc, ◌+◌, �
 use Rattle.std.specs.Prelude.{nat_le, unsigned_abs, Result}
 use Rattle.std.proofs.lemmas.Bool.{le-leb, cond-true}
 use Rattle.std.proofs.lemmas.List.{length-replicate, length-append}
-use Rattle.dbc_model.specs.Device.{Written, Sends}
-use Rattle.dbc_model.specs.Layout.{plain_digits, zeros, filled, point_before_last, magnitude_text}
+use Rattle.byte_devices.specs.Device.{Written, Sends}
+use Rattle.dbc_records.specs.Layout.{plain_digits, zeros, filled, point_before_last, magnitude_text}
 
 -- the same bytes under another name
 pub Sends-as : {X E : Type 0} (a b : Written) (r : Result X E) (before xs ys after : List ℕ) → xs ≡ ys → Sends a b before r xs after → Sends a b before r ys after

@@ -1,8 +1,8 @@
 //! The canonical text of a database.
 ghost use Rattle.std.specs.Prelude.{◌≡◌};
-ghost use Rattle.dbc_model.specs.Device.{Prints, Sends};
-ghost use Rattle.dbc_model.specs.Layout.{layout_text};
-ghost use Rattle.dbc_model.specs.CanonicalText.{version_layout, symbols_title, symbols_layout, timing_title, timing_numbers, perhaps_numbers, timing_layout, nodes_title, nodes_layout, front_layout, attributes_layout, rows_layout, database_layout, canonical_text};
+ghost use Rattle.byte_devices.specs.Device.{Prints, Sends};
+ghost use Rattle.dbc_records.specs.Layout.{layout_text};
+ghost use Rattle.dbc_records.specs.CanonicalText.{version_layout, symbols_title, symbols_layout, timing_title, timing_numbers, perhaps_numbers, timing_layout, nodes_title, nodes_layout, front_layout, attributes_layout, rows_layout, database_layout, canonical_text};
 
 mod attributes;
 mod messages;
@@ -11,30 +11,16 @@ mod parts;
 mod rows;
 mod style;
 
-use crate::attribute::{AttrDefault, AttrRow};
-use crate::comment::Comment;
-use crate::database::Database;
-use crate::decimal::Decimal;
-use crate::definition::AttrDef;
-use crate::device::{Sink, WriteFault};
-use crate::float_row::FloatRow;
-use crate::held::{Held, flush, hold, hold_pieces};
-use crate::kept::Kept;
-use crate::list::List;
-use crate::message::Message;
-use crate::mux_row::MuxRow;
-use crate::name::Name;
+use dbc_records::{AttrDef, AttrDefault, AttrRow, Comment, Database, FloatRow, Kept, Message, MuxRow, TableRow, ValueRow};
+use dbc_values::{Decimal, List, Name, Symbol, Text};
+use byte_devices::{Held, Sink, WriteFault, flush, hold, hold_pieces};
 use crate::printing::attributes::{AttributeLine, CommentLine, DefaultLine, DefinitionLine};
 use crate::printing::messages::MessageLines;
 use crate::printing::parts::{SpacedName, hold_line_end, hold_spaced_mark, hold_spaced_number};
 use crate::printing::rows::{FloatLine, KeptLine, MuxLine, TableLine, ValuesLine};
 use crate::printing::style::{Style, hold_list};
-use crate::symbol::Symbol;
-use crate::table_row::TableRow;
-use crate::text::Text;
-use crate::value_row::ValueRow;
 
-#[tactic(auto, unfolding(crate::specs::Layout::layout_text, crate::specs::CanonicalText::version_layout))]
+#[tactic(auto, unfolding(dbc_records::specs::Layout::layout_text, dbc_records::specs::CanonicalText::version_layout))]
 fn hold_version<W: Sink>(sink: &mut W, held: &mut Held, version: &Text) -> Result<(), WriteFault>
     ensures { Sends (W.written sink.old) (W.written sink.new) held.old.items result (layout_text (version_layout version.now)) held.new.items }
 {
@@ -49,11 +35,11 @@ fn hold_version<W: Sink>(sink: &mut W, held: &mut Held, version: &Text) -> Resul
 struct SymbolLine;
 
 impl Style<Symbol> for SymbolLine {
-    ghost use Rattle.dbc_model.specs.CanonicalText.{symbol_layout};
+    ghost use Rattle.dbc_records.specs.CanonicalText.{symbol_layout};
 
     ghost layout = { symbol_layout };
 
-    #[tactic(auto, unfolding(crate::specs::Layout::layout_text, crate::specs::CanonicalText::symbol_layout))]
+    #[tactic(auto, unfolding(dbc_records::specs::Layout::layout_text, dbc_records::specs::CanonicalText::symbol_layout))]
     fn hold_item<W: Sink>(
         sink: &mut W,
         held: &mut Held,
@@ -63,14 +49,14 @@ impl Style<Symbol> for SymbolLine {
     }
 }
 
-#[tactic(auto, unfolding(crate::specs::Layout::layout_text, crate::specs::CanonicalText::symbols_title))]
+#[tactic(auto, unfolding(dbc_records::specs::Layout::layout_text, dbc_records::specs::CanonicalText::symbols_title))]
 fn hold_symbols_title<W: Sink>(sink: &mut W, held: &mut Held) -> Result<(), WriteFault>
     ensures { Sends (W.written sink.old) (W.written sink.new) held.old.items result (layout_text (symbols_title)) held.new.items }
 {
     hold(sink, held, b"NS_ :\n")
 }
 
-#[tactic(auto, using(crate::proofs::Layouts::layouts), unfolding(crate::specs::CanonicalText::symbols_layout))]
+#[tactic(auto, using(crate::proofs::Layouts::layouts), unfolding(dbc_records::specs::CanonicalText::symbols_layout))]
 fn hold_symbols<W: Sink>(
     sink: &mut W,
     held: &mut Held,
@@ -82,14 +68,14 @@ fn hold_symbols<W: Sink>(
     hold_list::<SymbolLine, Symbol, W>(sink, held, symbols)
 }
 
-#[tactic(auto, unfolding(crate::specs::Layout::layout_text, crate::specs::CanonicalText::timing_title))]
+#[tactic(auto, unfolding(dbc_records::specs::Layout::layout_text, dbc_records::specs::CanonicalText::timing_title))]
 fn hold_timing_title<W: Sink>(sink: &mut W, held: &mut Held) -> Result<(), WriteFault>
     ensures { Sends (W.written sink.old) (W.written sink.new) held.old.items result (layout_text (timing_title)) held.new.items }
 {
     hold(sink, held, b"BS_:")
 }
 
-#[tactic(auto, using(crate::proofs::Layouts::layouts), unfolding(crate::specs::CanonicalText::timing_numbers))]
+#[tactic(auto, using(crate::proofs::Layouts::layouts), unfolding(dbc_records::specs::CanonicalText::timing_numbers))]
 fn hold_timing_numbers<W: Sink>(
     sink: &mut W,
     held: &mut Held,
@@ -105,7 +91,7 @@ fn hold_timing_numbers<W: Sink>(
     hold_spaced_number(sink, held, *c)
 }
 
-#[tactic(auto, using(crate::proofs::Layouts::layouts), unfolding(crate::specs::CanonicalText::perhaps_numbers))]
+#[tactic(auto, using(crate::proofs::Layouts::layouts), unfolding(dbc_records::specs::CanonicalText::perhaps_numbers))]
 fn hold_perhaps_numbers<W: Sink>(
     sink: &mut W,
     held: &mut Held,
@@ -119,7 +105,7 @@ fn hold_perhaps_numbers<W: Sink>(
     }
 }
 
-#[tactic(auto, using(crate::proofs::Layouts::layouts), unfolding(crate::specs::CanonicalText::timing_layout))]
+#[tactic(auto, using(crate::proofs::Layouts::layouts), unfolding(dbc_records::specs::CanonicalText::timing_layout))]
 fn hold_timing<W: Sink>(
     sink: &mut W,
     held: &mut Held,
@@ -132,14 +118,14 @@ fn hold_timing<W: Sink>(
     hold_line_end(sink, held)
 }
 
-#[tactic(auto, unfolding(crate::specs::Layout::layout_text, crate::specs::CanonicalText::nodes_title))]
+#[tactic(auto, unfolding(dbc_records::specs::Layout::layout_text, dbc_records::specs::CanonicalText::nodes_title))]
 fn hold_nodes_title<W: Sink>(sink: &mut W, held: &mut Held) -> Result<(), WriteFault>
     ensures { Sends (W.written sink.old) (W.written sink.new) held.old.items result (layout_text (nodes_title)) held.new.items }
 {
     hold(sink, held, b"BU_:")
 }
 
-#[tactic(auto, using(crate::proofs::Layouts::layouts), unfolding(crate::specs::CanonicalText::nodes_layout))]
+#[tactic(auto, using(crate::proofs::Layouts::layouts), unfolding(dbc_records::specs::CanonicalText::nodes_layout))]
 fn hold_nodes<W: Sink>(sink: &mut W, held: &mut Held, nodes: &List<Name>) -> Result<(), WriteFault>
     ensures { Sends (W.written sink.old) (W.written sink.new) held.old.items result (layout_text (nodes_layout nodes.now)) held.new.items }
 {
@@ -148,7 +134,7 @@ fn hold_nodes<W: Sink>(sink: &mut W, held: &mut Held, nodes: &List<Name>) -> Res
     hold_line_end(sink, held)
 }
 
-#[tactic(auto, using(crate::proofs::Layouts::layouts), unfolding(crate::specs::CanonicalText::front_layout))]
+#[tactic(auto, using(crate::proofs::Layouts::layouts), unfolding(dbc_records::specs::CanonicalText::front_layout))]
 fn hold_front<W: Sink>(sink: &mut W, held: &mut Held, database: &Database) -> Result<(), WriteFault>
     ensures { Sends (W.written sink.old) (W.written sink.new) held.old.items result (layout_text (front_layout database.now)) held.new.items }
 {
@@ -159,7 +145,7 @@ fn hold_front<W: Sink>(sink: &mut W, held: &mut Held, database: &Database) -> Re
     hold_list::<TableLine, TableRow, W>(sink, held, &database.tables)
 }
 
-#[tactic(auto, using(crate::proofs::Layouts::layouts), unfolding(crate::specs::CanonicalText::attributes_layout))]
+#[tactic(auto, using(crate::proofs::Layouts::layouts), unfolding(dbc_records::specs::CanonicalText::attributes_layout))]
 fn hold_attributes<W: Sink>(
     sink: &mut W,
     held: &mut Held,
@@ -172,7 +158,7 @@ fn hold_attributes<W: Sink>(
     hold_list::<AttributeLine, AttrRow, W>(sink, held, &database.attributes)
 }
 
-#[tactic(auto, using(crate::proofs::Layouts::layouts), unfolding(crate::specs::CanonicalText::rows_layout))]
+#[tactic(auto, using(crate::proofs::Layouts::layouts), unfolding(dbc_records::specs::CanonicalText::rows_layout))]
 fn hold_rows<W: Sink>(sink: &mut W, held: &mut Held, database: &Database) -> Result<(), WriteFault>
     ensures { Sends (W.written sink.old) (W.written sink.new) held.old.items result (layout_text (rows_layout database.now)) held.new.items }
 {
@@ -182,7 +168,7 @@ fn hold_rows<W: Sink>(sink: &mut W, held: &mut Held, database: &Database) -> Res
     hold_list::<KeptLine, Kept, W>(sink, held, &database.kept)
 }
 
-#[tactic(auto, using(crate::proofs::Layouts::layouts), unfolding(crate::specs::CanonicalText::database_layout))]
+#[tactic(auto, using(crate::proofs::Layouts::layouts), unfolding(dbc_records::specs::CanonicalText::database_layout))]
 fn hold_database<W: Sink>(
     sink: &mut W,
     held: &mut Held,
@@ -201,7 +187,7 @@ fn hold_database<W: Sink>(
 /// with the blanks that are usual, so that equal databases print alike. It takes no memory.
 ///
 /// Where the sink fails a beginning of the text was written. The text goes out in pieces of up to 64 KiB.
-#[tactic(auto, unfolding(crate::specs::CanonicalText::canonical_text))]
+#[tactic(auto, unfolding(dbc_records::specs::CanonicalText::canonical_text))]
 pub fn print<W: Sink>(database: &Database, sink: &mut W) -> Result<(), WriteFault>
     ensures { Prints (W.written sink.old) (W.written sink.new) result (canonical_text database.now) }
 {

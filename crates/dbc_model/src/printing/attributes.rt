@@ -1,23 +1,19 @@
 //! Comments, and attributes with their definitions and defaults.
 ghost use Rattle.std.specs.Prelude.{◌≡◌, codes};
-ghost use Rattle.dbc_model.specs.Device.{Sends};
-ghost use Rattle.dbc_model.specs.Layout.{layout_text};
-ghost use Rattle.dbc_model.specs.CanonicalText.{target_layout, comment_key, object_word, object_layout, number_limits_layout, texts_layout, form_layout, definition_key, value_layout, default_key, attribute_key};
+ghost use Rattle.byte_devices.specs.Device.{Sends};
+ghost use Rattle.dbc_records.specs.Layout.{layout_text};
+ghost use Rattle.dbc_records.specs.CanonicalText.{target_layout, comment_key, object_word, object_layout, number_limits_layout, texts_layout, form_layout, definition_key, value_layout, default_key, attribute_key};
 
-use crate::attribute::{AttrDefault, AttrRow, AttrValue};
-use crate::comment::Comment;
-use crate::definition::{AttrDef, Form, Limits, Object};
-use crate::device::{Sink, WriteFault};
-use crate::held::{Held, hold_pieces};
+use dbc_records::{AttrDef, AttrDefault, AttrRow, AttrValue, Comment, Form, Limits, Object, Target};
+use byte_devices::{Held, Sink, WriteFault, hold_pieces};
 use crate::printing::parts::{
     hold_spaced_number, hold_spaced_text, hold_spaced_word, hold_statement_end, hold_word,
 };
 use crate::printing::style::{Style, hold_separated};
-use crate::target::Target;
-use crate::text::Text;
+use dbc_values::Text;
 use itoa::Buffer;
 
-#[tactic(auto, unfolding(crate::specs::Layout::layout_text, crate::specs::CanonicalText::target_layout))]
+#[tactic(auto, unfolding(dbc_records::specs::Layout::layout_text, dbc_records::specs::CanonicalText::target_layout))]
 fn hold_target<W: Sink>(sink: &mut W, held: &mut Held, target: &Target) -> Result<(), WriteFault>
     ensures { Sends (W.written sink.old) (W.written sink.new) held.old.items result (layout_text (target_layout target.now)) held.new.items }
 {
@@ -41,7 +37,7 @@ fn hold_target<W: Sink>(sink: &mut W, held: &mut Held, target: &Target) -> Resul
     }
 }
 
-#[tactic(auto, using(crate::proofs::Layouts::layouts), unfolding(crate::specs::CanonicalText::comment_key))]
+#[tactic(auto, using(crate::proofs::Layouts::layouts), unfolding(dbc_records::specs::CanonicalText::comment_key))]
 fn hold_comment_key<W: Sink>(
     sink: &mut W,
     held: &mut Held,
@@ -57,11 +53,11 @@ fn hold_comment_key<W: Sink>(
 pub struct CommentLine;
 
 impl Style<Comment> for CommentLine {
-    ghost use Rattle.dbc_model.specs.CanonicalText.{comment_layout};
+    ghost use Rattle.dbc_records.specs.CanonicalText.{comment_layout};
 
     ghost layout = { comment_layout };
 
-    #[tactic(auto, using(crate::proofs::Layouts::layouts), unfolding(crate::specs::CanonicalText::comment_layout))]
+    #[tactic(auto, using(crate::proofs::Layouts::layouts), unfolding(dbc_records::specs::CanonicalText::comment_layout))]
     fn hold_item<W: Sink>(
         sink: &mut W,
         held: &mut Held,
@@ -84,7 +80,7 @@ fn word_of(object: Object) -> &'static [u8]
     }
 }
 
-#[tactic(auto, using(crate::proofs::Layouts::layouts), unfolding(crate::specs::CanonicalText::object_layout))]
+#[tactic(auto, using(crate::proofs::Layouts::layouts), unfolding(dbc_records::specs::CanonicalText::object_layout))]
 fn hold_object<W: Sink>(
     sink: &mut W,
     held: &mut Held,
@@ -98,7 +94,7 @@ fn hold_object<W: Sink>(
     }
 }
 
-#[tactic(auto, using(crate::proofs::Layouts::layouts), unfolding(crate::specs::CanonicalText::number_limits_layout))]
+#[tactic(auto, using(crate::proofs::Layouts::layouts), unfolding(dbc_records::specs::CanonicalText::number_limits_layout))]
 fn hold_limits<W: Sink>(
     sink: &mut W,
     held: &mut Held,
@@ -119,11 +115,11 @@ fn hold_limits<W: Sink>(
 struct SpacedText;
 
 impl Style<Text> for SpacedText {
-    ghost use Rattle.dbc_model.specs.CanonicalText.{spaced_text};
+    ghost use Rattle.dbc_records.specs.CanonicalText.{spaced_text};
 
     ghost layout = { spaced_text };
 
-    #[tactic(auto, unfolding(crate::specs::Layout::layout_text, crate::specs::CanonicalText::spaced_text))]
+    #[tactic(auto, unfolding(dbc_records::specs::Layout::layout_text, dbc_records::specs::CanonicalText::spaced_text))]
     fn hold_item<W: Sink>(sink: &mut W, held: &mut Held, text: &Text) -> Result<(), WriteFault> {
         hold_spaced_text(sink, held, text)
     }
@@ -133,24 +129,24 @@ impl Style<Text> for SpacedText {
 struct FurtherText;
 
 impl Style<Text> for FurtherText {
-    ghost use Rattle.dbc_model.specs.CanonicalText.{further_text};
+    ghost use Rattle.dbc_records.specs.CanonicalText.{further_text};
 
     ghost layout = { further_text };
 
-    #[tactic(auto, unfolding(crate::specs::Layout::layout_text, crate::specs::CanonicalText::further_text))]
+    #[tactic(auto, unfolding(dbc_records::specs::Layout::layout_text, dbc_records::specs::CanonicalText::further_text))]
     fn hold_item<W: Sink>(sink: &mut W, held: &mut Held, text: &Text) -> Result<(), WriteFault> {
         hold_pieces(sink, held, &[b",\"".as_slice(), text.as_bytes(), b"\""])
     }
 }
 
-#[tactic(auto, using(crate::proofs::Layouts::layouts), unfolding(crate::specs::CanonicalText::texts_layout))]
+#[tactic(auto, using(crate::proofs::Layouts::layouts), unfolding(dbc_records::specs::CanonicalText::texts_layout))]
 fn hold_texts<W: Sink>(sink: &mut W, held: &mut Held, texts: &[Text]) -> Result<(), WriteFault>
     ensures { Sends (W.written sink.old) (W.written sink.new) held.old.items result (layout_text (texts_layout texts.now)) held.new.items }
 {
     hold_separated::<SpacedText, FurtherText, Text, W>(sink, held, texts)
 }
 
-#[tactic(auto, using(crate::proofs::Layouts::layouts), unfolding(crate::specs::CanonicalText::form_layout))]
+#[tactic(auto, using(crate::proofs::Layouts::layouts), unfolding(dbc_records::specs::CanonicalText::form_layout))]
 fn hold_form<W: Sink>(sink: &mut W, held: &mut Held, form: &Form) -> Result<(), WriteFault>
     ensures { Sends (W.written sink.old) (W.written sink.new) held.old.items result (layout_text (form_layout form.now)) held.new.items }
 {
@@ -175,7 +171,7 @@ fn hold_form<W: Sink>(sink: &mut W, held: &mut Held, form: &Form) -> Result<(), 
     }
 }
 
-#[tactic(auto, using(crate::proofs::Layouts::layouts), unfolding(crate::specs::CanonicalText::definition_key))]
+#[tactic(auto, using(crate::proofs::Layouts::layouts), unfolding(dbc_records::specs::CanonicalText::definition_key))]
 fn hold_definition_key<W: Sink>(
     sink: &mut W,
     held: &mut Held,
@@ -192,11 +188,11 @@ fn hold_definition_key<W: Sink>(
 pub struct DefinitionLine;
 
 impl Style<AttrDef> for DefinitionLine {
-    ghost use Rattle.dbc_model.specs.CanonicalText.{definition_layout};
+    ghost use Rattle.dbc_records.specs.CanonicalText.{definition_layout};
 
     ghost layout = { definition_layout };
 
-    #[tactic(auto, using(crate::proofs::Layouts::layouts), unfolding(crate::specs::CanonicalText::definition_layout))]
+    #[tactic(auto, using(crate::proofs::Layouts::layouts), unfolding(dbc_records::specs::CanonicalText::definition_layout))]
     fn hold_item<W: Sink>(
         sink: &mut W,
         held: &mut Held,
@@ -208,7 +204,7 @@ impl Style<AttrDef> for DefinitionLine {
     }
 }
 
-#[tactic(auto, using(crate::proofs::Layouts::layouts), unfolding(crate::specs::CanonicalText::value_layout))]
+#[tactic(auto, using(crate::proofs::Layouts::layouts), unfolding(dbc_records::specs::CanonicalText::value_layout))]
 fn hold_value<W: Sink>(sink: &mut W, held: &mut Held, value: &AttrValue) -> Result<(), WriteFault>
     ensures { Sends (W.written sink.old) (W.written sink.new) held.old.items result (layout_text (value_layout value.now)) held.new.items }
 {
@@ -218,7 +214,7 @@ fn hold_value<W: Sink>(sink: &mut W, held: &mut Held, value: &AttrValue) -> Resu
     }
 }
 
-#[tactic(auto, using(crate::proofs::Layouts::layouts), unfolding(crate::specs::CanonicalText::default_key))]
+#[tactic(auto, using(crate::proofs::Layouts::layouts), unfolding(dbc_records::specs::CanonicalText::default_key))]
 fn hold_default_key<W: Sink>(
     sink: &mut W,
     held: &mut Held,
@@ -234,11 +230,11 @@ fn hold_default_key<W: Sink>(
 pub struct DefaultLine;
 
 impl Style<AttrDefault> for DefaultLine {
-    ghost use Rattle.dbc_model.specs.CanonicalText.{default_layout};
+    ghost use Rattle.dbc_records.specs.CanonicalText.{default_layout};
 
     ghost layout = { default_layout };
 
-    #[tactic(auto, using(crate::proofs::Layouts::layouts), unfolding(crate::specs::CanonicalText::default_layout))]
+    #[tactic(auto, using(crate::proofs::Layouts::layouts), unfolding(dbc_records::specs::CanonicalText::default_layout))]
     fn hold_item<W: Sink>(
         sink: &mut W,
         held: &mut Held,
@@ -250,7 +246,7 @@ impl Style<AttrDefault> for DefaultLine {
     }
 }
 
-#[tactic(auto, using(crate::proofs::Layouts::layouts), unfolding(crate::specs::CanonicalText::attribute_key))]
+#[tactic(auto, using(crate::proofs::Layouts::layouts), unfolding(dbc_records::specs::CanonicalText::attribute_key))]
 fn hold_attribute_key<W: Sink>(
     sink: &mut W,
     held: &mut Held,
@@ -267,11 +263,11 @@ fn hold_attribute_key<W: Sink>(
 pub struct AttributeLine;
 
 impl Style<AttrRow> for AttributeLine {
-    ghost use Rattle.dbc_model.specs.CanonicalText.{attribute_layout};
+    ghost use Rattle.dbc_records.specs.CanonicalText.{attribute_layout};
 
     ghost layout = { attribute_layout };
 
-    #[tactic(auto, using(crate::proofs::Layouts::layouts), unfolding(crate::specs::CanonicalText::attribute_layout))]
+    #[tactic(auto, using(crate::proofs::Layouts::layouts), unfolding(dbc_records::specs::CanonicalText::attribute_layout))]
     fn hold_item<W: Sink>(sink: &mut W, held: &mut Held, row: &AttrRow) -> Result<(), WriteFault> {
         hold_attribute_key(sink, held, row)?;
         hold_value(sink, held, &row.value)?;

@@ -1,21 +1,17 @@
 //! Messages and their signals.
 ghost use Rattle.std.specs.Prelude.{◌≡◌, [], ◌∷◌};
-ghost use Rattle.dbc_model.specs.Device.{Sends};
-ghost use Rattle.dbc_model.specs.Layout.{Order, item_text, layout_text};
-ghost use Rattle.dbc_model.specs.CanonicalText.{sign_mark, head_layout, signal_name_layout, tag_layout, place_layout, scale_layout, limits_layout, receivers_layout};
+ghost use Rattle.byte_devices.specs.Device.{Sends};
+ghost use Rattle.dbc_records.specs.Layout.{Order, item_text, layout_text};
+ghost use Rattle.dbc_records.specs.CanonicalText.{sign_mark, head_layout, signal_name_layout, tag_layout, place_layout, scale_layout, limits_layout, receivers_layout};
 
-use crate::device::{Sink, WriteFault};
-use crate::head::Head;
-use crate::held::{Held, hold, hold_pieces};
-use crate::message::Message;
-use crate::name::Name;
+use byte_devices::{Held, Sink, WriteFault, hold, hold_pieces};
+use dbc_records::{Head, Message, Signal, Tag};
+use dbc_values::Name;
 use crate::printing::parts::{SpacedName, hold_line_end, hold_pair, hold_spaced_text};
 use crate::printing::style::{Style, hold_list, hold_separated};
-use crate::signal::Signal;
-use crate::tag::Tag;
 use itoa::Buffer;
 
-#[tactic(auto, unfolding(crate::specs::Layout::layout_text, crate::specs::CanonicalText::head_layout))]
+#[tactic(auto, unfolding(dbc_records::specs::Layout::layout_text, dbc_records::specs::CanonicalText::head_layout))]
 fn hold_head<W: Sink>(sink: &mut W, held: &mut Held, head: &Head) -> Result<(), WriteFault>
     ensures { Sends (W.written sink.old) (W.written sink.new) held.old.items result (layout_text (head_layout head.now)) held.new.items }
 {
@@ -35,7 +31,7 @@ fn hold_head<W: Sink>(sink: &mut W, held: &mut Held, head: &Head) -> Result<(), 
     hold_pieces(sink, held, &pieces)
 }
 
-#[tactic(auto, unfolding(crate::specs::Layout::layout_text, crate::specs::CanonicalText::signal_name_layout))]
+#[tactic(auto, unfolding(dbc_records::specs::Layout::layout_text, dbc_records::specs::CanonicalText::signal_name_layout))]
 fn hold_signal_name<W: Sink>(
     sink: &mut W,
     held: &mut Held,
@@ -46,7 +42,7 @@ fn hold_signal_name<W: Sink>(
     hold_pieces(sink, held, &[b" SG_ ".as_slice(), signal.name.as_bytes()])
 }
 
-#[tactic(auto, unfolding(crate::specs::Layout::layout_text, crate::specs::CanonicalText::tag_layout))]
+#[tactic(auto, unfolding(dbc_records::specs::Layout::layout_text, dbc_records::specs::CanonicalText::tag_layout))]
 fn hold_tag<W: Sink>(sink: &mut W, held: &mut Held, tag: Tag) -> Result<(), WriteFault>
     ensures { Sends (W.written sink.old) (W.written sink.new) held.old.items result (layout_text (tag_layout tag)) held.new.items }
 {
@@ -77,7 +73,7 @@ fn sign_of(signed: bool) -> &'static [u8]
     if signed { b"-" } else { b"+" }
 }
 
-#[tactic(auto, unfolding(crate::specs::Layout::layout_text, crate::specs::CanonicalText::place_layout))]
+#[tactic(auto, unfolding(dbc_records::specs::Layout::layout_text, dbc_records::specs::CanonicalText::place_layout))]
 fn hold_place<W: Sink>(sink: &mut W, held: &mut Held, signal: &Signal) -> Result<(), WriteFault>
     ensures { Sends (W.written sink.old) (W.written sink.new) held.old.items result (layout_text (place_layout signal.now)) held.new.items }
 {
@@ -95,14 +91,14 @@ fn hold_place<W: Sink>(sink: &mut W, held: &mut Held, signal: &Signal) -> Result
     hold_pieces(sink, held, &pieces)
 }
 
-#[tactic(auto, using(crate::proofs::Layouts::layouts), unfolding(crate::specs::CanonicalText::scale_layout))]
+#[tactic(auto, using(crate::proofs::Layouts::layouts), unfolding(dbc_records::specs::CanonicalText::scale_layout))]
 fn hold_scale<W: Sink>(sink: &mut W, held: &mut Held, signal: &Signal) -> Result<(), WriteFault>
     ensures { Sends (W.written sink.old) (W.written sink.new) held.old.items result (layout_text (scale_layout signal.now)) held.new.items }
 {
     hold_pair(sink, held, b'(', signal.factor, b',', signal.offset, b')')
 }
 
-#[tactic(auto, using(crate::proofs::Layouts::layouts), unfolding(crate::specs::CanonicalText::limits_layout))]
+#[tactic(auto, using(crate::proofs::Layouts::layouts), unfolding(dbc_records::specs::CanonicalText::limits_layout))]
 fn hold_limits<W: Sink>(sink: &mut W, held: &mut Held, signal: &Signal) -> Result<(), WriteFault>
     ensures { Sends (W.written sink.old) (W.written sink.new) held.old.items result (layout_text (limits_layout signal.now)) held.new.items }
 {
@@ -113,17 +109,17 @@ fn hold_limits<W: Sink>(sink: &mut W, held: &mut Held, signal: &Signal) -> Resul
 struct FurtherReceiver;
 
 impl Style<Name> for FurtherReceiver {
-    ghost use Rattle.dbc_model.specs.CanonicalText.{further_receiver};
+    ghost use Rattle.dbc_records.specs.CanonicalText.{further_receiver};
 
     ghost layout = { further_receiver };
 
-    #[tactic(auto, unfolding(crate::specs::Layout::layout_text, crate::specs::CanonicalText::further_receiver))]
+    #[tactic(auto, unfolding(dbc_records::specs::Layout::layout_text, dbc_records::specs::CanonicalText::further_receiver))]
     fn hold_item<W: Sink>(sink: &mut W, held: &mut Held, name: &Name) -> Result<(), WriteFault> {
         hold_pieces(sink, held, &[b",".as_slice(), name.as_bytes()])
     }
 }
 
-#[tactic(auto, using(crate::proofs::Layouts::layouts), unfolding(crate::specs::CanonicalText::receivers_layout))]
+#[tactic(auto, using(crate::proofs::Layouts::layouts), unfolding(dbc_records::specs::CanonicalText::receivers_layout))]
 fn hold_receivers<W: Sink>(sink: &mut W, held: &mut Held, names: &[Name]) -> Result<(), WriteFault>
     ensures { Sends (W.written sink.old) (W.written sink.new) held.old.items result (layout_text (receivers_layout names.now)) held.new.items }
 {
@@ -134,11 +130,11 @@ fn hold_receivers<W: Sink>(sink: &mut W, held: &mut Held, names: &[Name]) -> Res
 struct SignalLine;
 
 impl Style<Signal> for SignalLine {
-    ghost use Rattle.dbc_model.specs.CanonicalText.{signal_layout};
+    ghost use Rattle.dbc_records.specs.CanonicalText.{signal_layout};
 
     ghost layout = { signal_layout };
 
-    #[tactic(auto, using(crate::proofs::Layouts::layouts), unfolding(crate::specs::CanonicalText::signal_layout))]
+    #[tactic(auto, using(crate::proofs::Layouts::layouts), unfolding(dbc_records::specs::CanonicalText::signal_layout))]
     fn hold_item<W: Sink>(
         sink: &mut W,
         held: &mut Held,
@@ -159,11 +155,11 @@ impl Style<Signal> for SignalLine {
 pub struct MessageLines;
 
 impl Style<Message> for MessageLines {
-    ghost use Rattle.dbc_model.specs.CanonicalText.{message_layout};
+    ghost use Rattle.dbc_records.specs.CanonicalText.{message_layout};
 
     ghost layout = { message_layout };
 
-    #[tactic(auto, using(crate::proofs::Layouts::layouts), unfolding(crate::specs::CanonicalText::message_layout))]
+    #[tactic(auto, using(crate::proofs::Layouts::layouts), unfolding(dbc_records::specs::CanonicalText::message_layout))]
     fn hold_item<W: Sink>(
         sink: &mut W,
         held: &mut Held,

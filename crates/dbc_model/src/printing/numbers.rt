@@ -1,11 +1,10 @@
 //! The text of a decimal.
 ghost use Rattle.std.specs.Prelude.{◌≡◌, ◌+◌, ◌<◌, ◌≤◌, length, decimal};
-ghost use Rattle.dbc_model.specs.Device.{Sends};
-ghost use Rattle.dbc_model.specs.Layout.{decimal_text, sign_text, magnitude_text, point_before_last, filled};
+ghost use Rattle.byte_devices.specs.Device.{Sends};
+ghost use Rattle.dbc_records.specs.Layout.{decimal_text, sign_text, magnitude_text, point_before_last, filled};
 
-use crate::decimal::Decimal;
-use crate::device::{Sink, WriteFault};
-use crate::held::{Held, hold, hold_pieces};
+use dbc_values::Decimal;
+use byte_devices::{Held, Sink, WriteFault, hold, hold_pieces};
 use itoa::Buffer;
 
 // The greatest number of digits that are written before or behind a point.
@@ -34,7 +33,7 @@ fn hold_fraction<W: Sink>(
 }
 
 // Holds `digits · 10^exponent`.
-#[tactic(auto, unfolding(crate::specs::Layout::magnitude_text))]
+#[tactic(auto, unfolding(dbc_records::specs::Layout::magnitude_text))]
 fn hold_magnitude<W: Sink>(
     sink: &mut W,
     held: &mut Held,
@@ -61,7 +60,7 @@ fn hold_magnitude<W: Sink>(
 }
 
 // Holds a minus where the number is negative.
-#[tactic(auto, unfolding(crate::specs::Layout::sign_text))]
+#[tactic(auto, unfolding(dbc_records::specs::Layout::sign_text))]
 fn hold_sign<W: Sink>(sink: &mut W, held: &mut Held, negative: bool) -> Result<(), WriteFault>
     ensures { Sends (W.written sink.old) (W.written sink.new) held.old.items result (sign_text negative) held.new.items }
 {
@@ -87,7 +86,7 @@ fn hold_unsigned<W: Sink>(
 }
 
 /// Holds the decimal: digits with a point where at most 20 stand on each side of it, else as `1E-31`.
-#[tactic(auto, using(crate::proofs::Writes::sends), unfolding(crate::specs::Layout::decimal_text))]
+#[tactic(auto, using(byte_devices::proofs::Writes::sends), unfolding(dbc_records::specs::Layout::decimal_text))]
 pub fn hold_decimal<W: Sink>(
     sink: &mut W,
     held: &mut Held,

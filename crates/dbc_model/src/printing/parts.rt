@@ -1,19 +1,16 @@
 //! The parts that statements are printed of.
-ghost use Rattle.dbc_model.specs.Device.{Sends};
-ghost use Rattle.dbc_model.specs.Layout.{layout_text};
-ghost use Rattle.dbc_model.specs.CanonicalText.{blank, mark_layout, spaced_mark, number_layout, spaced_number, spaced_text, spaced_name, spaced_word, word_layout, signal_key, line_end, statement_end, spaced_end, pair_layout};
+ghost use Rattle.byte_devices.specs.Device.{Sends};
+ghost use Rattle.dbc_records.specs.Layout.{layout_text};
+ghost use Rattle.dbc_records.specs.CanonicalText.{blank, mark_layout, spaced_mark, number_layout, spaced_number, spaced_text, spaced_name, spaced_word, word_layout, signal_key, line_end, statement_end, spaced_end, pair_layout};
 
-use crate::decimal::Decimal;
-use crate::device::{Sink, WriteFault};
-use crate::held::{Held, hold, hold_pieces};
-use crate::name::Name;
+use dbc_values::{Decimal, Name, Text};
+use byte_devices::{Held, Sink, WriteFault, hold, hold_pieces};
 use crate::printing::numbers::hold_decimal;
 use crate::printing::style::Style;
-use crate::text::Text;
 use itoa::Buffer;
 
 /// Holds the mark.
-#[tactic(auto, unfolding(crate::specs::Layout::layout_text, crate::specs::CanonicalText::mark_layout))]
+#[tactic(auto, unfolding(dbc_records::specs::Layout::layout_text, dbc_records::specs::CanonicalText::mark_layout))]
 pub fn hold_mark<W: Sink>(sink: &mut W, held: &mut Held, mark: u8) -> Result<(), WriteFault>
     ensures { Sends (W.written sink.old) (W.written sink.new) held.old.items result (layout_text (mark_layout mark)) held.new.items }
 {
@@ -21,7 +18,7 @@ pub fn hold_mark<W: Sink>(sink: &mut W, held: &mut Held, mark: u8) -> Result<(),
 }
 
 /// Holds a blank and the mark.
-#[tactic(auto, unfolding(crate::specs::Layout::layout_text, crate::specs::CanonicalText::spaced_mark))]
+#[tactic(auto, unfolding(dbc_records::specs::Layout::layout_text, dbc_records::specs::CanonicalText::spaced_mark))]
 pub fn hold_spaced_mark<W: Sink>(sink: &mut W, held: &mut Held, mark: u8) -> Result<(), WriteFault>
     ensures { Sends (W.written sink.old) (W.written sink.new) held.old.items result (layout_text (spaced_mark mark)) held.new.items }
 {
@@ -29,7 +26,7 @@ pub fn hold_spaced_mark<W: Sink>(sink: &mut W, held: &mut Held, mark: u8) -> Res
 }
 
 /// Holds the number.
-#[tactic(auto, unfolding(crate::specs::Layout::layout_text, crate::specs::CanonicalText::number_layout))]
+#[tactic(auto, unfolding(dbc_records::specs::Layout::layout_text, dbc_records::specs::CanonicalText::number_layout))]
 pub fn hold_number<W: Sink>(
     sink: &mut W,
     held: &mut Held,
@@ -41,7 +38,7 @@ pub fn hold_number<W: Sink>(
 }
 
 /// Holds a blank.
-#[tactic(auto, unfolding(crate::specs::Layout::layout_text, crate::specs::CanonicalText::blank))]
+#[tactic(auto, unfolding(dbc_records::specs::Layout::layout_text, dbc_records::specs::CanonicalText::blank))]
 fn hold_blank<W: Sink>(sink: &mut W, held: &mut Held) -> Result<(), WriteFault>
     ensures { Sends (W.written sink.old) (W.written sink.new) held.old.items result (layout_text blank) held.new.items }
 {
@@ -49,7 +46,7 @@ fn hold_blank<W: Sink>(sink: &mut W, held: &mut Held) -> Result<(), WriteFault>
 }
 
 /// Holds a blank and the number.
-#[tactic(auto, using(crate::proofs::Layouts::layouts), unfolding(crate::specs::CanonicalText::spaced_number))]
+#[tactic(auto, using(crate::proofs::Layouts::layouts), unfolding(dbc_records::specs::CanonicalText::spaced_number))]
 pub fn hold_spaced_number<W: Sink>(
     sink: &mut W,
     held: &mut Held,
@@ -62,7 +59,7 @@ pub fn hold_spaced_number<W: Sink>(
 }
 
 /// Holds a blank and the text between quotes.
-#[tactic(auto, unfolding(crate::specs::Layout::layout_text, crate::specs::CanonicalText::spaced_text))]
+#[tactic(auto, unfolding(dbc_records::specs::Layout::layout_text, dbc_records::specs::CanonicalText::spaced_text))]
 pub fn hold_spaced_text<W: Sink>(
     sink: &mut W,
     held: &mut Held,
@@ -74,7 +71,7 @@ pub fn hold_spaced_text<W: Sink>(
 }
 
 /// Holds a blank and the word.
-#[tactic(auto, unfolding(crate::specs::Layout::layout_text, crate::specs::CanonicalText::spaced_word))]
+#[tactic(auto, unfolding(dbc_records::specs::Layout::layout_text, dbc_records::specs::CanonicalText::spaced_word))]
 pub fn hold_spaced_word<W: Sink>(
     sink: &mut W,
     held: &mut Held,
@@ -86,7 +83,7 @@ pub fn hold_spaced_word<W: Sink>(
 }
 
 /// Holds the word.
-#[tactic(auto, unfolding(crate::specs::Layout::layout_text, crate::specs::CanonicalText::word_layout))]
+#[tactic(auto, unfolding(dbc_records::specs::Layout::layout_text, dbc_records::specs::CanonicalText::word_layout))]
 pub fn hold_word<W: Sink>(sink: &mut W, held: &mut Held, word: &[u8]) -> Result<(), WriteFault>
     ensures { Sends (W.written sink.old) (W.written sink.new) held.old.items result (layout_text (word_layout word.now)) held.new.items }
 {
@@ -94,7 +91,7 @@ pub fn hold_word<W: Sink>(sink: &mut W, held: &mut Held, word: &[u8]) -> Result<
 }
 
 /// Holds the number of a message and the name of a signal, each behind a blank.
-#[tactic(auto, unfolding(crate::specs::Layout::layout_text, crate::specs::CanonicalText::signal_key))]
+#[tactic(auto, unfolding(dbc_records::specs::Layout::layout_text, dbc_records::specs::CanonicalText::signal_key))]
 pub fn hold_signal_key<W: Sink>(
     sink: &mut W,
     held: &mut Held,
@@ -114,7 +111,7 @@ pub fn hold_signal_key<W: Sink>(
 }
 
 /// Ends the line.
-#[tactic(auto, unfolding(crate::specs::Layout::layout_text, crate::specs::CanonicalText::line_end))]
+#[tactic(auto, unfolding(dbc_records::specs::Layout::layout_text, dbc_records::specs::CanonicalText::line_end))]
 pub fn hold_line_end<W: Sink>(sink: &mut W, held: &mut Held) -> Result<(), WriteFault>
     ensures { Sends (W.written sink.old) (W.written sink.new) held.old.items result (layout_text (line_end)) held.new.items }
 {
@@ -122,7 +119,7 @@ pub fn hold_line_end<W: Sink>(sink: &mut W, held: &mut Held) -> Result<(), Write
 }
 
 /// Ends the statement.
-#[tactic(auto, unfolding(crate::specs::Layout::layout_text, crate::specs::CanonicalText::statement_end))]
+#[tactic(auto, unfolding(dbc_records::specs::Layout::layout_text, dbc_records::specs::CanonicalText::statement_end))]
 pub fn hold_statement_end<W: Sink>(sink: &mut W, held: &mut Held) -> Result<(), WriteFault>
     ensures { Sends (W.written sink.old) (W.written sink.new) held.old.items result (layout_text (statement_end)) held.new.items }
 {
@@ -130,7 +127,7 @@ pub fn hold_statement_end<W: Sink>(sink: &mut W, held: &mut Held) -> Result<(), 
 }
 
 /// Ends a statement behind entries.
-#[tactic(auto, unfolding(crate::specs::Layout::layout_text, crate::specs::CanonicalText::spaced_end))]
+#[tactic(auto, unfolding(dbc_records::specs::Layout::layout_text, dbc_records::specs::CanonicalText::spaced_end))]
 pub fn hold_spaced_end<W: Sink>(sink: &mut W, held: &mut Held) -> Result<(), WriteFault>
     ensures { Sends (W.written sink.old) (W.written sink.new) held.old.items result (layout_text (spaced_end)) held.new.items }
 {
@@ -138,7 +135,7 @@ pub fn hold_spaced_end<W: Sink>(sink: &mut W, held: &mut Held) -> Result<(), Wri
 }
 
 /// Holds two numbers with marks before, between and behind them: ` (a,b)`.
-#[tactic(auto, using(crate::proofs::Layouts::layouts), unfolding(crate::specs::CanonicalText::pair_layout))]
+#[tactic(auto, using(crate::proofs::Layouts::layouts), unfolding(dbc_records::specs::CanonicalText::pair_layout))]
 pub fn hold_pair<W: Sink>(
     sink: &mut W,
     held: &mut Held,
@@ -161,11 +158,11 @@ pub fn hold_pair<W: Sink>(
 pub struct SpacedName;
 
 impl Style<Name> for SpacedName {
-    ghost use Rattle.dbc_model.specs.CanonicalText.{spaced_name};
+    ghost use Rattle.dbc_records.specs.CanonicalText.{spaced_name};
 
     ghost layout = { spaced_name };
 
-    #[tactic(auto, unfolding(crate::specs::Layout::layout_text, crate::specs::CanonicalText::spaced_name))]
+    #[tactic(auto, unfolding(dbc_records::specs::Layout::layout_text, dbc_records::specs::CanonicalText::spaced_name))]
     fn hold_item<W: Sink>(sink: &mut W, held: &mut Held, name: &Name) -> Result<(), WriteFault> {
         hold_pieces(sink, held, &[b" ".as_slice(), name.as_bytes()])
     }

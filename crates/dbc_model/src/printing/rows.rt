@@ -1,32 +1,26 @@
 //! Rows of tables, named values, float types and multiplexing, and kept statements.
-ghost use Rattle.dbc_model.specs.Device.{Sends};
-ghost use Rattle.dbc_model.specs.Layout.{layout_text};
-ghost use Rattle.dbc_model.specs.CanonicalText.{table_key, values_key, float_key, float_kind, mux_key, ranges_layout};
+ghost use Rattle.byte_devices.specs.Device.{Sends};
+ghost use Rattle.dbc_records.specs.Layout.{layout_text};
+ghost use Rattle.dbc_records.specs.CanonicalText.{table_key, values_key, float_key, float_kind, mux_key, ranges_layout};
 
-use crate::device::{Sink, WriteFault};
-use crate::entry::Entry;
-use crate::float_row::FloatRow;
-use crate::held::{Held, hold_pieces};
-use crate::kept::Kept;
-use crate::mux_row::{MuxRow, Range};
-use crate::piece::Piece;
+use byte_devices::{Held, Sink, WriteFault, hold_pieces};
+use dbc_records::{Entry, FloatRow, Kept, MuxRow, Range, TableRow, ValueRow};
+use dbc_values::Piece;
 use crate::printing::parts::{
     SpacedName, hold_signal_key, hold_spaced_end, hold_statement_end, hold_word,
 };
 use crate::printing::style::{Style, hold_list, hold_separated};
-use crate::table_row::TableRow;
-use crate::value_row::ValueRow;
 use itoa::Buffer;
 
 // A number and its text.
 struct EntryStyle;
 
 impl Style<Entry> for EntryStyle {
-    ghost use Rattle.dbc_model.specs.CanonicalText.{entry_layout};
+    ghost use Rattle.dbc_records.specs.CanonicalText.{entry_layout};
 
     ghost layout = { entry_layout };
 
-    #[tactic(auto, unfolding(crate::specs::Layout::layout_text, crate::specs::CanonicalText::entry_layout))]
+    #[tactic(auto, unfolding(dbc_records::specs::Layout::layout_text, dbc_records::specs::CanonicalText::entry_layout))]
     fn hold_item<W: Sink>(sink: &mut W, held: &mut Held, entry: &Entry) -> Result<(), WriteFault> {
         let mut number = Buffer::new();
         let pieces: [&[u8]; 5] = [
@@ -40,7 +34,7 @@ impl Style<Entry> for EntryStyle {
     }
 }
 
-#[tactic(auto, using(crate::proofs::Layouts::layouts), unfolding(crate::specs::CanonicalText::table_key))]
+#[tactic(auto, using(crate::proofs::Layouts::layouts), unfolding(dbc_records::specs::CanonicalText::table_key))]
 fn hold_table_key<W: Sink>(sink: &mut W, held: &mut Held, row: &TableRow) -> Result<(), WriteFault>
     ensures { Sends (W.written sink.old) (W.written sink.new) held.old.items result (layout_text (table_key row.now)) held.new.items }
 {
@@ -52,11 +46,11 @@ fn hold_table_key<W: Sink>(sink: &mut W, held: &mut Held, row: &TableRow) -> Res
 pub struct TableLine;
 
 impl Style<TableRow> for TableLine {
-    ghost use Rattle.dbc_model.specs.CanonicalText.{table_layout};
+    ghost use Rattle.dbc_records.specs.CanonicalText.{table_layout};
 
     ghost layout = { table_layout };
 
-    #[tactic(auto, using(crate::proofs::Layouts::layouts), unfolding(crate::specs::CanonicalText::table_layout))]
+    #[tactic(auto, using(crate::proofs::Layouts::layouts), unfolding(dbc_records::specs::CanonicalText::table_layout))]
     fn hold_item<W: Sink>(sink: &mut W, held: &mut Held, row: &TableRow) -> Result<(), WriteFault> {
         hold_table_key(sink, held, row)?;
         hold_list::<EntryStyle, Entry, W>(sink, held, &row.entries)?;
@@ -64,7 +58,7 @@ impl Style<TableRow> for TableLine {
     }
 }
 
-#[tactic(auto, using(crate::proofs::Layouts::layouts), unfolding(crate::specs::CanonicalText::values_key))]
+#[tactic(auto, using(crate::proofs::Layouts::layouts), unfolding(dbc_records::specs::CanonicalText::values_key))]
 fn hold_values_key<W: Sink>(sink: &mut W, held: &mut Held, row: &ValueRow) -> Result<(), WriteFault>
     ensures { Sends (W.written sink.old) (W.written sink.new) held.old.items result (layout_text (values_key row.now)) held.new.items }
 {
@@ -76,11 +70,11 @@ fn hold_values_key<W: Sink>(sink: &mut W, held: &mut Held, row: &ValueRow) -> Re
 pub struct ValuesLine;
 
 impl Style<ValueRow> for ValuesLine {
-    ghost use Rattle.dbc_model.specs.CanonicalText.{values_layout};
+    ghost use Rattle.dbc_records.specs.CanonicalText.{values_layout};
 
     ghost layout = { values_layout };
 
-    #[tactic(auto, using(crate::proofs::Layouts::layouts), unfolding(crate::specs::CanonicalText::values_layout))]
+    #[tactic(auto, using(crate::proofs::Layouts::layouts), unfolding(dbc_records::specs::CanonicalText::values_layout))]
     fn hold_item<W: Sink>(sink: &mut W, held: &mut Held, row: &ValueRow) -> Result<(), WriteFault> {
         hold_values_key(sink, held, row)?;
         hold_list::<EntryStyle, Entry, W>(sink, held, &row.entries)?;
@@ -88,7 +82,7 @@ impl Style<ValueRow> for ValuesLine {
     }
 }
 
-#[tactic(auto, using(crate::proofs::Layouts::layouts), unfolding(crate::specs::CanonicalText::float_key))]
+#[tactic(auto, using(crate::proofs::Layouts::layouts), unfolding(dbc_records::specs::CanonicalText::float_key))]
 fn hold_float_key<W: Sink>(sink: &mut W, held: &mut Held, row: &FloatRow) -> Result<(), WriteFault>
     ensures { Sends (W.written sink.old) (W.written sink.new) held.old.items result (layout_text (float_key row.now)) held.new.items }
 {
@@ -96,7 +90,7 @@ fn hold_float_key<W: Sink>(sink: &mut W, held: &mut Held, row: &FloatRow) -> Res
     hold_signal_key(sink, held, row.number, &row.signal)
 }
 
-#[tactic(auto, unfolding(crate::specs::Layout::layout_text, crate::specs::CanonicalText::float_kind))]
+#[tactic(auto, unfolding(dbc_records::specs::Layout::layout_text, dbc_records::specs::CanonicalText::float_kind))]
 fn hold_float_kind<W: Sink>(sink: &mut W, held: &mut Held, row: &FloatRow) -> Result<(), WriteFault>
     ensures { Sends (W.written sink.old) (W.written sink.new) held.old.items result (layout_text (float_kind row.now)) held.new.items }
 {
@@ -109,11 +103,11 @@ fn hold_float_kind<W: Sink>(sink: &mut W, held: &mut Held, row: &FloatRow) -> Re
 pub struct FloatLine;
 
 impl Style<FloatRow> for FloatLine {
-    ghost use Rattle.dbc_model.specs.CanonicalText.{float_layout};
+    ghost use Rattle.dbc_records.specs.CanonicalText.{float_layout};
 
     ghost layout = { float_layout };
 
-    #[tactic(auto, using(crate::proofs::Layouts::layouts), unfolding(crate::specs::CanonicalText::float_layout))]
+    #[tactic(auto, using(crate::proofs::Layouts::layouts), unfolding(dbc_records::specs::CanonicalText::float_layout))]
     fn hold_item<W: Sink>(sink: &mut W, held: &mut Held, row: &FloatRow) -> Result<(), WriteFault> {
         hold_float_key(sink, held, row)?;
         hold_float_kind(sink, held, row)?;
@@ -125,11 +119,11 @@ impl Style<FloatRow> for FloatLine {
 struct FirstRange;
 
 impl Style<Range> for FirstRange {
-    ghost use Rattle.dbc_model.specs.CanonicalText.{range_layout};
+    ghost use Rattle.dbc_records.specs.CanonicalText.{range_layout};
 
     ghost layout = { range_layout };
 
-    #[tactic(auto, unfolding(crate::specs::Layout::layout_text, crate::specs::CanonicalText::range_layout))]
+    #[tactic(auto, unfolding(dbc_records::specs::Layout::layout_text, dbc_records::specs::CanonicalText::range_layout))]
     fn hold_item<W: Sink>(sink: &mut W, held: &mut Held, range: &Range) -> Result<(), WriteFault> {
         let mut first = Buffer::new();
         let mut last = Buffer::new();
@@ -147,11 +141,11 @@ impl Style<Range> for FirstRange {
 struct FurtherRange;
 
 impl Style<Range> for FurtherRange {
-    ghost use Rattle.dbc_model.specs.CanonicalText.{further_range};
+    ghost use Rattle.dbc_records.specs.CanonicalText.{further_range};
 
     ghost layout = { further_range };
 
-    #[tactic(auto, unfolding(crate::specs::Layout::layout_text, crate::specs::CanonicalText::further_range))]
+    #[tactic(auto, unfolding(dbc_records::specs::Layout::layout_text, dbc_records::specs::CanonicalText::further_range))]
     fn hold_item<W: Sink>(sink: &mut W, held: &mut Held, range: &Range) -> Result<(), WriteFault> {
         let mut first = Buffer::new();
         let mut last = Buffer::new();
@@ -165,14 +159,14 @@ impl Style<Range> for FurtherRange {
     }
 }
 
-#[tactic(auto, using(crate::proofs::Layouts::layouts), unfolding(crate::specs::CanonicalText::ranges_layout))]
+#[tactic(auto, using(crate::proofs::Layouts::layouts), unfolding(dbc_records::specs::CanonicalText::ranges_layout))]
 fn hold_ranges<W: Sink>(sink: &mut W, held: &mut Held, ranges: &[Range]) -> Result<(), WriteFault>
     ensures { Sends (W.written sink.old) (W.written sink.new) held.old.items result (layout_text (ranges_layout ranges.now)) held.new.items }
 {
     hold_separated::<FirstRange, FurtherRange, Range, W>(sink, held, ranges)
 }
 
-#[tactic(auto, using(crate::proofs::Layouts::layouts), unfolding(crate::specs::CanonicalText::mux_key))]
+#[tactic(auto, using(crate::proofs::Layouts::layouts), unfolding(dbc_records::specs::CanonicalText::mux_key))]
 fn hold_mux_key<W: Sink>(sink: &mut W, held: &mut Held, row: &MuxRow) -> Result<(), WriteFault>
     ensures { Sends (W.written sink.old) (W.written sink.new) held.old.items result (layout_text (mux_key row.now)) held.new.items }
 {
@@ -184,11 +178,11 @@ fn hold_mux_key<W: Sink>(sink: &mut W, held: &mut Held, row: &MuxRow) -> Result<
 pub struct MuxLine;
 
 impl Style<MuxRow> for MuxLine {
-    ghost use Rattle.dbc_model.specs.CanonicalText.{mux_layout};
+    ghost use Rattle.dbc_records.specs.CanonicalText.{mux_layout};
 
     ghost layout = { mux_layout };
 
-    #[tactic(auto, using(crate::proofs::Layouts::layouts), unfolding(crate::specs::CanonicalText::mux_layout))]
+    #[tactic(auto, using(crate::proofs::Layouts::layouts), unfolding(dbc_records::specs::CanonicalText::mux_layout))]
     fn hold_item<W: Sink>(sink: &mut W, held: &mut Held, row: &MuxRow) -> Result<(), WriteFault> {
         hold_mux_key(sink, held, row)?;
         SpacedName::hold_item(sink, held, &row.switch)?;
@@ -201,11 +195,11 @@ impl Style<MuxRow> for MuxLine {
 struct PieceStyle;
 
 impl Style<Piece> for PieceStyle {
-    ghost use Rattle.dbc_model.specs.CanonicalText.{piece_layout};
+    ghost use Rattle.dbc_records.specs.CanonicalText.{piece_layout};
 
     ghost layout = { piece_layout };
 
-    #[tactic(auto, unfolding(crate::specs::Layout::layout_text, crate::specs::CanonicalText::piece_layout))]
+    #[tactic(auto, unfolding(dbc_records::specs::Layout::layout_text, dbc_records::specs::CanonicalText::piece_layout))]
     fn hold_item<W: Sink>(sink: &mut W, held: &mut Held, piece: &Piece) -> Result<(), WriteFault> {
         hold_pieces(sink, held, &[piece.as_bytes(), b" "])
     }
@@ -215,11 +209,11 @@ impl Style<Piece> for PieceStyle {
 pub struct KeptLine;
 
 impl Style<Kept> for KeptLine {
-    ghost use Rattle.dbc_model.specs.CanonicalText.{kept_layout};
+    ghost use Rattle.dbc_records.specs.CanonicalText.{kept_layout};
 
     ghost layout = { kept_layout };
 
-    #[tactic(auto, using(crate::proofs::Layouts::layouts), unfolding(crate::specs::CanonicalText::kept_layout))]
+    #[tactic(auto, using(crate::proofs::Layouts::layouts), unfolding(dbc_records::specs::CanonicalText::kept_layout))]
     fn hold_item<W: Sink>(
         sink: &mut W,
         held: &mut Held,

@@ -1,15 +1,14 @@
 //! Lists of items that are printed one after another.
 ghost use Rattle.std.specs.List.{flat_map};
-ghost use Rattle.dbc_model.specs.Device.{Sends};
-ghost use Rattle.dbc_model.specs.Layout.{layout_text, separated};
+ghost use Rattle.byte_devices.specs.Device.{Sends};
+ghost use Rattle.dbc_records.specs.Layout.{layout_text, separated};
 
-use crate::device::{Sink, WriteFault};
-use crate::held::Held;
-use crate::list::{Checked, List};
+use byte_devices::{Held, Sink, WriteFault};
+use dbc_values::{Checked, List};
 
 /// How an item of a list is printed.
 pub trait Style<T: Checked> {
-    ghost use Rattle.dbc_model.specs.Layout.{Layout};
+    ghost use Rattle.dbc_records.specs.Layout.{Layout};
 
     // The item's layout.
     ghost layout: { T → Layout };

@@ -1,7 +1,7 @@
 use Rattle.std.proofs.Common.{◌≡◌, [], rules}
-use Rattle.dbc_model.specs.Layout.{layout_text}
-use Rattle.dbc_model.specs.CanonicalText.{canonical_text, database_layout}
-use Rattle.dbc_model.proofs.Writes.{Prints-flush}
+use Rattle.dbc_records.specs.Layout.{layout_text}
+use Rattle.dbc_records.specs.CanonicalText.{canonical_text, database_layout}
+use Rattle.byte_devices.proofs.Writes.{Prints-flush}
 use Rattle.dbc_model.proofs.printing.print.Goals as goal
 
 pub returns : goal.returns

@@ -1,6 +1,6 @@
 use Rattle.std.proofs.Common.{◌≡◌, decimal, ap, rules, to_z, of_z, w16}
-use Rattle.dbc_model.specs.Layout.{decimal_text, sign_text, magnitude_text}
-use Rattle.dbc_model.proofs.Writes.{Sends-after}
+use Rattle.dbc_records.specs.Layout.{decimal_text, sign_text, magnitude_text}
+use Rattle.byte_devices.proofs.Writes.{Sends-after}
 use Rattle.dbc_model.proofs.Magnitudes.{Sends-as}
 use Rattle.dbc_model.proofs.printing.numbers.hold_decimal.Goals as goal
 

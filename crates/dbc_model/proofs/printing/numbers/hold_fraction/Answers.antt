@@ -1,6 +1,6 @@
 use Rattle.std.proofs.Common.{◌-◌, ◌≤◌, ◌++◌, ◌∷◌, [], length, ap, ◌∙◌, arith, rules, sym, append-nil}
 use Rattle.std.proofs.lemmas.List.{take-replicate}
-use Rattle.dbc_model.specs.Layout.{zeros}
+use Rattle.dbc_records.specs.Layout.{zeros}
 use Rattle.dbc_model.proofs.Magnitudes.{Sends-as, fraction_filled}
 use Rattle.dbc_model.proofs.printing.numbers.hold_fraction.Goals as goal
 

@@ -1,7 +1,7 @@
 use Rattle.std.proofs.Common.{◌≡◌, ◌≤◌, ◌≤ℤ◌, pos, ◌+◌, ◌++◌, length, ap, ◌∙◌, arith, rules, sym, append-nil, subst}
 use Rattle.std.specs.Prelude.{unsigned_abs}
 use Rattle.std.proofs.lemmas.List.{take-replicate}
-use Rattle.dbc_model.specs.Layout.{zeros}
+use Rattle.dbc_records.specs.Layout.{zeros}
 use Rattle.dbc_model.proofs.Magnitudes.{Sends-as, magnitude_whole}
 use Rattle.dbc_model.proofs.printing.numbers.hold_magnitude.Goals as goal
 

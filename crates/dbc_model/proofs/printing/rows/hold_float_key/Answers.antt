@@ -1,5 +1,5 @@
 use Rattle.std.specs.Prelude.{codes}
-use Rattle.dbc_model.specs.CanonicalText.{word_layout, signal_key, float_key}
+use Rattle.dbc_records.specs.CanonicalText.{word_layout, signal_key, float_key}
 use Rattle.dbc_model.proofs.Layouts.{Sends-then}
 use Rattle.dbc_model.proofs.printing.rows.hold_float_key.Goals as goal
 

@@ -1,7 +1,7 @@
 use Rattle.std.proofs.Common.{ap, ◌-◌, length, take, drop}
 use Rattle.std.specs.List.{flat_map}
-use Rattle.dbc_model.specs.Layout.{layout_text}
-use Rattle.dbc_model.proofs.Writes.{Passes-nil}
+use Rattle.dbc_records.specs.Layout.{layout_text}
+use Rattle.byte_devices.proofs.Writes.{Passes-nil}
 use Rattle.dbc_model.proofs.Magnitudes.{Sends-as}
 use Rattle.dbc_model.proofs.Layouts.{separated-none, separated-some, Sends-then, Sends-broke}
 use Rattle.dbc_model.proofs.printing.style.hold_separated.Goals as goal

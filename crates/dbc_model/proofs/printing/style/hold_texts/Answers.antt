@@ -1,6 +1,6 @@
 use Rattle.std.proofs.lemmas.Result.{MatchResult-from_err}
-use Rattle.dbc_model.specs.Layout.{layout_text}
-use Rattle.dbc_model.proofs.Writes.{Broke-item, Passes-item}
+use Rattle.dbc_records.specs.Layout.{layout_text}
+use Rattle.byte_devices.proofs.Writes.{Broke-item, Passes-item}
 use Rattle.dbc_model.proofs.printing.style.hold_texts.Goals as goal
 
 pub returns-in_err-hold_item : goal.returns-in_err-hold_item

@@ -1,7 +1,7 @@
 use Rattle.std.proofs.Common.{take}
 use Rattle.std.specs.List.{flat_map}
-use Rattle.dbc_model.specs.Device.{Passes}
-use Rattle.dbc_model.specs.Layout.{layout_text}
+use Rattle.byte_devices.specs.Device.{Passes}
+use Rattle.dbc_records.specs.Layout.{layout_text}
 use Rattle.dbc_model.proofs.printing.style.hold_texts.Given as goal
 
 abbrev pub invariant-loop-item : goal.invariant-loop-item

@@ -1,0 +1,23 @@
+use Rattle.std.proofs.Common.{◌≡◌, ◌≤◌, ◌+◌, ◌-◌, ◌++◌, ℕ, List, length, take, drop, refl, sym, ap, ◌∙◌, arith, length-take, length-drop, take-append-drop}
+use Rattle.std.proofs.lemmas.List.{take_at, take_rest, drop-drop}
+use Rattle.byte_devices.proofs.limp.LimpSource.pull.Goals as goal
+
+-- what is copied to the front of the piece, and what stays, make the bytes that were left
+moved : (bytes source front more : List ℕ) (place n : ℕ) → source ≡ bytes → front ≡ take n (take (length source - place) (drop place source)) → place + n ≤ length bytes
+    → drop place bytes ≡ take n (front ++ more) ++ drop (place + n) bytes
+moved bytes source front more place n same copied fits =
+    let is_front : front ≡ take n (drop place bytes) = copied ∙ ap (take n) (take_rest source place ∙ ap (drop place) same) in
+    let long : length front ≡ n = ap length is_front ∙ (omega (arith, length-take n (drop place bytes), length-drop place bytes)) in
+    rw (take_at front more n long, is_front, ← drop-drop n place bytes) (sym (take-append-drop n (drop place bytes)))
+
+pub returns-clause-pulled : goal.returns-clause-pulled
+returns-clause-pulled c =
+    let copied = c.copy_from_slice.ensures in
+    let lent = c.deref.ensures in
+    let rest = length-take (length c.deref.result.now - c.args.self.now.place) (drop c.args.self.now.place c.deref.result.now) in
+    let behind = length-drop c.args.self.now.place c.deref.result.now in
+    let same = ap length lent.value in
+    record {
+      bytes = moved c.args.self.now.bytes.items c.deref.result.now c.copy_from_slice.new.self _ c.args.self.now.place c.min-count.result lent.value copied.after (omega arith);
+      failures = refl;
+    }

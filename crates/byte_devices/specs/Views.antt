@@ -1,0 +1,32 @@
+-- What contracts see of the devices whose fields are private.
+use Rattle.std.specs.Prelude.{ℕ, List, drop, Option, Some}
+use Rattle.byte_devices.specs.Device.{Written, Unread}
+use Rattle.byte_devices.specs.declared.from_std.FromRead.{FromRead}
+use Rattle.byte_devices.specs.declared.from_std.FromWrite.{FromWrite}
+use Rattle.byte_devices.specs.declared.limp.Limp.{Limp}
+
+-- a reader of std's as a source, by what the reader has left
+abbrev pub unread_of : {R : Type 0} → (R → Option (List ℕ)) → FromRead R → Unread
+unread_of remaining source = record { bytes = remaining source.reader; failures = source.failures; patience = source.pulls_left }
+
+abbrev pub writer_of : {W : Type 0} → FromWrite W → W
+writer_of sink = sink.writer
+
+-- a writer of std's as a sink, by what the writer holds
+abbrev pub written_of : {W : Type 0} → (W → Option (List ℕ)) → FromWrite W → Written
+written_of contents sink = record { bytes = contents sink.writer; failures = sink.failures }
+
+-- all the bytes of a limping device
+abbrev pub bytes_of : Limp → List ℕ
+bytes_of limp = limp.bytes.items
+
+abbrev pub failures_of : Limp → ℕ
+failures_of limp = limp.failures
+
+-- as a source: the bytes from its place on
+abbrev pub unread_of_limp : Limp → Unread
+unread_of_limp limp = record { bytes = Some (drop limp.place limp.bytes.items); failures = limp.failures; patience = limp.calls_left }
+
+-- as a sink: all its bytes
+abbrev pub written_of_limp : Limp → Written
+written_of_limp limp = record { bytes = Some limp.bytes.items; failures = limp.failures }

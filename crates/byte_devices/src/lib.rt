@@ -1,0 +1,14 @@
+//! The devices of the outside: sources that bytes are pulled from and sinks that they are put to, std's readers and writers as
+//! such, a buffer before a sink, and a device over memory that limps, for tests.
+#![tactic(auto)]
+
+mod device;
+mod from_std;
+mod held;
+pub mod limp;
+#[cfg(test)]
+mod tests;
+
+pub use device::{Broken, Sink, Source, WriteFault, put_all};
+pub use from_std::{FromRead, FromWrite};
+pub use held::{Held, flush, hold, hold_pieces};

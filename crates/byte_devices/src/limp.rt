@@ -1,0 +1,106 @@
+//! A device over memory that limps, for the tests of every crate: it moves little at a time, and fails from some call
+//! or byte on.
+ghost use Rattle.std.specs.Prelude.{◌≡◌, ◌<◌, ◌≤◌, Some, vec_len};
+
+use crate::device::{Broken, Sink, Source};
+
+/// As a source it gives its bytes from the first on, and as a sink it adds to their end.
+#[derive(Drop)]
+pub struct Limp {
+    bytes: Vec<u8>,
+    place: usize,
+    most: usize,
+    calls_left: u64,
+    bytes_left: usize,
+    failures: u64,
+    ghost place_in: { place ≤ vec_len bytes },
+    ghost moves: { 0 < most },
+}
+
+impl Limp {
+    ghost use Rattle.byte_devices.specs.Device.{Rises};
+    ghost use Rattle.byte_devices.specs.Views.{bytes_of, failures_of, unread_of_limp, written_of_limp};
+
+    /// A device over these bytes that moves at most `most` of them in a call. It fails in each call after the first
+    /// `calls`, and where `limit` bytes have moved.
+    pub fn new(bytes: Vec<u8>, most: usize, calls: u64, limit: usize) -> Self
+        requires { 0 < most }
+        ensures source { unread_of_limp result ≡ record { bytes = Some bytes.items; failures = 0; patience = calls } }
+        ensures sink { written_of_limp result ≡ record { bytes = Some bytes.items; failures = 0 } }
+    {
+        Limp {
+            bytes,
+            place: 0,
+            most,
+            calls_left: calls,
+            bytes_left: limit,
+            failures: 0,
+        }
+    }
+
+    /// All the bytes, those that a source has given too.
+    pub fn bytes(&self) -> &[u8]
+        ensures { result.now ≡ bytes_of self.now }
+    {
+        self.bytes.as_slice()
+    }
+
+    /// How often a call has failed.
+    pub fn failures(&self) -> u64
+        ensures { result ≡ failures_of self.now }
+    {
+        self.failures
+    }
+
+    // Counts a failure.
+    fn fail(&mut self) -> Broken
+        ensures bytes { self.new.bytes ≡ self.old.bytes }
+        ensures place { self.new.place ≡ self.old.place }
+        ensures failures { Rises self.old.failures self.new.failures }
+    {
+        self.failures = self.failures.saturating_add(1);
+        Broken
+    }
+}
+
+impl Source for Limp {
+    ghost use Rattle.byte_devices.specs.Views.{unread_of_limp};
+
+    ghost unread = { unread_of_limp };
+
+    fn pull(&mut self, piece: &mut [u8]) -> Result<usize, Broken> {
+        if self.calls_left == 0 || self.bytes_left == 0 {
+            return Err(self.fail());
+        }
+        let rest = &self.bytes[self.place..];
+        let count = rest
+            .len()
+            .min(piece.len())
+            .min(self.most)
+            .min(self.bytes_left);
+        piece[..count].copy_from_slice(&rest[..count]);
+        self.place += count;
+        self.bytes_left -= count;
+        self.calls_left -= 1;
+        Ok(count)
+    }
+}
+
+impl Sink for Limp {
+    ghost use Rattle.byte_devices.specs.Views.{written_of_limp};
+
+    ghost written = { written_of_limp };
+
+    fn put(&mut self, piece: &[u8]) -> Result<usize, Broken> {
+        if self.calls_left == 0 || self.bytes_left == 0 {
+            return Err(self.fail());
+        }
+        let count = piece.len().min(self.most).min(self.bytes_left);
+        if self.bytes.extend_from_slice(&piece[..count]).is_err() {
+            return Err(self.fail());
+        }
+        self.bytes_left -= count;
+        self.calls_left -= 1;
+        Ok(count)
+    }
+}

@@ -1,5 +1,0 @@
-use Rattle.dbc_model.proofs.NormalForms.{decimal_from, decimal_to}
-use Rattle.dbc_model.proofs.laws.one_decimal.Goals as goal
-
-pub returns : goal.returns
-returns c = λ negative m e d. (decimal_from negative m e d, decimal_to negative m e d)

@@ -1,0 +1,22 @@
+-- What comments and attributes speak of, and comments, as plain data.
+-- Source: the DBC file format, "Comment Definitions".
+use Rattle.std.specs.Prelude.{ℕ, List}
+use Rattle.dbc_values.specs.Names.{IsName, IsText}
+use Rattle.dbc_records.specs.Records.{IsNumber}
+use Rattle.dbc_records.specs.declared.target.Target.{Target}
+use Rattle.dbc_records.specs.declared.target.Target.TheVariants as targets
+
+-- the whole database, or a node, a message or a signal by its names
+abbrev pub IsTarget : Target → Type 0
+IsTarget targets.Whole = Unit {0}
+IsTarget (targets.Node name) = IsName name
+IsTarget (targets.Message number) = IsNumber number
+IsTarget (targets.Signal number name) = IsNumber number × IsName name
+
+pub record Comment : Type 0 where
+  pub target : Target
+  pub text : List ℕ
+
+pub record IsComment (comment : Comment) : Type 0 where
+  pub target : IsTarget comment.target
+  pub text : IsText comment.text

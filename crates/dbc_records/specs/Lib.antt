@@ -1,0 +1,11 @@
+pub use Rattle.dbc_values.specs.Lexical
+pub use Rattle.dbc_values.specs.Names
+pub use Rattle.dbc_values.specs.Pieces
+pub use Rattle.dbc_values.specs.Decimals
+pub mod Records
+pub mod Comments
+pub mod Attributes
+pub mod Kept
+pub mod Databases
+pub mod Layout
+pub mod CanonicalText

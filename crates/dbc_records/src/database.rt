@@ -1,0 +1,165 @@
+//! Databases.
+ghost use Rattle.std.specs.Prelude.{◌≡◌, Some, None, if◌then◌else◌, not, IfSome};
+ghost use Rattle.std.specs.List.{list_all};
+ghost use Rattle.dbc_records.specs.Databases.{IsBitTiming, timing_fits, database_fits};
+
+use crate::attribute::{AttrDefault, AttrRow};
+use crate::comment::Comment;
+use dbc_values::{Checked, Copied, Decimal, List, Memory, Name, Symbol, Text};
+use crate::definition::AttrDef;
+use crate::float_row::FloatRow;
+use crate::kept::Kept;
+use crate::message::Message;
+use crate::mux_row::MuxRow;
+use crate::table_row::TableRow;
+use crate::value_row::ValueRow;
+use std::marker::Model;
+
+/// A database: the statements of a text by their kinds, each kind in the order of the text.
+///
+/// The bit timing is the baud rate and the two bit timing registers, as `BS_` gives them.
+#[derive(Drop)]
+pub struct Database {
+    /// What `VERSION` says, or the empty text.
+    pub version: Text,
+    /// The words of `NS_`.
+    pub symbols: List<Symbol>,
+    /// The numbers of `BS_`: the baud rate and two bit timing registers.
+    pub bit_timing: Option<[Decimal; 3]>,
+    /// The nodes of `BU_`.
+    pub nodes: List<Name>,
+    /// Value tables, `VAL_TABLE_`.
+    pub tables: List<TableRow>,
+    /// Messages with their signals, `BO_` and `SG_`.
+    pub messages: List<Message>,
+    /// Comments, `CM_`.
+    pub comments: List<Comment>,
+    /// Attribute definitions, `BA_DEF_`.
+    pub definitions: List<AttrDef>,
+    /// Defaults of attributes, `BA_DEF_DEF_`.
+    pub defaults: List<AttrDefault>,
+    /// Attributes, `BA_`.
+    pub attributes: List<AttrRow>,
+    /// Named values of signals, `VAL_`.
+    pub values: List<ValueRow>,
+    /// Float types of signals, `SIG_VALTYPE_`.
+    pub floats: List<FloatRow>,
+    /// Extended multiplexing, `SG_MUL_VAL_`.
+    pub muxes: List<MuxRow>,
+    /// Statements that are kept as they stand.
+    pub kept: List<Kept>,
+}
+
+impl Model for Database {
+    ghost use Rattle.dbc_records.specs.Databases as databases;
+
+    ghost Value = { databases.Database };
+
+    ghost view = { λ a. record { version = a.version; symbols = a.symbols; bit_timing = a.bit_timing; nodes = a.nodes; tables = a.tables; messages = a.messages; comments = a.comments; definitions = a.definitions; defaults = a.defaults; attributes = a.attributes; values = a.values; floats = a.floats; muxes = a.muxes; kept = a.kept } };
+
+    ghost invariant = { λ a. databases.IsDatabase (record { version = a.version; symbols = a.symbols; bit_timing = a.bit_timing; nodes = a.nodes; tables = a.tables; messages = a.messages; comments = a.comments; definitions = a.definitions; defaults = a.defaults; attributes = a.attributes; values = a.values; floats = a.floats; muxes = a.muxes; kept = a.kept }) };
+}
+
+fn none_negative(numbers: [Decimal; 3]) -> bool
+    ensures fits { result ≡ list_all (λ number. not number.negative) numbers }
+    ensures valid { IsBitTiming numbers }
+{
+    let [rate, first, second] = numbers;
+    !(rate.negative | first.negative | second.negative)
+}
+
+fn timing_fits(bit_timing: &Option<[Decimal; 3]>) -> bool
+    ensures fits { result ≡ timing_fits bit_timing.now }
+    ensures valid { IfSome bit_timing.now IsBitTiming }
+{
+    match bit_timing {
+        Some(numbers) => none_negative(*numbers),
+        None => true,
+    }
+}
+
+impl Database {
+    /// The most messages that a database may have.
+    pub const MAX_MESSAGES: usize = 65_535;
+
+    /// The database, or `None` where a number of the bit timing is negative or there are more than
+    /// [`Database::MAX_MESSAGES`] messages.
+    pub fn new(
+        version: Text,
+        symbols: List<Symbol>,
+        bit_timing: Option<[Decimal; 3]>,
+        nodes: List<Name>,
+        tables: List<TableRow>,
+        messages: List<Message>,
+        comments: List<Comment>,
+        definitions: List<AttrDef>,
+        defaults: List<AttrDefault>,
+        attributes: List<AttrRow>,
+        values: List<ValueRow>,
+        floats: List<FloatRow>,
+        muxes: List<MuxRow>,
+        kept: List<Kept>,
+    ) -> Option<Database>
+        ensures { result ≡ (if database_fits bit_timing messages then Some (record { version = version; symbols = symbols; bit_timing = bit_timing; nodes = nodes; tables = tables; messages = messages; comments = comments; definitions = definitions; defaults = defaults; attributes = attributes; values = values; floats = floats; muxes = muxes; kept = kept }) else None) }
+    {
+        if !timing_fits(&bit_timing) || messages.len() > Database::MAX_MESSAGES {
+            return None;
+        }
+        Some(Database {
+            version,
+            symbols,
+            bit_timing,
+            nodes,
+            tables,
+            messages,
+            comments,
+            definitions,
+            defaults,
+            attributes,
+            values,
+            floats,
+            muxes,
+            kept,
+        })
+    }
+}
+
+impl Checked for Database {
+    ghost use Rattle.dbc_records.specs.Databases.{IsDatabase};
+
+    ghost IsValid = { IsDatabase };
+}
+
+impl Copied for Database {
+    fn copy(&self) -> Result<Database, Memory> {
+        let version = self.version.copy()?;
+        let symbols = self.symbols.copy()?;
+        let nodes = self.nodes.copy()?;
+        let tables = self.tables.copy()?;
+        let messages = self.messages.copy()?;
+        let comments = self.comments.copy()?;
+        let definitions = self.definitions.copy()?;
+        let defaults = self.defaults.copy()?;
+        let attributes = self.attributes.copy()?;
+        let values = self.values.copy()?;
+        let floats = self.floats.copy()?;
+        let muxes = self.muxes.copy()?;
+        let kept = self.kept.copy()?;
+        Ok(Database {
+            version,
+            symbols,
+            bit_timing: self.bit_timing,
+            nodes,
+            tables,
+            messages,
+            comments,
+            definitions,
+            defaults,
+            attributes,
+            values,
+            floats,
+            muxes,
+            kept,
+        })
+    }
+}

@@ -1,0 +1,37 @@
+//! The records of a CAN database as a DBC file describes them, and what each is printed as.
+//!
+//! Every value of a type of this crate keeps the bounds of the format: a [`Head`] is at most 1,785 bytes long. So whoever
+//! holds one need not test it again. The canonical text of each stands in `specs/CanonicalText.antt`.
+#![tactic(auto)]
+
+mod attribute;
+mod comment;
+mod database;
+mod definition;
+mod entry;
+mod float_row;
+mod head;
+mod kept;
+mod message;
+mod mux_row;
+mod signal;
+mod table_row;
+mod tag;
+mod target;
+mod value_row;
+
+pub use attribute::{AttrDefault, AttrRow, AttrValue};
+pub use comment::Comment;
+pub use database::Database;
+pub use definition::{AttrDef, Form, Limits, Object};
+pub use entry::Entry;
+pub use float_row::FloatRow;
+pub use head::Head;
+pub use kept::Kept;
+pub use message::Message;
+pub use mux_row::{MuxRow, Range};
+pub use signal::Signal;
+pub use table_row::TableRow;
+pub use tag::Tag;
+pub use target::Target;
+pub use value_row::ValueRow;

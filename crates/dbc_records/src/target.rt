@@ -1,0 +1,33 @@
+//! What comments and attributes speak of.
+
+use dbc_values::{Checked, Copied, Memory, Name};
+
+/// What a comment or an attribute speaks of.
+#[derive(Drop)]
+pub enum Target {
+    /// The whole database.
+    Whole,
+    /// A node: `BU_ name`.
+    Node(Name),
+    /// A message: `BO_ number`.
+    Message(u32),
+    /// A signal of a message: `SG_ number name`.
+    Signal(u32, Name),
+}
+
+impl Checked for Target {
+    ghost use Rattle.dbc_records.specs.Comments.{IsTarget};
+
+    ghost IsValid = { IsTarget };
+}
+
+impl Copied for Target {
+    fn copy(&self) -> Result<Target, Memory> {
+        match self {
+            Target::Whole => Ok(Target::Whole),
+            Target::Node(name) => Ok(Target::Node(name.copy()?)),
+            Target::Message(number) => Ok(Target::Message(*number)),
+            Target::Signal(number, name) => Ok(Target::Signal(*number, name.copy()?)),
+        }
+    }
+}

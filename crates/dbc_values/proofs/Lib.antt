@@ -1,0 +1,10 @@
+pub mod Strings
+pub mod Powers
+pub mod Digits
+pub mod DigitTexts
+pub mod NumberTexts
+pub mod WholeNumbers
+pub mod Exponents
+pub mod NormalForms
+pub mod Signs
+pub mod Scaling

@@ -1,0 +1,6 @@
+pub mod Lexical
+pub mod Names
+pub mod Pieces
+pub mod Numbers
+pub mod Decimals
+pub mod Scales

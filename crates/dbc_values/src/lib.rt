@@ -1,0 +1,29 @@
+//! The values that the records of a database are made of: names, texts, symbols, tokens, exact decimals and scales, and
+//! lists of such values.
+//!
+//! Every value of a type of this crate keeps the bounds of the format: a [`Name`] is no keyword, a [`Decimal`] has one form.
+//! So whoever holds one need not test it again.
+#![tactic(auto)]
+
+mod decimal;
+pub mod laws;
+mod list;
+mod memory;
+mod name;
+mod number;
+mod piece;
+mod scale;
+mod symbol;
+mod text;
+#[cfg(test)]
+mod tests;
+
+pub use decimal::Decimal;
+pub use list::{Checked, Copied, List};
+pub use memory::Memory;
+pub use name::{Name, is_kept_word, is_letter, is_name, is_word, is_word_byte, same};
+pub use number::{Whole, digits_len, is_number, whole_of};
+pub use piece::{Piece, is_piece, is_string};
+pub use scale::Scale;
+pub use symbol::{Symbol, is_symbol};
+pub use text::{Text, is_text};

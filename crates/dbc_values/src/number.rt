@@ -1,0 +1,289 @@
+//! Numbers: which bytes are one, and what its digits and its exponent say, exactly.
+ghost use Rattle.std.specs.Prelude.{◌≡◌, ℕ, ℤ, pos, ◌+ℤ◌, ◌-ℤ◌, unsigned_abs, ◌+◌, ◌*◌, ◌^◌, ◌<◌, ◌≤◌, false, take, drop, length, nat_lt, Some, None, MatchOption, IsTrue, min, if◌then◌else◌};
+ghost use Rattle.std.specs.List.{list_any, list_all, position_or_len, prefix_len};
+ghost use Rattle.std.specs.Str.Parse.{digits_value, digits_value_after, signed_digits_value, without_leading_sign};
+ghost use Rattle.dbc_values.specs.Lexical.{is_digit, is_sign, is_point, is_exponent_mark, is_mantissa, is_digits, is_signed_digits, is_number};
+ghost use Rattle.dbc_values.specs.Numbers.{mantissa_of, exponent_of, IsWhole, SpellsWhole, whole_of_number, at_most_36_digits, HasDigits, StandsFor, IsReduced};
+
+/// What a number is as a whole number.
+#[derive(Clone, Copy, Debug, PartialEq, Eq)]
+pub enum Whole {
+    /// It is not whole, as `1.5`.
+    Fraction,
+    /// It is whole and over `u64::MAX`.
+    TooLarge,
+    /// It is this number, as 8 for `80E-1`.
+    Value(u64),
+}
+
+/// A number as `digits · 10^exponent`, where the digits end in no zero. They are `None` where there are more than 36.
+/// An exponent beyond 1,000, either way, may be another one beyond 1,000.
+#[derive(Clone, Copy)]
+pub struct Reduced {
+    pub digits: Option<u128>,
+    pub exponent: i128,
+}
+
+/// A whole number as some digits and the zeros at its end. The digits are `None` where there are more than 36.
+#[derive(Clone, Copy)]
+struct Digits {
+    front: Option<u128>,
+    zeros: u128,
+}
+
+/// One more than the greatest number of 36 digits.
+const DIGITS_LIMIT: u128 = 1_000_000_000_000_000_000_000_000_000_000_000_000;
+
+/// One more than the greatest number of 38 digits.
+pub const LIMIT: u128 = 100_000_000_000_000_000_000_000_000_000_000_000_000;
+
+/// Greater than any length of a text, so that no count of digits makes up for an exponent of this size.
+const FAR: u128 = 1_000_000_000_000_000_000_000_000_000_000;
+
+fn is_sign(b: u8) -> bool
+    ensures { result ≡ is_sign b }
+{
+    b == b'+' || b == b'-'
+}
+
+fn is_exponent_mark(b: u8) -> bool
+    ensures { result ≡ is_exponent_mark b }
+{
+    b == b'E' || b == b'e'
+}
+
+fn are_digits(bytes: &[u8]) -> bool
+    ensures { result ≡ list_all is_digit bytes.now }
+{
+    bytes.iter().all(|b| b.is_ascii_digit())
+}
+
+/// How many digits stand at the front.
+pub fn digits_len(bytes: &[u8]) -> usize
+    ensures value { result ≡ prefix_len is_digit bytes.now }
+    ensures in_range { result ≤ length bytes.now }
+{
+    bytes.iter().take_while(|b| b.is_ascii_digit()).count()
+}
+
+fn has_digit(bytes: &[u8]) -> bool
+    ensures { result ≡ list_any is_digit bytes.now }
+{
+    bytes.iter().any(|b| b.is_ascii_digit())
+}
+
+fn has_exponent_mark(bytes: &[u8]) -> bool
+    ensures { result ≡ list_any is_exponent_mark bytes.now }
+{
+    bytes.iter().any(|b| is_exponent_mark(*b))
+}
+
+/// Where the `E` stands, or the length where there is none.
+fn exponent_place(bytes: &[u8]) -> usize
+    ensures value { result ≡ position_or_len is_exponent_mark bytes.now }
+    ensures in_range { result ≤ length bytes.now }
+{
+    bytes.iter().take_while(|b| !is_exponent_mark(**b)).count()
+}
+
+/// Where the point stands, or the length where there is none.
+fn point_place(bytes: &[u8]) -> usize
+    ensures value { result ≡ position_or_len is_point bytes.now }
+    ensures in_range { result ≤ length bytes.now }
+{
+    bytes.iter().take_while(|b| **b != b'.').count()
+}
+
+/// What stands before the byte at the place, and what stands behind it.
+fn split_around(bytes: &[u8], place: usize) -> (&[u8], &[u8])
+    requires { place ≤ length bytes.now }
+    ensures front { result.0.now ≡ take place bytes.now }
+    ensures back { result.1.now ≡ drop (place + 1) bytes.now }
+{
+    let (front, back) = bytes.split_at(place);
+    match back {
+        [] => (front, back),
+        [_, rest @ ..] => (front, rest),
+    }
+}
+
+fn is_mantissa(bytes: &[u8]) -> bool
+    ensures { result ≡ is_mantissa bytes.now }
+{
+    let (before_point, behind_point) = split_around(bytes, point_place(bytes));
+    are_digits(before_point) && are_digits(behind_point) && has_digit(bytes)
+}
+
+fn is_signed_digits(bytes: &[u8]) -> bool
+    ensures { result ≡ is_signed_digits bytes.now }
+{
+    match bytes {
+        [] => false,
+        [first, digits @ ..] if is_sign(*first) => !digits.is_empty() && are_digits(digits),
+        digits => are_digits(digits),
+    }
+}
+
+/// Whether the bytes are a number without a sign, as `12`, `.5` or `1.e-3`.
+#[tactic(auto, unfolding(crate::specs::Lexical::is_number))]
+pub fn is_number(bytes: &[u8]) -> bool
+    ensures { result ≡ is_number bytes.now }
+{
+    let (mantissa, exponent) = split_around(bytes, exponent_place(bytes));
+    is_mantissa(mantissa) && (!has_exponent_mark(bytes) || is_signed_digits(exponent))
+}
+
+/// The number and that many zeros behind it, where that has at most 38 digits.
+pub fn with_zeros(number: u128, zeros: u128) -> Option<u128>
+    ensures { result ≡ (if nat_lt (number * 10 ^ zeros) (10 ^ 38) then Some (number * 10 ^ zeros) else None) }
+{
+    if number == 0 {
+        return Some(0);
+    }
+    if zeros > 38 {
+        return None;
+    }
+    let product = number.checked_mul(10u128.pow(zeros as u32))?;
+    if product < LIMIT { Some(product) } else { None }
+}
+
+/// The number and that many zeros behind it, as far as it can be told.
+fn whole_with_zeros(number: u128, zeros: u128) -> Whole
+    ensures { result ≡ (if nat_lt (number * 10 ^ zeros) (2 ^ 64) then Whole.Value (number * 10 ^ zeros) else Whole.TooLarge) }
+{
+    match with_zeros(number, zeros) {
+        Some(product) if product <= u128::from(u64::MAX) => Whole::Value(product as u64),
+        _ => Whole::TooLarge,
+    }
+}
+
+/// The digits, zeros and one more digit, where these are at most 36 digits.
+fn appended(digits: u128, zeros: u128, digit: u8) -> Option<u128>
+    requires { digit < 10 }
+    ensures { result ≡ at_most_36_digits (digits * 10 ^ zeros + digit) }
+{
+    let sum = with_zeros(digits, zeros)? + u128::from(digit);
+    if sum < DIGITS_LIMIT { Some(sum) } else { None }
+}
+
+impl Digits {
+    const NONE: Digits = Digits {
+        front: Some(0),
+        zeros: 0,
+    };
+
+    /// With one more digit behind.
+    fn then(self, digit: u8) -> Digits
+        requires digit { digit < 10 }
+        requires few { self.zeros < 2 ^ 100 }
+        ensures value { (m : ℕ) → HasDigits m self.front self.zeros → HasDigits (m * 10 + digit) result.front result.zeros }
+        ensures few { result.zeros ≤ self.zeros + 1 }
+    {
+        let zeros = self.zeros + 1;
+        if digit == 0 {
+            return Digits {
+                front: self.front,
+                zeros,
+            };
+        }
+        let front = match self.front {
+            Some(front) => appended(front, zeros, digit),
+            None => None,
+        };
+        Digits { front, zeros: 0 }
+    }
+
+    /// With these digits behind.
+    fn then_all(self, digits: &[u8]) -> Digits
+        requires digits { IsTrue (list_all is_digit digits.now) }
+        requires few { self.zeros < 2 ^ 99 }
+        ensures value { (m : ℕ) → HasDigits m self.front self.zeros → HasDigits (digits_value_after 10 m digits.now) result.front result.zeros }
+        ensures few { result.zeros ≤ self.zeros + 2 ^ 64 }
+    {
+        let mut all = self;
+        for digit in digits {
+            all = all.then(*digit - b'0');
+        }
+        all
+    }
+}
+
+/// The value of the digits, or [`FAR`] where it is greater.
+fn value_up_to_far(digits: &[u8]) -> u128
+    requires { IsTrue (list_all is_digit digits.now) }
+    ensures { result ≡ min (digits_value 10 digits.now) (10 ^ 30) }
+{
+    let mut value = 0;
+    for digit in digits {
+        value = (value * 10 + u128::from(*digit - b'0')).min(FAR);
+    }
+    value
+}
+
+/// The number that perhaps a sign, and digits write.
+fn signed_up_to_far(text: &[u8]) -> i128
+    requires { IsTrue (list_all is_digit (without_leading_sign text.now)) }
+    ensures value { StandsFor (10 ^ 30) (signed_digits_value 10 text.now) result }
+    ensures in_range { unsigned_abs result ≤ 10 ^ 30 }
+{
+    match text {
+        [b'-', digits @ ..] => -(value_up_to_far(digits) as i128),
+        [b'+', digits @ ..] => value_up_to_far(digits) as i128,
+        digits => value_up_to_far(digits) as i128,
+    }
+}
+
+/// The exponent of digits that have some behind the point, once the zeros at their end are taken off.
+fn reduced_exponent(written: i128, behind_point: usize, zeros: u128) -> i128
+    requires written { unsigned_abs written ≤ 10 ^ 30 }
+    requires zeros { zeros ≤ 2 ^ 66 }
+    ensures { (e : ℤ) → StandsFor (10 ^ 30) e written → StandsFor 1000 ((e -ℤ pos behind_point) +ℤ pos zeros) result }
+{
+    written - behind_point as i128 + zeros as i128
+}
+
+impl Reduced {
+    /// What the bytes spell, or `None` where they are no number.
+    pub fn read(number: &[u8]) -> Option<Reduced>
+        ensures { MatchOption result (is_number number.now ≡ false) (λ r. IsTrue (is_number number.now) × IsReduced (mantissa_of number.now) (exponent_of number.now) r.digits r.exponent) }
+    {
+        if !is_number(number) {
+            return None;
+        }
+        let (mantissa, exponent) = split_around(number, exponent_place(number));
+        let (before_point, behind_point) = split_around(mantissa, point_place(mantissa));
+        let digits = Digits::NONE.then_all(before_point).then_all(behind_point);
+        let written = signed_up_to_far(exponent);
+        Some(Reduced {
+            digits: digits.front,
+            exponent: reduced_exponent(written, behind_point.len(), digits.zeros),
+        })
+    }
+
+    fn whole(self) -> Whole
+        ensures { (m : ℕ) (e : ℤ) → IsReduced m e self.digits self.exponent → IsWhole m e result }
+    {
+        let Some(digits) = self.digits else {
+            return if self.exponent < 0 {
+                Whole::Fraction
+            } else {
+                Whole::TooLarge
+            };
+        };
+        if digits == 0 {
+            return Whole::Value(0);
+        }
+        if self.exponent < 0 {
+            return Whole::Fraction;
+        }
+        whole_with_zeros(digits, self.exponent as u128)
+    }
+}
+
+/// The whole number that a number without a sign is, by its value, or `None` where the bytes are no number.
+pub fn whole_of(number: &[u8]) -> Option<Whole>
+    ensures spells { MatchOption result (is_number number.now ≡ false) (SpellsWhole number.now) }
+    ensures value { result ≡ whole_of_number number.now }
+{
+    Some(Reduced::read(number)?.whole())
+}
