@@ -6,10 +6,10 @@ use Rattle.dbc_model.specs.Records.{Message, TableRow, ValueRow, FloatRow, MuxRo
 use Rattle.dbc_model.specs.Comments.{Comment}
 use Rattle.dbc_model.specs.Attributes.{AttrDef, AttrDefault, AttrRow}
 use Rattle.dbc_model.specs.Kept.{Kept}
-use Rattle.dbc_read.specs.ReadingDatabases.{empty_database}
-use Rattle.dbc_read.specs.Spelling.{AnyStatement, Symbols, Timing, Nodes, Table, OfMessage, OfComment, Definition, Default, Attribute, Values, Float, Mux, OfKept, timings_of, FollowOn, ArePlaced, gather}
-use Rattle.dbc_read.proofs.AddingSound.{joined, joined_none, joined_twice}
-use Rattle.dbc_read.proofs.DatabasesSound.{three_numbers, timing_kept, gather_timed}
+use Rattle.dbc_reader.specs.Reading.Databases.{empty_database}
+use Rattle.dbc_reader.specs.Spelling.{AnyStatement, Symbols, Timing, Nodes, Table, OfMessage, OfComment, Definition, Default, Attribute, Values, Float, Mux, OfKept, timings_of, FollowOn, ArePlaced, gather}
+use Rattle.dbc_reader.proofs.Sound.Adding.{joined, joined_none, joined_twice}
+use Rattle.dbc_reader.proofs.Sound.Databases.{three_numbers, timing_kept, gather_timed}
 
 -- the statements behind the first three
 abbrev pub canonical_rows : Database → List AnyStatement

@@ -2,21 +2,21 @@
 use Rattle.std.proofs.Common.{◌≡◌, ◌⊎◌, ℕ, List, Some, None, Ok, sym, ap, ◌∙◌, inl, inr}
 use Rattle.dbc_model.specs.Databases.{Database, IsDatabase}
 use Rattle.dbc_model.specs.CanonicalText.{canonical_text}
-use Rattle.dbc_read.specs.declared.fault.Cause.TheVariants as causes
-use Rattle.dbc_read.specs.declared.fault.ReadFault.{ReadFault}
-use Rattle.dbc_read.specs.Tokens.{Cut, End}
-use Rattle.dbc_read.specs.Scanner.{cut_of}
-use Rattle.dbc_read.specs.Forms.{◌▸▸◌}
-use Rattle.dbc_read.specs.Grammar as grammar
-use Rattle.dbc_read.specs.Pattern.{first_fault, nothing_seen, memory_fault}
-use Rattle.dbc_read.specs.ReadingDatabases.{database_at}
-use Rattle.dbc_read.specs.Texts.{HasDatabase, HasFirstFault}
+use Rattle.dbc_tokens.specs.declared.fault.Cause.TheVariants as causes
+use Rattle.dbc_tokens.specs.declared.fault.ReadFault.{ReadFault}
+use Rattle.dbc_tokens.specs.Tokens.{Cut, End}
+use Rattle.dbc_tokens.specs.Reading.Scanner.{cut_of}
+use Rattle.dbc_reader.specs.Forms.{◌▸▸◌}
+use Rattle.dbc_reader.specs.Grammar as grammar
+use Rattle.dbc_reader.specs.Pattern.{first_fault, nothing_seen, memory_fault}
+use Rattle.dbc_reader.specs.Reading.Databases.{database_at}
+use Rattle.dbc_reader.specs.Texts.{HasDatabase, HasFirstFault}
 use Rattle.dbc_read.specs.PrintLaws.{PrintLaw}
-use Rattle.dbc_read.proofs.CutLaws.{cut_unique}
-use Rattle.dbc_read.proofs.Turns.{ok_is}
-use Rattle.dbc_read.proofs.DatabasesAgain.{database_again}
-use Rattle.dbc_read.proofs.Readable.{fault_or_database}
-use Rattle.dbc_read.proofs.PrintLaw.{canonical_has}
+use Rattle.dbc_tokens.proofs.CutLaws.{cut_unique}
+use Rattle.dbc_reader.proofs.Turns.{ok_is}
+use Rattle.dbc_reader.proofs.Takes.Databases.{database_again}
+use Rattle.dbc_reader.proofs.Texts.Readable.{fault_or_database}
+use Rattle.dbc_read.proofs.Shown.Databases.{canonical_has}
 
 -- a reading of a text that has a database ends with it
 read_so : (text : List ℕ) (d : Database) → HasDatabase text d → (line : ℕ) × (database_at (cut_of 1 text) ≡ Ok (d, End line))

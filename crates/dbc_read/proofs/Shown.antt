@@ -1,4 +1,6 @@
 -- The tokens of a database's canonical text spell its statements, kind by kind.
+pub mod Statements
+pub mod Databases
 use Rattle.std.proofs.Common.{◌≡◌, ℕ, Bool, true, false, List, [], ◌∷◌, ◌++◌, append-nil, refl, sym, ap, subst, ◌∙◌, inl, inr}
 use Rattle.std.specs.Prelude.{All}
 use Rattle.std.specs.List.{flat_map}
@@ -6,11 +8,11 @@ use Rattle.std.proofs.lemmas.List.Concat.{flat_map-append}
 use Rattle.std.proofs.lemmas.List.Elements.{All-head, All-tail}
 use Rattle.dbc_model.specs.Decimals.{Decimal, IsDecimal, SpellsDecimal}
 use Rattle.dbc_model.specs.Layout.{Item, Mark, Number, Space, Tab, LineEnd, Is, Layout, item_of, items_of}
-use Rattle.dbc_read.specs.Tokens.{Token}
-use Rattle.dbc_read.specs.Forms.{Part, Is as Shown, Perhaps, Unsigned, IsOne, IsSign, SaysPart, Spelled, of_layout}
-use Rattle.dbc_read.proofs.Sound.{spelled_both}
-use Rattle.dbc_read.proofs.Printed.{Lexeme, lexemes, HaveLexemes, Printed, IsItem, all_lexemes, Shows}
-use Rattle.dbc_read.proofs.Neat.{AreItems}
+use Rattle.dbc_tokens.specs.Tokens.{Token}
+use Rattle.dbc_reader.specs.Forms.{Part, Is as Shown, Perhaps, Unsigned, IsOne, IsSign, SaysPart, Spelled, of_layout}
+use Rattle.dbc_reader.proofs.Sound.{spelled_both}
+use Rattle.dbc_read.proofs.Items.{Lexeme, lexemes, HaveLexemes, Printed, IsItem, all_lexemes, Shows}
+use Rattle.dbc_read.proofs.Apart.{AreItems}
 
 -- ---- tokens of some lexemes and of others behind them
 

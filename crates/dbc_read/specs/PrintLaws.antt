@@ -5,10 +5,10 @@ use Rattle.dbc_model.specs.Layout.{Layout, layout_text}
 use Rattle.dbc_model.specs.CanonicalText.{canonical_text}
 use Rattle.dbc_model.specs.Databases.{Database, IsDatabase, IsBitTiming, timing_fits}
 use Rattle.dbc_model.specs.Decimals.{Decimal}
-use Rattle.dbc_read.specs.Tokens.{Token, Cut, End, HasTokens}
-use Rattle.dbc_read.specs.Forms.{Part, Spelled, ◌▸▸◌}
-use Rattle.dbc_read.specs.Spelling.{timing_of}
-use Rattle.dbc_read.specs.Texts.{HasDatabase}
+use Rattle.dbc_tokens.specs.Tokens.{Token, Cut, End, HasTokens}
+use Rattle.dbc_reader.specs.Forms.{Part, Spelled, ◌▸▸◌}
+use Rattle.dbc_reader.specs.Spelling.{timing_of}
+use Rattle.dbc_reader.specs.Texts.{HasDatabase}
 
 -- each such value is printed as a text whose tokens spell it by its form, and spell no other such value
 abbrev pub PrintedUniquely : {A : Type 0} → (A → Type 0) → (A → Layout) → (A → List Part) → Type 0

@@ -1,11 +1,12 @@
 //! Laws of printing: what is printed is spelled, and nothing else is. The functions do nothing: what they ensure is the law.
 ghost use Rattle.std.specs.Prelude.{[], ◌∷◌, All, Some};
-ghost use Rattle.dbc_model.specs.Records.{IsName, IsText, IsSymbol, IsTableRow, IsMessage, IsValueRow, IsFloatRow, IsMuxRow};
+ghost use Rattle.dbc_model.specs.Records.{IsName, IsText, IsSymbol, IsTableRow, IsMessage, IsSignal, IsValueRow, IsFloatRow, IsMuxRow};
 ghost use Rattle.dbc_model.specs.Comments.{IsComment};
 ghost use Rattle.dbc_model.specs.Attributes.{IsAttrDef, IsAttrDefault, IsAttrRow};
 ghost use Rattle.dbc_model.specs.Kept.{IsKept};
-ghost use Rattle.dbc_model.specs.CanonicalText.{version_layout, symbols_layout, timing_layout, nodes_layout, table_layout, message_layout, comment_layout, definition_layout, default_layout, attribute_layout, values_layout, float_layout, mux_layout, kept_layout};
-ghost use Rattle.dbc_read.specs.Spelling.{Symbols, Timing, Nodes, Table, OfMessage, OfComment, Definition, Default, Attribute, Values, Float, Mux, OfKept, form, version_form, timing_of};
+ghost use Rattle.dbc_model.specs.CanonicalText.{version_layout, symbols_layout, timing_layout, nodes_layout, table_layout, message_layout, signal_layout, comment_layout, definition_layout, default_layout, attribute_layout, values_layout, float_layout, mux_layout, kept_layout};
+ghost use Rattle.dbc_reader.specs.Spelling.{Symbols, Timing, Nodes, Table, OfMessage, OfComment, Definition, Default, Attribute, Values, Float, Mux, OfKept, form, form_alone, version_form, timing_of};
+ghost use Rattle.dbc_reader.specs.declared.statement.Statement.TheVariants as statements;
 ghost use Rattle.dbc_read.specs.PrintLaws.{PrintedUniquely, IsTiming, LinesJoin, PrintLaw};
 
 /// The line of a version has the tokens of its form, and they spell it and nothing else.
@@ -36,6 +37,11 @@ pub fn table_line()
 /// The lines of a message with its signals have the tokens of its form, and they spell it and nothing else.
 pub fn message_lines()
     ensures { PrintedUniquely IsMessage message_layout (λ message. form (OfMessage message)) }
+{}
+
+/// The line of a signal that stands alone has the tokens of its form, and they spell it and nothing else.
+pub fn signal_line()
+    ensures { PrintedUniquely IsSignal signal_layout (λ signal. form_alone (statements.Signal signal)) }
 {}
 
 /// The lines of a comment have the tokens of its form, and they spell it and nothing else.

@@ -2,9 +2,9 @@
 ghost use Rattle.std.specs.Prelude.{◌≡◌, Some, IfOk};
 ghost use Rattle.dbc_model.specs.CanonicalText.{canonical_text};
 
-use crate::fault::Cause;
-use crate::reader::read;
 use dbc_model::{Broken, Database, Memory, Sink, print};
+use dbc_reader::read;
+use dbc_tokens::Cause;
 use std::alloc::Global;
 
 // Memory as a sink: what is put to it stands at the end of its bytes. It fails where memory is refused.

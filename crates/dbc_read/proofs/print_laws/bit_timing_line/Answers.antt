@@ -1,4 +1,4 @@
-use Rattle.dbc_read.proofs.PrintedLines.{bit_timing_line}
+use Rattle.dbc_read.proofs.Lines.{bit_timing_line}
 use Rattle.dbc_read.proofs.print_laws.bit_timing_line.Goals as goal
 
 pub returns : goal.returns

@@ -1,4 +1,4 @@
-use Rattle.dbc_read.proofs.LinesJoin.{lines_join}
+use Rattle.dbc_read.proofs.Texts.Joined.{lines_join}
 use Rattle.dbc_read.proofs.print_laws.lines_join.Goals as goal
 
 pub returns : goal.returns

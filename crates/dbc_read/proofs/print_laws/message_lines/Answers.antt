@@ -1,4 +1,4 @@
-use Rattle.dbc_read.proofs.PrintedLines.{message_lines}
+use Rattle.dbc_read.proofs.Lines.{message_lines}
 use Rattle.dbc_read.proofs.print_laws.message_lines.Goals as goal
 
 pub returns : goal.returns

@@ -1,4 +1,4 @@
-use Rattle.dbc_read.proofs.PrintedLines.{mux_line}
+use Rattle.dbc_read.proofs.Lines.{mux_line}
 use Rattle.dbc_read.proofs.print_laws.mux_line.Goals as goal
 
 pub returns : goal.returns

@@ -1,4 +1,4 @@
-use Rattle.dbc_read.proofs.PrintedLines.{symbols_lines}
+use Rattle.dbc_read.proofs.Lines.{symbols_lines}
 use Rattle.dbc_read.proofs.print_laws.symbols_lines.Goals as goal
 
 pub returns : goal.returns

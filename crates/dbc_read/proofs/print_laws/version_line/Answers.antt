@@ -1,4 +1,4 @@
-use Rattle.dbc_read.proofs.PrintedLines.{version_line}
+use Rattle.dbc_read.proofs.Lines.{version_line}
 use Rattle.dbc_read.proofs.print_laws.version_line.Goals as goal
 
 pub returns : goal.returns

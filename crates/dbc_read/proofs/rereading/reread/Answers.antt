@@ -1,9 +1,9 @@
 use Rattle.std.proofs.Common.{◌≡◌, ◌⊎◌, ◌∙◌, ap, subst}
 use Rattle.dbc_model.specs.Databases.{IsDatabase}
 use Rattle.dbc_model.specs.CanonicalText.{canonical_text}
-use Rattle.dbc_read.specs.Grammar as grammar
-use Rattle.dbc_read.specs.Pattern.{memory_fault}
-use Rattle.dbc_read.specs.Texts.{HasDatabase, HasFirstFault}
+use Rattle.dbc_reader.specs.Grammar as grammar
+use Rattle.dbc_reader.specs.Pattern.{memory_fault}
+use Rattle.dbc_reader.specs.Texts.{HasDatabase, HasFirstFault}
 use Rattle.dbc_read.proofs.Reprinted.{printed_read, printed_faultless}
 use Rattle.dbc_read.proofs.rereading.reread.Goals as goal
 

@@ -1,7 +1,0 @@
-use Rattle.std.proofs.Common.{sym, subst}
-use Rattle.dbc_read.specs.Tokens.{HasTokens}
-use Rattle.dbc_read.proofs.CutLaws.{cut_is, cut_unique}
-use Rattle.dbc_read.proofs.laws.one_cut.Goals as goal
-
-pub returns : goal.returns
-returns c = λ line text cut. (cut_unique line text cut, λ e. subst (HasTokens line text) (sym e) (cut_is line text))

@@ -1,5 +1,0 @@
-//! Tests of whole texts.
-
-mod refused;
-mod reread;
-mod spelled;

@@ -1,0 +1,7 @@
+pub mod Turns
+pub mod Facts
+pub mod Agrees
+pub mod Sound
+pub mod Yields
+pub mod Takes
+pub mod Texts

@@ -1,0 +1,13 @@
+-- The tokens from a cursor on.
+use Rattle.dbc_reader.specs.declared.cursor.Cursor.{Cursor}
+use Rattle.dbc_tokens.specs.Tokens.{Cut, End, Fault, ◌▸◌}
+use Rattle.dbc_tokens.specs.Views.{left, cut_from}
+
+unfoldable pub left_at : Cursor → Cut
+left_at cursor = cut_from cursor.next (left cursor.after)
+
+-- the tokens behind the first
+abbrev pub behind : Cut → Cut
+behind (End line) = End line
+behind (Fault line) = Fault line
+behind (t ▸ cut) = cut

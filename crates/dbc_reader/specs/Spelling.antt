@@ -1,0 +1,216 @@
+-- Which tokens spell a database: statements, one after another, each of the form that its kind has, and the database
+-- has their values, kind by kind, in order.
+-- Source: the DBC file format, "Structure of the DBC File" and the section of each statement. That statements come in
+-- any order, and what may be left out, is the profile of candesk.
+use Rattle.std.specs.Prelude.{◌≡◌, ◌≤◌, ℕ, List, [], ◌∷◌, ◌++◌, length, Option, Some, None}
+use Rattle.std.specs.List.{flat_map}
+use Rattle.dbc_model.specs.Lexical.{comma, colon, semicolon}
+use Rattle.dbc_model.specs.Decimals.{Decimal}
+use Rattle.dbc_model.specs.Records.{IsHead, IsSignal, IsTableRow, IsValueRow, IsMuxRow, Signal, Message, TableRow, ValueRow, FloatRow, MuxRow}
+use Rattle.dbc_model.specs.Comments.{Comment}
+use Rattle.dbc_model.specs.Attributes.{AttrDef, AttrDefault, AttrRow, IsAttrRow}
+use Rattle.dbc_model.specs.declared.target.Target.TheVariants as targets
+use Rattle.dbc_model.specs.Kept.{Kept}
+use Rattle.dbc_model.specs.Databases.{Database, IsDatabase}
+use Rattle.dbc_model.specs.Layout.{Mark, Name, Whole}
+use Rattle.dbc_model.specs.CanonicalText.{version_layout, symbols_layout, timing_title, nodes_layout, table_layout, head_layout, signal_name_layout, tag_layout, place_layout, scale_layout, limits_layout, spaced_text, comment_layout, definition_layout, default_layout, attribute_layout, values_layout, float_key, mux_layout, kept_layout}
+use Rattle.dbc_reader.specs.declared.statement.Statement.{Statement}
+use Rattle.dbc_reader.specs.declared.statement.Statement.TheVariants as statements
+use Rattle.dbc_tokens.specs.Tokens.{Token}
+use Rattle.dbc_reader.specs.Forms.{Part, Is, Perhaps, Unsigned, Spelled, of_layout}
+
+-- ---- statements
+
+pub data AnyStatement : Type 0 where
+  Symbols : List (List ℕ) → AnyStatement
+  Timing : Option (Decimal × Decimal × Decimal) → AnyStatement
+  Nodes : List (List ℕ) → AnyStatement
+  Table : TableRow → AnyStatement
+  OfMessage : Message → AnyStatement
+  OfComment : Comment → AnyStatement
+  Definition : AttrDef → AnyStatement
+  Default : AttrDefault → AnyStatement
+  Attribute : AttrRow → AnyStatement
+  Values : ValueRow → AnyStatement
+  Float : FloatRow → AnyStatement
+  Mux : MuxRow → AnyStatement
+  OfKept : Kept → AnyStatement
+
+-- `BS_ :`, and perhaps three numbers without signs
+abbrev pub timing_form : Option (Decimal × Decimal × Decimal) → List Part
+timing_form None = of_layout timing_title
+timing_form (Some numbers) =
+    of_layout timing_title ++ (Unsigned numbers.0 ∷ Is (Mark colon) ∷ Unsigned numbers.1 ∷ Is (Mark comma) ∷ Unsigned numbers.2 ∷ [])
+
+-- a comma may stand before each receiver but the first
+abbrev pub receivers_form : List (List ℕ) → List Part
+receivers_form [] = []
+receivers_form (name ∷ names) = Is (Name name) ∷ flat_map (λ further. Perhaps comma ∷ Is (Name further) ∷ []) names
+
+abbrev pub signal_form : Signal → List Part
+signal_form signal =
+    of_layout (signal_name_layout signal ++ (tag_layout signal.tag ++ (place_layout signal ++ (scale_layout signal ++ (limits_layout signal ++ spaced_text signal.unit)))))
+    ++ receivers_form signal.receivers
+
+-- the form of each statement: the items of its printed line, but for marks that may be missing
+abbrev pub form : AnyStatement → List Part
+form (Symbols symbols) = of_layout (symbols_layout symbols)
+form (Timing numbers) = timing_form numbers
+form (Nodes nodes) = of_layout (nodes_layout nodes)
+form (Table row) = of_layout (table_layout row)
+form (OfMessage message) = of_layout (head_layout message.head) ++ flat_map signal_form message.signals
+form (OfComment comment) = of_layout (comment_layout comment)
+form (Definition definition) = of_layout (definition_layout definition)
+form (Default row) = of_layout (default_layout row)
+form (Attribute row) = of_layout (attribute_layout row)
+form (Values row) = of_layout (values_layout row)
+form (Float row) = of_layout (float_key row) ++ (Perhaps colon ∷ Is (Whole row.kind) ∷ Is (Mark semicolon) ∷ [])
+form (Mux row) = of_layout (mux_layout row)
+form (OfKept statement) = of_layout (kept_layout statement)
+
+-- ---- the order of statements
+
+-- a list of symbols runs on up to `BS_`, `BU_`, `BO_` or the end of the text
+abbrev pub EndsSymbols : List AnyStatement → Type 0
+EndsSymbols [] = Unit {0}
+EndsSymbols (Timing numbers ∷ statements) = Unit {0}
+EndsSymbols (Nodes nodes ∷ statements) = Unit {0}
+EndsSymbols (OfMessage message ∷ statements) = Unit {0}
+EndsSymbols (statement ∷ statements) = ⊥
+
+abbrev pub FollowOn : AnyStatement → List AnyStatement → Type 0
+FollowOn (Symbols symbols) statements = EndsSymbols statements
+FollowOn statement statements = Unit {0}
+
+-- each statement may stand before those behind it
+abbrev pub ArePlaced : List AnyStatement → Type 0
+ArePlaced [] = Unit {0}
+ArePlaced (statement ∷ statements) = FollowOn statement statements × ArePlaced statements
+
+-- ---- databases
+
+abbrev pub symbols_of : AnyStatement → List (List ℕ)
+symbols_of (Symbols symbols) = symbols
+symbols_of statement = []
+
+abbrev pub timings_of : AnyStatement → List (Option (Decimal × Decimal × Decimal))
+timings_of (Timing numbers) = numbers ∷ []
+timings_of statement = []
+
+abbrev pub nodes_of : AnyStatement → List (List ℕ)
+nodes_of (Nodes nodes) = nodes
+nodes_of statement = []
+
+abbrev pub tables_of : AnyStatement → List TableRow
+tables_of (Table row) = row ∷ []
+tables_of statement = []
+
+abbrev pub messages_of : AnyStatement → List Message
+messages_of (OfMessage message) = message ∷ []
+messages_of statement = []
+
+abbrev pub comments_of : AnyStatement → List Comment
+comments_of (OfComment comment) = comment ∷ []
+comments_of statement = []
+
+abbrev pub definitions_of : AnyStatement → List AttrDef
+definitions_of (Definition definition) = definition ∷ []
+definitions_of statement = []
+
+abbrev pub defaults_of : AnyStatement → List AttrDefault
+defaults_of (Default row) = row ∷ []
+defaults_of statement = []
+
+abbrev pub attributes_of : AnyStatement → List AttrRow
+attributes_of (Attribute row) = row ∷ []
+attributes_of statement = []
+
+abbrev pub values_of : AnyStatement → List ValueRow
+values_of (Values row) = row ∷ []
+values_of statement = []
+
+abbrev pub floats_of : AnyStatement → List FloatRow
+floats_of (Float row) = row ∷ []
+floats_of statement = []
+
+abbrev pub muxes_of : AnyStatement → List MuxRow
+muxes_of (Mux row) = row ∷ []
+muxes_of statement = []
+
+abbrev pub kept_of : AnyStatement → List Kept
+kept_of (OfKept statement) = statement ∷ []
+kept_of statement = []
+
+-- the bit timing of at most one statement
+abbrev pub timing_of : List (Option (Decimal × Decimal × Decimal)) → Option (List Decimal)
+timing_of [] = None
+timing_of (None ∷ timings) = None
+timing_of (Some numbers ∷ timings) = Some (numbers.0 ∷ numbers.1 ∷ numbers.2 ∷ [])
+
+-- a version that is missing is the empty text
+abbrev pub version_form : Option (List ℕ) → List Part
+version_form None = []
+version_form (Some version) = of_layout (version_layout version)
+
+abbrev pub version_text : Option (List ℕ) → List ℕ
+version_text None = []
+version_text (Some version) = version
+
+-- the database of a version and statements
+abbrev pub gather : Option (List ℕ) → List AnyStatement → Database
+gather version statements = record {
+  version = version_text version;
+  symbols = flat_map symbols_of statements;
+  bit_timing = timing_of (flat_map timings_of statements);
+  nodes = flat_map nodes_of statements;
+  tables = flat_map tables_of statements;
+  messages = flat_map messages_of statements;
+  comments = flat_map comments_of statements;
+  definitions = flat_map definitions_of statements;
+  defaults = flat_map defaults_of statements;
+  attributes = flat_map attributes_of statements;
+  values = flat_map values_of statements;
+  floats = flat_map floats_of statements;
+  muxes = flat_map muxes_of statements;
+  kept = flat_map kept_of statements;
+}
+
+-- The tokens spell the database: perhaps a version, and then statements in their places, at most one of them a bit
+-- timing; and the database is within all bounds.
+pub record Spells (tokens : List Token) (database : Database) : Type 0 where
+  pub version : Option (List ℕ)
+  pub statements : List AnyStatement
+  pub spelled : Spelled (version_form version ++ flat_map form statements) tokens
+  pub placed : ArePlaced statements
+  pub one_timing : length (flat_map timings_of statements) ≤ 1
+  pub gathered : database ≡ gather version statements
+  pub proper : IsDatabase database
+
+-- ---- one statement that stands alone
+
+-- a message without its signals, a signal, a table, a row of values or of multiplexing, or an attribute
+abbrev pub form_alone : Statement → List Part
+form_alone (statements.Head head) = of_layout (head_layout head)
+form_alone (statements.Signal signal) = signal_form signal
+form_alone (statements.Table row) = form (Table row)
+form_alone (statements.Values row) = form (Values row)
+form_alone (statements.Mux row) = form (Mux row)
+form_alone (statements.Attribute row) = form (Attribute row)
+
+-- the attribute is one of a message
+pub record IsMessageAttribute (row : AttrRow) : Type 0 where
+  pub number : ℕ
+  pub target : row.target ≡ targets.Message number
+  pub proper : IsAttrRow row
+
+abbrev pub IsStatement : Statement → Type 0
+IsStatement (statements.Head head) = IsHead head
+IsStatement (statements.Signal signal) = IsSignal signal
+IsStatement (statements.Table row) = IsTableRow row
+IsStatement (statements.Values row) = IsValueRow row
+IsStatement (statements.Mux row) = IsMuxRow row
+IsStatement (statements.Attribute row) = IsMessageAttribute row
+
+pub record SpellsStatement (tokens : List Token) (statement : Statement) : Type 0 where
+  pub spelled : Spelled (form_alone statement) tokens
+  pub proper : IsStatement statement

@@ -1,0 +1,164 @@
+//! A place in a text: the token that stands there, and the tokens behind it.
+ghost use Rattle.std.specs.Prelude.{◌≡◌, false};
+ghost use Rattle.dbc_tokens.specs.Reading.Scanner.{cut_of};
+ghost use Rattle.dbc_reader.specs.Classes.{has_word, has_mark, has_name, has_symbol, has_string, has_piece, has_kept_word, has_number};
+ghost use Rattle.dbc_reader.specs.Reading.Cursors.{left_at, behind};
+ghost use Rattle.dbc_reader.specs.Reading.Readers.{GivesTo, TakesTo, starts, token_at, end_at};
+
+use crate::classes;
+use crate::stopped::Stopped;
+use dbc_tokens::{Cause, Next, Token, Tokens, tokens};
+
+/// A place among the tokens of a text. Each token is looked for once, when the cursor comes to stand before it.
+#[derive(Clone, Copy)]
+pub struct Cursor<'t> {
+    pub next: Next<'t>,
+    pub after: Tokens<'t>,
+}
+
+impl<'t> Cursor<'t> {
+    /// The beginning of a text.
+    #[tactic(auto, unfolding(crate::specs::Reading::Cursors::left_at))]
+    pub fn new(text: &'t [u8]) -> Cursor<'t>
+        ensures { left_at result ≡ cut_of 1 text.entry.now }
+    {
+        let (next, after) = tokens(text).advance();
+        Cursor { next, after }
+    }
+
+    /// Takes the token that stands here.
+    #[tactic(auto, unfolding(crate::specs::Reading::Cursors::left_at, crate::specs::Reading::Readers::token_at))]
+    pub fn take(&mut self) -> Result<Token<'t>, Stopped>
+        ensures { TakesTo result (left_at self.new) (token_at (left_at self.old)) }
+    {
+        match self.next {
+            Next::Token(token) => {
+                let (next, after) = self.after.advance();
+                *self = Cursor { next, after };
+                Ok(token)
+            }
+            Next::End(line) => Err(Stopped::at(line, Cause::Statement)),
+            Next::Fault(line) => Err(Stopped::at(line, Cause::Token)),
+        }
+    }
+
+    /// The place behind the token that stands here; this place where none does.
+    #[tactic(auto, unfolding(crate::specs::Reading::Cursors::left_at))]
+    pub fn behind(self) -> Cursor<'t>
+        ensures { left_at result ≡ behind (left_at self.entry) }
+    {
+        match self.next {
+            Next::Token(_) => {
+                let (next, after) = self.after.advance();
+                Cursor { next, after }
+            }
+            _ => self,
+        }
+    }
+
+    /// Stays where the text ends, and is a fault elsewhere.
+    #[tactic(auto, unfolding(crate::specs::Reading::Cursors::left_at, crate::specs::Reading::Readers::end_at))]
+    pub fn end(&mut self) -> Result<(), Stopped>
+        ensures { GivesTo result (left_at self.new) (end_at (left_at self.old)) }
+    {
+        match self.next {
+            Next::Token(token) => Err(Stopped::at(token.line, Cause::Statement)),
+            Next::End(line) => {
+                *self = Cursor {
+                    next: Next::End(line),
+                    after: self.after,
+                };
+                Ok(())
+            }
+            Next::Fault(line) => Err(Stopped::at(line, Cause::Token)),
+        }
+    }
+
+    /// Whether this word stands here.
+    #[tactic(auto, unfolding(crate::specs::Reading::Cursors::left_at, crate::specs::Reading::Readers::starts))]
+    pub fn starts_word(self, word: &[u8]) -> bool
+        ensures { result ≡ starts (has_word word.now) (left_at self.entry) }
+    {
+        match self.next {
+            Next::Token(token) => classes::has_word(token, word),
+            _ => false,
+        }
+    }
+
+    /// Whether this mark stands here.
+    #[tactic(auto, unfolding(crate::specs::Reading::Cursors::left_at, crate::specs::Reading::Readers::starts))]
+    pub fn starts_mark(self, mark: u8) -> bool
+        ensures { result ≡ starts (has_mark mark) (left_at self.entry) }
+    {
+        match self.next {
+            Next::Token(token) => classes::has_mark(token, mark),
+            _ => false,
+        }
+    }
+
+    /// Whether a statement that is kept as it stands may begin with the word here.
+    #[tactic(auto, unfolding(crate::specs::Reading::Cursors::left_at, crate::specs::Reading::Readers::starts))]
+    pub fn starts_kept_word(self) -> bool
+        ensures { result ≡ starts has_kept_word (left_at self.entry) }
+    {
+        match self.next {
+            Next::Token(token) => classes::has_kept_word(token),
+            _ => false,
+        }
+    }
+
+    /// Whether a name stands here.
+    #[tactic(auto, unfolding(crate::specs::Reading::Cursors::left_at, crate::specs::Reading::Readers::starts))]
+    pub fn starts_name(self) -> bool
+        ensures { result ≡ starts has_name (left_at self.entry) }
+    {
+        match self.next {
+            Next::Token(token) => classes::has_name(token),
+            _ => false,
+        }
+    }
+
+    /// Whether a word of the list of symbols stands here.
+    #[tactic(auto, unfolding(crate::specs::Reading::Cursors::left_at, crate::specs::Reading::Readers::starts))]
+    pub fn starts_symbol(self) -> bool
+        ensures { result ≡ starts has_symbol (left_at self.entry) }
+    {
+        match self.next {
+            Next::Token(token) => classes::has_symbol(token),
+            _ => false,
+        }
+    }
+
+    /// Whether a string stands here.
+    #[tactic(auto, unfolding(crate::specs::Reading::Cursors::left_at, crate::specs::Reading::Readers::starts))]
+    pub fn starts_string(self) -> bool
+        ensures { result ≡ starts has_string (left_at self.entry) }
+    {
+        match self.next {
+            Next::Token(token) => classes::has_string(token),
+            _ => false,
+        }
+    }
+
+    /// Whether any token but a semicolon stands here.
+    #[tactic(auto, unfolding(crate::specs::Reading::Cursors::left_at, crate::specs::Reading::Readers::starts))]
+    pub fn starts_piece(self) -> bool
+        ensures { result ≡ starts has_piece (left_at self.entry) }
+    {
+        match self.next {
+            Next::Token(token) => classes::has_piece(token),
+            _ => false,
+        }
+    }
+
+    /// Whether a number that is a decimal stands here.
+    #[tactic(auto, unfolding(crate::specs::Reading::Cursors::left_at, crate::specs::Reading::Readers::starts))]
+    pub fn starts_number(self) -> bool
+        ensures { result ≡ starts (has_number false) (left_at self.entry) }
+    {
+        match self.next {
+            Next::Token(token) => classes::has_number(token),
+            _ => false,
+        }
+    }
+}

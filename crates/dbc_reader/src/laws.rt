@@ -1,0 +1,37 @@
+//! Laws of reading. The functions do nothing: what they ensure is the law.
+ghost use Rattle.dbc_reader.specs.Laws.{FaultOrDatabase, FaultOrStatement, FaultsAreOfTexts, OneDatabase, OneReading, OneReadingAlone, OneStatement};
+
+/// Tokens have no first fault exactly where they spell a database.
+pub fn fault_or_database()
+    ensures { FaultOrDatabase }
+{}
+
+/// Tokens spell one database at most.
+pub fn one_database()
+    ensures { OneDatabase }
+{}
+
+/// Tokens have no first fault as one statement exactly where they spell one that may stand alone.
+pub fn fault_or_statement()
+    ensures { FaultOrStatement }
+{}
+
+/// Tokens spell one statement at most.
+pub fn one_statement()
+    ensures { OneStatement }
+{}
+
+/// A text has one database and no first fault, or one first fault and no database.
+pub fn one_reading()
+    ensures { OneReading }
+{}
+
+/// A text is one statement and has no first fault as such, or has one first fault and is none.
+pub fn one_reading_alone()
+    ensures { OneReadingAlone }
+{}
+
+/// A first fault names a line of its text, and is none of want of memory.
+pub fn faults_are_of_texts()
+    ensures { FaultsAreOfTexts }
+{}

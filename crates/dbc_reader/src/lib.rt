@@ -1,0 +1,23 @@
+//! Reading of a DBC text: the database that its tokens spell, and the fault that reading ends with.
+//!
+//! [`read`] and [`read_one`] give what the tokens spell by `specs/Spelling.antt`, or the first fault of
+//! `specs/Pattern.antt`; [`laws`] says that a text has the one or the other.
+#![tactic(auto)]
+
+mod attributes;
+mod classes;
+mod cursor;
+mod kept;
+pub mod laws;
+mod messages;
+mod numerals;
+mod parts;
+mod reader;
+mod statement;
+mod statements;
+mod stopped;
+mod tables;
+mod tags;
+
+pub use reader::{read, read_one};
+pub use statement::Statement;

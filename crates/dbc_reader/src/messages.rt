@@ -1,0 +1,213 @@
+//! Messages with their signals.
+ghost use Rattle.std.specs.Prelude.{◌≡◌, ◌<◌, [], false, IfOk, OnOk, IsTrue, length};
+ghost use Rattle.std.specs.List.{list_any};
+ghost use Rattle.std.specs.Str.{bytes_eq};
+ghost use Rattle.dbc_model.specs.Records.{signal_fits, signals_fit, names_of};
+ghost use Rattle.dbc_reader.specs.Reading.Cursors.{left_at};
+ghost use Rattle.dbc_reader.specs.Reading.Readers.{GivesTo};
+ghost use Rattle.dbc_reader.specs.Reading.Messages.{begin_message_at, head_at, begin_signal_at, signal_name_at, tag_at, sign_at, place_at, signal_at, signals_from, message_at};
+
+use crate::cursor::Cursor;
+use crate::numerals::{id, order, pair, whole};
+use crate::parts::{mark, name, receivers, text};
+use crate::stopped::Stopped;
+use crate::{classes, tags};
+use dbc_model::{Database, Head, List, Message, Name, Signal, Tag};
+use dbc_tokens::Cause;
+use std::alloc::Global;
+
+// Takes the keyword of a message, in a text that has had so many.
+#[tactic(auto, unfolding(crate::specs::Reading::Messages::begin_message_at))]
+fn begin_message(at: &mut Cursor<'_>, count: usize) -> Result<(), Stopped>
+    ensures value { GivesTo result (left_at at.new) (begin_message_at count (left_at at.old)) }
+    ensures count { OnOk result (count < 65535) }
+{
+    let token = at.take()?;
+    if !classes::has_word(token, b"BO_") {
+        return Err(Stopped::at(token.line, Cause::Statement));
+    }
+    if count >= Database::MAX_MESSAGES {
+        return Err(Stopped::at(token.line, Cause::MessagesFull));
+    }
+    Ok(())
+}
+
+/// Takes the first line of a message, in a text that has had so many messages.
+#[tactic(auto, unfolding(crate::specs::Reading::Messages::head_at))]
+pub fn head(alloc: Global, at: &mut Cursor<'_>, count: usize) -> Result<Head, Stopped>
+    ensures value { GivesTo result (left_at at.new) (head_at count (left_at at.old)) }
+    ensures count { OnOk result (count < 65535) }
+{
+    begin_message(at, count)?;
+    let number = id(at)?;
+    let title = name(alloc, at)?;
+    mark(at, b':')?;
+    let size = whole(at, 0, u64::from(Head::MAX_SIZE))?;
+    let sender = name(alloc, at)?;
+    Ok(Head {
+        number,
+        name: title,
+        size: size as u16,
+        sender,
+    })
+}
+
+// Takes the keyword of a signal, in a message that has so many.
+#[tactic(auto, unfolding(crate::specs::Reading::Messages::begin_signal_at))]
+fn begin_signal(at: &mut Cursor<'_>, count: usize) -> Result<(), Stopped>
+    ensures value { GivesTo result (left_at at.new) (begin_signal_at count (left_at at.old)) }
+    ensures count { OnOk result (count < 999) }
+{
+    let token = at.take()?;
+    if !classes::has_word(token, b"SG_") {
+        return Err(Stopped::at(token.line, Cause::Statement));
+    }
+    if count >= Message::MAX_SIGNALS {
+        return Err(Stopped::at(token.line, Cause::SignalsFull));
+    }
+    Ok(())
+}
+
+// Whether a signal has this name.
+fn has_signal(signals: &[Signal], name: &[u8]) -> bool
+    ensures { result ≡ list_any (bytes_eq name.now) (names_of signals.now) }
+{
+    for signal in signals {
+        if name == signal.name.as_bytes() {
+            return true;
+        }
+    }
+    false
+}
+
+// Takes the name of a signal, in a message that has these signals.
+#[tactic(auto, unfolding(crate::specs::Reading::Messages::signal_name_at, crate::specs::Classes::has_name))]
+fn signal_name(alloc: Global, at: &mut Cursor<'_>, signals: &[Signal]) -> Result<Name, Stopped>
+    ensures value { GivesTo result (left_at at.new) (signal_name_at (names_of signals.now) (left_at at.old)) }
+    ensures fresh { IfOk result (λ name. list_any (bytes_eq name) (names_of signals.now) ≡ false) }
+{
+    let token = at.take()?;
+    if !classes::has_name(token) {
+        return Err(Stopped::at(token.line, Cause::Statement));
+    }
+    if has_signal(signals, token.bytes) {
+        return Err(Stopped::at(token.line, Cause::RepeatedSignal));
+    }
+    match Name::new(alloc, token.bytes)? {
+        Some(name) => Ok(name),
+        None => Err(Stopped::at(token.line, Cause::Statement)),
+    }
+}
+
+// Takes the tag of a signal, if one stands before the colon.
+#[tactic(auto, unfolding(crate::specs::Reading::Messages::tag_at, crate::specs::Reading::Parts::tag_token_at))]
+fn tag(at: &mut Cursor<'_>) -> Result<Tag, Stopped>
+    ensures { GivesTo result (left_at at.new) (tag_at (left_at at.old)) }
+{
+    if at.starts_mark(b':') {
+        return Ok(Tag::Plain);
+    }
+    let token = at.take()?;
+    match tags::tag(token.bytes) {
+        Ok(tag) => Ok(tag),
+        Err(cause) => Err(Stopped::at(token.line, cause)),
+    }
+}
+
+// Takes the sign of a signal, and gives whether it is signed.
+#[tactic(auto, unfolding(crate::specs::Reading::Messages::sign_at))]
+fn sign(at: &mut Cursor<'_>) -> Result<bool, Stopped>
+    ensures { GivesTo result (left_at at.new) (sign_at (left_at at.old)) }
+{
+    if at.starts_mark(b'-') {
+        mark(at, b'-')?;
+        return Ok(true);
+    }
+    mark(at, b'+')?;
+    Ok(false)
+}
+
+/// Where a signal stands in its message, and how.
+#[derive(Clone, Copy)]
+struct Place {
+    start: u16,
+    length: u16,
+    intel: bool,
+    signed: bool,
+}
+
+#[tactic(auto, unfolding(crate::specs::Reading::Messages::place_at))]
+fn place_here(at: &mut Cursor<'_>) -> Result<Place, Stopped>
+    ensures value { GivesTo result (left_at at.new) (place_at (left_at at.old)) }
+    ensures fits { IfOk result (λ place. IsTrue (signal_fits place.length)) }
+{
+    let start = whole(at, 0, u64::from(u16::MAX))?;
+    mark(at, b'|')?;
+    let length = whole(at, 1, u64::from(Signal::MAX_LENGTH))?;
+    mark(at, b'@')?;
+    let intel = order(at)?;
+    let signed = sign(at)?;
+    Ok(Place {
+        start: start as u16,
+        length: length as u16,
+        intel,
+        signed,
+    })
+}
+
+/// Takes a signal, in a message that has these signals.
+#[tactic(auto, unfolding(crate::specs::Reading::Messages::signal_at))]
+pub fn signal(alloc: Global, at: &mut Cursor<'_>, signals: &[Signal]) -> Result<Signal, Stopped>
+    ensures value { GivesTo result (left_at at.new) (signal_at signals.now (left_at at.old)) }
+    ensures count { OnOk result (length signals.now < 999) }
+    ensures fresh { IfOk result (λ signal. list_any (bytes_eq signal.name) (names_of signals.now) ≡ false) }
+{
+    begin_signal(at, signals.len())?;
+    let title = signal_name(alloc, at, signals)?;
+    let tag = tag(at)?;
+    mark(at, b':')?;
+    let place = place_here(at)?;
+    let (factor, offset) = pair(at, b'(', b',', b')')?;
+    let (minimum, maximum) = pair(at, b'[', b'|', b']')?;
+    let unit = text(alloc, at)?;
+    let receivers = receivers(alloc, at)?;
+    Ok(Signal {
+        name: title,
+        tag,
+        start: place.start,
+        length: place.length,
+        intel: place.intel,
+        signed: place.signed,
+        factor,
+        offset,
+        minimum,
+        maximum,
+        unit,
+        receivers,
+    })
+}
+
+// Takes the signals of a message.
+#[tactic(auto, using(crate::proofs::Turns::Signals::signals_on, crate::proofs::Turns::Signals::signals_end, crate::proofs::Turns::Signals::signals_less, crate::proofs::Facts::MessageNames::signals_fit_more), unfolding(dbc_model::specs::Records::signals_fit))]
+fn signals(alloc: Global, at: &mut Cursor<'_>) -> Result<List<Signal>, Stopped>
+    ensures value { GivesTo result (left_at at.new) (signals_from [] (left_at at.old)) }
+    ensures fit { IfOk result (λ signals. IsTrue (signals_fit signals)) }
+{
+    let mut signals = List::new(alloc);
+    'signals: while at.starts_word(b"SG_") {
+        let found = signal(alloc, at, signals.as_slice())?;
+        signals.push(found)?;
+    }
+    Ok(signals)
+}
+
+/// Takes a message with its signals, in a text that has had so many messages.
+#[tactic(auto, unfolding(crate::specs::Reading::Messages::message_at))]
+pub fn message(alloc: Global, at: &mut Cursor<'_>, count: usize) -> Result<Message, Stopped>
+    ensures value { GivesTo result (left_at at.new) (message_at count (left_at at.old)) }
+    ensures count { OnOk result (count < 65535) }
+{
+    let head = head(alloc, at, count)?;
+    let signals = signals(alloc, at)?;
+    Ok(Message { head, signals })
+}

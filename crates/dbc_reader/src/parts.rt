@@ -1,0 +1,214 @@
+//! The parts of statements that are one token, and lists of them.
+ghost use Rattle.std.specs.Prelude.{◌≡◌, [], ◌∷◌, Some, None, option_map, if◌then◌else◌};
+ghost use Rattle.std.specs.Str.{bytes_eq};
+ghost use Rattle.dbc_model.specs.Lexical.{quoted};
+ghost use Rattle.dbc_model.specs.Kept.{inside};
+ghost use Rattle.dbc_reader.specs.Reading.Cursors.{left_at};
+ghost use Rattle.dbc_reader.specs.Reading.Readers.{GivesTo, MakesTo, starts};
+ghost use Rattle.dbc_reader.specs.Reading.Parts.{word_at, mark_at, name_at, symbol_at, text_at, piece_at, names_from, symbols_from, pieces_from, comma_at, begins_receiver, receivers_from, receivers_at, texts_from};
+
+use crate::classes;
+use crate::cursor::Cursor;
+use crate::stopped::Stopped;
+use dbc_model::{List, Name, Piece, Symbol, Text};
+use dbc_tokens::{Cause, Next};
+use std::alloc::Global;
+
+/// Takes this word.
+#[tactic(auto, unfolding(crate::specs::Reading::Parts::word_at))]
+pub fn word(at: &mut Cursor<'_>, word: &[u8]) -> Result<(), Stopped>
+    ensures { GivesTo result (left_at at.new) (word_at word.now (left_at at.old)) }
+{
+    let token = at.take()?;
+    if classes::has_word(token, word) {
+        Ok(())
+    } else {
+        Err(Stopped::at(token.line, Cause::Statement))
+    }
+}
+
+/// Takes this mark.
+#[tactic(auto, unfolding(crate::specs::Reading::Parts::mark_at))]
+pub fn mark(at: &mut Cursor<'_>, mark: u8) -> Result<(), Stopped>
+    ensures { GivesTo result (left_at at.new) (mark_at mark (left_at at.old)) }
+{
+    let token = at.take()?;
+    if classes::has_mark(token, mark) {
+        Ok(())
+    } else {
+        Err(Stopped::at(token.line, Cause::Statement))
+    }
+}
+
+/// Takes a name.
+#[tactic(auto, unfolding(crate::specs::Reading::Parts::name_at))]
+pub fn name(alloc: Global, at: &mut Cursor<'_>) -> Result<Name, Stopped>
+    ensures { GivesTo result (left_at at.new) (name_at (left_at at.old)) }
+{
+    let token = at.take()?;
+    match Name::new(alloc, token.bytes)? {
+        Some(name) => Ok(name),
+        None => Err(Stopped::at(token.line, Cause::Statement)),
+    }
+}
+
+/// Takes a word of the list of symbols.
+#[tactic(auto, unfolding(crate::specs::Reading::Parts::symbol_at))]
+pub fn symbol(alloc: Global, at: &mut Cursor<'_>) -> Result<Symbol, Stopped>
+    ensures { GivesTo result (left_at at.new) (symbol_at (left_at at.old)) }
+{
+    let token = at.take()?;
+    match Symbol::new(alloc, token.bytes)? {
+        Some(symbol) => Ok(symbol),
+        None => Err(Stopped::at(token.line, Cause::Statement)),
+    }
+}
+
+/// Takes a token as it stands.
+#[tactic(auto, unfolding(crate::specs::Reading::Parts::piece_at))]
+pub fn piece(alloc: Global, at: &mut Cursor<'_>) -> Result<Piece, Stopped>
+    ensures { GivesTo result (left_at at.new) (piece_at (left_at at.old)) }
+{
+    let token = at.take()?;
+    match Piece::new(alloc, token.bytes)? {
+        Some(piece) => Ok(piece),
+        None => Err(Stopped::at(token.line, Cause::Statement)),
+    }
+}
+
+// What stands between quotes.
+#[tactic(auto, using(dbc_model::proofs::Strings::quoted_by_ends))]
+fn between_quotes(bytes: &[u8]) -> Option<&[u8]>
+    ensures { option_map (λ text. text.now) result ≡ (if bytes_eq bytes.now (quoted (inside bytes.now)) then Some (inside bytes.now) else None) }
+{
+    match bytes {
+        [first, text @ .., last] => {
+            if *first == b'"' && *last == b'"' {
+                Some(text)
+            } else {
+                None
+            }
+        }
+        _ => None,
+    }
+}
+
+/// Takes a string, and gives its text.
+#[tactic(auto, unfolding(crate::specs::Reading::Parts::text_at, crate::specs::Classes::text_of, dbc_model::specs::Kept::is_string))]
+pub fn text(alloc: Global, at: &mut Cursor<'_>) -> Result<Text, Stopped>
+    ensures { GivesTo result (left_at at.new) (text_at (left_at at.old)) }
+{
+    let token = at.take()?;
+    let Some(text) = between_quotes(token.bytes) else {
+        return Err(Stopped::at(token.line, Cause::Statement));
+    };
+    match Text::new(alloc, text)? {
+        Some(text) => Ok(text),
+        None => Err(Stopped::at(token.line, Cause::Statement)),
+    }
+}
+
+/// Takes the names that stand here, and puts them behind the others.
+#[tactic(auto, using(crate::proofs::Turns::Lists::names_on, crate::proofs::Turns::Lists::names_fail, crate::proofs::Turns::Lists::names_end, crate::proofs::Turns::Lists::names_less))]
+pub fn names(alloc: Global, at: &mut Cursor<'_>, names: &mut List<Name>) -> Result<(), Stopped>
+    ensures { MakesTo result names.new (left_at at.new) (names_from names.old (left_at at.old)) }
+{
+    'names: while at.starts_name() {
+        let found = name(alloc, at)?;
+        names.push(found)?;
+    }
+    Ok(())
+}
+
+/// Takes the words of the list of symbols that stand here, and puts them behind the others.
+#[tactic(auto, using(crate::proofs::Turns::Lists::symbols_on, crate::proofs::Turns::Lists::symbols_fail, crate::proofs::Turns::Lists::symbols_end, crate::proofs::Turns::Lists::symbols_less))]
+pub fn symbols(
+    alloc: Global,
+    at: &mut Cursor<'_>,
+    symbols: &mut List<Symbol>,
+) -> Result<(), Stopped>
+    ensures { MakesTo result symbols.new (left_at at.new) (symbols_from symbols.old (left_at at.old)) }
+{
+    'symbols: while at.starts_symbol() {
+        let found = symbol(alloc, at)?;
+        symbols.push(found)?;
+    }
+    Ok(())
+}
+
+/// Takes all tokens up to a semicolon.
+#[tactic(auto, using(crate::proofs::Turns::Lists::pieces_on, crate::proofs::Turns::Lists::pieces_fail, crate::proofs::Turns::Lists::pieces_end, crate::proofs::Turns::Lists::pieces_less))]
+pub fn pieces(alloc: Global, at: &mut Cursor<'_>) -> Result<List<Piece>, Stopped>
+    ensures { GivesTo result (left_at at.new) (pieces_from [] (left_at at.old)) }
+{
+    let mut pieces = List::new(alloc);
+    'pieces: while at.starts_piece() {
+        let found = piece(alloc, at)?;
+        pieces.push(found)?;
+    }
+    Ok(pieces)
+}
+
+// Takes a comma, if one stands here.
+#[tactic(auto, unfolding(crate::specs::Reading::Parts::comma_at))]
+fn comma(at: &mut Cursor<'_>) -> Result<(), Stopped>
+    ensures { GivesTo result (left_at at.new) (comma_at (left_at at.old)) }
+{
+    if at.starts_mark(b',') {
+        mark(at, b',')?;
+    }
+    Ok(())
+}
+
+#[tactic(auto, unfolding(crate::specs::Reading::Cursors::left_at, crate::specs::Reading::Readers::starts))]
+fn starts_receiver(at: Cursor<'_>) -> bool
+    ensures { result ≡ starts begins_receiver (left_at at.entry) }
+{
+    match at.next {
+        Next::Token(token) => classes::begins_receiver(token),
+        _ => false,
+    }
+}
+
+// The first receiver and all further ones.
+#[tactic(auto, using(crate::proofs::Turns::Lists::receivers_on, crate::proofs::Turns::Lists::receivers_fail_first, crate::proofs::Turns::Lists::receivers_fail, crate::proofs::Turns::Lists::receivers_end, crate::proofs::Turns::Lists::receivers_less))]
+fn receivers_behind(alloc: Global, at: &mut Cursor<'_>, first: Name) -> Result<List<Name>, Stopped>
+    ensures { GivesTo result (left_at at.new) (receivers_from (first ∷ []) (left_at at.old)) }
+{
+    let mut names = List::new(alloc);
+    names.push(first)?;
+    'receivers: while starts_receiver(*at) {
+        comma(at)?;
+        let found = name(alloc, at)?;
+        names.push(found)?;
+    }
+    Ok(names)
+}
+
+/// Takes the receivers of a signal, with commas between them or without.
+#[tactic(auto, unfolding(crate::specs::Reading::Parts::receivers_at))]
+pub fn receivers(alloc: Global, at: &mut Cursor<'_>) -> Result<List<Name>, Stopped>
+    ensures { GivesTo result (left_at at.new) (receivers_at (left_at at.old)) }
+{
+    if at.starts_name() {
+        let first = name(alloc, at)?;
+        receivers_behind(alloc, at, first)
+    } else {
+        Ok(List::new(alloc))
+    }
+}
+
+/// The first text and all further ones, which stand here behind commas.
+#[tactic(auto, using(crate::proofs::Turns::Lists::texts_on, crate::proofs::Turns::Lists::texts_fail_first, crate::proofs::Turns::Lists::texts_fail, crate::proofs::Turns::Lists::texts_end, crate::proofs::Turns::Lists::texts_less))]
+pub fn texts(alloc: Global, at: &mut Cursor<'_>, first: Text) -> Result<List<Text>, Stopped>
+    ensures { GivesTo result (left_at at.new) (texts_from (first ∷ []) (left_at at.old)) }
+{
+    let mut texts = List::new(alloc);
+    texts.push(first)?;
+    'further: while at.starts_mark(b',') {
+        mark(at, b',')?;
+        let found = text(alloc, at)?;
+        texts.push(found)?;
+    }
+    Ok(texts)
+}

@@ -1,0 +1,128 @@
+//! Tables of named values, float types and extended multiplexing.
+ghost use Rattle.std.specs.Prelude.{◌≡◌, [], ◌∷◌, IfOk, IsTrue};
+ghost use Rattle.dbc_model.specs.Records.{ranges_fit};
+ghost use Rattle.dbc_reader.specs.Reading.Cursors.{left_at};
+ghost use Rattle.dbc_reader.specs.Reading.Readers.{GivesTo};
+ghost use Rattle.dbc_reader.specs.Reading.Tables.{table_at, values_at, colon_at, float_at, range_at, ranges_from, ranges_at, mux_at};
+
+use crate::cursor::Cursor;
+use crate::numerals::{entries, id, whole};
+use crate::parts::{mark, name, word};
+use crate::stopped::Stopped;
+use dbc_model::{FloatRow, List, MuxRow, Range, TableRow, ValueRow};
+use std::alloc::Global;
+
+/// Takes a table of its own name: `VAL_TABLE_`.
+#[tactic(auto, unfolding(crate::specs::Reading::Tables::table_at))]
+pub fn table(alloc: Global, at: &mut Cursor<'_>) -> Result<TableRow, Stopped>
+    ensures { GivesTo result (left_at at.new) (table_at (left_at at.old)) }
+{
+    word(at, b"VAL_TABLE_")?;
+    let title = name(alloc, at)?;
+    let entries = entries(alloc, at)?;
+    mark(at, b';')?;
+    Ok(TableRow {
+        name: title,
+        entries,
+    })
+}
+
+/// Takes the named values of a signal: `VAL_`.
+#[tactic(auto, unfolding(crate::specs::Reading::Tables::values_at))]
+pub fn values(alloc: Global, at: &mut Cursor<'_>) -> Result<ValueRow, Stopped>
+    ensures { GivesTo result (left_at at.new) (values_at (left_at at.old)) }
+{
+    word(at, b"VAL_")?;
+    let number = id(at)?;
+    let signal = name(alloc, at)?;
+    let entries = entries(alloc, at)?;
+    mark(at, b';')?;
+    Ok(ValueRow {
+        number,
+        signal,
+        entries,
+    })
+}
+
+// Takes a colon, if one stands here.
+#[tactic(auto, unfolding(crate::specs::Reading::Tables::colon_at))]
+fn colon(at: &mut Cursor<'_>) -> Result<(), Stopped>
+    ensures { GivesTo result (left_at at.new) (colon_at (left_at at.old)) }
+{
+    if at.starts_mark(b':') {
+        mark(at, b':')?;
+    }
+    Ok(())
+}
+
+/// Takes the float type of a signal: `SIG_VALTYPE_`.
+#[tactic(auto, unfolding(crate::specs::Reading::Tables::float_at))]
+pub fn float(alloc: Global, at: &mut Cursor<'_>) -> Result<FloatRow, Stopped>
+    ensures { GivesTo result (left_at at.new) (float_at (left_at at.old)) }
+{
+    word(at, b"SIG_VALTYPE_")?;
+    let number = id(at)?;
+    let signal = name(alloc, at)?;
+    colon(at)?;
+    let kind = whole(at, 0, u64::from(FloatRow::MAX_KIND))?;
+    mark(at, b';')?;
+    Ok(FloatRow {
+        number,
+        signal,
+        kind: kind as u8,
+    })
+}
+
+#[tactic(auto, unfolding(crate::specs::Reading::Tables::range_at))]
+fn range(at: &mut Cursor<'_>) -> Result<Range, Stopped>
+    ensures { GivesTo result (left_at at.new) (range_at (left_at at.old)) }
+{
+    let first = whole(at, 0, u64::MAX)?;
+    mark(at, b'-')?;
+    let last = whole(at, 0, u64::MAX)?;
+    Ok(Range { first, last })
+}
+
+// The first range and all further ones, which stand here behind commas.
+#[tactic(auto, using(crate::proofs::Turns::Lists::ranges_on, crate::proofs::Turns::Lists::ranges_fail_first, crate::proofs::Turns::Lists::ranges_fail, crate::proofs::Turns::Lists::ranges_end, crate::proofs::Turns::Lists::ranges_less))]
+fn ranges_behind(alloc: Global, at: &mut Cursor<'_>, first: Range) -> Result<List<Range>, Stopped>
+    ensures { GivesTo result (left_at at.new) (ranges_from (first ∷ []) (left_at at.old)) }
+{
+    let mut ranges = List::new(alloc);
+    ranges.push(first)?;
+    'further: while at.starts_mark(b',') {
+        mark(at, b',')?;
+        let found = range(at)?;
+        ranges.push(found)?;
+    }
+    Ok(ranges)
+}
+
+// Takes the ranges of a switch, of which there is at least one.
+#[tactic(auto, using(crate::proofs::Turns::Lists::some_ranges), unfolding(crate::specs::Reading::Tables::ranges_at))]
+fn ranges(alloc: Global, at: &mut Cursor<'_>) -> Result<List<Range>, Stopped>
+    ensures value { GivesTo result (left_at at.new) (ranges_at (left_at at.old)) }
+    ensures fits { IfOk result (λ ranges. IsTrue (ranges_fit ranges)) }
+{
+    let first = range(at)?;
+    ranges_behind(alloc, at, first)
+}
+
+/// Takes a row of extended multiplexing: `SG_MUL_VAL_`.
+#[tactic(auto, unfolding(crate::specs::Reading::Tables::mux_at))]
+pub fn mux(alloc: Global, at: &mut Cursor<'_>) -> Result<MuxRow, Stopped>
+    ensures { GivesTo result (left_at at.new) (mux_at (left_at at.old)) }
+{
+    word(at, b"SG_MUL_VAL_")?;
+    let number = id(at)?;
+    let signal = name(alloc, at)?;
+    let switch = name(alloc, at)?;
+    let ranges = ranges(alloc, at)?;
+    mark(at, b';')?;
+    Ok(MuxRow {
+        number,
+        signal,
+        switch,
+        ranges,
+    })
+}

@@ -1,0 +1,83 @@
+//! Tags of signals.
+ghost use Rattle.std.specs.Prelude.{◌≡◌, ◌-◌, ◌^◌, ◌&&◌, ◌++◌, Some, None, Ok, Err, codes, option_map, if◌then◌else◌};
+ghost use Rattle.std.specs.List.{list_all};
+ghost use Rattle.std.specs.Str.{bytes_eq};
+ghost use Rattle.dbc_model.specs.Lexical.{is_digit, is_digits};
+ghost use Rattle.dbc_model.specs.declared.tag.Tag.TheVariants as tags;
+ghost use Rattle.dbc_reader.specs.Classes.{whole_of, front, muxed_of, tag_of};
+
+use dbc_model::{Tag, Whole, whole_of};
+use dbc_tokens::Cause;
+
+fn are_digits(bytes: &[u8]) -> bool
+    ensures { result ≡ list_all is_digit bytes.now }
+{
+    bytes.iter().all(|b| b.is_ascii_digit())
+}
+
+fn is_digits(bytes: &[u8]) -> bool
+    ensures { result ≡ is_digits bytes.now }
+{
+    !bytes.is_empty() && are_digits(bytes)
+}
+
+// The number of a tag.
+#[tactic(auto, unfolding(crate::specs::Classes::whole_of))]
+fn count(digits: &[u8]) -> Result<u64, Cause>
+    ensures { result ≡ whole_of 0 (2 ^ 64 - 1) digits.now }
+{
+    match whole_of(digits) {
+        Some(Whole::Value(n)) => Ok(n),
+        Some(Whole::TooLarge) => Err(Cause::Limit),
+        Some(Whole::Fraction) | None => Err(Cause::Statement),
+    }
+}
+
+// The digits before a last `M`.
+#[tactic(auto, using(crate::proofs::Facts::Ends::ends_by_last))]
+fn before_switch(bytes: &[u8]) -> Option<&[u8]>
+    ensures { option_map (λ digits. digits.now) result ≡ (if is_digits (front bytes.now) && bytes_eq bytes.now (front bytes.now ++ codes "M") then Some (front bytes.now) else None) }
+{
+    match bytes {
+        [digits @ .., last] => {
+            if *last == b'M' && is_digits(digits) {
+                Some(digits)
+            } else {
+                None
+            }
+        }
+        [] => None,
+    }
+}
+
+// What stands behind an `m`.
+#[tactic(auto, unfolding(crate::specs::Classes::muxed_of))]
+fn muxed(bytes: &[u8]) -> Result<Tag, Cause>
+    ensures { result ≡ muxed_of bytes.now }
+{
+    if is_digits(bytes) {
+        return match count(bytes) {
+            Ok(n) => Ok(Tag::Muxed(n)),
+            Err(cause) => Err(cause),
+        };
+    }
+    match before_switch(bytes) {
+        Some(digits) => match count(digits) {
+            Ok(n) => Ok(Tag::Both(n)),
+            Err(cause) => Err(cause),
+        },
+        None => Err(Cause::Statement),
+    }
+}
+
+/// The tag that a token is: `M`, `m5` or `m5M`.
+#[tactic(auto, unfolding(crate::specs::Classes::tag_of))]
+pub fn tag(bytes: &[u8]) -> Result<Tag, Cause>
+    ensures { result ≡ tag_of bytes.now }
+{
+    match bytes {
+        b"M" => Ok(Tag::Switch),
+        [b'm', behind @ ..] => muxed(behind),
+        _ => Err(Cause::Statement),
+    }
+}

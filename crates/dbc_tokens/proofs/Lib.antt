@@ -1,0 +1,10 @@
+pub mod Runs
+pub mod Searches
+pub mod NumberParts
+pub mod Numbers
+pub mod Strings
+pub mod Longest
+pub mod Gaps
+pub mod CutStep
+pub mod LineFeeds
+pub mod CutLaws

@@ -1,0 +1,45 @@
+-- What contracts see of tokens, of the step from one to the next, and of what is left of a text.
+use Rattle.std.specs.Prelude.{◌≡◌, ℕ, List, [], ◌∷◌, Result, Ok, Err}
+use Rattle.dbc_tokens.specs.declared.fault.Cause.TheVariants as causes
+use Rattle.dbc_tokens.specs.declared.fault.ReadFault.{ReadFault}
+use Rattle.dbc_tokens.specs.declared.token.Next.{Next}
+use Rattle.dbc_tokens.specs.declared.token.Next.TheVariants as nexts
+use Rattle.dbc_tokens.specs.declared.token.Token as tokens
+use Rattle.dbc_tokens.specs.declared.stream.Tokens.{Tokens}
+use Rattle.dbc_tokens.specs.Tokens.{Token, Cut, End, Fault, ◌▸◌}
+use Rattle.dbc_tokens.specs.Reading.Scanner.{cut_of}
+
+-- a token without where it lies in memory
+abbrev pub token_of : tokens.Token → Token
+token_of t = record { kind = t.kind; bytes = t.bytes.now; line = t.line }
+
+-- the tokens that are left
+abbrev pub left : Tokens → Cut
+left t = cut_of t.line t.rest.now
+
+-- what comes next, and then these
+abbrev pub cut_from : Next → Cut → Cut
+cut_from (nexts.Token t) cut = token_of t ▸ cut
+cut_from (nexts.End line) cut = End line
+cut_from (nexts.Fault line) cut = Fault line
+
+-- behind the end, and behind a fault, only the end in that line is left
+abbrev pub NothingAfter : Next → Cut → Type 0
+NothingAfter (nexts.Token t) cut = Unit {0}
+NothingAfter (nexts.End line) cut = cut ≡ End line
+NothingAfter (nexts.Fault line) cut = cut ≡ End line
+
+-- the fault of a place in this line at which no token begins
+abbrev pub token_fault : ℕ → ReadFault
+token_fault line = record { line = line; cause = causes.Token }
+
+-- what an iterator over tokens gives
+abbrev pub item : Result tokens.Token ReadFault → Result Token ReadFault
+item (Ok t) = Ok (token_of t)
+item (Err fault) = Err fault
+
+-- the tokens, and the fault where one ends them
+abbrev pub items : Cut → List (Result Token ReadFault)
+items (End line) = []
+items (Fault line) = Err (token_fault line) ∷ []
+items (t ▸ cut) = Ok t ∷ items cut

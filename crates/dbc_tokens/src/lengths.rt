@@ -1,0 +1,148 @@
+//! How long the gap or the token at the front of a text is.
+ghost use Rattle.std.specs.Prelude.{◌≡◌, ◌-◌, ◌<◌, ◌≤◌, false, not, ◌||◌, ◌==◌, length, slice_index, IfSome};
+ghost use Rattle.std.specs.List.{prefix_len};
+ghost use Rattle.dbc_model.specs.Lexical.{backslash, is_blank, is_digit, is_letter, is_word_byte, is_mark};
+ghost use Rattle.dbc_tokens.specs.Reading.Scanner.{gap_len, text_len, mantissa_len, sign_len, exponent_len, number_len, token_at};
+
+use crate::token::Kind;
+use dbc_model::{digits_len, is_letter, is_word_byte};
+use memchr::memchr;
+
+fn is_blank(b: u8) -> bool
+    ensures { result ≡ is_blank b }
+{
+    matches!(b, b' ' | b'\t' | b'\r' | b'\n')
+}
+
+fn is_mark(b: u8) -> bool
+    ensures { result ≡ is_mark b }
+{
+    matches!(
+        b,
+        b':' | b';' | b'|' | b'@' | b'(' | b')' | b'[' | b']' | b',' | b'+' | b'-'
+    )
+}
+
+fn word_len(bytes: &[u8]) -> usize
+    ensures value { result ≡ prefix_len is_word_byte bytes.now }
+    ensures in_range { result ≤ length bytes.now }
+{
+    bytes.iter().take_while(|b| is_word_byte(**b)).count()
+}
+
+// How many bytes of digits with a point stand at the front.
+fn mantissa_len(bytes: &[u8]) -> usize
+    ensures value { result ≡ mantissa_len bytes.now }
+    ensures in_range { result ≤ length bytes.now }
+{
+    let whole = digits_len(bytes);
+    match &bytes[whole..] {
+        [b'.', rest @ ..] => {
+            let digits = whole + digits_len(rest);
+            if digits == 0 { 0 } else { 1 + digits }
+        }
+        _ => whole,
+    }
+}
+
+fn sign_len(bytes: &[u8]) -> usize
+    ensures value { result ≡ sign_len bytes.now }
+    ensures in_range { result ≤ length bytes.now }
+{
+    match bytes {
+        [b'+' | b'-', ..] => 1,
+        _ => 0,
+    }
+}
+
+fn exponent_len(bytes: &[u8]) -> usize
+    ensures value { result ≡ exponent_len bytes.now }
+    ensures in_range { result ≤ length bytes.now }
+{
+    match bytes {
+        [b'E' | b'e', rest @ ..] => {
+            let sign = sign_len(rest);
+            let digits = digits_len(&rest[sign..]);
+            if digits == 0 { 0 } else { 1 + (sign + digits) }
+        }
+        _ => 0,
+    }
+}
+
+fn number_len(bytes: &[u8]) -> usize
+    ensures value { result ≡ number_len bytes.now }
+    ensures in_range { result ≤ length bytes.now }
+{
+    let mantissa = mantissa_len(bytes);
+    if mantissa == 0 {
+        0
+    } else {
+        mantissa + exponent_len(&bytes[mantissa..])
+    }
+}
+
+// Whether a quote at this place behind the opening one closes: no backslash stands directly before it.
+fn closes(bytes: &[u8], end: usize) -> bool
+    requires { end ≤ length bytes.now }
+    ensures { result ≡ (end == 0 || not (slice_index bytes.now (end - 1) == backslash)) }
+{
+    end == 0 || bytes[end - 1] != b'\\'
+}
+
+// How many bytes stand before the first quote that closes.
+fn text_len(bytes: &[u8]) -> Option<usize>
+    ensures value { result ≡ text_len false bytes.now }
+    ensures in_range { IfSome result (λ n. n < length bytes.now) }
+{
+    let mut at = 0;
+    while let Some(n) = memchr(b'"', &bytes[at..]) {
+        let end = at + n;
+        if closes(bytes, end) {
+            return Some(end);
+        }
+        at = end + 1;
+    }
+    None
+}
+
+/// How many bytes of blanks and comments stand at the front.
+pub fn gap_len(bytes: &[u8]) -> usize
+    ensures value { result ≡ gap_len false bytes.now }
+    ensures in_range { result ≤ length bytes.now }
+{
+    let mut at = 0;
+    while at < bytes.len() {
+        if is_blank(bytes[at]) {
+            at += 1;
+        } else if bytes[at] == b'/' && at + 1 < bytes.len() && bytes[at + 1] == b'/' {
+            match memchr(b'\n', &bytes[at..]) {
+                Some(n) => at += n,
+                None => return bytes.len(),
+            }
+        } else {
+            return at;
+        }
+    }
+    at
+}
+
+/// The kind of the token at the front and how many bytes it has, or `None` where no token begins.
+#[tactic(auto, unfolding(crate::specs::Reading::Scanner::token_at))]
+pub fn token_at(bytes: &[u8]) -> Option<(Kind, usize)>
+    ensures value { result ≡ token_at bytes.now }
+    ensures in_range { IfSome result (λ t. (0 < t.1) × (t.1 ≤ length bytes.now)) }
+{
+    match bytes {
+        [] => None,
+        [b'"', rest @ ..] => match text_len(rest) {
+            Some(n) => Some((Kind::Text, 2 + n)),
+            None => None,
+        },
+        [first, rest @ ..] if is_letter(*first) => Some((Kind::Word, 1 + word_len(rest))),
+        [first, ..] if is_mark(*first) => Some((Kind::Mark, 1)),
+        _ => match number_len(bytes) {
+            0 => None,
+            n => Some((Kind::Number, n)),
+        },
+    }
+}

@@ -1,0 +1,17 @@
+//! The tokens of a DBC text.
+//!
+//! [`tokens`] gives the tokens of a text one after another and takes no memory. Which tokens a text has is told by the
+//! definitions of `specs/Tokens.antt`, apart from how they are found; [`laws`] says that both agree.
+#![tactic(auto)]
+
+mod cutting;
+mod fault;
+pub mod laws;
+mod lengths;
+mod stream;
+mod token;
+
+pub use cutting::tokens;
+pub use fault::{Cause, ReadFault};
+pub use stream::Tokens;
+pub use token::{Kind, Next, Token};
