@@ -3,13 +3,14 @@ use Rattle.std.specs.Prelude.{ℕ, ◌-◌, ◌==◌, ◌||◌, nat_lt, slice_in
 use Rattle.std.specs.List.{flat_map}
 use Rattle.std.specs.Fmt.{signed_decimal, digits}
 use Rattle.std.specs.Prelude.{false}
+use Rattle.dbc_model.specs.Lexical.{space, line_feed, carriage_return}
 use Rattle.can_small.specs.Small.{Signal, Message}
 use Rattle.can_small.specs.Frame.{Frame, frame_of}
 use Rattle.can_small.specs.Raw.{unsigned_raw}
 
 -- a line without one final CR
 abbrev pub body_of : List ℕ → List ℕ
-body_of line = if slice_index line (length line - 1) == 13 then take (length line - 1) line else line
+body_of line = if slice_index line (length line - 1) == carriage_return then take (length line - 1) line else line
 
 -- the pieces, one after another
 abbrev pub join : List (List ℕ) → List ℕ
@@ -23,7 +24,7 @@ scaled_of signal raw = (pos raw *ℤ signal.factor) +ℤ signal.offset
 
 -- CR and LF are shown as a blank
 abbrev pub shown_byte : ℕ → ℕ
-shown_byte b = if b == 13 || b == 10 then 32 else b
+shown_byte b = if b == carriage_return || b == line_feed then space else b
 
 -- a blank and the unit, where there is one
 abbrev pub unit_text : List ℕ → List ℕ

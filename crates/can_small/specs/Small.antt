@@ -4,6 +4,22 @@ use Rattle.std.specs.Prelude.{ℕ, ℤ, List, map}
 use Rattle.can_small.specs.declared.database.Message as coded_messages
 use Rattle.can_small.specs.declared.database.Signal as coded_signals
 
+-- ---- bounds
+
+-- the greatest identifier of 11 bits
+abbrev pub greatest_identifier : ℕ
+greatest_identifier = 2047
+
+-- the most bytes of a message
+abbrev pub most_bytes : ℕ
+most_bytes = 8
+
+-- the most bits of a signal
+abbrev pub most_bits : ℕ
+most_bits = 64
+
+-- ---- records
+
 pub record Signal : Type 0 where
   pub name : List ℕ
   pub start : ℕ

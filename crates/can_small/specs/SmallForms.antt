@@ -3,10 +3,12 @@
 use Rattle.std.specs.Prelude.{◌≡◌, ℕ, ◌+◌, ◌*◌, ℤ, Bool, true, not, ◌&&◌, nat_le, IsTrue, List, [], ◌∷◌, ◌++◌, length, map, codes, Some, None, ◌⊎◌}
 use Rattle.std.specs.List.{flat_map, list_any, list_all}
 use Rattle.std.specs.Str.{bytes_eq}
-use Rattle.dbc_model.specs.Lexical.{slash}
+use Rattle.dbc_model.specs.Lexical.{slash, at_sign, bar, closing_bracket, closing_parenthesis, colon, comma, opening_bracket, opening_parenthesis, plus}
+use Rattle.dbc_model.specs.Records.{most_signals}
+use Rattle.dbc_model.specs.Databases.{most_messages}
 use Rattle.dbc_read.specs.Tokens.{Cut, End, Fault, ◌▸◌, HasTokens}
 use Rattle.std.specs.Prelude.{count_by, ◌==◌}
-use Rattle.can_small.specs.Small.{Signal, Message}
+use Rattle.can_small.specs.Small.{greatest_identifier, most_bytes, most_bits, Signal, Message}
 use Rattle.can_small.specs.SmallTokens.{word_at, mark_at, name_at, string_at, whole_at, signed_at}
 
 -- ---- items
@@ -34,9 +36,9 @@ AreNames (name ∷ names) cut behind = (mid : Cut) × (name_at cut ≡ Some (nam
 -- behind a receiver: these stand one after another, a comma or nothing before each, and neither a comma nor a further one
 -- behind them
 abbrev pub AreFurther : List (List ℕ) → Cut → Cut → Type 0
-AreFurther [] cut behind = (cut ≡ behind) × (name_at cut ≡ None) × (mark_at 44 cut ≡ None)
+AreFurther [] cut behind = (cut ≡ behind) × (name_at cut ≡ None) × (mark_at comma cut ≡ None)
 AreFurther (name ∷ names) cut behind =
-    (start mid : Cut) × ((start ≡ cut) ⊎ (mark_at 44 cut ≡ Some (tt, start))) × (name_at start ≡ Some (name, mid)) × AreFurther names mid behind
+    (start mid : Cut) × ((start ≡ cut) ⊎ (mark_at comma cut ≡ Some (tt, start))) × (name_at start ≡ Some (name, mid)) × AreFurther names mid behind
 
 -- these receivers stand here, none or some: `[ name { [,] name } ]`
 abbrev pub AreReceivers : List (List ℕ) → Cut → Cut → Type 0
@@ -65,17 +67,17 @@ Spelled (item ∷ items) cut behind = (mid : Cut) × Stands item cut mid × Spel
 
 -- `start|length@1+`: Intel order and unsigned
 abbrev pub place_form : Signal → List Item
-place_form s = Whole 64 s.start ∷ Mark 124 ∷ Whole 64 s.len ∷ Mark 64 ∷ Whole 1 1 ∷ Mark 43 ∷ []
+place_form s = Whole most_bits s.start ∷ Mark bar ∷ Whole most_bits s.len ∷ Mark at_sign ∷ Whole 1 1 ∷ Mark plus ∷ []
 
 -- `(factor,offset) [minimum|maximum]`
 abbrev pub scale_form : Signal → List Item
 scale_form s =
-    Mark 40 ∷ Signed s.factor ∷ Mark 44 ∷ Signed s.offset ∷ Mark 41
-    ∷ Mark 91 ∷ AnySigned ∷ Mark 124 ∷ AnySigned ∷ Mark 93 ∷ []
+    Mark opening_parenthesis ∷ Signed s.factor ∷ Mark comma ∷ Signed s.offset ∷ Mark closing_parenthesis
+    ∷ Mark opening_bracket ∷ AnySigned ∷ Mark bar ∷ AnySigned ∷ Mark closing_bracket ∷ []
 
 -- `name : start|length@1+ (factor,offset) [minimum|maximum] "unit" receivers`
 abbrev pub signal_body : Signal → List Item
-signal_body s = Name s.name ∷ Mark 58 ∷ (place_form s ++ (scale_form s ++ (String s.unit ∷ Receivers ∷ [])))
+signal_body s = Name s.name ∷ Mark colon ∷ (place_form s ++ (scale_form s ++ (String s.unit ∷ Receivers ∷ [])))
 
 -- `SG_` and the signal
 abbrev pub signal_form : Signal → List Item
@@ -83,7 +85,7 @@ signal_form s = Keyword (codes "SG_") ∷ signal_body s
 
 -- `number name: size sender`
 abbrev pub head_body : ℕ → List ℕ → ℕ → List Item
-head_body number name size = Whole 2047 number ∷ Name name ∷ Mark 58 ∷ Whole 8 size ∷ AnyName ∷ []
+head_body number name size = Whole greatest_identifier number ∷ Name name ∷ Mark colon ∷ Whole most_bytes size ∷ AnyName ∷ []
 
 -- `BO_`, the head, and the signals
 abbrev pub message_form : Message → List Item
@@ -91,7 +93,7 @@ message_form m = Keyword (codes "BO_") ∷ (head_body m.number m.name m.size ++ 
 
 -- `BU_: nodes`
 abbrev pub nodes_form : List Item
-nodes_form = Keyword (codes "BU_") ∷ Mark 58 ∷ Names ∷ []
+nodes_form = Keyword (codes "BU_") ∷ Mark colon ∷ Names ∷ []
 
 -- ---- bounds
 
@@ -105,10 +107,10 @@ are_distinct [] = true
 are_distinct (name ∷ names) = not (list_any (bytes_eq name) names) && are_distinct names
 
 abbrev pub signals_fit : ℕ → List Signal → Bool
-signals_fit size signals = nat_le (length signals) 999 && (list_all (signal_fits size) signals && are_distinct (map (λ s. s.name) signals))
+signals_fit size signals = nat_le (length signals) most_signals && (list_all (signal_fits size) signals && are_distinct (map (λ s. s.name) signals))
 
 abbrev pub messages_fit : List Message → Bool
-messages_fit messages = nat_le (length messages) 65535 && list_all (λ m. signals_fit m.size m.signals) messages
+messages_fit messages = nat_le (length messages) most_messages && list_all (λ m. signals_fit m.size m.signals) messages
 
 -- ---- texts
 

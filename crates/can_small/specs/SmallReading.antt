@@ -1,8 +1,9 @@
 -- Reading of a small database from left to right, statement by statement. What it reads is told apart from it, by the
 -- forms of the statements.
 use Rattle.std.specs.Prelude.{◌≡◌, ℕ, ◌+◌, ℤ, Bool, true, false, IsTrue, ◌==◌, ◌&&◌, List, [], ◌∷◌, codes, Option, Some, None, if◌then◌else◌}
+use Rattle.dbc_model.specs.Lexical.{at_sign, bar, closing_bracket, closing_parenthesis, colon, comma, opening_bracket, opening_parenthesis, plus}
 use Rattle.dbc_read.specs.Tokens.{Cut, End, Fault, ◌▸◌}
-use Rattle.can_small.specs.Small.{Signal, Message}
+use Rattle.can_small.specs.Small.{greatest_identifier, most_bytes, most_bits, Signal, Message}
 use Rattle.can_small.specs.SmallTokens.{is_name_token, is_the_mark, word_at, mark_at, name_at, string_at, whole_at, signed_at}
 use Rattle.can_small.specs.SmallForms.{signal_fits, signals_fit}
 -- how far a list of receivers has come
@@ -29,12 +30,12 @@ guarded test x cut = if test then Some (x, cut) else None
 -- start and length
 unfoldable pub place_at : Reader (ℕ × ℕ)
 place_at = do
-  start ← whole_at 64
-  _ ← mark_at 124
-  len ← whole_at 64
-  _ ← mark_at 64
+  start ← whole_at most_bits
+  _ ← mark_at bar
+  len ← whole_at most_bits
+  _ ← mark_at at_sign
   order ← whole_at 1
-  _ ← mark_at 43
+  _ ← mark_at plus
   guarded (order == 1) (start, len)
 
 -- two signed numbers, with a mark before, between and behind them
@@ -73,7 +74,7 @@ behind_receivers so_far (End line) = receivers_end so_far (End line)
 behind_receivers so_far (Fault line) = receivers_end so_far (Fault line)
 behind_receivers so_far (t ▸ cut) =
     if is_name_token t then behind_receivers AfterName cut
-    else (if takes_comma so_far && is_the_mark 44 t then behind_receivers AfterComma cut else receivers_end so_far (t ▸ cut))
+    else (if takes_comma so_far && is_the_mark comma t then behind_receivers AfterComma cut else receivers_end so_far (t ▸ cut))
 
 abbrev pub behind_only : Option Cut → Option (Unit {0} × Cut)
 behind_only None = None
@@ -90,10 +91,10 @@ fitting size s = guarded (signal_fits size s) s
 unfoldable pub signal_at : ℕ → Reader Signal
 signal_at size = do
   name ← name_at
-  _ ← mark_at 58
+  _ ← mark_at colon
   place ← place_at
-  scale ← pair_at 40 44 41
-  _ ← pair_at 91 124 93
+  scale ← pair_at opening_parenthesis comma closing_parenthesis
+  _ ← pair_at opening_bracket bar closing_bracket
   unit ← string_at
   _ ← receivers_at
   fitting size (record { name = name; start = place.0; len = place.1; factor = scale.0; offset = scale.1; unit = unit })
@@ -106,10 +107,10 @@ pub record Head : Type 0 where
 
 unfoldable pub head_at : Reader Head
 head_at = do
-  number ← whole_at 2047
+  number ← whole_at greatest_identifier
   name ← name_at
-  _ ← mark_at 58
-  size ← whole_at 8
+  _ ← mark_at colon
+  size ← whole_at most_bytes
   _ ← name_at
   value (record { number = number; name = name; size = size })
 
@@ -121,7 +122,7 @@ behind_nodes (Some x) = Some (behind_names x.1)
 
 abbrev pub nodes_from : Cut → Option (Unit {0} × Cut) → Option Cut
 nodes_from cut None = Some cut
-nodes_from cut (Some x) = behind_nodes (mark_at 58 x.1)
+nodes_from cut (Some x) = behind_nodes (mark_at colon x.1)
 
 -- behind the list of nodes, if one stands here
 unfoldable pub nodes_at : Cut → Option Cut
