@@ -27,9 +27,13 @@ line_text messages line = decoded_line messages line ++ line_feed ∷ []
 abbrev pub texts : List Message → List (List ℕ) → List ℕ
 texts messages lines = flat_map (line_text messages) lines
 
--- a line, finished or not, of at most 4,096 bytes
+-- the most bytes of a line, its CR counted and its LF not
+abbrev pub longest_line : ℕ
+longest_line = 4096
+
+-- a line, finished or not, that isn't long
 abbrev pub IsShort : List ℕ → Type 0
-IsShort line = length line ≤ 4096
+IsShort line = length line ≤ longest_line
 
 abbrev pub AllShort : List (List ℕ) → Type 0
 AllShort lines = AllByRecursion IsShort lines

@@ -1,10 +1,11 @@
 //! Log lines in, decoded lines out.
-ghost use Rattle.std.specs.Prelude.{◌≡◌, ℕ, ◌-◌, ◌^◌, ◌+◌, ◌<◌, ◌≤◌, min, List, [], ◌∷◌, ◌++◌, length, take, Some, IfOk, OnOk, IfSome, IfNone, IsErrOf};
-ghost use Rattle.dbc_model.specs.Device.{Rises, Wrote, Broke, PullFailed, Passes};
+ghost use Rattle.std.specs.Prelude.{◌≡◌, ℕ, ◌-◌, ◌^◌, ◌<◌, ◌⊎◌, min, List, [], ◌∷◌, ◌++◌, length, IfOk, OnOk, IfSome, IfNone, IsErrOf};
+ghost use Rattle.dbc_model.specs.Lexical.{line_feed};
+ghost use Rattle.dbc_model.specs.Device.{Rises, Wrote, Broke, Passes};
 ghost use Rattle.can_small.specs.Small.{messages_of};
-ghost use Rattle.candesk_calls.specs.Lines.{lines_of, whole_lines, line_text, texts, IsShort, AllShort};
+ghost use Rattle.candesk_calls.specs.Lines.{lines_of, line_text, texts, longest_line, IsShort, AllShort};
 ghost use Rattle.candesk_calls.specs.Cuts.{Cuts, HasNoLineFeed};
-ghost use Rattle.candesk_calls.specs.Stream.{Streams};
+ghost use Rattle.candesk_calls.specs.Stream.{StreamsAll, StopsAtLong, StopsAtRead, StopsAtWrite, StopsAtMemory, Streams};
 
 use crate::fault::StreamFault;
 use arrayvec::ArrayVec;
@@ -53,7 +54,7 @@ fn emit<W: Sink>(
 fn split_line(bytes: &[u8]) -> Option<(&[u8], &[u8])>
     ensures none { IfNone result (HasNoLineFeed bytes.now) }
     ensures head { IfSome result (λ parts. HasNoLineFeed parts.0.now) }
-    ensures parts { IfSome result (λ parts. bytes.now ≡ parts.0.now ++ 10 ∷ parts.1.now) }
+    ensures parts { IfSome result (λ parts. bytes.now ≡ parts.0.now ++ line_feed ∷ parts.1.now) }
     ensures shorter { IfSome result (λ parts. length parts.1.now < length bytes.now) }
 {
     let end = memchr(b'\n', bytes)?;
@@ -74,11 +75,12 @@ fn end_line<W: Sink>(
         (line_text (messages_of messages.now) (line.old.items ++ head.now)) held.new.items) }
     ensures short { OnOk result (IsShort (line.old.items ++ head.now)) }
     ensures empty { OnOk result (line.new.items ≡ []) }
-    ensures long { IsErrOf result StreamFault.LongLine → (4096 < length (line.old.items ++ head.now))
+    ensures long { IsErrOf result StreamFault.LongLine → (longest_line < length (line.old.items ++ head.now))
         × Wrote (W.written sink.old) (W.written sink.new) held.old.items }
     ensures memory { IsErrOf result StreamFault.Memory → Wrote (W.written sink.old) (W.written sink.new) held.old.items }
-    ensures write { IsErrOf result StreamFault.Write → Broke (W.written sink.old) (W.written sink.new)
-        (held.old.items ++ line_text (messages_of messages.now) (line.old.items ++ head.now)) }
+    ensures write { IsErrOf result StreamFault.Write → Broke (W.written sink.old) (W.written sink.new) held.old.items
+        ⊎ (IsShort (line.old.items ++ head.now) × Broke (W.written sink.old) (W.written sink.new)
+        (held.old.items ++ line_text (messages_of messages.now) (line.old.items ++ head.now))) }
     ensures others { ¬ IsErrOf result StreamFault.Read }
 {
     if line.remaining_capacity() < head.len() {
@@ -112,12 +114,14 @@ fn feed<W: Sink>(
         × Wrote (W.written sink.old) (W.written sink.new) (texts (messages_of messages.now) lines)) }
     ensures empty { OnOk result (held.new.items ≡ []) }
     ensures long { IsErrOf result StreamFault.LongLine → (lines : List (List ℕ)) × (long rest : List ℕ)
-        × Cuts (line.old.items ++ piece.now) lines (long ++ rest) × AllShort lines × HasNoLineFeed long × (4096 < length long)
+        × Cuts (line.old.items ++ piece.now) lines (long ++ rest) × AllShort lines × HasNoLineFeed long × (longest_line < length long)
         × Wrote (W.written sink.old) (W.written sink.new) (texts (messages_of messages.now) lines) }
     ensures memory { IsErrOf result StreamFault.Memory → (lines : List (List ℕ)) × (rest : List ℕ)
-        × Cuts (line.old.items ++ piece.now) lines rest × Wrote (W.written sink.old) (W.written sink.new) (texts (messages_of messages.now) lines) }
+        × Cuts (line.old.items ++ piece.now) lines rest × AllShort lines
+        × Wrote (W.written sink.old) (W.written sink.new) (texts (messages_of messages.now) lines) }
     ensures write { IsErrOf result StreamFault.Write → (lines : List (List ℕ)) × (rest : List ℕ)
-        × Cuts (line.old.items ++ piece.now) lines rest × Broke (W.written sink.old) (W.written sink.new) (texts (messages_of messages.now) lines) }
+        × Cuts (line.old.items ++ piece.now) lines rest × AllShort lines
+        × Broke (W.written sink.old) (W.written sink.new) (texts (messages_of messages.now) lines) }
     ensures others { ¬ IsErrOf result StreamFault.Read }
 {
     let mut count = 0u64;
@@ -169,30 +173,16 @@ fn stream_lines<R: Source, W: Sink>(
     source: &mut R,
     sink: &mut W,
 ) -> Result<u64, StreamFault>
-    // All was read, no line is long, and the text of each was written.
     ensures ok { IfOk result (λ count. IfSome (R.unread source.old).bytes (λ input.
-        ((R.unread source.new).bytes ≡ Some []) × AllShort (lines_of input)
-        × (count ≡ min (length (lines_of input)) (2 ^ 64 - 1))
-        × Wrote (W.written sink.old) (W.written sink.new) (texts (messages_of messages.now) (lines_of input)))) }
-
-    // The texts of the lines before the first long one were written.
+        StreamsAll (messages_of messages.now) input (R.unread source.new) (W.written sink.old) (W.written sink.new) count)) }
     ensures long { IsErrOf result StreamFault.LongLine → IfSome (R.unread source.old).bytes (λ input.
-        (lines more : List (List ℕ)) × (long : List ℕ) × (lines_of input ≡ lines ++ long ∷ more)
-        × AllShort lines × (4096 < length long)
-        × Wrote (W.written sink.old) (W.written sink.new) (texts (messages_of messages.now) lines)) }
-
-    // What was read has no long line, finished or not, and the texts of those whose LF was read were written.
-    ensures read { IsErrOf result StreamFault.Read → (read : List ℕ)
-        × PullFailed (R.unread source.old) (R.unread source.new) read × AllShort (lines_of read)
-        × Wrote (W.written sink.old) (W.written sink.new) (texts (messages_of messages.now) (whole_lines read)) }
-
-    // A beginning of the texts was written, and the sink failed.
+        StopsAtLong (messages_of messages.now) input (W.written sink.old) (W.written sink.new)) }
+    ensures read { IsErrOf result StreamFault.Read →
+        StopsAtRead (messages_of messages.now) (R.unread source.old) (R.unread source.new) (W.written sink.old) (W.written sink.new) }
     ensures write { IsErrOf result StreamFault.Write → IfSome (R.unread source.old).bytes (λ input.
-        Broke (W.written sink.old) (W.written sink.new) (texts (messages_of messages.now) (lines_of input))) }
-
-    // The texts of the first lines were written, each whole.
+        StopsAtWrite (messages_of messages.now) input (W.written sink.old) (W.written sink.new)) }
     ensures memory { IsErrOf result StreamFault.Memory → IfSome (R.unread source.old).bytes (λ input.
-        (n : ℕ) × Wrote (W.written sink.old) (W.written sink.new) (texts (messages_of messages.now) (take n (lines_of input)))) }
+        StopsAtMemory (messages_of messages.now) input (W.written sink.old) (W.written sink.new)) }
 
     // It blames the sink only where that failed, whatever is told of the input.
     ensures sink_failed { IsErrOf result StreamFault.Write → Rises (W.written sink.old).failures (W.written sink.new).failures }

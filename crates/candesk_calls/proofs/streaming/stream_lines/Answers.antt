@@ -13,8 +13,8 @@ loop-len-init g c = ([], [], Pulled-nil _, Cuts-nil _ c.new-line.ensures, tt, rw
 pub returns-in-Err-clause-read : goal.returns-in-Err-clause-read
 returns-in-Err-clause-read g c = λ _.
     let so_far = c.loop-len.invariant in
-    let exit = exit-read (messages_of c.args.messages.now) _ _ _ _ so_far.0 so_far.1 c.loop-len.line.items so_far.2.bytes so_far.3 so_far.4 so_far.5 so_far.6 so_far.8 in
-    (so_far.0, PullFailed-then _ _ _ so_far.0 so_far.2 c.in-Err.ensures.failed, exit.0, exit.1)
+    let exit = exit-read (messages_of c.args.messages.now) _ _ _ _ so_far.0 so_far.1 c.loop-len.line.items so_far.2 so_far.3 so_far.4 so_far.5 so_far.6 so_far.8 in
+    record { read = so_far.0; failed = PullFailed-then _ _ _ so_far.0 so_far.2 c.in-Err.ensures.failed; short = exit.0; wrote = exit.1 }
 
 pub returns-in_err-fed-clause-long : goal.returns-in_err-fed-clause-long
 returns-in_err-fed-clause-long g c = λ is.
@@ -25,7 +25,7 @@ returns-in_err-fed-clause-long g c = λ is.
     let messages = messages_of c.args.messages.now in
     let piece = take c.in-Ok.len c.pull.new.piece in
     exit-long messages _ _ _ _ (so_far.0 ++ piece) (so_far.1 ++ fault.0) fault.1 fault.2
-    (Pulled-then _ _ _ so_far.0 piece so_far.2 c.in-Ok.ensures.pulled).bytes
+    (Pulled-then _ _ _ so_far.0 piece so_far.2 c.in-Ok.ensures.pulled)
     (Cuts-more so_far.0 piece so_far.1 fault.0 c.loop-len.line.items _ so_far.3 fault.3)
     (AllByRecursion-append IsShort so_far.1 fault.0 so_far.4 fault.4)
     fault.5 fault.6
@@ -40,9 +40,10 @@ returns-in_err-fed-clause-write g c = λ is.
     let messages = messages_of c.args.messages.now in
     let piece = take c.in-Ok.len c.pull.new.piece in
     exit-write messages _ _ _ _ (so_far.0 ++ piece) (so_far.1 ++ fault.0) fault.1
-    (Pulled-then _ _ _ so_far.0 piece so_far.2 c.in-Ok.ensures.pulled).bytes
+    (Pulled-then _ _ _ so_far.0 piece so_far.2 c.in-Ok.ensures.pulled)
     (Cuts-more so_far.0 piece so_far.1 fault.0 c.loop-len.line.items _ so_far.3 fault.2)
-    (Broke-texts _ _ _ messages so_far.1 fault.0 so_far.8 fault.3)
+    (AllByRecursion-append IsShort so_far.1 fault.0 so_far.4 fault.3)
+    (Broke-texts _ _ _ messages so_far.1 fault.0 so_far.8 fault.4)
 
 pub returns-in_err-fed-clause-memory : goal.returns-in_err-fed-clause-memory
 returns-in_err-fed-clause-memory g c = λ is.
@@ -53,9 +54,10 @@ returns-in_err-fed-clause-memory g c = λ is.
     let messages = messages_of c.args.messages.now in
     let piece = take c.in-Ok.len c.pull.new.piece in
     exit-memory messages _ _ _ _ (so_far.0 ++ piece) (so_far.1 ++ fault.0) fault.1
-    (Pulled-then _ _ _ so_far.0 piece so_far.2 c.in-Ok.ensures.pulled).bytes
+    (Pulled-then _ _ _ so_far.0 piece so_far.2 c.in-Ok.ensures.pulled)
     (Cuts-more so_far.0 piece so_far.1 fault.0 c.loop-len.line.items _ so_far.3 fault.2)
-    (Wrote-texts _ _ _ messages so_far.1 fault.0 so_far.8 fault.3)
+    (AllByRecursion-append IsShort so_far.1 fault.0 so_far.4 fault.3)
+    (Wrote-texts _ _ _ messages so_far.1 fault.0 so_far.8 fault.4)
 
 pub loop-len-preserved : goal.loop-len-preserved
 loop-len-preserved g c =
@@ -82,9 +84,10 @@ returns-in_err-last-clause-write g c = λ is.
     let so_far = c.loop-len.invariant in
     let messages = messages_of c.args.messages.now in
     exit-end-write messages _ _ _ _ so_far.0 so_far.1 c.loop-len.line.items
-    (Pulled-none _ _ _ so_far.0 c.pull.new.piece c.in-Ok.len so_far.2 c.in-Ok.ensures.pulled c.if-len-eq0.true).bytes
+    (Pulled-none _ _ _ so_far.0 c.pull.new.piece c.in-Ok.len so_far.2 c.in-Ok.ensures.pulled c.if-len-eq0.true)
     so_far.3
     (c.in-Ok.ensures.end c.if-len-eq0.true (omega arith))
+    so_far.4 so_far.5 so_far.6
     (Broke-texts _ _ _ messages so_far.1 (lines_of c.loop-len.line.items) so_far.8 (rw (sym c.as_slice.ensures.value) fault))
 
 pub returns-in_err-last-clause-memory : goal.returns-in_err-last-clause-memory
@@ -94,8 +97,8 @@ returns-in_err-last-clause-memory g c = λ is.
     let kept = c.in_err-last.ensures.memory (ap Err was) in
     let so_far = c.loop-len.invariant in
     exit-memory (messages_of c.args.messages.now) _ _ _ _ so_far.0 so_far.1 c.loop-len.line.items
-    (Pulled-none _ _ _ so_far.0 c.pull.new.piece c.in-Ok.len so_far.2 c.in-Ok.ensures.pulled c.if-len-eq0.true).bytes
-    so_far.3
+    (Pulled-none _ _ _ so_far.0 c.pull.new.piece c.in-Ok.len so_far.2 c.in-Ok.ensures.pulled c.if-len-eq0.true)
+    so_far.3 so_far.4
     (Wrote-kept _ _ _ _ so_far.8 kept)
 
 pub returns-clause-ok : goal.returns-clause-ok
@@ -104,7 +107,7 @@ returns-clause-ok g c =
     let messages = messages_of c.args.messages.now in
     let same = ap length (ap lines_of c.as_slice.ensures.value) in
     exit-ok messages _ _ _ _ so_far.0 so_far.1 c.loop-len.line.items
-    (Pulled-none _ _ _ so_far.0 c.pull.new.piece c.in-Ok.len so_far.2 c.in-Ok.ensures.pulled c.if-len-eq0.true).bytes
+    (Pulled-none _ _ _ so_far.0 c.pull.new.piece c.in-Ok.len so_far.2 c.in-Ok.ensures.pulled c.if-len-eq0.true)
     so_far.3
     c.saturating_add.result
     (c.in-Ok.ensures.end c.if-len-eq0.true (omega arith))
