@@ -1,0 +1,9 @@
+pub mod Bounds
+pub mod Listing
+pub mod NameLists
+pub mod Pushing
+pub mod Rows
+pub mod Runs
+pub mod SmallLaws
+pub mod SmallTexts
+pub mod Values

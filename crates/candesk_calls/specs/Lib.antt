@@ -1,0 +1,7 @@
+pub mod Statuses
+pub mod Refusals
+pub mod Lines
+pub mod Cuts
+pub mod Stream
+pub mod Printing
+pub mod Run

@@ -1,0 +1,122 @@
+//! A job on a file's bytes, the standard streams and an exit status.
+ghost use Rattle.std.specs.Prelude.{◌≡◌, Err};
+ghost use Rattle.candesk_calls.specs.Printing.{status_of_cause, print_status_of, PrintingEndsWith};
+ghost use Rattle.candesk_calls.specs.Run.{DecodingEndsWith, EndsWith, status_of};
+
+use crate::decoding::decode_run;
+use crate::fault::{PrintFault, RunFault, StreamFault};
+use crate::job::{Command, Job};
+use crate::printing::print_run;
+use arrayvec::ArrayString;
+use dbc_model::{Sink, Source, put_all};
+use dbc_read::Cause;
+use std::alloc::Global;
+use std::fmt::{Display, Write};
+
+/// The exit statuses.
+pub mod status {
+    /// All went well.
+    pub const DONE: u8 = 0;
+    /// The database was refused.
+    pub const REFUSED: u8 = 1;
+    /// The words are no job.
+    pub const USAGE: u8 = 2;
+    /// A file, a read or a write failed, or a line was too long.
+    pub const DEVICE: u8 = 3;
+    /// An allocation was refused.
+    pub const MEMORY: u8 = 4;
+}
+
+// The status of a fault of `decode`.
+fn status_of(fault: RunFault) -> u8
+    ensures { result ≡ status_of (Err fault) }
+{
+    match fault {
+        RunFault::Read(_) => status::REFUSED,
+        RunFault::Memory | RunFault::Stream(StreamFault::Memory) => status::MEMORY,
+        RunFault::Stream(StreamFault::LongLine | StreamFault::Read | StreamFault::Write) => {
+            status::DEVICE
+        }
+    }
+}
+
+// The status of a text that is not read.
+fn status_of_cause(cause: Cause) -> u8
+    ensures { result ≡ status_of_cause cause }
+{
+    match cause {
+        Cause::Memory => status::MEMORY,
+        _ => status::REFUSED,
+    }
+}
+
+// The status of a fault of `print`.
+fn print_status_of(fault: PrintFault) -> u8
+    ensures { result ≡ print_status_of (Err fault) }
+{
+    match fault {
+        PrintFault::Read(fault) => status_of_cause(fault.cause),
+        PrintFault::Write => status::DEVICE,
+    }
+}
+
+// Room for the longest fault line.
+const LONGEST_FAULT: usize = 96;
+
+/// Writes a fault's line, `candesk: ` and what is said of it. It takes no memory, and where the sink fails nothing more
+/// can be said.
+pub fn report<E: Sink>(errors: &mut E, fault: impl Display + Drop) {
+    let mut line: ArrayString<LONGEST_FAULT> = ArrayString::new();
+    let _ = writeln!(line, "candesk: {fault}");
+    let _ = put_all(errors, line.as_bytes());
+}
+
+// Decodes, and says the fault.
+fn decode<R: Source, W: Sink, E: Sink>(
+    alloc: Global,
+    text: &[u8],
+    source: &mut R,
+    sink: &mut W,
+    errors: &mut E,
+) -> u8
+    ensures { DecodingEndsWith text.now (R.unread source.old) (R.unread source.new) (W.written sink.old) (W.written sink.new) result }
+{
+    match decode_run(alloc, text, source, sink) {
+        Ok(_) => status::DONE,
+        Err(fault) => {
+            report(errors, fault);
+            status_of(fault)
+        }
+    }
+}
+
+// Prints, and says the fault.
+fn print<W: Sink, E: Sink>(alloc: Global, text: &[u8], sink: &mut W, errors: &mut E) -> u8
+    ensures { PrintingEndsWith text.now (W.written sink.old) (W.written sink.new) result }
+{
+    match print_run(alloc, text, sink) {
+        Ok(()) => status::DONE,
+        Err(fault) => {
+            report(errors, fault);
+            print_status_of(fault)
+        }
+    }
+}
+
+/// Does the job on the bytes of its file: writes the output to `sink` and a fault's line to `errors`, and answers the
+/// exit status. `source` is standard input, which only `decode` reads. That `errors` fails doesn't change the status.
+pub fn run<R: Source, W: Sink, E: Sink>(
+    alloc: Global,
+    job: &Job,
+    text: &[u8],
+    source: &mut R,
+    sink: &mut W,
+    errors: &mut E,
+) -> u8
+    ensures { EndsWith job.now.command text.now (R.unread source.old) (R.unread source.new) (W.written sink.old) (W.written sink.new) result }
+{
+    match job.command {
+        Command::Decode => decode(alloc, text, source, sink, errors),
+        Command::Print => print(alloc, text, sink, errors),
+    }
+}
