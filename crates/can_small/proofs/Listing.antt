@@ -1,6 +1,6 @@
 -- Lists of names: one token more, or the end.
 use Rattle.std.proofs.Common.{◌≡◌, ℕ, Bool, true, false, cond, List, Some, None, refl, sym, ap, ◌∙◌}
-use Rattle.dbc_read.specs.Tokens.{Cut, End, Fault, ◌▸◌}
+use Rattle.dbc_tokens.specs.Tokens.{Cut, End, Fault, ◌▸◌}
 use Rattle.can_small.specs.SmallTokens.{is_name_token, is_the_mark, name_at, mark_at}
 use Rattle.can_small.specs.SmallReading.{behind_names, Receivers, NoneYet, AfterName, AfterComma, behind_receivers, receivers_end}
 

@@ -3,10 +3,10 @@ use Rattle.std.proofs.Common.{◌≡◌, ℕ, Bool, false, cond, List, [], ◌�
 use Rattle.std.specs.Prelude.{◌&&◌, IsTrue}
 use Rattle.std.proofs.lemmas.Bool.{and_parts}
 use Rattle.std.proofs.lemmas.Option.{cond_some}
-use Rattle.dbc_model.specs.Lexical.{is_name}
-use Rattle.dbc_read.specs.Tokens.{Token, Cut, End, Fault, ◌▸◌}
-use Rattle.dbc_read.specs.declared.token.Kind.{Kind}
-use Rattle.dbc_read.specs.declared.token.Kind.TheVariants as kinds
+use Rattle.dbc_values.specs.Lexical.{is_name}
+use Rattle.dbc_tokens.specs.Tokens.{Token, Cut, End, Fault, ◌▸◌}
+use Rattle.dbc_tokens.specs.declared.token.Kind.{Kind}
+use Rattle.dbc_tokens.specs.declared.token.Kind.TheVariants as kinds
 use Rattle.can_small.specs.SmallTokens.{is_word_kind, is_mark_kind, is_name_token, is_the_mark, name_at, mark_at}
 use Rattle.can_small.specs.SmallForms.{AreNames, AreFurther, AreReceivers}
 use Rattle.can_small.specs.SmallReading.{behind_names, NoneYet, AfterName, AfterComma, behind_receivers}

@@ -1,7 +1,7 @@
 -- Statements that are read one after another.
 use Rattle.std.proofs.Common.{◌≡◌, ℕ, ◌≤◌, List, [], ◌∷◌, ◌++◌, length, Option, Some, None, false, refl, sym, ap, subst, ◌∙◌, arith, length-append}
 use Rattle.std.specs.Prelude.{IsTrue, codes}
-use Rattle.dbc_read.specs.Tokens.{Cut}
+use Rattle.dbc_tokens.specs.Tokens.{Cut}
 use Rattle.can_small.specs.Small.{Signal, Message}
 use Rattle.can_small.specs.SmallTokens.{word_at}
 use Rattle.can_small.specs.SmallForms.{signals_fit}

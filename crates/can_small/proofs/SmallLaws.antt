@@ -6,7 +6,7 @@ use Rattle.std.specs.Str.{bytes_eq}
 use Rattle.std.proofs.lemmas.Bool.{eqb-true, and_parts, and_from, and_right, cond-true, cond-false}
 use Rattle.std.proofs.lemmas.Option.{cond_some, some_pair_parts}
 use Rattle.std.proofs.lemmas.Slice.Eq.{bytes_eq-Decides}
-use Rattle.dbc_read.specs.Tokens.{Cut, End, Fault, ◌▸◌}
+use Rattle.dbc_tokens.specs.Tokens.{Cut, End, Fault, ◌▸◌}
 use Rattle.can_small.specs.Small.{Signal, Message}
 use Rattle.can_small.specs.SmallTokens.{is_word_kind, is_the_word, word_at, string_at, whole_at}
 use Rattle.can_small.specs.SmallForms.{Item, Mark, Whole, Signed, AnySigned, String, Receivers, AreReceivers, Spelled, signal_body, signal_form, head_body, message_form, signal_fits, are_distinct, signals_fit}

@@ -3,10 +3,10 @@ use Rattle.std.proofs.Common.{◌≡◌, ℕ, ◌≤◌, List, Option, Some, Non
 use Rattle.std.specs.Prelude.{codes, length, nat_le, ◌⊎◌}
 use Rattle.std.specs.List.{flat_map}
 use Rattle.std.proofs.lemmas.Bool.{le-leb, leb-true}
-use Rattle.dbc_read.specs.declared.token.Next.{Next}
-use Rattle.dbc_read.specs.declared.token.Next.TheVariants as nexts
-use Rattle.dbc_read.specs.Tokens.{Cut, End, HasTokens}
-use Rattle.dbc_read.specs.Views.{cut_from}
+use Rattle.dbc_tokens.specs.declared.token.Next.{Next}
+use Rattle.dbc_tokens.specs.declared.token.Next.TheVariants as nexts
+use Rattle.dbc_tokens.specs.Tokens.{Cut, End, HasTokens}
+use Rattle.dbc_tokens.specs.Views.{cut_from}
 use Rattle.can_small.specs.Small.{Message}
 use Rattle.can_small.specs.SmallTokens.{word_at, mark_at}
 use Rattle.can_small.specs.SmallForms.{Spelled, nodes_form, message_form, slashes, token_slashes, IsSmall}

@@ -1,7 +1,7 @@
 -- The tokens from a cursor on.
 use Rattle.std.specs.Prelude.{Option, Some, None}
-use Rattle.dbc_read.specs.Tokens.{Token, Cut, End, Fault, ◌▸◌}
-use Rattle.dbc_read.specs.Views.{left, cut_from}
+use Rattle.dbc_tokens.specs.Tokens.{Token, Cut, End, Fault, ◌▸◌}
+use Rattle.dbc_tokens.specs.Views.{left, cut_from}
 use Rattle.can_small.specs.declared.cursor.Cursor.{Cursor}
 
 abbrev pub left_at : Cursor → Cut

@@ -3,7 +3,7 @@ use Rattle.std.specs.Prelude.{ℕ, ◌-◌, ◌==◌, ◌||◌, nat_lt, slice_in
 use Rattle.std.specs.List.{flat_map}
 use Rattle.std.specs.Fmt.{signed_decimal, digits}
 use Rattle.std.specs.Prelude.{false}
-use Rattle.dbc_model.specs.Lexical.{space, line_feed, carriage_return}
+use Rattle.dbc_values.specs.Lexical.{space, line_feed, carriage_return}
 use Rattle.can_small.specs.Small.{Signal, Message}
 use Rattle.can_small.specs.Frame.{Frame, frame_of}
 use Rattle.can_small.specs.Raw.{unsigned_raw}

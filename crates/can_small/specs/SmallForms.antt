@@ -3,10 +3,10 @@
 use Rattle.std.specs.Prelude.{◌≡◌, ℕ, ◌+◌, ◌*◌, ℤ, Bool, true, not, ◌&&◌, nat_le, IsTrue, List, [], ◌∷◌, ◌++◌, length, map, codes, Some, None, ◌⊎◌}
 use Rattle.std.specs.List.{flat_map, list_any, list_all}
 use Rattle.std.specs.Str.{bytes_eq}
-use Rattle.dbc_model.specs.Lexical.{slash, at_sign, bar, closing_bracket, closing_parenthesis, colon, comma, opening_bracket, opening_parenthesis, plus}
-use Rattle.dbc_model.specs.Records.{most_signals}
-use Rattle.dbc_model.specs.Databases.{most_messages}
-use Rattle.dbc_read.specs.Tokens.{Cut, End, Fault, ◌▸◌, HasTokens}
+use Rattle.dbc_values.specs.Lexical.{slash, at_sign, bar, closing_bracket, closing_parenthesis, colon, comma, opening_bracket, opening_parenthesis, plus}
+use Rattle.dbc_records.specs.Records.{most_signals}
+use Rattle.dbc_records.specs.Databases.{most_messages}
+use Rattle.dbc_tokens.specs.Tokens.{Cut, End, Fault, ◌▸◌, HasTokens}
 use Rattle.std.specs.Prelude.{count_by, ◌==◌}
 use Rattle.can_small.specs.Small.{greatest_identifier, most_bytes, most_bits, Signal, Message}
 use Rattle.can_small.specs.SmallTokens.{word_at, mark_at, name_at, string_at, whole_at, signed_at}

@@ -1,8 +1,8 @@
 -- Reading of a small database from left to right, statement by statement. What it reads is told apart from it, by the
 -- forms of the statements.
 use Rattle.std.specs.Prelude.{◌≡◌, ℕ, ◌+◌, ℤ, Bool, true, false, IsTrue, ◌==◌, ◌&&◌, List, [], ◌∷◌, codes, Option, Some, None, if◌then◌else◌}
-use Rattle.dbc_model.specs.Lexical.{at_sign, bar, closing_bracket, closing_parenthesis, colon, comma, opening_bracket, opening_parenthesis, plus}
-use Rattle.dbc_read.specs.Tokens.{Cut, End, Fault, ◌▸◌}
+use Rattle.dbc_values.specs.Lexical.{at_sign, bar, closing_bracket, closing_parenthesis, colon, comma, opening_bracket, opening_parenthesis, plus}
+use Rattle.dbc_tokens.specs.Tokens.{Cut, End, Fault, ◌▸◌}
 use Rattle.can_small.specs.Small.{greatest_identifier, most_bytes, most_bits, Signal, Message}
 use Rattle.can_small.specs.SmallTokens.{is_name_token, is_the_mark, word_at, mark_at, name_at, string_at, whole_at, signed_at}
 use Rattle.can_small.specs.SmallForms.{signal_fits, signals_fit}

@@ -1,6 +1,6 @@
 //! A place in a text: the token that stands there, and the tokens behind it.
 
-use dbc_read::{Next, Token, Tokens, tokens};
+use dbc_tokens::{Next, Token, Tokens, tokens};
 
 /// A place among the tokens of a text. It is copied freely, and taking a token makes the place behind it.
 #[derive(Clone, Copy)]
@@ -11,8 +11,8 @@ pub struct Cursor<'t> {
 
 impl<'t> Cursor<'t> {
     ghost use Rattle.std.specs.Prelude.{◌≡◌, ◌+◌, ◌<◌, option_map, IfSome};
-    ghost use Rattle.dbc_read.specs.Scanner.{cut_of};
-    ghost use Rattle.dbc_read.specs.Views.{token_of};
+    ghost use Rattle.dbc_tokens.specs.Reading.Scanner.{cut_of};
+    ghost use Rattle.dbc_tokens.specs.Views.{token_of};
     ghost use Rattle.can_small.specs.SmallReading.{token_count};
     ghost use Rattle.can_small.specs.Cursor.{left_at, first_token};
 

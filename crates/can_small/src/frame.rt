@@ -4,7 +4,7 @@ ghost use Rattle.std.specs.List.{prefix_len};
 ghost use Rattle.can_small.specs.Frame.{is_log_blank, first_word, behind_first_word, is_stamp, is_seconds_end, is_fraction_end, closes_stamp, identifier_of, data_of, frame_of_word, frame_of, frame_view};
 
 use arrayvec::ArrayVec;
-use dbc_model::digits_len;
+use dbc_values::digits_len;
 
 /// A data frame with an 11-bit identifier.
 #[derive(Drop)]

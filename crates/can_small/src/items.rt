@@ -1,15 +1,15 @@
 //! What stands at a place in a small text, one item at a time.
 ghost use Rattle.std.specs.Prelude.{◌≡◌, ◌==◌, ◌<◌, ◌≤◌, Some, None, if◌then◌else◌, nat_le, not, option_map, IfSome};
 ghost use Rattle.std.specs.List.{list_all, list_any};
-ghost use Rattle.dbc_model.specs.Lexical.{is_digit, backslash};
-ghost use Rattle.dbc_read.specs.Views.{token_of};
+ghost use Rattle.dbc_values.specs.Lexical.{is_digit, backslash};
+ghost use Rattle.dbc_tokens.specs.Views.{token_of};
 ghost use Rattle.can_small.specs.SmallTokens.{is_the_word, is_the_mark, is_name_token, is_digits_token, is_plain_string, value_of, between_quotes, word_at, mark_at, name_at, string_at, whole_at};
 ghost use Rattle.can_small.specs.SmallReading.{token_count};
 ghost use Rattle.can_small.specs.Cursor.{left_at};
 
 use crate::cursor::Cursor;
-use dbc_model::is_name;
-use dbc_read::{Kind, Token};
+use dbc_values::is_name;
+use dbc_tokens::{Kind, Token};
 
 fn is_the_word(token: Token<'_>, word: &[u8]) -> bool
     ensures { result ≡ is_the_word word.now (token_of token.entry) }

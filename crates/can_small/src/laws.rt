@@ -3,7 +3,7 @@ ghost use Rattle.std.specs.Prelude.{◌≡◌, ℕ, List};
 ghost use Rattle.can_small.specs.Small.{Message};
 ghost use Rattle.can_small.specs.SmallForms.{IsSmall};
 
-use dbc_read::laws::one_cut;
+use dbc_tokens::laws::one_cut;
 
 /// A text has at most one list of messages.
 pub fn one_small_database()

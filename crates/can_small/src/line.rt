@@ -8,7 +8,7 @@ ghost use Rattle.can_small.specs.Line.{body_of, scaled_of, shown_byte, unit_text
 
 use crate::database::{Message, Signal};
 use crate::frame::{Frame, frame_of};
-use dbc_model::Memory;
+use dbc_values::Memory;
 use itoa::Buffer;
 use std::alloc::Global;
 

@@ -3,8 +3,8 @@
 ghost use Rattle.std.specs.Prelude.{◌≡◌, ◌≤◌, ◌<◌, ◌↔◌, false, List, [], ◌∷◌, ◌++◌, length, map, IsTrue, IfOk, OnOk, IsErrOf};
 ghost use Rattle.std.specs.List.{list_any};
 ghost use Rattle.std.specs.Str.{bytes_eq};
-ghost use Rattle.dbc_read.specs.Tokens.{Cut};
-ghost use Rattle.dbc_read.specs.Scanner.{cut_of};
+ghost use Rattle.dbc_tokens.specs.Tokens.{Cut};
+ghost use Rattle.dbc_tokens.specs.Reading.Scanner.{cut_of};
 ghost use Rattle.can_small.specs.Small as plain;
 ghost use Rattle.can_small.specs.Small.{signal_of, message_of, messages_of};
 ghost use Rattle.can_small.specs.SmallForms.{signal_fits, signals_fit, slashes, token_slashes, IsSmall};
@@ -15,8 +15,8 @@ use crate::cursor::Cursor;
 use crate::database::{Message, Signal};
 use crate::items::word_at;
 use crate::statements::{head_at, nodes_at, signal_at};
-use dbc_read::Next;
-use dbc_read::laws::one_cut;
+use dbc_tokens::Next;
+use dbc_tokens::laws::one_cut;
 use std::alloc::{AllocError, AllocFailed, Global};
 
 const MOST_MESSAGES: usize = 65535;

@@ -6,13 +6,13 @@ use Rattle.std.specs.Io.KnownBytes.{Consumes, IsAtEnd}
 use Rattle.std.proofs.KnownBytes.{Consumes-nil, Consumes-trans}
 use Rattle.std.proofs.lemmas.Grind.{flat_map-append}
 use Rattle.std.proofs.lemmas.List.{take_at}
-use Rattle.dbc_model.specs.Device.{Written, Wrote, Broke, Passes, Unread, Pulled, PullFailed, Rises}
-use Rattle.dbc_model.specs.Lexical.{line_feed}
+use Rattle.byte_devices.specs.Device.{Written, Wrote, Broke, Passes, Unread, Pulled, PullFailed, Rises}
+use Rattle.dbc_values.specs.Lexical.{line_feed}
 use Rattle.can_small.specs.Small.{Message}
 use Rattle.candesk_calls.specs.Lines.{lines_of, whole_lines, onto_whole, line_text, texts, longest_line, IsShort, AllShort}
 use Rattle.candesk_calls.specs.Stream.{StreamsAll, StopsAtLong, StopsAtWrite, StopsAtMemory}
 use Rattle.candesk_calls.specs.Cuts.{HasNoLineFeed, with_line_feed, Cuts}
-use Rattle.dbc_model.proofs.Writes.{Wrote-then, Broke-then, Broke-more, Broke-behind, Broke-flush}
+use Rattle.byte_devices.proofs.Writes.{Wrote-then, Broke-then, Broke-more, Broke-behind, Broke-flush}
 
 pub AllByRecursion-append : {X : Type 0} (P : X → Type 0) (xs ys : List X) → AllByRecursion P xs → AllByRecursion P ys → AllByRecursion P (xs ++ ys)
 AllByRecursion-append P [] ys h k = k

@@ -1,7 +1,7 @@
 -- The lines of an input, and what is written for them.
 use Rattle.std.specs.Prelude.{ℕ, ◌==◌, ◌≤◌, List, [], ◌∷◌, ◌++◌, length, if◌then◌else◌}
 use Rattle.std.specs.List.{onto_first, flat_map, AllByRecursion}
-use Rattle.dbc_model.specs.Lexical.{line_feed}
+use Rattle.dbc_values.specs.Lexical.{line_feed}
 use Rattle.can_small.specs.Small.{Message}
 use Rattle.can_small.specs.Line.{decoded_line}
 

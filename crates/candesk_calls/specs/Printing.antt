@@ -1,11 +1,11 @@
 -- What a run of `print` has written when it ends, and its status.
 use Rattle.std.specs.Prelude.{◌≡◌, ℕ, List, Result, Ok, Err}
-use Rattle.dbc_model.specs.Databases.{Database}
-use Rattle.dbc_model.specs.CanonicalText.{canonical_text}
-use Rattle.dbc_model.specs.Device.{Written, Wrote, Broke}
-use Rattle.dbc_read.specs.declared.fault.Cause.{Cause}
-use Rattle.dbc_read.specs.declared.fault.Cause.TheVariants as causes
-use Rattle.dbc_read.specs.Texts.{HasDatabase, IsRead}
+use Rattle.dbc_records.specs.Databases.{Database}
+use Rattle.dbc_records.specs.CanonicalText.{canonical_text}
+use Rattle.byte_devices.specs.Device.{Written, Wrote, Broke}
+use Rattle.dbc_tokens.specs.declared.fault.Cause.{Cause}
+use Rattle.dbc_tokens.specs.declared.fault.Cause.TheVariants as causes
+use Rattle.dbc_reader.specs.Texts.{HasDatabase, IsRead}
 use Rattle.candesk_calls.specs.declared.fault.PrintFault.{PrintFault}
 use Rattle.candesk_calls.specs.declared.fault.PrintFault.TheVariants as faults
 use Rattle.candesk_calls.specs.Statuses.{done, refused, device, memory}

@@ -1,6 +1,6 @@
 -- What has been written where the words are no job, and the exit status.
 use Rattle.std.specs.Prelude.{◌≡◌, ℕ, ◌⊎◌}
-use Rattle.dbc_model.specs.Device.{Written, Wrote, Broke}
+use Rattle.byte_devices.specs.Device.{Written, Wrote, Broke}
 use Rattle.candesk_calls.specs.declared.job.NoJob.{NoJob}
 use Rattle.candesk_calls.specs.declared.job.NoJob.TheVariants as reasons
 use Rattle.candesk_calls.specs.Statuses.{done, usage, device, memory}

@@ -1,8 +1,8 @@
 -- What a run of `decode` has read and written when it ends, and what the status of a run of any command says.
 use Rattle.std.specs.Prelude.{◌≡◌, ℕ, List, Result, Ok, Err}
-use Rattle.dbc_model.specs.Device.{Unread, Written}
-use Rattle.dbc_read.specs.declared.fault.ReadFault.{ReadFault}
-use Rattle.dbc_read.specs.declared.fault.Cause.TheVariants as causes
+use Rattle.byte_devices.specs.Device.{Unread, Written}
+use Rattle.dbc_tokens.specs.declared.fault.ReadFault.{ReadFault}
+use Rattle.dbc_tokens.specs.declared.fault.Cause.TheVariants as causes
 use Rattle.candesk_calls.specs.declared.fault.RunFault.{RunFault}
 use Rattle.candesk_calls.specs.declared.fault.RunFault.TheVariants as faults
 use Rattle.candesk_calls.specs.declared.job.Command.{Command}

@@ -1,6 +1,6 @@
 -- What a stream of log lines has read and written when it ends, in each way in which it may end.
 use Rattle.std.specs.Prelude.{◌≡◌, ℕ, ◌-◌, ◌^◌, ◌<◌, min, List, [], ◌∷◌, ◌++◌, length, take, Some, IfSome, Result, Ok, Err}
-use Rattle.dbc_model.specs.Device.{Rises, Unread, Written, Wrote, Broke, PullFailed}
+use Rattle.byte_devices.specs.Device.{Rises, Unread, Written, Wrote, Broke, PullFailed}
 use Rattle.candesk_calls.specs.declared.fault.StreamFault.{StreamFault}
 use Rattle.candesk_calls.specs.declared.fault.StreamFault.TheVariants as faults
 use Rattle.can_small.specs.Small.{Message}

@@ -5,7 +5,7 @@ use crate::fault::RunFault;
 use crate::streaming::decode_stream;
 use can_small::reading::{Refusal, read_small};
 use dbc_model::{Sink, Source};
-use dbc_read::{Cause, ReadFault};
+use dbc_tokens::{Cause, ReadFault};
 use std::alloc::Global;
 
 /// Reads the database text, then the log to its end, and writes the decoded line and an LF for each line of it. It

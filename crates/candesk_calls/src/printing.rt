@@ -3,7 +3,7 @@ ghost use Rattle.candesk_calls.specs.Printing.{PrintsText};
 
 use crate::fault::PrintFault;
 use dbc_model::{Sink, WriteFault, print};
-use dbc_read::read;
+use dbc_reader::read;
 use std::alloc::Global;
 
 /// Reads the database text to its end, and then writes its canonical text in pieces of up to 64 KiB.

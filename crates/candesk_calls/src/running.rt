@@ -9,7 +9,7 @@ use crate::job::{Command, Job};
 use crate::printing::print_run;
 use arrayvec::ArrayString;
 use dbc_model::{Sink, Source, put_all};
-use dbc_read::Cause;
+use dbc_tokens::Cause;
 use std::alloc::Global;
 use std::fmt::{Display, Write};
 

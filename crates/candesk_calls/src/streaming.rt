@@ -1,7 +1,7 @@
 //! Log lines in, decoded lines out.
 ghost use Rattle.std.specs.Prelude.{◌≡◌, ℕ, ◌-◌, ◌^◌, ◌<◌, ◌⊎◌, min, List, [], ◌∷◌, ◌++◌, length, IfOk, OnOk, IfSome, IfNone, IsErrOf};
-ghost use Rattle.dbc_model.specs.Lexical.{line_feed};
-ghost use Rattle.dbc_model.specs.Device.{Rises, Wrote, Broke, Passes};
+ghost use Rattle.dbc_values.specs.Lexical.{line_feed};
+ghost use Rattle.byte_devices.specs.Device.{Rises, Wrote, Broke, Passes};
 ghost use Rattle.can_small.specs.Small.{messages_of};
 ghost use Rattle.candesk_calls.specs.Lines.{lines_of, line_text, texts, longest_line, IsShort, AllShort};
 ghost use Rattle.candesk_calls.specs.Cuts.{Cuts, HasNoLineFeed};

@@ -4,8 +4,8 @@ use Rattle.std.proofs.Common.{◌≡◌, ℕ, Bool, true, false, ◌||◌, ◌&&
 use Rattle.std.specs.Prelude.{All}
 use Rattle.std.specs.List.{flat_map}
 use Rattle.std.proofs.lemmas.List.Elements.{All-head, All-tail}
-use Rattle.dbc_model.specs.Lexical.{is_word}
-use Rattle.dbc_model.specs.Layout.{Item, Word, Mark, Space, Tab, LineEnd, Is, Layout, separated}
+use Rattle.dbc_values.specs.Lexical.{is_word}
+use Rattle.dbc_records.specs.Layout.{Item, Word, Mark, Space, Tab, LineEnd, Is, Layout, separated}
 use Rattle.dbc_read.proofs.Items.{IsItem, is_closed, ends_item, stand_apart}
 
 -- ---- items

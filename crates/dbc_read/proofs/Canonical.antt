@@ -1,11 +1,11 @@
 -- The statements of a database in the order in which they are printed, and that they gather to it.
 use Rattle.std.proofs.Common.{◌≡◌, ◌≤◌, List, [], ◌∷◌, ◌++◌, map, length, Some, append_assoc, append-nil, refl, sym, ap, subst, ◌∙◌, arith}
 use Rattle.std.specs.List.{flat_map}
-use Rattle.dbc_model.specs.Databases.{Database, IsDatabase}
-use Rattle.dbc_model.specs.Records.{Message, TableRow, ValueRow, FloatRow, MuxRow}
-use Rattle.dbc_model.specs.Comments.{Comment}
-use Rattle.dbc_model.specs.Attributes.{AttrDef, AttrDefault, AttrRow}
-use Rattle.dbc_model.specs.Kept.{Kept}
+use Rattle.dbc_records.specs.Databases.{Database, IsDatabase}
+use Rattle.dbc_records.specs.Records.{Message, TableRow, ValueRow, FloatRow, MuxRow}
+use Rattle.dbc_records.specs.Comments.{Comment}
+use Rattle.dbc_records.specs.Attributes.{AttrDef, AttrDefault, AttrRow}
+use Rattle.dbc_records.specs.Kept.{Kept}
 use Rattle.dbc_reader.specs.Reading.Databases.{empty_database}
 use Rattle.dbc_reader.specs.Spelling.{AnyStatement, Symbols, Timing, Nodes, Table, OfMessage, OfComment, Definition, Default, Attribute, Values, Float, Mux, OfKept, timings_of, FollowOn, ArePlaced, gather}
 use Rattle.dbc_reader.proofs.Sound.Adding.{joined, joined_none, joined_twice}

@@ -5,11 +5,11 @@ pub mod Decimals
 use Rattle.std.proofs.Common.{◌≡◌, ℕ, suc, ◌<◌, ◌^◌, pos, negsuc, Bool, true, false, cond, ◌||◌, ◌&&◌, List, [], ◌∷◌, ◌++◌}
 use Rattle.std.specs.Prelude.{codes, decimal, IsTrue}
 use Rattle.std.specs.List.{flat_map}
-use Rattle.dbc_model.specs.Decimals.{IsDecimal}
-use Rattle.dbc_model.specs.Kept.{is_piece, is_string}
-use Rattle.dbc_model.specs.Lexical.{quoted, is_text, is_word, is_name, is_number, is_mark}
-use Rattle.dbc_model.specs.Layout.{Item, Word, Mark, Name, Symbol, Text, Whole, Int, Number, Switch, Muxed, Both, Order, Piece, Space, Tab, LineEnd, Is, Layout, item_text, layout_text, items_of, magnitude_text}
-use Rattle.dbc_model.specs.Records.{is_symbol}
+use Rattle.dbc_values.specs.Decimals.{IsDecimal}
+use Rattle.dbc_values.specs.Pieces.{is_piece, is_string}
+use Rattle.dbc_values.specs.Lexical.{quoted, is_text, is_word, is_name, is_number, is_mark}
+use Rattle.dbc_records.specs.Layout.{Item, Word, Mark, Name, Symbol, Text, Whole, Int, Number, Switch, Muxed, Both, Order, Piece, Space, Tab, LineEnd, Is, Layout, item_text, layout_text, items_of, magnitude_text}
+use Rattle.dbc_values.specs.Names.{is_symbol}
 use Rattle.dbc_tokens.specs.declared.token.Kind.{Kind}
 use Rattle.dbc_tokens.specs.declared.token.Kind.TheVariants as kinds
 use Rattle.dbc_tokens.specs.Tokens.{Token, End, IsToken, HasTokens}

@@ -1,14 +1,15 @@
 -- The line of each kind of statement has the tokens of its form, and spells that value alone.
 use Rattle.std.proofs.Common.{◌≡◌, ℕ, Bool, true, List, [], ◌∷◌, Option, Some, None, append-nil, refl, sym, ap, ◌∙◌}
 use Rattle.std.specs.Prelude.{All}
-use Rattle.dbc_model.specs.Databases.{Database}
-use Rattle.dbc_model.specs.Decimals.{Decimal}
-use Rattle.dbc_model.specs.Records.{IsName, IsText, IsSymbol, IsTableRow, IsMessage, IsSignal, IsValueRow, IsFloatRow, IsMuxRow}
-use Rattle.dbc_model.specs.Comments.{IsComment}
-use Rattle.dbc_model.specs.Attributes.{IsAttrDef, IsAttrDefault, IsAttrRow}
-use Rattle.dbc_model.specs.Kept.{IsKept}
-use Rattle.dbc_model.specs.Layout.{Layout}
-use Rattle.dbc_model.specs.CanonicalText.{version_layout, symbols_layout, timing_layout, nodes_layout, table_layout, message_layout, signal_layout, comment_layout, definition_layout, default_layout, attribute_layout, values_layout, float_layout, mux_layout, kept_layout}
+use Rattle.dbc_records.specs.Databases.{Database}
+use Rattle.dbc_values.specs.Decimals.{Decimal}
+use Rattle.dbc_values.specs.Names.{IsName, IsText, IsSymbol}
+use Rattle.dbc_records.specs.Records.{IsTableRow, IsMessage, IsSignal, IsValueRow, IsFloatRow, IsMuxRow}
+use Rattle.dbc_records.specs.Comments.{IsComment}
+use Rattle.dbc_records.specs.Attributes.{IsAttrDef, IsAttrDefault, IsAttrRow}
+use Rattle.dbc_records.specs.Kept.{IsKept}
+use Rattle.dbc_records.specs.Layout.{Layout}
+use Rattle.dbc_records.specs.CanonicalText.{version_layout, symbols_layout, timing_layout, nodes_layout, table_layout, message_layout, signal_layout, comment_layout, definition_layout, default_layout, attribute_layout, values_layout, float_layout, mux_layout, kept_layout}
 use Rattle.dbc_tokens.specs.Tokens.{Token, Cut, End}
 use Rattle.dbc_reader.specs.Forms.{Part, Spelled}
 use Rattle.dbc_reader.specs.declared.statement.Statement.TheVariants as statements

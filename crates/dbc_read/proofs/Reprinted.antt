@@ -1,7 +1,7 @@
 -- What was printed, read again: the canonical text of a database has that database alone, and no fault.
 use Rattle.std.proofs.Common.{◌≡◌, ◌⊎◌, ℕ, List, Some, None, Ok, sym, ap, ◌∙◌, inl, inr}
-use Rattle.dbc_model.specs.Databases.{Database, IsDatabase}
-use Rattle.dbc_model.specs.CanonicalText.{canonical_text}
+use Rattle.dbc_records.specs.Databases.{Database, IsDatabase}
+use Rattle.dbc_records.specs.CanonicalText.{canonical_text}
 use Rattle.dbc_tokens.specs.declared.fault.Cause.TheVariants as causes
 use Rattle.dbc_tokens.specs.declared.fault.ReadFault.{ReadFault}
 use Rattle.dbc_tokens.specs.Tokens.{Cut, End}

@@ -6,8 +6,8 @@ use Rattle.std.specs.Prelude.{All}
 use Rattle.std.specs.List.{flat_map}
 use Rattle.std.proofs.lemmas.List.Concat.{flat_map-append}
 use Rattle.std.proofs.lemmas.List.Elements.{All-head, All-tail}
-use Rattle.dbc_model.specs.Decimals.{Decimal, IsDecimal, SpellsDecimal}
-use Rattle.dbc_model.specs.Layout.{Item, Mark, Number, Space, Tab, LineEnd, Is, Layout, item_of, items_of}
+use Rattle.dbc_values.specs.Decimals.{Decimal, IsDecimal, SpellsDecimal}
+use Rattle.dbc_records.specs.Layout.{Item, Mark, Number, Space, Tab, LineEnd, Is, Layout, item_of, items_of}
 use Rattle.dbc_tokens.specs.Tokens.{Token}
 use Rattle.dbc_reader.specs.Forms.{Part, Is as Shown, Perhaps, Unsigned, IsOne, IsSign, SaysPart, Spelled, of_layout}
 use Rattle.dbc_reader.proofs.Sound.{spelled_both}

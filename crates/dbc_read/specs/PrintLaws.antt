@@ -1,10 +1,10 @@
 -- Printing and reading: the tokens of what is printed spell it, and nothing else.
 use Rattle.std.specs.Prelude.{◌≡◌, ℕ, IsTrue, IfSome, List, [], ◌∷◌, ◌++◌, Option}
-use Rattle.dbc_model.specs.Lexical.{line_feed}
-use Rattle.dbc_model.specs.Layout.{Layout, layout_text}
-use Rattle.dbc_model.specs.CanonicalText.{canonical_text}
-use Rattle.dbc_model.specs.Databases.{Database, IsDatabase, IsBitTiming, timing_fits}
-use Rattle.dbc_model.specs.Decimals.{Decimal}
+use Rattle.dbc_values.specs.Lexical.{line_feed}
+use Rattle.dbc_records.specs.Layout.{Layout, layout_text}
+use Rattle.dbc_records.specs.CanonicalText.{canonical_text}
+use Rattle.dbc_records.specs.Databases.{Database, IsDatabase, IsBitTiming, timing_fits}
+use Rattle.dbc_values.specs.Decimals.{Decimal}
 use Rattle.dbc_tokens.specs.Tokens.{Token, Cut, End, HasTokens}
 use Rattle.dbc_reader.specs.Forms.{Part, Spelled, ◌▸▸◌}
 use Rattle.dbc_reader.specs.Spelling.{timing_of}

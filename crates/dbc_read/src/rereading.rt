@@ -1,6 +1,6 @@
 //! What was printed, read again.
 ghost use Rattle.std.specs.Prelude.{◌≡◌, Some, IfOk};
-ghost use Rattle.dbc_model.specs.CanonicalText.{canonical_text};
+ghost use Rattle.dbc_records.specs.CanonicalText.{canonical_text};
 
 use dbc_model::{Broken, Database, Memory, Sink, print};
 use dbc_reader::read;

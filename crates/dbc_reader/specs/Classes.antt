@@ -4,15 +4,15 @@
 -- numbers are judged by their value, are the profile of candesk.
 use Rattle.std.specs.Prelude.{ℕ, ◌-◌, ◌^◌, nat_le, Bool, true, false, ◌&&◌, ◌==◌, List, [], ◌∷◌, ◌++◌, length, take, codes, Option, Some, None, Result, Ok, Err, if◌then◌else◌}
 use Rattle.std.specs.Str.{bytes_eq}
-use Rattle.dbc_model.specs.Lexical.{is_kept_word, is_name, is_digits}
-use Rattle.dbc_model.specs.Numbers.{whole_of_number}
-use Rattle.dbc_model.specs.Decimals.{Decimal, decimal_of_number}
-use Rattle.dbc_model.specs.Records.{is_symbol}
-use Rattle.dbc_model.specs.Kept.{is_string, inside, is_piece}
-use Rattle.dbc_model.specs.declared.number.Whole.{Whole}
-use Rattle.dbc_model.specs.declared.number.Whole.TheVariants.{Fraction, TooLarge, Value}
-use Rattle.dbc_model.specs.declared.tag.Tag.{Tag}
-use Rattle.dbc_model.specs.declared.tag.Tag.TheVariants as tags
+use Rattle.dbc_values.specs.Lexical.{is_kept_word, is_name, is_digits}
+use Rattle.dbc_values.specs.Numbers.{whole_of_number}
+use Rattle.dbc_values.specs.Decimals.{Decimal, decimal_of_number}
+use Rattle.dbc_values.specs.Names.{is_symbol}
+use Rattle.dbc_values.specs.Pieces.{is_string, inside, is_piece}
+use Rattle.dbc_values.specs.declared.number.Whole.{Whole}
+use Rattle.dbc_values.specs.declared.number.Whole.TheVariants.{Fraction, TooLarge, Value}
+use Rattle.dbc_records.specs.declared.tag.Tag.{Tag}
+use Rattle.dbc_records.specs.declared.tag.Tag.TheVariants as tags
 use Rattle.dbc_tokens.specs.declared.fault.Cause.{Cause}
 use Rattle.dbc_tokens.specs.declared.fault.Cause.TheVariants as causes
 use Rattle.dbc_tokens.specs.Tokens.{Token}

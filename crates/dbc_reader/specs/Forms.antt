@@ -3,12 +3,12 @@
 -- double). That numbers are judged by their value is the profile of candesk.
 use Rattle.std.specs.Prelude.{◌≡◌, ℕ, ℤ, pos, neg_ℤ, Bool, true, false, IsTrue, List, [], ◌∷◌, ◌++◌, map, codes, ◌⊎◌, if◌then◌else◌}
 use Rattle.std.specs.Str.Parse.{digits_value}
-use Rattle.dbc_model.specs.Lexical.{quoted, is_text, is_name, is_digits, is_number}
-use Rattle.dbc_model.specs.Numbers.{mantissa_of, exponent_of, IsWholeNumber}
-use Rattle.dbc_model.specs.Decimals.{Decimal, SpellsDecimal}
-use Rattle.dbc_model.specs.Records.{is_symbol}
-use Rattle.dbc_model.specs.Kept.{is_piece}
-use Rattle.dbc_model.specs.Layout.{Item, Word, Mark, Name, Symbol, Text, Whole, Int, Number, Switch, Muxed, Both, Order, Piece, Layout, items_of}
+use Rattle.dbc_values.specs.Lexical.{quoted, is_text, is_name, is_digits, is_number}
+use Rattle.dbc_values.specs.Numbers.{mantissa_of, exponent_of, IsWholeNumber}
+use Rattle.dbc_values.specs.Decimals.{Decimal, SpellsDecimal}
+use Rattle.dbc_values.specs.Names.{is_symbol}
+use Rattle.dbc_values.specs.Pieces.{is_piece}
+use Rattle.dbc_records.specs.Layout.{Item, Word, Mark, Name, Symbol, Text, Whole, Int, Number, Switch, Muxed, Both, Order, Piece, Layout, items_of}
 use Rattle.dbc_tokens.specs.Tokens.{Token, Cut, ◌▸◌}
 
 -- ---- one item

@@ -2,8 +2,8 @@
 -- leaves one pattern.
 -- Source: the DBC file format, the section of each statement.
 use Rattle.std.specs.Prelude.{ℕ, ◌^◌, ◌-◌, true, false, codes}
-use Rattle.dbc_model.specs.Records.{most_bytes, most_bits}
-use Rattle.dbc_model.specs.Lexical.{opening_parenthesis, closing_parenthesis, plus, comma, minus, colon, semicolon, at_sign, opening_bracket, closing_bracket, bar}
+use Rattle.dbc_records.specs.Records.{most_bytes, most_bits}
+use Rattle.dbc_values.specs.Lexical.{opening_parenthesis, closing_parenthesis, plus, comma, minus, colon, semicolon, at_sign, opening_bracket, closing_bracket, bar}
 use Rattle.dbc_reader.specs.Pattern.{Word, Mark, Name, Symbol, String, Whole, Number, Order, Tag, Piece, KeptWord, BeginsMessage, BeginsSignal, SignalName, Pattern, Done, ◌⇒◌, Either, Repeat, ◌then◌}
 
 -- ---- parts

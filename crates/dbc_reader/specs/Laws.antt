@@ -1,6 +1,6 @@
 -- What is proved of tokens and of texts: they spell a database exactly where they have no fault, and then one alone.
 use Rattle.std.specs.Prelude.{◌≡◌, ◌≢◌, ◌↔◌, ◌⊎◌, ℕ, ◌+◌, ◌≤◌, List, None}
-use Rattle.dbc_model.specs.Databases.{Database}
+use Rattle.dbc_records.specs.Databases.{Database}
 use Rattle.dbc_tokens.specs.declared.fault.Cause.TheVariants as causes
 use Rattle.dbc_tokens.specs.declared.fault.ReadFault.{ReadFault}
 use Rattle.dbc_reader.specs.declared.statement.Statement.{Statement}

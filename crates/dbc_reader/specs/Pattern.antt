@@ -3,8 +3,8 @@
 use Rattle.std.specs.Prelude.{ℕ, ◌+◌, Bool, true, false, ◌||◌, ◌&&◌, nat_le, if◌then◌else◌, List, [], ◌∷◌, ◌++◌, length, codes, Option, Some, None, Result, Ok, Err}
 use Rattle.std.specs.List.{list_any}
 use Rattle.std.specs.Str.{bytes_eq}
-use Rattle.dbc_model.specs.Databases.{most_messages}
-use Rattle.dbc_model.specs.Records.{most_signals}
+use Rattle.dbc_records.specs.Databases.{most_messages}
+use Rattle.dbc_records.specs.Records.{most_signals}
 use Rattle.dbc_tokens.specs.declared.fault.Cause.{Cause}
 use Rattle.dbc_tokens.specs.declared.fault.Cause.TheVariants as causes
 use Rattle.dbc_tokens.specs.declared.fault.ReadFault.{ReadFault}

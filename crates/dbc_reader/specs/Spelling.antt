@@ -4,16 +4,16 @@
 -- any order, and what may be left out, is the profile of candesk.
 use Rattle.std.specs.Prelude.{◌≡◌, ◌≤◌, ℕ, List, [], ◌∷◌, ◌++◌, length, Option, Some, None}
 use Rattle.std.specs.List.{flat_map}
-use Rattle.dbc_model.specs.Lexical.{comma, colon, semicolon}
-use Rattle.dbc_model.specs.Decimals.{Decimal}
-use Rattle.dbc_model.specs.Records.{IsHead, IsSignal, IsTableRow, IsValueRow, IsMuxRow, Signal, Message, TableRow, ValueRow, FloatRow, MuxRow}
-use Rattle.dbc_model.specs.Comments.{Comment}
-use Rattle.dbc_model.specs.Attributes.{AttrDef, AttrDefault, AttrRow, IsAttrRow}
-use Rattle.dbc_model.specs.declared.target.Target.TheVariants as targets
-use Rattle.dbc_model.specs.Kept.{Kept}
-use Rattle.dbc_model.specs.Databases.{Database, IsDatabase}
-use Rattle.dbc_model.specs.Layout.{Mark, Name, Whole}
-use Rattle.dbc_model.specs.CanonicalText.{version_layout, symbols_layout, timing_title, nodes_layout, table_layout, head_layout, signal_name_layout, tag_layout, place_layout, scale_layout, limits_layout, spaced_text, comment_layout, definition_layout, default_layout, attribute_layout, values_layout, float_key, mux_layout, kept_layout}
+use Rattle.dbc_values.specs.Lexical.{comma, colon, semicolon}
+use Rattle.dbc_values.specs.Decimals.{Decimal}
+use Rattle.dbc_records.specs.Records.{IsHead, IsSignal, IsTableRow, IsValueRow, IsMuxRow, Signal, Message, TableRow, ValueRow, FloatRow, MuxRow}
+use Rattle.dbc_records.specs.Comments.{Comment}
+use Rattle.dbc_records.specs.Attributes.{AttrDef, AttrDefault, AttrRow, IsAttrRow}
+use Rattle.dbc_records.specs.declared.target.Target.TheVariants as targets
+use Rattle.dbc_records.specs.Kept.{Kept}
+use Rattle.dbc_records.specs.Databases.{Database, IsDatabase}
+use Rattle.dbc_records.specs.Layout.{Mark, Name, Whole}
+use Rattle.dbc_records.specs.CanonicalText.{version_layout, symbols_layout, timing_title, nodes_layout, table_layout, head_layout, signal_name_layout, tag_layout, place_layout, scale_layout, limits_layout, spaced_text, comment_layout, definition_layout, default_layout, attribute_layout, values_layout, float_key, mux_layout, kept_layout}
 use Rattle.dbc_reader.specs.declared.statement.Statement.{Statement}
 use Rattle.dbc_reader.specs.declared.statement.Statement.TheVariants as statements
 use Rattle.dbc_tokens.specs.Tokens.{Token}

@@ -1,6 +1,6 @@
 -- What a text says: the database, or the one statement, that its tokens spell, or else its first fault.
 use Rattle.std.specs.Prelude.{◌≡◌, ◌⊎◌, ℕ, List, Some, Result, Ok, Err}
-use Rattle.dbc_model.specs.Databases.{Database}
+use Rattle.dbc_records.specs.Databases.{Database}
 use Rattle.dbc_tokens.specs.declared.fault.ReadFault.{ReadFault}
 use Rattle.dbc_reader.specs.declared.statement.Statement.{Statement}
 use Rattle.dbc_tokens.specs.Tokens.{Token, Cut, End, HasTokens}

@@ -1,7 +1,7 @@
 //! Comments and attributes.
 ghost use Rattle.std.specs.Prelude.{◌≡◌, ◌<◌, IfOk, IsTrue, Some, None};
-ghost use Rattle.dbc_model.specs.Attributes.{form_fits, IsForm, IsAttrValue};
-ghost use Rattle.dbc_model.specs.Comments.{IsTarget};
+ghost use Rattle.dbc_records.specs.Attributes.{form_fits, IsForm, IsAttrValue};
+ghost use Rattle.dbc_records.specs.Comments.{IsTarget};
 ghost use Rattle.dbc_reader.specs.Reading.Cursors.{left_at};
 ghost use Rattle.dbc_reader.specs.Reading.Readers.{GivesTo, starts};
 ghost use Rattle.dbc_reader.specs.Reading.Parts.{begins_decimal};
@@ -12,7 +12,7 @@ use crate::cursor::Cursor;
 use crate::numerals::{decimal, id};
 use crate::parts::{mark, name, text, texts, word};
 use crate::stopped::Stopped;
-use dbc_model::{AttrDef, AttrDefault, AttrRow, AttrValue, Comment, Form, Limits, Object, Target};
+use dbc_records::{AttrDef, AttrDefault, AttrRow, AttrValue, Comment, Form, Limits, Object, Target};
 use dbc_tokens::Next;
 use std::alloc::Global;
 

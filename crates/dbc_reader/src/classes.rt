@@ -6,7 +6,7 @@ ghost use Rattle.dbc_reader.specs.Classes.{has_word, has_mark, has_name, has_sym
 ghost use Rattle.dbc_reader.specs.Reading.Parts.{begins_decimal, begins_int, begins_receiver};
 ghost use Rattle.dbc_reader.specs.Reading.Databases.{has_object_word, has_value_word, has_attribute_word, begins_statement};
 
-use dbc_model::{Decimal, Whole, is_kept_word, is_name, is_piece, is_string, is_symbol, whole_of};
+use dbc_values::{Decimal, Whole, is_kept_word, is_name, is_piece, is_string, is_symbol, whole_of};
 use dbc_tokens::Token;
 
 fn same(a: &[u8], b: &[u8]) -> bool

@@ -7,7 +7,7 @@ ghost use Rattle.dbc_reader.specs.Reading.Databases.{begins_kept, kept_at};
 use crate::cursor::Cursor;
 use crate::parts::{mark, pieces};
 use crate::stopped::Stopped;
-use dbc_model::Kept;
+use dbc_records::Kept;
 use std::alloc::Global;
 
 /// Whether a statement stands here that is kept as it stands.

@@ -1,6 +1,6 @@
 //! Numbers of statements, and entries of tables.
 ghost use Rattle.std.specs.Prelude.{◌≡◌, ◌≤◌, ◌<◌, ◌^◌, ◌==◌, false, [], IfOk, IsTrue, nat_le, not};
-ghost use Rattle.dbc_model.specs.Records.{entry_fits};
+ghost use Rattle.dbc_records.specs.Records.{entry_fits};
 ghost use Rattle.dbc_reader.specs.Reading.Cursors.{left_at};
 ghost use Rattle.dbc_reader.specs.Reading.Readers.{GivesTo, starts};
 ghost use Rattle.dbc_reader.specs.Reading.Parts.{whole_at, id_at, number_at, order_at, decimal_at, int_at, pair_at, entry_at, begins_int, entries_from};
@@ -9,7 +9,8 @@ use crate::classes;
 use crate::cursor::Cursor;
 use crate::parts::{mark, text};
 use crate::stopped::Stopped;
-use dbc_model::{Decimal, Entry, List, Whole, whole_of};
+use dbc_records::Entry;
+use dbc_values::{Decimal, List, Whole, whole_of};
 use dbc_tokens::{Cause, Next};
 use std::alloc::Global;
 

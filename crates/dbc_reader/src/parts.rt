@@ -1,8 +1,8 @@
 //! The parts of statements that are one token, and lists of them.
 ghost use Rattle.std.specs.Prelude.{◌≡◌, [], ◌∷◌, Some, None, option_map, if◌then◌else◌};
 ghost use Rattle.std.specs.Str.{bytes_eq};
-ghost use Rattle.dbc_model.specs.Lexical.{quoted};
-ghost use Rattle.dbc_model.specs.Kept.{inside};
+ghost use Rattle.dbc_values.specs.Lexical.{quoted};
+ghost use Rattle.dbc_values.specs.Pieces.{inside};
 ghost use Rattle.dbc_reader.specs.Reading.Cursors.{left_at};
 ghost use Rattle.dbc_reader.specs.Reading.Readers.{GivesTo, MakesTo, starts};
 ghost use Rattle.dbc_reader.specs.Reading.Parts.{word_at, mark_at, name_at, symbol_at, text_at, piece_at, names_from, symbols_from, pieces_from, comma_at, begins_receiver, receivers_from, receivers_at, texts_from};
@@ -10,7 +10,7 @@ ghost use Rattle.dbc_reader.specs.Reading.Parts.{word_at, mark_at, name_at, symb
 use crate::classes;
 use crate::cursor::Cursor;
 use crate::stopped::Stopped;
-use dbc_model::{List, Name, Piece, Symbol, Text};
+use dbc_values::{List, Name, Piece, Symbol, Text};
 use dbc_tokens::{Cause, Next};
 use std::alloc::Global;
 
@@ -77,7 +77,7 @@ pub fn piece(alloc: Global, at: &mut Cursor<'_>) -> Result<Piece, Stopped>
 }
 
 // What stands between quotes.
-#[tactic(auto, using(dbc_model::proofs::Strings::quoted_by_ends))]
+#[tactic(auto, using(dbc_values::proofs::Strings::quoted_by_ends))]
 fn between_quotes(bytes: &[u8]) -> Option<&[u8]>
     ensures { option_map (λ text. text.now) result ≡ (if bytes_eq bytes.now (quoted (inside bytes.now)) then Some (inside bytes.now) else None) }
 {
@@ -94,7 +94,7 @@ fn between_quotes(bytes: &[u8]) -> Option<&[u8]>
 }
 
 /// Takes a string, and gives its text.
-#[tactic(auto, unfolding(crate::specs::Reading::Parts::text_at, crate::specs::Classes::text_of, dbc_model::specs::Kept::is_string))]
+#[tactic(auto, unfolding(crate::specs::Reading::Parts::text_at, crate::specs::Classes::text_of, dbc_values::specs::Pieces::is_string))]
 pub fn text(alloc: Global, at: &mut Cursor<'_>) -> Result<Text, Stopped>
     ensures { GivesTo result (left_at at.new) (text_at (left_at at.old)) }
 {

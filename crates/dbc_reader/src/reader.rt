@@ -1,6 +1,6 @@
 //! Whole texts: a database, or one statement.
 ghost use Rattle.std.specs.Prelude.{◌≡◌, [], IfOk, IfSome, IsTrue};
-ghost use Rattle.dbc_model.specs.Databases.{IsBitTiming, timing_fits};
+ghost use Rattle.dbc_records.specs.Databases.{IsBitTiming, timing_fits};
 ghost use Rattle.dbc_reader.specs.Texts.{IsRead, IsReadAlone};
 ghost use Rattle.dbc_reader.specs.Reading.Cursors.{left_at};
 ghost use Rattle.dbc_reader.specs.Reading.Readers.{GivesTo, MakesTo, fault_of};
@@ -15,7 +15,8 @@ use crate::statement::Statement;
 use crate::statements::add_statements;
 use crate::stopped::Stopped;
 use crate::tables::{mux, table, values};
-use dbc_model::{AttrRow, Database, Decimal, List, Memory, Text};
+use dbc_records::{AttrRow, Database};
+use dbc_values::{Decimal, List, Memory, Text};
 use dbc_tokens::{Cause, ReadFault};
 use std::alloc::Global;
 
@@ -32,7 +33,7 @@ fn version(alloc: Global, at: &mut Cursor<'_>) -> Result<Text, Stopped>
 }
 
 // The empty text.
-#[tactic(auto, unfolding(dbc_model::specs::Lexical::is_text))]
+#[tactic(auto, unfolding(dbc_values::specs::Lexical::is_text))]
 fn empty_text(alloc: Global) -> Result<Text, Memory>
     ensures { IfOk result (λ text. text ≡ []) }
 {

@@ -1,6 +1,6 @@
 //! One statement.
 
-use dbc_model::{AttrRow, Head, MuxRow, Signal, TableRow, ValueRow};
+use dbc_records::{AttrRow, Head, MuxRow, Signal, TableRow, ValueRow};
 
 /// A statement that stands alone, as an edit of a database names it.
 #[derive(Drop)]

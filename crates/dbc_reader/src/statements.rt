@@ -12,7 +12,7 @@ use crate::messages::message;
 use crate::parts::{mark, names, symbols, word};
 use crate::stopped::Stopped;
 use crate::tables::{float, mux, table, values};
-use dbc_model::Database;
+use dbc_records::Database;
 use dbc_tokens::Next;
 use std::alloc::Global;
 

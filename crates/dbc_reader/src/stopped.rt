@@ -2,7 +2,7 @@
 ghost use Rattle.std.specs.Prelude.{◌≡◌};
 ghost use Rattle.dbc_reader.specs.declared.stopped.Stopped.TheVariants as stops;
 
-use dbc_model::Memory;
+use dbc_values::Memory;
 use dbc_tokens::{Cause, ReadFault};
 
 /// Why reading stopped.

@@ -1,6 +1,6 @@
 //! Tables of named values, float types and extended multiplexing.
 ghost use Rattle.std.specs.Prelude.{◌≡◌, [], ◌∷◌, IfOk, IsTrue};
-ghost use Rattle.dbc_model.specs.Records.{ranges_fit};
+ghost use Rattle.dbc_records.specs.Records.{ranges_fit};
 ghost use Rattle.dbc_reader.specs.Reading.Cursors.{left_at};
 ghost use Rattle.dbc_reader.specs.Reading.Readers.{GivesTo};
 ghost use Rattle.dbc_reader.specs.Reading.Tables.{table_at, values_at, colon_at, float_at, range_at, ranges_from, ranges_at, mux_at};
@@ -9,7 +9,8 @@ use crate::cursor::Cursor;
 use crate::numerals::{entries, id, whole};
 use crate::parts::{mark, name, word};
 use crate::stopped::Stopped;
-use dbc_model::{FloatRow, List, MuxRow, Range, TableRow, ValueRow};
+use dbc_records::{FloatRow, MuxRow, Range, TableRow, ValueRow};
+use dbc_values::List;
 use std::alloc::Global;
 
 /// Takes a table of its own name: `VAL_TABLE_`.

@@ -2,11 +2,12 @@
 ghost use Rattle.std.specs.Prelude.{◌≡◌, ◌-◌, ◌^◌, ◌&&◌, ◌++◌, Some, None, Ok, Err, codes, option_map, if◌then◌else◌};
 ghost use Rattle.std.specs.List.{list_all};
 ghost use Rattle.std.specs.Str.{bytes_eq};
-ghost use Rattle.dbc_model.specs.Lexical.{is_digit, is_digits};
-ghost use Rattle.dbc_model.specs.declared.tag.Tag.TheVariants as tags;
+ghost use Rattle.dbc_values.specs.Lexical.{is_digit, is_digits};
+ghost use Rattle.dbc_records.specs.declared.tag.Tag.TheVariants as tags;
 ghost use Rattle.dbc_reader.specs.Classes.{whole_of, front, muxed_of, tag_of};
 
-use dbc_model::{Tag, Whole, whole_of};
+use dbc_records::Tag;
+use dbc_values::{Whole, whole_of};
 use dbc_tokens::Cause;
 
 fn are_digits(bytes: &[u8]) -> bool

@@ -6,7 +6,7 @@ use Rattle.std.proofs.lemmas.Bool.Decides.{nat_tests}
 use Rattle.std.proofs.lemmas.List.{append-nil, take_at, drop_at, take-append-drop, length-append, length-drop, length-take-le}
 use Rattle.dbc_tokens.specs.declared.token.Kind.{Kind}
 use Rattle.dbc_tokens.specs.declared.token.Kind.TheVariants.{Text, Word, Number, Mark}
-use Rattle.dbc_model.specs.Lexical.{quote, slash, is_blank}
+use Rattle.dbc_values.specs.Lexical.{quote, slash, is_blank}
 use Rattle.dbc_tokens.specs.Tokens.{IsGap, IsToken, IsLongest, BeginsNoToken, Cut, End, Fault, ◌▸◌, line_feeds, HasTokens}
 use Rattle.dbc_tokens.specs.Reading.Scanner.{gap_len, token_at, token_then, rest_then, cut_of}
 use Rattle.dbc_tokens.proofs.CutStep.{cut_of-step, rest_some, rest_none, Positive, token_at_positive}

@@ -5,7 +5,7 @@ use Rattle.std.proofs.lemmas.Bool.{ne_eqb}
 use Rattle.std.proofs.lemmas.List.{length-drop}
 use Rattle.dbc_tokens.specs.declared.token.Kind.{Kind}
 use Rattle.dbc_tokens.specs.declared.token.Kind.TheVariants.{Text, Number}
-use Rattle.dbc_model.specs.Lexical.{quote, is_letter, is_mark}
+use Rattle.dbc_values.specs.Lexical.{quote, is_letter, is_mark}
 use Rattle.dbc_tokens.specs.Tokens.{Cut, End, Fault, ◌▸◌, line_feeds}
 use Rattle.dbc_tokens.specs.Reading.Scanner.{gap_len, text_len, number_len, token_at, token_then, rest_then, gap_then, cut_in, cut_of}
 

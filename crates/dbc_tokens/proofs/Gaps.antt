@@ -3,7 +3,7 @@ use Rattle.std.proofs.Common.{◌≡◌, ℕ, zero, suc, ◌+◌, Bool, true, fa
 use Rattle.std.specs.List.{list_all, flat_map}
 use Rattle.std.proofs.lemmas.Bool.{eqb-true, cases_Bool, and_parts, not-true, not_from_false, and_from}
 use Rattle.std.proofs.lemmas.List.{length-append, take-append-drop}
-use Rattle.dbc_model.specs.Lexical.{line_feed, slash, is_blank, is_line_feed}
+use Rattle.dbc_values.specs.Lexical.{line_feed, slash, is_blank, is_line_feed}
 use Rattle.dbc_tokens.specs.Tokens.{Part, Blank, Comment, part_bytes, EndsLine, AreParts, IsGap, BeginsNoGap}
 use Rattle.dbc_tokens.specs.Reading.Scanner.{gap_len, begins_with_slash}
 

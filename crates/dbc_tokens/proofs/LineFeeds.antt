@@ -4,7 +4,7 @@ use Rattle.std.specs.Prelude.{codes}
 use Rattle.std.specs.List.{list_all}
 use Rattle.std.proofs.lemmas.Bool.{and_parts, and_from, or_left, or_right, not-true}
 use Rattle.std.proofs.lemmas.Bool.Decides.{nat_tests}
-use Rattle.dbc_model.specs.Lexical.{is_line_feed, is_digit, is_letter, is_word_byte, is_sign, is_exponent_mark, is_mark}
+use Rattle.dbc_values.specs.Lexical.{is_line_feed, is_digit, is_letter, is_word_byte, is_sign, is_exponent_mark, is_mark}
 use Rattle.dbc_tokens.specs.declared.token.Kind.{Kind}
 use Rattle.dbc_tokens.specs.declared.token.Kind.TheVariants.{Text, Word, Number, Mark}
 use Rattle.dbc_tokens.specs.Tokens.{IsToken, line_feeds}

@@ -9,7 +9,7 @@ use Rattle.std.proofs.lemmas.List.{take_at, take-append-drop, length-append, len
 use Rattle.std.proofs.lemmas.List.Sums.{prefix_len-le-length}
 use Rattle.dbc_tokens.specs.declared.token.Kind.{Kind}
 use Rattle.dbc_tokens.specs.declared.token.Kind.TheVariants.{Text, Word, Number, Mark}
-use Rattle.dbc_model.specs.Lexical.{quote, is_letter, is_word_byte, is_mark, is_text, quoted, is_number}
+use Rattle.dbc_values.specs.Lexical.{quote, is_letter, is_word_byte, is_mark, is_text, quoted, is_number}
 use Rattle.dbc_tokens.specs.Tokens.{IsToken, IsLongest, BeginsNoToken}
 use Rattle.dbc_tokens.specs.Reading.Scanner.{text_len, number_len, token_at}
 use Rattle.dbc_tokens.proofs.Runs.{all_le, prefix_all}

@@ -5,7 +5,7 @@ use Rattle.std.proofs.lemmas.Bool.{cases_Bool, and_parts, and_from, or_left, or_
 use Rattle.std.proofs.lemmas.Bool.Decides.{nat_tests}
 use Rattle.std.proofs.lemmas.List.{take_at}
 use Rattle.std.proofs.lemmas.List.Folds.{list_any-append}
-use Rattle.dbc_model.specs.Lexical.{point, is_point, is_digit, is_sign, is_exponent_mark, is_digits, is_signed_digits, is_mantissa, is_number}
+use Rattle.dbc_values.specs.Lexical.{point, is_point, is_digit, is_sign, is_exponent_mark, is_digits, is_signed_digits, is_mantissa, is_number}
 use Rattle.dbc_tokens.proofs.Runs.{all_stop, all_append, all_weaker}
 
 -- ---- the parts

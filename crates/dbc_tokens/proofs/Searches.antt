@@ -3,7 +3,7 @@ use Rattle.std.proofs.Common.{◌≡◌, ◌≢◌, ℕ, zero, suc, ◌+◌, ◌
 use Rattle.std.specs.Option.{option_map}
 use Rattle.std.proofs.lemmas.Bool.{ne_eqb, eq-eqb, eqb-true, eqb-false, or_cases, or_parts, not-true, not-false}
 use Rattle.std.proofs.lemmas.List.{drop_more, drop-drop, get_or-drop, length-drop}
-use Rattle.dbc_model.specs.Lexical.{line_feed, quote, slash, backslash}
+use Rattle.dbc_values.specs.Lexical.{line_feed, quote, slash, backslash}
 use Rattle.memchr.specs.Find.{IsFirstByte, is_byte}
 use Rattle.dbc_tokens.specs.Reading.Scanner.{gap_len, text_len}
 

@@ -2,7 +2,7 @@
 use Rattle.std.proofs.Common.{◌≡◌, ℕ, ◌+◌, Bool, true, false, not, cond, eqb, ◌&&◌, List, [], ◌∷◌, ◌++◌, length, Option, Some, None, refl, ap, subst, arith, inl, inr}
 use Rattle.std.specs.Option.{option_map}
 use Rattle.std.proofs.lemmas.Bool.{eqb-true, cases_Bool, and_parts, and_from}
-use Rattle.dbc_model.specs.Lexical.{quote, backslash, is_text_after}
+use Rattle.dbc_values.specs.Lexical.{quote, backslash, is_text_after}
 use Rattle.dbc_tokens.specs.Reading.Scanner.{text_len}
 
 -- a quote where none closes stands directly after a backslash

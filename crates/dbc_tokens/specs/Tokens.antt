@@ -4,7 +4,7 @@
 -- own and that the longest token is taken is the profile of candesk.
 use Rattle.std.specs.Prelude.{◌≡◌, ◌≢◌, ℕ, ◌+◌, ◌≤◌, not, IsTrue, List, [], ◌∷◌, ◌++◌, length, count_by}
 use Rattle.std.specs.List.{list_all, flat_map}
-use Rattle.dbc_model.specs.Lexical.{line_feed, slash, is_blank, is_line_feed, is_word, is_text, quoted, is_number, is_mark}
+use Rattle.dbc_values.specs.Lexical.{line_feed, slash, is_blank, is_line_feed, is_word, is_text, quoted, is_number, is_mark}
 use Rattle.dbc_tokens.specs.declared.token.Kind.{Kind}
 use Rattle.dbc_tokens.specs.declared.token.Kind.TheVariants.{Text, Word, Number, Mark}
 

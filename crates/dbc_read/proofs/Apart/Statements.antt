@@ -5,26 +5,28 @@ use Rattle.std.proofs.lemmas.Bool.{and_parts}
 use Rattle.std.proofs.lemmas.Grind.{common_steps}
 use Rattle.std.proofs.lemmas.Int.{ints}
 use Rattle.std.proofs.lemmas.List.Elements.{All-head, All-tail}
-use Rattle.dbc_model.specs.Databases.{Database, IsDatabase, IsBitTiming}
-use Rattle.dbc_model.specs.Decimals.{Decimal, IsDecimal}
-use Rattle.dbc_model.specs.Kept.{Kept, IsKept, IsPiece}
-use Rattle.dbc_model.specs.Records.{IsNumber, IsTag, entry_fits, IsName, IsText, IsSymbol, Head, IsHead, Signal, IsSignal, Message, IsMessage, Entry, IsEntry, TableRow, IsTableRow, ValueRow, IsValueRow, FloatRow, IsFloatRow, MuxRow, IsMuxRow, IsRange}
-use Rattle.dbc_model.specs.Comments.{Comment, IsComment, IsTarget}
-use Rattle.dbc_model.specs.Attributes.{AttrDef, IsAttrDef, IsForm, IsLimits, AttrDefault, IsAttrDefault, AttrRow, IsAttrRow, IsAttrValue}
-use Rattle.dbc_model.specs.declared.tag.Tag.{Tag}
-use Rattle.dbc_model.specs.declared.tag.Tag.TheVariants as tags
-use Rattle.dbc_model.specs.declared.mux_row.Range.{Range}
-use Rattle.dbc_model.specs.declared.target.Target.{Target}
-use Rattle.dbc_model.specs.declared.target.Target.TheVariants as targets
-use Rattle.dbc_model.specs.declared.attribute.AttrValue.{AttrValue}
-use Rattle.dbc_model.specs.declared.attribute.AttrValue.TheVariants as values
-use Rattle.dbc_model.specs.declared.definition.Limits.{Limits}
-use Rattle.dbc_model.specs.declared.definition.Object.{Object}
-use Rattle.dbc_model.specs.declared.definition.Object.TheVariants as objects
-use Rattle.dbc_model.specs.declared.definition.Form.{Form}
-use Rattle.dbc_model.specs.declared.definition.Form.TheVariants as forms
-use Rattle.dbc_model.specs.Layout.{Word, Mark, Name, Text, Whole, Int, Number, Switch, Muxed, Both}
-use Rattle.dbc_model.specs.CanonicalText.{blank, mark_layout, spaced_mark, number_layout, spaced_number, spaced_text, spaced_name, spaced_word, word_layout, signal_key, line_end, statement_end, spaced_end, version_layout, symbol_layout, symbols_title, symbols_layout, timing_numbers, perhaps_numbers, timing_title, timing_layout, nodes_title, nodes_layout, entry_layout, table_key, table_layout, values_key, values_layout, head_layout, signal_name_layout, tag_layout, sign_mark, place_layout, pair_layout, scale_layout, limits_layout, further_receiver, receivers_layout, signal_layout, message_layout, target_layout, comment_key, comment_layout, object_layout, number_limits_layout, further_text, texts_layout, form_layout, definition_key, definition_layout, value_layout, default_key, default_layout, attribute_key, attribute_layout, float_key, float_kind, float_layout, range_layout, further_range, ranges_layout, mux_key, mux_layout, piece_layout, kept_layout, front_layout, attributes_layout, rows_layout, database_layout}
+use Rattle.dbc_records.specs.Databases.{Database, IsDatabase, IsBitTiming}
+use Rattle.dbc_values.specs.Decimals.{Decimal, IsDecimal}
+use Rattle.dbc_records.specs.Kept.{Kept, IsKept}
+use Rattle.dbc_values.specs.Pieces.{IsPiece}
+use Rattle.dbc_records.specs.Records.{IsNumber, IsTag, entry_fits, Head, IsHead, Signal, IsSignal, Message, IsMessage, Entry, IsEntry, TableRow, IsTableRow, ValueRow, IsValueRow, FloatRow, IsFloatRow, MuxRow, IsMuxRow, IsRange}
+use Rattle.dbc_values.specs.Names.{IsName, IsText, IsSymbol}
+use Rattle.dbc_records.specs.Comments.{Comment, IsComment, IsTarget}
+use Rattle.dbc_records.specs.Attributes.{AttrDef, IsAttrDef, IsForm, IsLimits, AttrDefault, IsAttrDefault, AttrRow, IsAttrRow, IsAttrValue}
+use Rattle.dbc_records.specs.declared.tag.Tag.{Tag}
+use Rattle.dbc_records.specs.declared.tag.Tag.TheVariants as tags
+use Rattle.dbc_records.specs.declared.mux_row.Range.{Range}
+use Rattle.dbc_records.specs.declared.target.Target.{Target}
+use Rattle.dbc_records.specs.declared.target.Target.TheVariants as targets
+use Rattle.dbc_records.specs.declared.attribute.AttrValue.{AttrValue}
+use Rattle.dbc_records.specs.declared.attribute.AttrValue.TheVariants as values
+use Rattle.dbc_records.specs.declared.definition.Limits.{Limits}
+use Rattle.dbc_records.specs.declared.definition.Object.{Object}
+use Rattle.dbc_records.specs.declared.definition.Object.TheVariants as objects
+use Rattle.dbc_records.specs.declared.definition.Form.{Form}
+use Rattle.dbc_records.specs.declared.definition.Form.TheVariants as forms
+use Rattle.dbc_records.specs.Layout.{Word, Mark, Name, Text, Whole, Int, Number, Switch, Muxed, Both}
+use Rattle.dbc_records.specs.CanonicalText.{blank, mark_layout, spaced_mark, number_layout, spaced_number, spaced_text, spaced_name, spaced_word, word_layout, signal_key, line_end, statement_end, spaced_end, version_layout, symbol_layout, symbols_title, symbols_layout, timing_numbers, perhaps_numbers, timing_title, timing_layout, nodes_title, nodes_layout, entry_layout, table_key, table_layout, values_key, values_layout, head_layout, signal_name_layout, tag_layout, sign_mark, place_layout, pair_layout, scale_layout, limits_layout, further_receiver, receivers_layout, signal_layout, message_layout, target_layout, comment_key, comment_layout, object_layout, number_limits_layout, further_text, texts_layout, form_layout, definition_key, definition_layout, value_layout, default_key, default_layout, attribute_key, attribute_layout, float_key, float_kind, float_layout, range_layout, further_range, ranges_layout, mux_key, mux_layout, piece_layout, kept_layout, front_layout, attributes_layout, rows_layout, database_layout}
 use Rattle.dbc_reader.proofs.Takes.Kinds.{within_ints}
 use Rattle.dbc_read.proofs.Items.{IsItem}
 use Rattle.dbc_read.proofs.Apart.{AreItems, Start, Middle, Close, Line, start_then, start_close, middle_both, middle_close, line_both, close_line, middle_none, middle_each, line_each, middle_separated, spaced, word_start}

@@ -9,13 +9,13 @@ use Rattle.std.proofs.lemmas.Bool.Decides.{Decides-int_eq, nat_tests}
 use Rattle.std.proofs.lemmas.Int.{ints}
 use Rattle.std.specs.Prelude.{neg_ℤ, ◌==◌}
 use Rattle.std.proofs.lemmas.List.{length-drop, take-append-drop, length-replicate}
-use Rattle.dbc_model.specs.Lexical.{point, is_digit, is_digits, is_point, is_exponent_mark, is_number}
-use Rattle.dbc_model.specs.Numbers.{mantissa_of, exponent_of}
-use Rattle.dbc_model.specs.Decimals.{Decimal, IsDecimal, HasValue, SpellsDecimal, decimal_fits}
-use Rattle.dbc_model.specs.Layout.{zeros, filled, point_before_last, with_exponent, magnitude_text, plain_digits}
-use Rattle.dbc_model.proofs.DigitTexts.{value_append}
-use Rattle.dbc_model.proofs.NormalForms.{bounds_of}
-use Rattle.dbc_model.proofs.Powers.{tens_apart, tens_none}
+use Rattle.dbc_values.specs.Lexical.{point, is_digit, is_digits, is_point, is_exponent_mark, is_number}
+use Rattle.dbc_values.specs.Numbers.{mantissa_of, exponent_of}
+use Rattle.dbc_values.specs.Decimals.{Decimal, IsDecimal, HasValue, SpellsDecimal, decimal_fits}
+use Rattle.dbc_records.specs.Layout.{zeros, filled, point_before_last, with_exponent, magnitude_text, plain_digits}
+use Rattle.dbc_values.proofs.DigitTexts.{value_append}
+use Rattle.dbc_values.proofs.NormalForms.{bounds_of}
+use Rattle.dbc_values.proofs.Powers.{tens_apart, tens_none}
 use Rattle.dbc_read.proofs.Items.Digits.{digits_from_all, all_decimal, some_decimal, digits_decimal, value_decimal}
 use Rattle.dbc_tokens.proofs.NumberParts.{IsMantissa, IsExponent, digits_parts, halves_none, halves_some, number_test, mantissa_bytes, is_mantissa_byte}
 use Rattle.dbc_tokens.proofs.Runs.{all_append, all_weaker}

@@ -8,7 +8,7 @@ use Rattle.std.proofs.lemmas.Bool.{and_from}
 use Rattle.std.proofs.lemmas.Bool.Decides.{nat_tests}
 use Rattle.std.proofs.lemmas.Fmt.{decimal_is_IsNumeral_wide}
 use Rattle.std.proofs.lemmas.Str.Parse.{digit_from_value}
-use Rattle.dbc_model.specs.Lexical.{is_digit, is_digits, is_word_byte, is_word}
+use Rattle.dbc_values.specs.Lexical.{is_digit, is_digits, is_word_byte, is_word}
 use Rattle.dbc_reader.specs.Forms.{SpellsNumber, SpellsTag}
 use Rattle.dbc_tokens.proofs.Runs.{all_append, all_weaker}
 use Rattle.dbc_reader.proofs.Takes.Tags.{spells_digits}

@@ -5,11 +5,11 @@ use Rattle.std.specs.List.{flat_map}
 use Rattle.std.proofs.lemmas.Bool.{and_parts, eqb-true}
 use Rattle.std.proofs.lemmas.Slice.Eq.{bytes_eq-Decides}
 use Rattle.std.specs.Str.{bytes_eq}
-use Rattle.dbc_model.specs.Decimals.{Decimal, IsDecimal, SpellsDecimal}
-use Rattle.dbc_model.specs.Kept.{is_piece, is_string, is_mark_but_semicolon, inside}
-use Rattle.dbc_model.specs.Lexical.{quoted, is_text, is_word, is_name, is_number, is_mark, is_keyword}
-use Rattle.dbc_model.specs.Layout.{Item, Word, Mark, Name, Symbol, Text, Whole, Int, Number, Switch, Muxed, Both, Order, Piece, item_text, magnitude_text, sign_text, decimal_text}
-use Rattle.dbc_model.specs.Records.{is_symbol}
+use Rattle.dbc_values.specs.Decimals.{Decimal, IsDecimal, SpellsDecimal}
+use Rattle.dbc_values.specs.Pieces.{is_piece, is_string, is_mark_but_semicolon, inside}
+use Rattle.dbc_values.specs.Lexical.{quoted, is_text, is_word, is_name, is_number, is_mark, is_keyword}
+use Rattle.dbc_records.specs.Layout.{Item, Word, Mark, Name, Symbol, Text, Whole, Int, Number, Switch, Muxed, Both, Order, Piece, item_text, magnitude_text, sign_text, decimal_text}
+use Rattle.dbc_values.specs.Names.{is_symbol}
 use Rattle.dbc_tokens.specs.declared.token.Kind.{Kind}
 use Rattle.dbc_tokens.specs.declared.token.Kind.TheVariants as kinds
 use Rattle.dbc_tokens.specs.Tokens.{Token, IsToken}

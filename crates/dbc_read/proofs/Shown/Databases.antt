@@ -2,13 +2,13 @@
 use Rattle.std.proofs.Common.{◌≡◌, true, List, [], ◌∷◌, ◌++◌, map, Some, append_assoc, append-nil, refl, sym, ap, ◌∙◌}
 use Rattle.std.specs.List.{flat_map}
 use Rattle.std.proofs.lemmas.Bool.{and_parts}
-use Rattle.dbc_model.specs.Databases.{Database, IsDatabase, timing_fits}
-use Rattle.dbc_model.specs.Records.{IsTableRow, IsMessage, IsValueRow, IsFloatRow, IsMuxRow, TableRow, Message, ValueRow, FloatRow, MuxRow}
-use Rattle.dbc_model.specs.Comments.{Comment, IsComment}
-use Rattle.dbc_model.specs.Attributes.{AttrDef, IsAttrDef, AttrDefault, IsAttrDefault, AttrRow, IsAttrRow}
-use Rattle.dbc_model.specs.Kept.{Kept, IsKept}
-use Rattle.dbc_model.specs.Layout.{Layout, Space, Tab, LineEnd, Is}
-use Rattle.dbc_model.specs.CanonicalText.{version_layout, symbols_layout, timing_layout, nodes_layout, table_layout, comment_layout, definition_layout, default_layout, attribute_layout, values_layout, float_layout, mux_layout, kept_layout, front_layout, attributes_layout, rows_layout, database_layout, canonical_text}
+use Rattle.dbc_records.specs.Databases.{Database, IsDatabase, timing_fits}
+use Rattle.dbc_records.specs.Records.{IsTableRow, IsMessage, IsValueRow, IsFloatRow, IsMuxRow, TableRow, Message, ValueRow, FloatRow, MuxRow}
+use Rattle.dbc_records.specs.Comments.{Comment, IsComment}
+use Rattle.dbc_records.specs.Attributes.{AttrDef, IsAttrDef, AttrDefault, IsAttrDefault, AttrRow, IsAttrRow}
+use Rattle.dbc_records.specs.Kept.{Kept, IsKept}
+use Rattle.dbc_records.specs.Layout.{Layout, Space, Tab, LineEnd, Is}
+use Rattle.dbc_records.specs.CanonicalText.{version_layout, symbols_layout, timing_layout, nodes_layout, table_layout, comment_layout, definition_layout, default_layout, attribute_layout, values_layout, float_layout, mux_layout, kept_layout, front_layout, attributes_layout, rows_layout, database_layout, canonical_text}
 use Rattle.dbc_reader.specs.Forms.{Part}
 use Rattle.dbc_reader.specs.Spelling.{AnyStatement, Symbols, Timing, Nodes, Table, OfMessage, OfComment, Definition, Default, Attribute, Values, Float, Mux, OfKept, form, version_form}
 use Rattle.dbc_reader.specs.Texts.{HasDatabase}

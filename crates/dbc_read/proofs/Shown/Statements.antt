@@ -4,11 +4,12 @@ use Rattle.std.specs.Prelude.{All, IfSome}
 use Rattle.std.specs.List.{list_all}
 use Rattle.std.proofs.lemmas.Bool.{and_parts}
 use Rattle.std.proofs.lemmas.List.Elements.{All-head, All-tail}
-use Rattle.dbc_model.specs.Databases.{IsBitTiming, timing_fits}
-use Rattle.dbc_model.specs.Decimals.{Decimal, IsDecimal}
-use Rattle.dbc_model.specs.Records.{IsName, Signal, IsSignal, Message, IsMessage, FloatRow, IsFloatRow}
-use Rattle.dbc_model.specs.Layout.{Item, Mark, Name, Whole, Layout}
-use Rattle.dbc_model.specs.CanonicalText.{blank, number_layout, spaced_number, spaced_mark, spaced_name, line_end, statement_end, timing_numbers, perhaps_numbers, timing_title, timing_layout, signal_name_layout, tag_layout, place_layout, scale_layout, limits_layout, spaced_text, further_receiver, receivers_layout, signal_layout, head_layout, message_layout, float_key, float_kind, float_layout}
+use Rattle.dbc_records.specs.Databases.{IsBitTiming, timing_fits}
+use Rattle.dbc_values.specs.Decimals.{Decimal, IsDecimal}
+use Rattle.dbc_values.specs.Names.{IsName}
+use Rattle.dbc_records.specs.Records.{Signal, IsSignal, Message, IsMessage, FloatRow, IsFloatRow}
+use Rattle.dbc_records.specs.Layout.{Item, Mark, Name, Whole, Layout}
+use Rattle.dbc_records.specs.CanonicalText.{blank, number_layout, spaced_number, spaced_mark, spaced_name, line_end, statement_end, timing_numbers, perhaps_numbers, timing_title, timing_layout, signal_name_layout, tag_layout, place_layout, scale_layout, limits_layout, spaced_text, further_receiver, receivers_layout, signal_layout, head_layout, message_layout, float_key, float_kind, float_layout}
 use Rattle.dbc_reader.specs.Forms.{Is as Shown, Perhaps, Unsigned, of_layout}
 use Rattle.dbc_reader.specs.Spelling.{form, Timing, OfMessage, Float, receivers_form, signal_form}
 use Rattle.dbc_reader.proofs.Sound.Databases.{three_numbers}

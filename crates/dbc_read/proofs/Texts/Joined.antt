@@ -6,7 +6,7 @@ use Rattle.std.proofs.lemmas.List.Concat.{flat_map-append}
 use Rattle.std.proofs.lemmas.List.Sums.{sum_by-append, sum_by-cons}
 use Rattle.dbc_tokens.specs.declared.token.Kind.{Kind}
 use Rattle.dbc_tokens.specs.declared.token.Kind.TheVariants.{Text, Word, Number, Mark}
-use Rattle.dbc_model.specs.Lexical.{line_feed, quote, slash, is_line_feed, quoted}
+use Rattle.dbc_values.specs.Lexical.{line_feed, quote, slash, is_line_feed, quoted}
 use Rattle.dbc_tokens.specs.Tokens.{IsToken, IsLongest, Part, Blank, Comment, part_bytes, EndsLine, AreParts, IsGap, Token, Cut, End, Fault, ◌▸◌, line_feeds, HasTokens}
 use Rattle.dbc_reader.specs.Forms.{◌▸▸◌}
 use Rattle.dbc_read.specs.PrintLaws.{LinesJoin}

@@ -4,8 +4,8 @@ use Rattle.std.specs.Prelude.{codes, decimal, IsTrue}
 use Rattle.std.specs.List.{flat_map}
 use Rattle.std.proofs.lemmas.Bool.{and_parts}
 use Rattle.std.proofs.lemmas.List.Sums.{sum_by-cons}
-use Rattle.dbc_model.specs.Lexical.{quoted, is_point, is_word_byte, is_mark, is_blank, is_line_feed}
-use Rattle.dbc_model.specs.Layout.{Item, Word, Mark, Name, Symbol, Text, Whole, Int, Number, Switch, Muxed, Both, Order, Piece, magnitude_text, Element, Space, Tab, LineEnd, Is, Layout, item_text, layout_text, element_text, items_of}
+use Rattle.dbc_values.specs.Lexical.{quoted, is_point, is_word_byte, is_mark, is_blank, is_line_feed}
+use Rattle.dbc_records.specs.Layout.{Item, Word, Mark, Name, Symbol, Text, Whole, Int, Number, Switch, Muxed, Both, Order, Piece, magnitude_text, Element, Space, Tab, LineEnd, Is, Layout, item_text, layout_text, element_text, items_of}
 use Rattle.dbc_tokens.specs.declared.token.Kind.TheVariants as kinds
 use Rattle.dbc_tokens.specs.Tokens.{Token, Cut, End, Fault, ◌▸◌, IsGap, Blank, IsLongest, line_feeds, HasTokens}
 use Rattle.dbc_reader.specs.Forms.{◌▸▸◌}

@@ -6,7 +6,7 @@ use Rattle.std.proofs.lemmas.Bool.Decides.{nat_tests}
 use Rattle.std.proofs.lemmas.List.{drop_at, length-append}
 use Rattle.dbc_tokens.specs.declared.token.Kind.{Kind}
 use Rattle.dbc_tokens.specs.declared.token.Kind.TheVariants as kinds
-use Rattle.dbc_model.specs.Lexical.{quote, point, is_point, is_sign, is_digit, is_letter, is_word_byte, is_mark, is_exponent_mark, is_text, quoted, is_number}
+use Rattle.dbc_values.specs.Lexical.{quote, point, is_point, is_sign, is_digit, is_letter, is_word_byte, is_mark, is_exponent_mark, is_text, quoted, is_number}
 use Rattle.dbc_tokens.specs.Tokens.{IsToken, IsLongest}
 use Rattle.dbc_tokens.specs.Reading.Scanner.{fraction_len, mantissa_len, sign_len, power_len, exponent_len, number_len, token_at}
 use Rattle.dbc_tokens.proofs.Runs.{Stops, all_stop}

@@ -5,9 +5,10 @@ use Rattle.std.specs.List.{list_any}
 use Rattle.std.specs.Str.{bytes_eq}
 use Rattle.std.proofs.lemmas.Bool.{cases_Bool}
 use Rattle.std.proofs.lemmas.Slice.Eq.{bytes_eq-Decides}
-use Rattle.dbc_model.specs.Databases.{Database}
-use Rattle.dbc_model.specs.Lexical.{is_name, is_keyword, kept_words}
-use Rattle.dbc_model.specs.Kept.{kept_fits, is_piece, is_string}
+use Rattle.dbc_records.specs.Databases.{Database}
+use Rattle.dbc_values.specs.Lexical.{is_name, is_keyword, kept_words}
+use Rattle.dbc_records.specs.Kept.{kept_fits}
+use Rattle.dbc_values.specs.Pieces.{is_piece, is_string}
 use Rattle.dbc_tokens.specs.declared.fault.Cause.TheVariants as causes
 use Rattle.dbc_tokens.specs.declared.token.Kind.{Kind}
 use Rattle.dbc_tokens.specs.Tokens.{Token, Cut, End, Fault, ◌▸◌}

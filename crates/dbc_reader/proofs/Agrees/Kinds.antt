@@ -1,9 +1,9 @@
 -- Each part's reader agrees with its pattern.
 use Rattle.std.proofs.Common.{◌≡◌, ℕ, ◌^◌, ◌-◌, Bool, true, false, cond, List, [], ◌∷◌, Option, Some, None, Result, Ok, Err, refl}
-use Rattle.dbc_model.specs.Numbers.{whole_of_number}
-use Rattle.dbc_model.specs.Decimals.{decimal_of_number}
-use Rattle.dbc_model.specs.declared.number.Whole.{Whole}
-use Rattle.dbc_model.specs.declared.number.Whole.TheVariants.{Fraction, TooLarge, Value}
+use Rattle.dbc_values.specs.Numbers.{whole_of_number}
+use Rattle.dbc_values.specs.Decimals.{decimal_of_number}
+use Rattle.dbc_values.specs.declared.number.Whole.{Whole}
+use Rattle.dbc_values.specs.declared.number.Whole.TheVariants.{Fraction, TooLarge, Value}
 use Rattle.dbc_tokens.specs.declared.fault.Cause.{Cause}
 use Rattle.dbc_tokens.specs.declared.fault.Cause.TheVariants as causes
 use Rattle.dbc_tokens.specs.Tokens.{Token}

@@ -5,9 +5,9 @@ use Rattle.std.specs.List.{list_any}
 use Rattle.std.specs.Str.{bytes_eq}
 use Rattle.std.proofs.lemmas.Bool.Decides.{leb_tells}
 use Rattle.std.proofs.lemmas.List.{length-map, map-append}
-use Rattle.dbc_model.specs.Lexical.{is_name}
-use Rattle.dbc_model.specs.Records.{Signal, Message, names_of}
-use Rattle.dbc_model.specs.declared.tag.Tag.TheVariants as tags
+use Rattle.dbc_values.specs.Lexical.{is_name}
+use Rattle.dbc_records.specs.Records.{Signal, Message, names_of}
+use Rattle.dbc_records.specs.declared.tag.Tag.TheVariants as tags
 use Rattle.dbc_tokens.specs.declared.fault.Cause.TheVariants as causes
 use Rattle.dbc_tokens.specs.Tokens.{◌▸◌}
 use Rattle.dbc_reader.specs.Classes.{has_word, has_mark, has_name}

@@ -1,7 +1,7 @@
 -- The readers of rows, comments and attributes agree with their patterns.
 use Rattle.std.proofs.Common.{◌^◌, ◌-◌, List, [], ◌∷◌, refl}
 use Rattle.std.specs.Prelude.{codes}
-use Rattle.dbc_model.specs.declared.mux_row.Range.{Range}
+use Rattle.dbc_records.specs.declared.mux_row.Range.{Range}
 use Rattle.dbc_reader.specs.Classes.{has_word, has_mark, has_string}
 use Rattle.dbc_reader.specs.Pattern.{Word, Mark, Name, String, Whole, Seen, Done, ◌⇒◌, Either, Repeat, ◌then◌}
 use Rattle.dbc_reader.specs.Grammar as grammar

@@ -8,8 +8,9 @@ use Rattle.std.specs.Prelude.{codes}
 use Rattle.std.specs.Str.{bytes_eq}
 use Rattle.std.specs.List.{list_any, list_all}
 use Rattle.std.proofs.lemmas.Bool.{eqb-true}
-use Rattle.dbc_model.specs.Lexical.{is_name, is_text, is_number, kept_words, is_kept_word, is_word, is_keyword}
-use Rattle.dbc_model.specs.Kept.{kept_fits, is_string, is_piece, is_mark_but_semicolon, begins}
+use Rattle.dbc_values.specs.Lexical.{is_name, is_text, is_number, kept_words, is_kept_word, is_word, is_keyword}
+use Rattle.dbc_records.specs.Kept.{kept_fits, begins}
+use Rattle.dbc_values.specs.Pieces.{is_string, is_piece, is_mark_but_semicolon}
 use Rattle.dbc_tokens.specs.Tokens.{Token, Cut, End, Fault, ◌▸◌}
 use Rattle.dbc_reader.specs.Classes.{has_word, has_name, has_string, has_piece, has_kept_word}
 use Rattle.dbc_reader.specs.Reading.Cursors.{behind}

@@ -6,7 +6,7 @@ use Rattle.std.proofs.lemmas.List.{map_push}
 use Rattle.std.specs.Prelude.{nat_le}
 use Rattle.std.specs.List.{list_any}
 use Rattle.std.specs.Str.{bytes_eq}
-use Rattle.dbc_model.specs.Records.{Signal, names_of, are_distinct, signals_fit}
+use Rattle.dbc_records.specs.Records.{Signal, names_of, are_distinct, signals_fit}
 
 pub same_either_way : (a b : List ℕ) → bytes_eq a b ≡ bytes_eq b a
 same_either_way [] [] = refl

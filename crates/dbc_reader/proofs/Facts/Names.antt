@@ -4,9 +4,9 @@ use Rattle.std.specs.Prelude.{not}
 use Rattle.std.specs.List.{list_any, list_all, before_first, after_first, prefix_len}
 use Rattle.std.proofs.lemmas.Bool.{cases_Bool}
 use Rattle.std.proofs.lemmas.Grind.{common_steps}
-use Rattle.dbc_model.specs.Lexical.{is_letter, is_digit, is_point, is_exponent_mark, is_word, is_word_byte, is_name, is_keyword, is_mantissa, is_number}
-use Rattle.dbc_model.specs.Numbers.{whole_of_number}
-use Rattle.dbc_model.specs.Kept.{is_piece, is_string, is_mark_but_semicolon}
+use Rattle.dbc_values.specs.Lexical.{is_letter, is_digit, is_point, is_exponent_mark, is_word, is_word_byte, is_name, is_keyword, is_mantissa, is_number}
+use Rattle.dbc_values.specs.Numbers.{whole_of_number}
+use Rattle.dbc_values.specs.Pieces.{is_piece, is_string, is_mark_but_semicolon}
 use Rattle.dbc_tokens.specs.Tokens.{Token}
 use Rattle.dbc_reader.specs.Classes.{has_name, has_string, has_piece, has_whole}
 

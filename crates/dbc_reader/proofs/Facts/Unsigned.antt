@@ -1,9 +1,9 @@
 -- A number without a sign is not negative.
 use Rattle.std.proofs.Common.{◌≡◌, ℕ, zero, suc, ℤ, Bool, true, false, cond, List, Option, Some, None, refl, ◌%◌, ◌/◌, ◌==◌, sym, ap, ◌∙◌}
 use Rattle.std.specs.Prelude.{pos, ◌+ℤ◌}
-use Rattle.dbc_model.specs.Lexical.{is_number}
-use Rattle.dbc_model.specs.Numbers.{mantissa_of, exponent_of}
-use Rattle.dbc_model.specs.Decimals.{Decimal, decimal_fits, without_zeros, where_fits, decimal_of, decimal_of_number}
+use Rattle.dbc_values.specs.Lexical.{is_number}
+use Rattle.dbc_values.specs.Numbers.{mantissa_of, exponent_of}
+use Rattle.dbc_values.specs.Decimals.{Decimal, decimal_fits, without_zeros, where_fits, decimal_of, decimal_of_number}
 
 either_sign : (b : Bool) (negative : Bool) (x y : Decimal) → x.negative ≡ negative → y.negative ≡ negative → (cond b x y).negative ≡ negative
 either_sign true negative x y h k = h

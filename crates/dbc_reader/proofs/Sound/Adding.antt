@@ -6,12 +6,12 @@ use Rattle.std.specs.Str.{bytes_eq}
 use Rattle.std.proofs.lemmas.List.Concat.{flat_map-append}
 use Rattle.std.proofs.lemmas.Slice.Eq.{bytes_eq-Decides}
 use Rattle.std.proofs.lemmas.Bool.{and_parts}
-use Rattle.dbc_model.specs.Databases.{Database}
-use Rattle.dbc_model.specs.Lexical.{kept_words}
-use Rattle.dbc_model.specs.Kept.{Kept}
-use Rattle.dbc_model.specs.Records.{is_symbol}
-use Rattle.dbc_model.specs.Layout.{Word, Mark, Name, Symbol, Piece, items_of}
-use Rattle.dbc_model.specs.CanonicalText.{word_layout, symbol_layout, symbols_title, symbols_layout, nodes_title, nodes_layout, spaced_name, line_end, table_key, table_layout, values_key, values_layout, float_key, mux_key, mux_layout, comment_key, comment_layout, definition_key, definition_layout, default_key, default_layout, attribute_key, attribute_layout, piece_layout, kept_layout, statement_end}
+use Rattle.dbc_records.specs.Databases.{Database}
+use Rattle.dbc_values.specs.Lexical.{kept_words}
+use Rattle.dbc_records.specs.Kept.{Kept}
+use Rattle.dbc_values.specs.Names.{is_symbol}
+use Rattle.dbc_records.specs.Layout.{Word, Mark, Name, Symbol, Piece, items_of}
+use Rattle.dbc_records.specs.CanonicalText.{word_layout, symbol_layout, symbols_title, symbols_layout, nodes_title, nodes_layout, spaced_name, line_end, table_key, table_layout, values_key, values_layout, float_key, mux_key, mux_layout, comment_key, comment_layout, definition_key, definition_layout, default_key, default_layout, attribute_key, attribute_layout, piece_layout, kept_layout, statement_end}
 use Rattle.dbc_tokens.specs.declared.fault.ReadFault.{ReadFault}
 use Rattle.dbc_tokens.specs.Tokens.{Token, Cut, End, Fault, ◌▸◌}
 use Rattle.dbc_reader.specs.Classes.{has_word, has_name, has_string, has_symbol, has_kept_word}

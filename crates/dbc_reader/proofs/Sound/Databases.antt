@@ -3,10 +3,10 @@ use Rattle.std.proofs.Common.{◌≡◌, ℕ, zero, suc, ◌≤◌, Bool, true, 
 use Rattle.std.specs.Prelude.{codes, IfSome}
 use Rattle.std.specs.List.{flat_map}
 use Rattle.std.proofs.lemmas.List.Concat.{flat_map-append}
-use Rattle.dbc_model.specs.Databases.{Database, IsDatabase, IsBitTiming}
-use Rattle.dbc_model.specs.Decimals.{Decimal}
-use Rattle.dbc_model.specs.Layout.{Word, Mark, items_of}
-use Rattle.dbc_model.specs.CanonicalText.{version_layout, timing_title}
+use Rattle.dbc_records.specs.Databases.{Database, IsDatabase, IsBitTiming}
+use Rattle.dbc_values.specs.Decimals.{Decimal}
+use Rattle.dbc_records.specs.Layout.{Word, Mark, items_of}
+use Rattle.dbc_records.specs.CanonicalText.{version_layout, timing_title}
 use Rattle.dbc_tokens.specs.Tokens.{Token, Cut, End, Fault, ◌▸◌}
 use Rattle.dbc_reader.specs.Classes.{has_word, has_number, has_symbol}
 use Rattle.dbc_reader.specs.Forms.{Part, Is, Unsigned, of_layout, ◌▸▸◌}

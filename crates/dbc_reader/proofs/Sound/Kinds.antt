@@ -5,16 +5,16 @@ use Rattle.std.specs.List.{flat_map}
 use Rattle.std.specs.Str.{bytes_eq}
 use Rattle.std.proofs.lemmas.Slice.Eq.{bytes_eq-Decides}
 use Rattle.std.proofs.lemmas.Bool.{and_parts}
-use Rattle.dbc_model.specs.Lexical.{quoted, is_text, is_name, is_number}
-use Rattle.dbc_model.specs.Numbers.{mantissa_of, exponent_of, whole_value, whole_of_number}
-use Rattle.dbc_model.specs.Decimals.{Decimal, decimal_of, decimal_of_number, SpellsDecimal}
-use Rattle.dbc_model.specs.Records.{is_symbol}
-use Rattle.dbc_model.specs.Kept.{is_piece, is_string, inside}
-use Rattle.dbc_model.specs.Layout.{Word, Mark, Name, Symbol, Text, Whole, Int, Number, Piece}
-use Rattle.dbc_model.specs.declared.number.Whole.{Whole as WholeNumber}
-use Rattle.dbc_model.specs.declared.number.Whole.TheVariants.{Fraction, TooLarge, Value}
-use Rattle.dbc_model.proofs.NormalForms.{decimal_to}
-use Rattle.dbc_model.proofs.WholeNumbers.{whole_to}
+use Rattle.dbc_values.specs.Lexical.{quoted, is_text, is_name, is_number}
+use Rattle.dbc_values.specs.Numbers.{mantissa_of, exponent_of, whole_value, whole_of_number}
+use Rattle.dbc_values.specs.Decimals.{Decimal, decimal_of, decimal_of_number, SpellsDecimal}
+use Rattle.dbc_values.specs.Names.{is_symbol}
+use Rattle.dbc_values.specs.Pieces.{is_piece, is_string, inside}
+use Rattle.dbc_records.specs.Layout.{Word, Mark, Name, Symbol, Text, Whole, Int, Number, Piece}
+use Rattle.dbc_values.specs.declared.number.Whole.{Whole as WholeNumber}
+use Rattle.dbc_values.specs.declared.number.Whole.TheVariants.{Fraction, TooLarge, Value}
+use Rattle.dbc_values.proofs.NormalForms.{decimal_to}
+use Rattle.dbc_values.proofs.WholeNumbers.{whole_to}
 use Rattle.dbc_tokens.specs.declared.fault.Cause.TheVariants as causes
 use Rattle.dbc_tokens.specs.Tokens.{Token}
 use Rattle.dbc_reader.specs.Classes.{has_word, has_mark, where_true, bounded, there, text_of, whole_of, number_of}

@@ -4,11 +4,11 @@ use Rattle.std.specs.Prelude.{codes, nat_lt}
 use Rattle.std.specs.List.{flat_map, list_any}
 use Rattle.std.specs.Str.{bytes_eq}
 use Rattle.std.proofs.lemmas.Slice.Eq.{bytes_eq-Decides}
-use Rattle.dbc_model.specs.Lexical.{is_name}
-use Rattle.dbc_model.specs.Decimals.{Decimal}
-use Rattle.dbc_model.specs.Records.{Signal, names_of}
-use Rattle.dbc_model.specs.Layout.{Word, Mark, Name, Text, Whole, Number, Order, Layout, items_of}
-use Rattle.dbc_model.specs.CanonicalText.{head_layout, signal_name_layout, tag_layout, sign_mark, place_layout, pair_layout, spaced_mark, number_layout, mark_layout, scale_layout, limits_layout, spaced_text}
+use Rattle.dbc_values.specs.Lexical.{is_name}
+use Rattle.dbc_values.specs.Decimals.{Decimal}
+use Rattle.dbc_records.specs.Records.{Signal, names_of}
+use Rattle.dbc_records.specs.Layout.{Word, Mark, Name, Text, Whole, Number, Order, Layout, items_of}
+use Rattle.dbc_records.specs.CanonicalText.{head_layout, signal_name_layout, tag_layout, sign_mark, place_layout, pair_layout, spaced_mark, number_layout, mark_layout, scale_layout, limits_layout, spaced_text}
 use Rattle.dbc_tokens.specs.declared.fault.Cause.{Cause}
 use Rattle.dbc_tokens.specs.declared.fault.Cause.TheVariants as causes
 use Rattle.dbc_reader.specs.declared.messages.Place.{Place}

@@ -2,10 +2,10 @@
 use Rattle.std.proofs.Common.{◌≡◌, ℕ, List, [], ◌∷◌, ◌++◌, refl, sym, ap, ◌∙◌, append_assoc}
 use Rattle.std.specs.Prelude.{codes}
 use Rattle.std.specs.List.{flat_map}
-use Rattle.dbc_model.specs.Comments.{Comment}
-use Rattle.dbc_model.specs.Attributes.{AttrDef, AttrDefault, AttrRow}
-use Rattle.dbc_model.specs.Layout.{Word, Mark, Text, items_of}
-use Rattle.dbc_model.specs.CanonicalText.{word_layout, spaced_word, spaced_text, spaced_number, blank, number_layout, statement_end, target_layout, comment_key, comment_layout, object_layout, number_limits_layout, further_text, texts_layout, form_layout, definition_key, definition_layout, value_layout, default_key, default_layout, attribute_key, attribute_layout}
+use Rattle.dbc_records.specs.Comments.{Comment}
+use Rattle.dbc_records.specs.Attributes.{AttrDef, AttrDefault, AttrRow}
+use Rattle.dbc_records.specs.Layout.{Word, Mark, Text, items_of}
+use Rattle.dbc_records.specs.CanonicalText.{word_layout, spaced_word, spaced_text, spaced_number, blank, number_layout, statement_end, target_layout, comment_key, comment_layout, object_layout, number_limits_layout, further_text, texts_layout, form_layout, definition_key, definition_layout, value_layout, default_key, default_layout, attribute_key, attribute_layout}
 use Rattle.dbc_reader.specs.Forms.{Part, Is, of_layout}
 use Rattle.dbc_reader.specs.Spelling.{form, OfComment, Definition, Default, Attribute}
 use Rattle.dbc_reader.specs.Reading.Readers.{◌>>=◌}

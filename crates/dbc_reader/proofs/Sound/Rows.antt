@@ -4,10 +4,10 @@ use Rattle.std.specs.Prelude.{codes}
 use Rattle.std.specs.List.{flat_map}
 use Rattle.std.proofs.lemmas.List.{map-append}
 use Rattle.std.proofs.lemmas.List.Concat.{flat_map-append}
-use Rattle.dbc_model.specs.Records.{Entry, TableRow, ValueRow, FloatRow, MuxRow}
-use Rattle.dbc_model.specs.declared.mux_row.Range.{Range}
-use Rattle.dbc_model.specs.Layout.{Word, Mark, Name, Text, Whole, Int, Layout, item_of, items_of}
-use Rattle.dbc_model.specs.CanonicalText.{word_layout, signal_key, spaced_name, spaced_end, statement_end, entry_layout, table_key, table_layout, values_key, values_layout, float_key, range_layout, further_range, ranges_layout, mux_key, mux_layout}
+use Rattle.dbc_records.specs.Records.{Entry, TableRow, ValueRow, FloatRow, MuxRow}
+use Rattle.dbc_records.specs.declared.mux_row.Range.{Range}
+use Rattle.dbc_records.specs.Layout.{Word, Mark, Name, Text, Whole, Int, Layout, item_of, items_of}
+use Rattle.dbc_records.specs.CanonicalText.{word_layout, signal_key, spaced_name, spaced_end, statement_end, entry_layout, table_key, table_layout, values_key, values_layout, float_key, range_layout, further_range, ranges_layout, mux_key, mux_layout}
 use Rattle.dbc_tokens.specs.Tokens.{Token, Cut}
 use Rattle.dbc_reader.specs.Forms.{Part, Is, Perhaps, SaysPart, of_layout}
 use Rattle.dbc_reader.specs.Spelling.{form, Table, Values, Float, Mux}

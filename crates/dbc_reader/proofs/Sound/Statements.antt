@@ -1,8 +1,8 @@
 -- A statement that was read alone is spelled by the tokens that it was read from.
 use Rattle.std.proofs.Common.{◌≡◌, ℕ, List, [], Ok, refl, ap, subst}
 use Rattle.std.specs.Prelude.{codes}
-use Rattle.dbc_model.specs.Layout.{items_of}
-use Rattle.dbc_model.specs.CanonicalText.{target_layout}
+use Rattle.dbc_records.specs.Layout.{items_of}
+use Rattle.dbc_records.specs.CanonicalText.{target_layout}
 use Rattle.dbc_reader.specs.declared.statement.Statement.{Statement}
 use Rattle.dbc_tokens.specs.Tokens.{Token, Cut, End}
 use Rattle.dbc_reader.specs.Forms.{Spelled, of_layout, ◌▸▸◌}

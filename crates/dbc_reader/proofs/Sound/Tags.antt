@@ -7,14 +7,14 @@ use Rattle.std.specs.Str.Parse.{digits_value, signed_digits_value}
 use Rattle.std.proofs.lemmas.Bool.{and_parts, eqb-true}
 use Rattle.std.proofs.lemmas.Grind.{common_steps}
 use Rattle.std.proofs.lemmas.Slice.Eq.{bytes_eq-Decides}
-use Rattle.dbc_model.specs.Lexical.{is_digit, is_digits, is_point, is_exponent_mark, is_number}
-use Rattle.dbc_model.specs.Numbers.{mantissa_of, exponent_of, IsWholeNumber, whole_of_number}
-use Rattle.dbc_model.specs.Layout.{Order, items_of}
-use Rattle.dbc_model.specs.CanonicalText.{tag_layout}
-use Rattle.dbc_model.specs.declared.number.Whole.{Whole as WholeNumber}
-use Rattle.dbc_model.specs.declared.number.Whole.TheVariants.{Fraction, TooLarge, Value}
-use Rattle.dbc_model.specs.declared.tag.Tag.{Tag}
-use Rattle.dbc_model.specs.declared.tag.Tag.TheVariants as tags
+use Rattle.dbc_values.specs.Lexical.{is_digit, is_digits, is_point, is_exponent_mark, is_number}
+use Rattle.dbc_values.specs.Numbers.{mantissa_of, exponent_of, IsWholeNumber, whole_of_number}
+use Rattle.dbc_records.specs.Layout.{Order, items_of}
+use Rattle.dbc_records.specs.CanonicalText.{tag_layout}
+use Rattle.dbc_values.specs.declared.number.Whole.{Whole as WholeNumber}
+use Rattle.dbc_values.specs.declared.number.Whole.TheVariants.{Fraction, TooLarge, Value}
+use Rattle.dbc_records.specs.declared.tag.Tag.{Tag}
+use Rattle.dbc_records.specs.declared.tag.Tag.TheVariants as tags
 use Rattle.dbc_tokens.specs.declared.fault.Cause.{Cause}
 use Rattle.dbc_tokens.specs.declared.fault.Cause.TheVariants as causes
 use Rattle.dbc_tokens.specs.Tokens.{Token}

@@ -3,14 +3,15 @@ use Rattle.std.proofs.Common.{◌≡◌, ℕ, Bool, true, false, List, [], ◌�
 use Rattle.std.specs.Prelude.{codes, nat_lt, IsTrue}
 use Rattle.std.specs.List.{flat_map, list_any}
 use Rattle.std.specs.Str.{bytes_eq}
-use Rattle.dbc_model.specs.Databases.{Database}
-use Rattle.dbc_model.specs.Lexical.{is_name}
-use Rattle.dbc_model.specs.Kept.{Kept, IsKept}
-use Rattle.dbc_model.specs.Records.{is_symbol, TableRow, IsTableRow, ValueRow, IsValueRow, FloatRow, IsFloatRow, MuxRow, IsMuxRow, Message, IsMessage}
-use Rattle.dbc_model.specs.Comments.{Comment, IsComment}
-use Rattle.dbc_model.specs.Attributes.{AttrDef, IsAttrDef, AttrDefault, AttrRow, IsAttrRow}
-use Rattle.dbc_model.specs.Layout.{Word, Mark, Name, Symbol, Text, items_of}
-use Rattle.dbc_model.specs.CanonicalText.{word_layout, signal_key, table_key, table_layout, values_key, values_layout, float_key, mux_key, mux_layout, definition_key, definition_layout, default_key, default_layout, target_layout, value_layout, head_layout}
+use Rattle.dbc_records.specs.Databases.{Database}
+use Rattle.dbc_values.specs.Lexical.{is_name}
+use Rattle.dbc_records.specs.Kept.{Kept, IsKept}
+use Rattle.dbc_values.specs.Names.{is_symbol}
+use Rattle.dbc_records.specs.Records.{TableRow, IsTableRow, ValueRow, IsValueRow, FloatRow, IsFloatRow, MuxRow, IsMuxRow, Message, IsMessage}
+use Rattle.dbc_records.specs.Comments.{Comment, IsComment}
+use Rattle.dbc_records.specs.Attributes.{AttrDef, IsAttrDef, AttrDefault, AttrRow, IsAttrRow}
+use Rattle.dbc_records.specs.Layout.{Word, Mark, Name, Symbol, Text, items_of}
+use Rattle.dbc_records.specs.CanonicalText.{word_layout, signal_key, table_key, table_layout, values_key, values_layout, float_key, mux_key, mux_layout, definition_key, definition_layout, default_key, default_layout, target_layout, value_layout, head_layout}
 use Rattle.dbc_tokens.specs.Tokens.{Token, Cut}
 use Rattle.dbc_reader.specs.Classes.{has_word, has_symbol, has_name}
 use Rattle.dbc_reader.specs.Forms.{Part, Is, Spelled, of_layout, ◌▸▸◌}

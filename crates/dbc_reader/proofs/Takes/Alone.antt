@@ -2,13 +2,13 @@
 use Rattle.std.proofs.Common.{◌≡◌, ℕ, Bool, List, [], ◌∷◌, Result, Ok, append_assoc, refl, sym, ap, subst, ◌∙◌}
 use Rattle.std.specs.Prelude.{codes}
 use Rattle.std.specs.Str.{bytes_eq}
-use Rattle.dbc_model.specs.Attributes.{AttrRow, IsAttrRow}
-use Rattle.dbc_model.specs.Comments.{IsTarget}
-use Rattle.dbc_model.specs.Records.{Signal}
-use Rattle.dbc_model.specs.declared.target.Target.{Target}
-use Rattle.dbc_model.specs.declared.target.Target.TheVariants as targets
-use Rattle.dbc_model.specs.Layout.{Word, Mark, Text, items_of}
-use Rattle.dbc_model.specs.CanonicalText.{head_layout, word_layout, table_key, table_layout, values_key, values_layout, mux_key, mux_layout, attribute_key, attribute_layout, target_layout, value_layout}
+use Rattle.dbc_records.specs.Attributes.{AttrRow, IsAttrRow}
+use Rattle.dbc_records.specs.Comments.{IsTarget}
+use Rattle.dbc_records.specs.Records.{Signal}
+use Rattle.dbc_records.specs.declared.target.Target.{Target}
+use Rattle.dbc_records.specs.declared.target.Target.TheVariants as targets
+use Rattle.dbc_records.specs.Layout.{Word, Mark, Text, items_of}
+use Rattle.dbc_records.specs.CanonicalText.{head_layout, word_layout, table_key, table_layout, values_key, values_layout, mux_key, mux_layout, attribute_key, attribute_layout, target_layout, value_layout}
 use Rattle.dbc_tokens.specs.declared.fault.ReadFault.{ReadFault}
 use Rattle.dbc_reader.specs.declared.statement.Statement.{Statement}
 use Rattle.dbc_reader.specs.declared.statement.Statement.TheVariants as statements

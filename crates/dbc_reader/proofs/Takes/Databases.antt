@@ -4,13 +4,13 @@ use Rattle.std.specs.Prelude.{codes}
 use Rattle.std.specs.List.{flat_map, list_any}
 use Rattle.std.specs.Str.{bytes_eq}
 use Rattle.std.proofs.lemmas.List.Concat.{flat_map-append}
-use Rattle.dbc_model.specs.Databases.{Database, IsDatabase}
-use Rattle.dbc_model.specs.Decimals.{Decimal, SpellsDecimal, decimal_of_number}
-use Rattle.dbc_model.specs.Lexical.{is_name, is_keyword, is_number}
-use Rattle.dbc_model.specs.Lexical.{is_kept_word}
-use Rattle.dbc_model.specs.Records.{is_symbol}
-use Rattle.dbc_model.specs.Layout.{items_of}
-use Rattle.dbc_model.specs.CanonicalText.{version_layout}
+use Rattle.dbc_records.specs.Databases.{Database, IsDatabase}
+use Rattle.dbc_values.specs.Decimals.{Decimal, SpellsDecimal, decimal_of_number}
+use Rattle.dbc_values.specs.Lexical.{is_name, is_keyword, is_number}
+use Rattle.dbc_values.specs.Lexical.{is_kept_word}
+use Rattle.dbc_values.specs.Names.{is_symbol}
+use Rattle.dbc_records.specs.Layout.{items_of}
+use Rattle.dbc_records.specs.CanonicalText.{version_layout}
 use Rattle.dbc_tokens.specs.declared.fault.ReadFault.{ReadFault}
 use Rattle.dbc_tokens.specs.Tokens.{Token, Cut, End}
 use Rattle.dbc_reader.specs.Classes.{has_word, has_mark, has_symbol, has_name, has_number, has_kept_word, is_there}

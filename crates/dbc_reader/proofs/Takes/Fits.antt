@@ -7,12 +7,12 @@ use Rattle.std.proofs.lemmas.Grind.{common_steps}
 use Rattle.std.proofs.lemmas.List.{drop_at}
 use Rattle.std.proofs.lemmas.List.Elements.{All-head, All-drop}
 use Rattle.std.proofs.lemmas.List.Concat.{flat_map-append}
-use Rattle.dbc_model.specs.Databases.{Database, IsDatabase, timing_fits}
-use Rattle.dbc_model.specs.Decimals.{Decimal}
-use Rattle.dbc_model.specs.Kept.{IsKept}
-use Rattle.dbc_model.specs.Records.{IsTableRow, IsValueRow, IsFloatRow, IsMuxRow, IsMessage}
-use Rattle.dbc_model.specs.Comments.{IsComment}
-use Rattle.dbc_model.specs.Attributes.{IsAttrDef, IsAttrRow}
+use Rattle.dbc_records.specs.Databases.{Database, IsDatabase, timing_fits}
+use Rattle.dbc_values.specs.Decimals.{Decimal}
+use Rattle.dbc_records.specs.Kept.{IsKept}
+use Rattle.dbc_records.specs.Records.{IsTableRow, IsValueRow, IsFloatRow, IsMuxRow, IsMessage}
+use Rattle.dbc_records.specs.Comments.{IsComment}
+use Rattle.dbc_records.specs.Attributes.{IsAttrDef, IsAttrRow}
 use Rattle.dbc_reader.specs.Spelling.{AnyStatement, Symbols, Timing, Nodes, Table, OfMessage, OfComment, Definition, Default, Attribute, Values, Float, Mux, OfKept, timings_of, tables_of, messages_of, comments_of, definitions_of, attributes_of, values_of, floats_of, muxes_of, kept_of, EndsSymbols, FollowOn, ArePlaced}
 use Rattle.dbc_reader.proofs.Sound.Adding.{joined, joined_twice}
 

@@ -4,14 +4,15 @@ use Rattle.std.specs.Prelude.{codes, IsTrue}
 use Rattle.std.specs.List.{flat_map}
 use Rattle.std.specs.Str.{bytes_eq}
 use Rattle.std.proofs.lemmas.Bool.{cases_Bool, and_parts}
-use Rattle.dbc_model.specs.Lexical.{is_kept_word, is_text, is_word, is_name, is_number, quoted}
-use Rattle.dbc_model.specs.Kept.{Kept, is_piece, is_string, begins, kept_fits}
-use Rattle.dbc_model.specs.Layout.{Word, Mark, Text, Whole, Piece, items_of}
-use Rattle.dbc_model.specs.CanonicalText.{spaced_text, spaced_number, blank, number_layout, target_layout, value_layout}
-use Rattle.dbc_model.specs.declared.target.Target.{Target}
-use Rattle.dbc_model.specs.declared.target.Target.TheVariants as targets
-use Rattle.dbc_model.specs.declared.attribute.AttrValue.{AttrValue}
-use Rattle.dbc_model.specs.declared.attribute.AttrValue.TheVariants as values
+use Rattle.dbc_values.specs.Lexical.{is_kept_word, is_text, is_word, is_name, is_number, quoted}
+use Rattle.dbc_records.specs.Kept.{Kept, begins, kept_fits}
+use Rattle.dbc_values.specs.Pieces.{is_piece, is_string}
+use Rattle.dbc_records.specs.Layout.{Word, Mark, Text, Whole, Piece, items_of}
+use Rattle.dbc_records.specs.CanonicalText.{spaced_text, spaced_number, blank, number_layout, target_layout, value_layout}
+use Rattle.dbc_records.specs.declared.target.Target.{Target}
+use Rattle.dbc_records.specs.declared.target.Target.TheVariants as targets
+use Rattle.dbc_records.specs.declared.attribute.AttrValue.{AttrValue}
+use Rattle.dbc_records.specs.declared.attribute.AttrValue.TheVariants as values
 use Rattle.dbc_tokens.specs.Tokens.{Token, Cut}
 use Rattle.dbc_reader.specs.Classes.{has_word, has_name, has_string, has_piece, has_kept_word}
 use Rattle.dbc_reader.specs.Reading.Cursors.{behind}

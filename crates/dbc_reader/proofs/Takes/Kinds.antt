@@ -7,15 +7,16 @@ use Rattle.std.proofs.lemmas.Bool.{cases_Bool, and_parts}
 use Rattle.std.proofs.lemmas.Grind.{common_steps}
 use Rattle.std.proofs.lemmas.Int.{ints}
 use Rattle.std.proofs.lemmas.List.{take_at}
-use Rattle.dbc_model.specs.Lexical.{quote, quoted, is_text, is_name, is_number}
-use Rattle.dbc_model.specs.Numbers.{mantissa_of, exponent_of, whole_of_number}
-use Rattle.dbc_model.specs.Decimals.{Decimal, decimal_of_number, SpellsDecimal}
-use Rattle.dbc_model.specs.Records.{is_symbol, entry_fits}
-use Rattle.dbc_model.specs.Kept.{is_piece, is_string, inside}
-use Rattle.dbc_model.specs.Layout.{Word, Mark, Name, Symbol, Text, Whole, Int, Number, Piece}
-use Rattle.dbc_model.specs.declared.number.Whole.TheVariants.{Value}
-use Rattle.dbc_model.proofs.NormalForms.{decimal_from}
-use Rattle.dbc_model.proofs.WholeNumbers.{whole_from}
+use Rattle.dbc_values.specs.Lexical.{quote, quoted, is_text, is_name, is_number}
+use Rattle.dbc_values.specs.Numbers.{mantissa_of, exponent_of, whole_of_number}
+use Rattle.dbc_values.specs.Decimals.{Decimal, decimal_of_number, SpellsDecimal}
+use Rattle.dbc_values.specs.Names.{is_symbol}
+use Rattle.dbc_records.specs.Records.{entry_fits}
+use Rattle.dbc_values.specs.Pieces.{is_piece, is_string, inside}
+use Rattle.dbc_records.specs.Layout.{Word, Mark, Name, Symbol, Text, Whole, Int, Number, Piece}
+use Rattle.dbc_values.specs.declared.number.Whole.TheVariants.{Value}
+use Rattle.dbc_values.proofs.NormalForms.{decimal_from}
+use Rattle.dbc_values.proofs.WholeNumbers.{whole_from}
 use Rattle.dbc_tokens.specs.declared.fault.Cause.{Cause}
 use Rattle.dbc_tokens.specs.Tokens.{Token, Cut, ◌▸◌}
 use Rattle.dbc_reader.specs.Classes.{has_word, has_mark, has_whole, where_true, text_of, whole_of, number_of}

@@ -9,11 +9,11 @@ use Rattle.std.proofs.lemmas.List.{map-append}
 use Rattle.std.proofs.lemmas.List.Elements.{All-head, All-tail}
 use Rattle.std.proofs.lemmas.List.Folds.{list_any-append}
 use Rattle.std.proofs.lemmas.Slice.Eq.{bytes_eq-Decides}
-use Rattle.dbc_model.specs.Lexical.{is_name, is_keyword}
-use Rattle.dbc_model.specs.Decimals.{Decimal}
-use Rattle.dbc_model.specs.Records.{Head, IsHead, Signal, IsSignal, Message, IsMessage, names_of, are_distinct, signals_fit}
-use Rattle.dbc_model.specs.Layout.{Word, Mark, Name, Text, Order, items_of}
-use Rattle.dbc_model.specs.CanonicalText.{head_layout, tag_layout}
+use Rattle.dbc_values.specs.Lexical.{is_name, is_keyword}
+use Rattle.dbc_values.specs.Decimals.{Decimal}
+use Rattle.dbc_records.specs.Records.{Head, IsHead, Signal, IsSignal, Message, IsMessage, names_of, are_distinct, signals_fit}
+use Rattle.dbc_records.specs.Layout.{Word, Mark, Name, Text, Order, items_of}
+use Rattle.dbc_records.specs.CanonicalText.{head_layout, tag_layout}
 use Rattle.dbc_tokens.specs.declared.fault.Cause.{Cause}
 use Rattle.dbc_tokens.specs.declared.fault.Cause.TheVariants as causes
 use Rattle.dbc_reader.specs.declared.messages.Place.{Place}

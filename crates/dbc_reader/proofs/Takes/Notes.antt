@@ -6,23 +6,23 @@ use Rattle.std.specs.Str.{bytes_eq}
 use Rattle.std.proofs.lemmas.Bool.{cases_Bool}
 use Rattle.std.proofs.lemmas.List.Elements.{All-tail}
 use Rattle.std.proofs.lemmas.Slice.Eq.{bytes_eq-Decides}
-use Rattle.dbc_model.specs.Lexical.{quote, quoted, is_text, is_number}
-use Rattle.dbc_model.specs.Decimals.{Decimal, decimal_of_number, SpellsDecimal}
-use Rattle.dbc_model.specs.Kept.{is_string, inside}
-use Rattle.dbc_model.specs.Records.{IsText}
-use Rattle.dbc_model.specs.Comments.{Comment, IsTarget, IsComment}
-use Rattle.dbc_model.specs.Attributes.{AttrDef, IsAttrDef, IsForm, form_fits, AttrDefault, AttrRow, IsAttrRow}
-use Rattle.dbc_model.specs.declared.target.Target.{Target}
-use Rattle.dbc_model.specs.declared.target.Target.TheVariants as targets
-use Rattle.dbc_model.specs.declared.attribute.AttrValue.{AttrValue}
-use Rattle.dbc_model.specs.declared.attribute.AttrValue.TheVariants as values
-use Rattle.dbc_model.specs.declared.definition.Limits.{Limits}
-use Rattle.dbc_model.specs.declared.definition.Object.{Object}
-use Rattle.dbc_model.specs.declared.definition.Object.TheVariants as objects
-use Rattle.dbc_model.specs.declared.definition.Form.{Form}
-use Rattle.dbc_model.specs.declared.definition.Form.TheVariants as forms
-use Rattle.dbc_model.specs.Layout.{Word, Mark, Text, Number, items_of}
-use Rattle.dbc_model.specs.CanonicalText.{spaced_word, spaced_text, spaced_number, blank, number_layout, target_layout, object_layout, number_limits_layout, texts_layout, form_layout, value_layout}
+use Rattle.dbc_values.specs.Lexical.{quote, quoted, is_text, is_number}
+use Rattle.dbc_values.specs.Decimals.{Decimal, decimal_of_number, SpellsDecimal}
+use Rattle.dbc_values.specs.Pieces.{is_string, inside}
+use Rattle.dbc_values.specs.Names.{IsText}
+use Rattle.dbc_records.specs.Comments.{Comment, IsTarget, IsComment}
+use Rattle.dbc_records.specs.Attributes.{AttrDef, IsAttrDef, IsForm, form_fits, AttrDefault, AttrRow, IsAttrRow}
+use Rattle.dbc_records.specs.declared.target.Target.{Target}
+use Rattle.dbc_records.specs.declared.target.Target.TheVariants as targets
+use Rattle.dbc_records.specs.declared.attribute.AttrValue.{AttrValue}
+use Rattle.dbc_records.specs.declared.attribute.AttrValue.TheVariants as values
+use Rattle.dbc_records.specs.declared.definition.Limits.{Limits}
+use Rattle.dbc_records.specs.declared.definition.Object.{Object}
+use Rattle.dbc_records.specs.declared.definition.Object.TheVariants as objects
+use Rattle.dbc_records.specs.declared.definition.Form.{Form}
+use Rattle.dbc_records.specs.declared.definition.Form.TheVariants as forms
+use Rattle.dbc_records.specs.Layout.{Word, Mark, Text, Number, items_of}
+use Rattle.dbc_records.specs.CanonicalText.{spaced_word, spaced_text, spaced_number, blank, number_layout, target_layout, object_layout, number_limits_layout, texts_layout, form_layout, value_layout}
 use Rattle.dbc_tokens.specs.Tokens.{Token, Cut}
 use Rattle.dbc_reader.specs.Classes.{has_word, has_mark, has_string, has_number, is_there}
 use Rattle.dbc_reader.specs.Forms.{Part, Is, IsOne, IsSign, Spelled, of_layout, ◌▸▸◌}

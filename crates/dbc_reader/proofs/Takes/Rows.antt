@@ -5,11 +5,11 @@ use Rattle.std.proofs.lemmas.Grind.{common_steps}
 use Rattle.std.proofs.lemmas.List.Elements.{All-head, All-tail}
 use Rattle.std.specs.List.{flat_map}
 use Rattle.std.specs.Str.{bytes_eq}
-use Rattle.dbc_model.specs.Lexical.{is_number}
-use Rattle.dbc_model.specs.Numbers.{whole_of_number}
-use Rattle.dbc_model.specs.Records.{Entry, IsEntry, TableRow, IsTableRow, ValueRow, IsValueRow, FloatRow, IsFloatRow, IsRange, MuxRow, IsMuxRow}
-use Rattle.dbc_model.specs.declared.mux_row.Range.{Range}
-use Rattle.dbc_model.specs.Layout.{Word, Mark, Name, Whole}
+use Rattle.dbc_values.specs.Lexical.{is_number}
+use Rattle.dbc_values.specs.Numbers.{whole_of_number}
+use Rattle.dbc_records.specs.Records.{Entry, IsEntry, TableRow, IsTableRow, ValueRow, IsValueRow, FloatRow, IsFloatRow, IsRange, MuxRow, IsMuxRow}
+use Rattle.dbc_records.specs.declared.mux_row.Range.{Range}
+use Rattle.dbc_records.specs.Layout.{Word, Mark, Name, Whole}
 use Rattle.dbc_tokens.specs.Tokens.{Token, Cut}
 use Rattle.dbc_reader.specs.Classes.{has_mark, has_whole, is_whole_number}
 use Rattle.dbc_reader.specs.Forms.{Part, Is, Perhaps, SaysPart, SpellsNumber, Spelled, ◌▸▸◌}

@@ -5,12 +5,14 @@ use Rattle.std.specs.List.{flat_map, list_any, list_all}
 use Rattle.std.specs.Str.{bytes_eq}
 use Rattle.std.proofs.lemmas.Bool.{and_parts}
 use Rattle.std.proofs.lemmas.Slice.Eq.{bytes_eq-Decides}
-use Rattle.dbc_model.specs.Databases.{Database}
-use Rattle.dbc_model.specs.Lexical.{is_kept_word, is_name, is_keyword, kept_words}
-use Rattle.dbc_model.specs.Kept.{is_piece, kept_fits}
-use Rattle.dbc_model.specs.Records.{is_symbol, Message}
-use Rattle.dbc_model.specs.Layout.{Piece, items_of}
-use Rattle.dbc_model.specs.CanonicalText.{word_layout, table_key, table_layout, values_key, values_layout, float_key, mux_key, mux_layout, comment_key, comment_layout, definition_key, definition_layout, default_key, default_layout, attribute_key, attribute_layout, head_layout}
+use Rattle.dbc_records.specs.Databases.{Database}
+use Rattle.dbc_values.specs.Lexical.{is_kept_word, is_name, is_keyword, kept_words}
+use Rattle.dbc_values.specs.Pieces.{is_piece}
+use Rattle.dbc_records.specs.Kept.{kept_fits}
+use Rattle.dbc_values.specs.Names.{is_symbol}
+use Rattle.dbc_records.specs.Records.{Message}
+use Rattle.dbc_records.specs.Layout.{Piece, items_of}
+use Rattle.dbc_records.specs.CanonicalText.{word_layout, table_key, table_layout, values_key, values_layout, float_key, mux_key, mux_layout, comment_key, comment_layout, definition_key, definition_layout, default_key, default_layout, attribute_key, attribute_layout, head_layout}
 use Rattle.dbc_tokens.specs.Tokens.{Token, Cut}
 use Rattle.dbc_reader.specs.Classes.{has_word, has_mark, has_symbol, has_name, has_kept_word}
 use Rattle.dbc_reader.specs.Forms.{Part, Is, Spelled, ◌▸▸◌}

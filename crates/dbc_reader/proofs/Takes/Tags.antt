@@ -7,13 +7,13 @@ use Rattle.std.specs.Str.Parse.{digits_value}
 use Rattle.std.proofs.lemmas.Grind.{common_steps}
 use Rattle.std.proofs.lemmas.List.{take_at}
 use Rattle.std.proofs.lemmas.Slice.Eq.{bytes_eq-Decides}
-use Rattle.dbc_model.specs.Lexical.{is_digit, is_digits}
-use Rattle.dbc_model.specs.Numbers.{mantissa_of, IsWholeNumber}
-use Rattle.dbc_model.specs.Records.{IsTag}
-use Rattle.dbc_model.specs.Layout.{Switch, Muxed, Both, items_of}
-use Rattle.dbc_model.specs.CanonicalText.{tag_layout}
-use Rattle.dbc_model.specs.declared.tag.Tag.{Tag}
-use Rattle.dbc_model.specs.declared.tag.Tag.TheVariants as tags
+use Rattle.dbc_values.specs.Lexical.{is_digit, is_digits}
+use Rattle.dbc_values.specs.Numbers.{mantissa_of, IsWholeNumber}
+use Rattle.dbc_records.specs.Records.{IsTag}
+use Rattle.dbc_records.specs.Layout.{Switch, Muxed, Both, items_of}
+use Rattle.dbc_records.specs.CanonicalText.{tag_layout}
+use Rattle.dbc_records.specs.declared.tag.Tag.{Tag}
+use Rattle.dbc_records.specs.declared.tag.Tag.TheVariants as tags
 use Rattle.dbc_reader.specs.Classes.{has_mark, tagged, front, counted, muxed_of, tag_of}
 use Rattle.dbc_reader.specs.Forms.{Is, SpellsNumber, SpellsTag, of_layout}
 use Rattle.dbc_reader.specs.Reading.Readers.{starts}

@@ -4,12 +4,12 @@ use Rattle.std.specs.Prelude.{codes, nat_le, ◌==◌, ◌&&◌, length}
 use Rattle.std.specs.List.{list_any}
 use Rattle.std.specs.Str.{bytes_eq}
 use Rattle.std.proofs.lemmas.List.Sums.{sum_by-append}
-use Rattle.dbc_model.specs.Lexical.{is_line_feed, is_digits}
-use Rattle.dbc_model.specs.Numbers.{whole_of_number}
-use Rattle.dbc_model.specs.declared.number.Whole.{Whole as WholeNumber}
-use Rattle.dbc_model.specs.declared.number.Whole.TheVariants.{Fraction, TooLarge, Value}
-use Rattle.dbc_model.specs.declared.tag.Tag.{Tag}
-use Rattle.dbc_model.specs.declared.tag.Tag.TheVariants as tags
+use Rattle.dbc_values.specs.Lexical.{is_line_feed, is_digits}
+use Rattle.dbc_values.specs.Numbers.{whole_of_number}
+use Rattle.dbc_values.specs.declared.number.Whole.{Whole as WholeNumber}
+use Rattle.dbc_values.specs.declared.number.Whole.TheVariants.{Fraction, TooLarge, Value}
+use Rattle.dbc_records.specs.declared.tag.Tag.{Tag}
+use Rattle.dbc_records.specs.declared.tag.Tag.TheVariants as tags
 use Rattle.dbc_tokens.specs.declared.fault.Cause.{Cause}
 use Rattle.dbc_tokens.specs.declared.fault.Cause.TheVariants as causes
 use Rattle.dbc_tokens.specs.declared.fault.ReadFault.{ReadFault}

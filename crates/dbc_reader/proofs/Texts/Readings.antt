@@ -1,6 +1,6 @@
 -- What is read of a text is what the text says.
 use Rattle.std.proofs.Common.{◌≡◌, ℕ, ◌⊎◌, List, Result, Ok, Err, sym, ap, subst, ◌∙◌, inl, inr}
-use Rattle.dbc_model.specs.Databases.{Database}
+use Rattle.dbc_records.specs.Databases.{Database}
 use Rattle.dbc_tokens.specs.declared.fault.ReadFault.{ReadFault}
 use Rattle.dbc_reader.specs.declared.statement.Statement.{Statement}
 use Rattle.dbc_reader.specs.declared.stopped.Stopped.{Stopped}

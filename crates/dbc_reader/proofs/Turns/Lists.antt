@@ -2,10 +2,11 @@
 use Rattle.std.proofs.Common.{◌≡◌, ℕ, Bool, true, false, List, [], ◌∷◌, ◌++◌, Result, Ok, refl, ◌<◌, IsTrue, length, arith}
 use Rattle.std.specs.Prelude.{nat_le}
 use Rattle.std.proofs.lemmas.Grind.{common_steps}
-use Rattle.dbc_model.specs.Lexical.{is_name}
-use Rattle.dbc_model.specs.Records.{is_symbol, Entry}
-use Rattle.dbc_model.specs.Kept.{is_piece}
-use Rattle.dbc_model.specs.declared.mux_row.Range.{Range}
+use Rattle.dbc_values.specs.Lexical.{is_name}
+use Rattle.dbc_values.specs.Names.{is_symbol}
+use Rattle.dbc_records.specs.Records.{Entry}
+use Rattle.dbc_values.specs.Pieces.{is_piece}
+use Rattle.dbc_records.specs.declared.mux_row.Range.{Range}
 use Rattle.dbc_tokens.specs.declared.fault.ReadFault.{ReadFault}
 use Rattle.dbc_reader.specs.declared.stopped.Stopped.{Stopped}
 use Rattle.dbc_reader.specs.declared.stopped.Stopped.TheVariants as stops

@@ -1,7 +1,7 @@
 -- What one signal more does, in the loop over the signals of a message.
 use Rattle.std.proofs.Common.{◌≡◌, ℕ, ◌<◌, true, false, List, [], ◌∷◌, ◌++◌, Result, Ok, refl}
 use Rattle.std.specs.Prelude.{codes, nat_lt}
-use Rattle.dbc_model.specs.Records.{Signal}
+use Rattle.dbc_records.specs.Records.{Signal}
 use Rattle.dbc_tokens.specs.declared.fault.Cause.TheVariants as causes
 use Rattle.dbc_tokens.specs.declared.fault.ReadFault.{ReadFault}
 use Rattle.dbc_reader.specs.declared.stopped.Stopped.{Stopped}

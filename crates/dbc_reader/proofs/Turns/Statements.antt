@@ -1,7 +1,7 @@
 -- Each statement takes tokens, and what one statement more does in the loop over them.
 use Rattle.std.proofs.Common.{◌≡◌, ℕ, ◌<◌, true, false, [], Result, Ok}
 use Rattle.std.specs.Prelude.{codes, nat_lt}
-use Rattle.dbc_model.specs.Databases.{Database}
+use Rattle.dbc_records.specs.Databases.{Database}
 use Rattle.dbc_tokens.specs.declared.fault.Cause.TheVariants as causes
 use Rattle.dbc_tokens.specs.declared.fault.ReadFault.{ReadFault}
 use Rattle.dbc_reader.specs.declared.stopped.Stopped.{Stopped}

@@ -3,13 +3,14 @@ use Rattle.std.proofs.Common.{◌≡◌, ℕ, ◌<◌, true, false, List, [], �
 use Rattle.std.specs.Prelude.{codes, nat_le, IsTrue}
 use Rattle.std.proofs.lemmas.Bool.{and_parts, and_from}
 use Rattle.std.proofs.lemmas.List.Elements.{All-nil, All-push}
-use Rattle.dbc_model.specs.Decimals.{Decimal, IsDecimal}
-use Rattle.dbc_model.specs.Lexical.{is_text}
-use Rattle.dbc_model.specs.Records.{IsText, IsSymbol, IsName, IsTableRow, Message, IsMessage, IsValueRow, IsFloatRow, IsMuxRow}
-use Rattle.dbc_model.specs.Comments.{IsComment}
-use Rattle.dbc_model.specs.Attributes.{IsAttrDef, IsAttrDefault, IsAttrRow}
-use Rattle.dbc_model.specs.Kept.{IsKept}
-use Rattle.dbc_model.specs.Databases.{Database, IsBitTiming, IsDatabase, timing_fits, database_fits}
+use Rattle.dbc_values.specs.Decimals.{Decimal, IsDecimal}
+use Rattle.dbc_values.specs.Lexical.{is_text}
+use Rattle.dbc_values.specs.Names.{IsText, IsSymbol, IsName}
+use Rattle.dbc_records.specs.Records.{IsTableRow, Message, IsMessage, IsValueRow, IsFloatRow, IsMuxRow}
+use Rattle.dbc_records.specs.Comments.{IsComment}
+use Rattle.dbc_records.specs.Attributes.{IsAttrDef, IsAttrDefault, IsAttrRow}
+use Rattle.dbc_records.specs.Kept.{IsKept}
+use Rattle.dbc_records.specs.Databases.{Database, IsBitTiming, IsDatabase, timing_fits, database_fits}
 use Rattle.dbc_reader.specs.declared.statement.Statement.{Statement}
 use Rattle.dbc_tokens.specs.Tokens.{Cut}
 use Rattle.dbc_reader.specs.Spelling.{IsStatement}

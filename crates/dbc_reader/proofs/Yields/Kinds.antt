@@ -6,13 +6,14 @@ use Rattle.std.proofs.lemmas.List.Elements.{All-nil, All-push}
 use Rattle.std.specs.Str.{bytes_eq}
 use Rattle.std.proofs.lemmas.Bool.{and_parts, eq-eqb, not-true}
 use Rattle.std.proofs.lemmas.Int.{ints}
-use Rattle.dbc_model.specs.Lexical.{quoted, is_text, is_name}
-use Rattle.dbc_model.specs.Numbers.{mantissa_of, exponent_of, whole_of_number}
-use Rattle.dbc_model.specs.Decimals.{Decimal, IsDecimal, IsDecimalOf, decimal_fits}
-use Rattle.dbc_model.specs.Records.{IsName, IsText, IsSymbol, IsNumber, IsEntry, entry_fits, is_symbol}
-use Rattle.dbc_model.specs.Kept.{IsPiece, is_piece, is_string, inside}
-use Rattle.dbc_model.specs.declared.number.Whole.{Whole as WholeNumber}
-use Rattle.dbc_model.specs.declared.number.Whole.TheVariants.{Fraction, TooLarge, Value}
+use Rattle.dbc_values.specs.Lexical.{quoted, is_text, is_name}
+use Rattle.dbc_values.specs.Numbers.{mantissa_of, exponent_of, whole_of_number}
+use Rattle.dbc_values.specs.Decimals.{Decimal, IsDecimal, IsDecimalOf, decimal_fits}
+use Rattle.dbc_values.specs.Names.{IsName, IsText, IsSymbol, is_symbol}
+use Rattle.dbc_records.specs.Records.{IsNumber, IsEntry, entry_fits}
+use Rattle.dbc_values.specs.Pieces.{IsPiece, is_piece, is_string, inside}
+use Rattle.dbc_values.specs.declared.number.Whole.{Whole as WholeNumber}
+use Rattle.dbc_values.specs.declared.number.Whole.TheVariants.{Fraction, TooLarge, Value}
 use Rattle.dbc_tokens.specs.declared.fault.Cause.TheVariants as causes
 use Rattle.dbc_reader.specs.Classes.{where_true, bounded, text_of, whole_of}
 use Rattle.dbc_reader.specs.Reading.Parts.{name_at, symbol_at, text_at, piece_at, whole_at, id_at, number_at, decimal_at, int_at, pair_at, names_from, symbols_from, pieces_from, receivers_from, receivers_at, texts_from, entry_at, entries_from}

@@ -5,11 +5,12 @@ use Rattle.std.specs.List.{list_any}
 use Rattle.std.specs.Str.{bytes_eq}
 use Rattle.std.proofs.lemmas.Bool.{ltb-true, and_from}
 use Rattle.std.proofs.lemmas.List.Elements.{All-nil, All-push}
-use Rattle.dbc_model.specs.Lexical.{is_name, is_digits}
-use Rattle.dbc_model.specs.Numbers.{whole_of_number}
-use Rattle.dbc_model.specs.Records.{IsName, IsHead, IsTag, Signal, IsSignal, Head, Message, IsMessage, names_of, signals_fit}
-use Rattle.dbc_model.specs.declared.tag.Tag.{Tag}
-use Rattle.dbc_model.specs.declared.tag.Tag.TheVariants as tags
+use Rattle.dbc_values.specs.Lexical.{is_name, is_digits}
+use Rattle.dbc_values.specs.Numbers.{whole_of_number}
+use Rattle.dbc_values.specs.Names.{IsName}
+use Rattle.dbc_records.specs.Records.{IsHead, IsTag, Signal, IsSignal, Head, Message, IsMessage, names_of, signals_fit}
+use Rattle.dbc_records.specs.declared.tag.Tag.{Tag}
+use Rattle.dbc_records.specs.declared.tag.Tag.TheVariants as tags
 use Rattle.dbc_tokens.specs.declared.fault.Cause.{Cause}
 use Rattle.dbc_tokens.specs.declared.fault.Cause.TheVariants as causes
 use Rattle.dbc_reader.specs.declared.messages.Place.{Place}

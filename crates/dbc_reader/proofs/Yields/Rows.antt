@@ -2,14 +2,14 @@
 use Rattle.std.proofs.Common.{◌≡◌, ℕ, ◌^◌, ◌-◌, true, [], ◌∷◌, All, length, IfSome, Ok, refl, subst}
 use Rattle.std.specs.Prelude.{codes, nat_le, IsTrue}
 use Rattle.std.proofs.lemmas.List.Elements.{All-nil, All-push}
-use Rattle.dbc_model.specs.Records.{IsTableRow, IsValueRow, IsFloatRow, IsRange, IsMuxRow}
-use Rattle.dbc_model.specs.declared.mux_row.Range.{Range}
-use Rattle.dbc_model.specs.Comments.{IsTarget, IsComment}
-use Rattle.dbc_model.specs.Attributes.{IsLimits, IsForm, form_fits, IsAttrDef, IsAttrValue, IsAttrDefault, IsAttrRow}
-use Rattle.dbc_model.specs.declared.definition.Form.{Form}
-use Rattle.dbc_model.specs.declared.target.Target.{Target}
-use Rattle.dbc_model.specs.declared.target.Target.TheVariants as targets
-use Rattle.dbc_model.specs.Kept.{Kept, IsKept}
+use Rattle.dbc_records.specs.Records.{IsTableRow, IsValueRow, IsFloatRow, IsRange, IsMuxRow}
+use Rattle.dbc_records.specs.declared.mux_row.Range.{Range}
+use Rattle.dbc_records.specs.Comments.{IsTarget, IsComment}
+use Rattle.dbc_records.specs.Attributes.{IsLimits, IsForm, form_fits, IsAttrDef, IsAttrValue, IsAttrDefault, IsAttrRow}
+use Rattle.dbc_records.specs.declared.definition.Form.{Form}
+use Rattle.dbc_records.specs.declared.target.Target.{Target}
+use Rattle.dbc_records.specs.declared.target.Target.TheVariants as targets
+use Rattle.dbc_records.specs.Kept.{Kept, IsKept}
 use Rattle.dbc_tokens.specs.Tokens.{Cut}
 use Rattle.dbc_reader.specs.Reading.Parts.{word_at, mark_at, pieces_from}
 use Rattle.dbc_reader.specs.Reading.Tables.{table_at, values_at, colon_at, float_at, range_at, ranges_from, ranges_at, mux_at}

@@ -1,18 +1,18 @@
 -- Reading of comments and attributes.
 -- Source: the DBC file format, "Comment Definitions" and "User Defined Attribute Definitions".
 use Rattle.std.specs.Prelude.{ℕ, List, [], ◌∷◌, codes, Option, Some, None}
-use Rattle.dbc_model.specs.Lexical.{semicolon}
-use Rattle.dbc_model.specs.Comments.{Comment}
-use Rattle.dbc_model.specs.Attributes.{AttrDef, AttrDefault, AttrRow}
-use Rattle.dbc_model.specs.declared.target.Target.{Target}
-use Rattle.dbc_model.specs.declared.target.Target.TheVariants as targets
-use Rattle.dbc_model.specs.declared.attribute.AttrValue.{AttrValue}
-use Rattle.dbc_model.specs.declared.attribute.AttrValue.TheVariants as values
-use Rattle.dbc_model.specs.declared.definition.Limits.{Limits}
-use Rattle.dbc_model.specs.declared.definition.Object.{Object}
-use Rattle.dbc_model.specs.declared.definition.Object.TheVariants as objects
-use Rattle.dbc_model.specs.declared.definition.Form.{Form}
-use Rattle.dbc_model.specs.declared.definition.Form.TheVariants as forms
+use Rattle.dbc_values.specs.Lexical.{semicolon}
+use Rattle.dbc_records.specs.Comments.{Comment}
+use Rattle.dbc_records.specs.Attributes.{AttrDef, AttrDefault, AttrRow}
+use Rattle.dbc_records.specs.declared.target.Target.{Target}
+use Rattle.dbc_records.specs.declared.target.Target.TheVariants as targets
+use Rattle.dbc_records.specs.declared.attribute.AttrValue.{AttrValue}
+use Rattle.dbc_records.specs.declared.attribute.AttrValue.TheVariants as values
+use Rattle.dbc_records.specs.declared.definition.Limits.{Limits}
+use Rattle.dbc_records.specs.declared.definition.Object.{Object}
+use Rattle.dbc_records.specs.declared.definition.Object.TheVariants as objects
+use Rattle.dbc_records.specs.declared.definition.Form.{Form}
+use Rattle.dbc_records.specs.declared.definition.Form.TheVariants as forms
 use Rattle.dbc_reader.specs.Classes.{has_word, has_string}
 use Rattle.dbc_reader.specs.Reading.Readers.{Reader, ◌>>=◌, value, choose}
 use Rattle.dbc_reader.specs.Reading.Parts.{word_at, mark_at, name_at, text_at, id_at, decimal_at, begins_decimal, texts_from}

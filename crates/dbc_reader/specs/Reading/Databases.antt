@@ -4,11 +4,11 @@
 use Rattle.std.specs.Prelude.{ℕ, zero, suc, Bool, false, ◌||◌, List, [], ◌∷◌, ◌++◌, length, codes, Option, Some, None}
 use Rattle.std.specs.List.{list_any}
 use Rattle.std.specs.Str.{bytes_eq}
-use Rattle.dbc_model.specs.Lexical.{comma, colon, semicolon}
-use Rattle.dbc_model.specs.Decimals.{Decimal}
-use Rattle.dbc_model.specs.Attributes.{AttrRow}
-use Rattle.dbc_model.specs.Kept.{Kept, kept_fits}
-use Rattle.dbc_model.specs.Databases.{Database}
+use Rattle.dbc_values.specs.Lexical.{comma, colon, semicolon}
+use Rattle.dbc_values.specs.Decimals.{Decimal}
+use Rattle.dbc_records.specs.Attributes.{AttrRow}
+use Rattle.dbc_records.specs.Kept.{Kept, kept_fits}
+use Rattle.dbc_records.specs.Databases.{Database}
 use Rattle.dbc_reader.specs.declared.statement.Statement.{Statement}
 use Rattle.dbc_reader.specs.declared.statement.Statement.TheVariants as statements
 use Rattle.dbc_tokens.specs.Tokens.{Token, Cut, End, Fault, ◌▸◌}

@@ -4,11 +4,11 @@
 use Rattle.std.specs.Prelude.{ℕ, ◌^◌, ◌-◌, nat_lt, Bool, true, false, List, [], ◌∷◌, ◌++◌, length, codes, Result, Ok, Err, if◌then◌else◌}
 use Rattle.std.specs.List.{list_any}
 use Rattle.std.specs.Str.{bytes_eq}
-use Rattle.dbc_model.specs.Databases.{most_messages}
-use Rattle.dbc_model.specs.Lexical.{is_name, opening_parenthesis, closing_parenthesis, plus, comma, minus, colon, at_sign, opening_bracket, closing_bracket, bar}
-use Rattle.dbc_model.specs.Records.{Head, Signal, Message, names_of, most_bytes, most_bits, most_signals}
-use Rattle.dbc_model.specs.declared.tag.Tag.{Tag}
-use Rattle.dbc_model.specs.declared.tag.Tag.TheVariants as tags
+use Rattle.dbc_records.specs.Databases.{most_messages}
+use Rattle.dbc_values.specs.Lexical.{is_name, opening_parenthesis, closing_parenthesis, plus, comma, minus, colon, at_sign, opening_bracket, closing_bracket, bar}
+use Rattle.dbc_records.specs.Records.{Head, Signal, Message, names_of, most_bytes, most_bits, most_signals}
+use Rattle.dbc_records.specs.declared.tag.Tag.{Tag}
+use Rattle.dbc_records.specs.declared.tag.Tag.TheVariants as tags
 use Rattle.dbc_tokens.specs.declared.fault.Cause.{Cause}
 use Rattle.dbc_tokens.specs.declared.fault.Cause.TheVariants as causes
 use Rattle.dbc_reader.specs.declared.messages.Place.{Place}

@@ -1,11 +1,12 @@
 -- Reading of the parts of statements: one token, a number with its sign, a tag, a list of names.
 -- Source: the DBC file format, the sections that are named below.
 use Rattle.std.specs.Prelude.{ℕ, ℤ, pos, neg_ℤ, ◌^◌, ◌-◌, Bool, true, false, ◌||◌, List, [], ◌∷◌, ◌++◌}
-use Rattle.dbc_model.specs.Lexical.{is_name, plus, comma, minus}
-use Rattle.dbc_model.specs.Decimals.{Decimal}
-use Rattle.dbc_model.specs.Kept.{is_piece}
-use Rattle.dbc_model.specs.Records.{is_symbol, Entry}
-use Rattle.dbc_model.specs.declared.tag.Tag.{Tag}
+use Rattle.dbc_values.specs.Lexical.{is_name, plus, comma, minus}
+use Rattle.dbc_values.specs.Decimals.{Decimal}
+use Rattle.dbc_values.specs.Pieces.{is_piece}
+use Rattle.dbc_values.specs.Names.{is_symbol}
+use Rattle.dbc_records.specs.Records.{Entry}
+use Rattle.dbc_records.specs.declared.tag.Tag.{Tag}
 use Rattle.dbc_tokens.specs.Tokens.{Token}
 use Rattle.dbc_reader.specs.Classes.{has_word, has_mark, has_name, has_symbol, has_piece, has_whole, has_number, where_true, text_of, whole_of, number_of, order_of, tag_of}
 use Rattle.dbc_reader.specs.Reading.Readers.{Reader, ◌>>=◌, value, one, choose, repeated}

@@ -2,9 +2,9 @@
 -- Source: the DBC file format, "Value Table Definitions", "Signal Value Descriptions", "Signal Definitions"
 -- (signal_extended_value_type) and "Extended Multiplexing".
 use Rattle.std.specs.Prelude.{◌^◌, ◌-◌, List, [], ◌∷◌, ◌++◌, codes}
-use Rattle.dbc_model.specs.Lexical.{comma, minus, colon, semicolon}
-use Rattle.dbc_model.specs.Records.{TableRow, ValueRow, FloatRow, MuxRow}
-use Rattle.dbc_model.specs.declared.mux_row.Range.{Range}
+use Rattle.dbc_values.specs.Lexical.{comma, minus, colon, semicolon}
+use Rattle.dbc_records.specs.Records.{TableRow, ValueRow, FloatRow, MuxRow}
+use Rattle.dbc_records.specs.declared.mux_row.Range.{Range}
 use Rattle.dbc_reader.specs.Classes.{has_mark}
 use Rattle.dbc_reader.specs.Reading.Readers.{Reader, ◌>>=◌, value, choose, repeated}
 use Rattle.dbc_reader.specs.Reading.Parts.{word_at, mark_at, name_at, whole_at, id_at, entries_from}

@@ -3,7 +3,7 @@
 use Rattle.std.specs.Prelude.{ℕ, zero, suc, ◌+◌, Bool, true, false, ◌&&◌, not, ◌==◌, if◌then◌else◌, List, [], ◌∷◌, length, take, drop, Option, Some, None}
 use Rattle.std.specs.List.{prefix_len}
 use Rattle.std.specs.Option.{option_map}
-use Rattle.dbc_model.specs.Lexical.{quote, point, slash, backslash, is_blank, is_line_feed, is_digit, is_letter, is_word_byte, is_mark, is_sign, is_exponent_mark}
+use Rattle.dbc_values.specs.Lexical.{quote, point, slash, backslash, is_blank, is_line_feed, is_digit, is_letter, is_word_byte, is_mark, is_sign, is_exponent_mark}
 use Rattle.dbc_tokens.specs.declared.token.Kind.{Kind}
 use Rattle.dbc_tokens.specs.declared.token.Kind.TheVariants.{Text, Word, Number, Mark}
 use Rattle.dbc_tokens.specs.Tokens.{Cut, End, Fault, ◌▸◌, line_feeds}

@@ -1,4 +1,4 @@
-use Rattle.dbc_read.specs.Scanner.{cut_of}
+use Rattle.dbc_tokens.specs.Reading.Scanner.{cut_of}
 use Rattle.can_small.proofs.SmallTexts.{IsRead-from_small, one_read}
 use Rattle.can_small.proofs.laws.one_small_database.Goals as goal
 

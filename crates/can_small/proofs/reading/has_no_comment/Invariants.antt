@@ -1,5 +1,5 @@
 use Rattle.std.proofs.Common.{◌≡◌, ◌+◌}
-use Rattle.dbc_read.specs.Scanner.{cut_of}
+use Rattle.dbc_tokens.specs.Reading.Scanner.{cut_of}
 use Rattle.can_small.specs.SmallForms.{slashes, token_slashes}
 use Rattle.can_small.specs.SmallReading.{token_count}
 use Rattle.can_small.specs.Cursor.{left_at}

@@ -1,9 +1,9 @@
 use Rattle.std.proofs.Common.{◌≡◌, None, Err, sym, ap, subst, ◌∙◌, refl, true, arith, rules}
 use Rattle.std.proofs.lemmas.List.{length-map}
 use Rattle.std.proofs.lemmas.Result.{err_from_is_err_and}
-use Rattle.dbc_read.specs.Tokens.{End}
-use Rattle.dbc_read.specs.Views.{left, cut_from}
-use Rattle.dbc_read.specs.Scanner.{cut_of}
+use Rattle.dbc_tokens.specs.Tokens.{End}
+use Rattle.dbc_tokens.specs.Views.{left, cut_from}
+use Rattle.dbc_tokens.specs.Reading.Scanner.{cut_of}
 use Rattle.can_small.specs.declared.reading.Refusal.TheVariants.{NotSmall}
 use Rattle.can_small.specs.Small.{message_of, messages_of}
 use Rattle.can_small.specs.SmallReading.{Run, MessageNext, nodes_at}

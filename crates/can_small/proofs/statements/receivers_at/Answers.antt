@@ -1,6 +1,6 @@
 use Rattle.std.proofs.Common.{◌≡◌, sym, ap, ◌∙◌, rules}
 use Rattle.std.specs.Prelude.{Option}
-use Rattle.dbc_read.specs.Tokens.{Cut}
+use Rattle.dbc_tokens.specs.Tokens.{Cut}
 use Rattle.can_small.specs.SmallReading.{AfterName, NoneYet, AfterComma, behind_receivers, Receivers, behind_only, receivers_at}
 use Rattle.can_small.specs.Cursor.{left_at}
 use Rattle.can_small.proofs.Listing.{behind_receivers-name, behind_receivers-comma, behind_receivers-end, behind_receivers-none, behind_receivers-owed}

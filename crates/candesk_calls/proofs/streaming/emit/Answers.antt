@@ -1,9 +1,9 @@
 use Rattle.std.proofs.Common.{[], ◌∷◌, ◌++◌, sym, subst, ◌∙◌, append_assoc}
-use Rattle.dbc_model.specs.Device.{Broke}
+use Rattle.byte_devices.specs.Device.{Broke}
 use Rattle.can_small.specs.Small.{messages_of}
 use Rattle.can_small.specs.Line.{decoded_line}
 use Rattle.candesk_calls.specs.Lines.{line_text}
-use Rattle.dbc_model.proofs.Writes.{Passes-then, Broke-behind, Broke-more}
+use Rattle.byte_devices.proofs.Writes.{Passes-then, Broke-behind, Broke-more}
 use Rattle.candesk_calls.proofs.streaming.emit.Goals as goal
 
 pub returns-in-Err-clause-write : goal.returns-in-Err-clause-write

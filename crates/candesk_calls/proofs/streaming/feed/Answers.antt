@@ -1,10 +1,10 @@
 use Rattle.std.proofs.Common.{◌≡◌, ◌+◌, ◌<◌, [], ◌∷◌, ◌++◌, Err, ap, arith, rules, length, length-append, append-nil}
 use Rattle.std.proofs.lemmas.Result.{err_from_is_err_and}
 use Rattle.candesk_calls.specs.declared.fault.StreamFault.TheVariants.{LongLine, Write}
-use Rattle.dbc_model.specs.Lexical.{line_feed}
+use Rattle.dbc_values.specs.Lexical.{line_feed}
 use Rattle.can_small.specs.Small.{messages_of}
 use Rattle.candesk_calls.specs.Lines.{texts, line_text, longest_line, IsShort}
-use Rattle.dbc_model.proofs.Writes.{Passes-then, Passes-flush, Broke-flush}
+use Rattle.byte_devices.proofs.Writes.{Passes-then, Passes-flush, Broke-flush}
 use Rattle.candesk_calls.proofs.Reading.{AllByRecursion-append, Cuts-at, Cuts-one, texts-push, line-broke}
 use Rattle.candesk_calls.proofs.streaming.feed.Goals as goal
 

@@ -2,7 +2,7 @@ use Rattle.std.proofs.Common.{◌≡◌, ℕ, ◌-◌, ◌^◌, min, List, [], �
 use Rattle.can_small.specs.Small.{messages_of}
 use Rattle.candesk_calls.specs.Lines.{texts, AllShort}
 use Rattle.candesk_calls.specs.Cuts.{Cuts, HasNoLineFeed}
-use Rattle.dbc_model.specs.Device.{Passes}
+use Rattle.byte_devices.specs.Device.{Passes}
 use Rattle.candesk_calls.proofs.streaming.feed.Given as goal
 
 -- the texts of the lines so far were written or are held

@@ -3,7 +3,7 @@ use Rattle.std.proofs.lemmas.Result.{err_from_is_err_and}
 use Rattle.candesk_calls.specs.declared.fault.StreamFault.TheVariants.{Write}
 use Rattle.can_small.specs.Small.{messages_of}
 use Rattle.candesk_calls.specs.Lines.{line_text}
-use Rattle.dbc_model.proofs.Writes.{Passes-flush, Broke-flush}
+use Rattle.byte_devices.proofs.Writes.{Passes-flush, Broke-flush}
 use Rattle.candesk_calls.proofs.Reading.{lines_of-unended, texts-unended}
 use Rattle.candesk_calls.proofs.streaming.finish.Goals as goal
 

@@ -3,7 +3,7 @@ use Rattle.std.proofs.lemmas.Result.{err_from_is_err_and}
 use Rattle.candesk_calls.specs.declared.fault.StreamFault.TheVariants.{LongLine, Write, Memory}
 use Rattle.can_small.specs.Small.{messages_of}
 use Rattle.candesk_calls.specs.Lines.{lines_of, IsShort}
-use Rattle.dbc_model.proofs.Writes.{Wrote-nil, Wrote-kept}
+use Rattle.byte_devices.proofs.Writes.{Wrote-nil, Wrote-kept}
 use Rattle.candesk_calls.proofs.Reading.{AllByRecursion-append, Wrote-texts, Broke-texts, Pulled-nil, Pulled-then, Pulled-none, PullFailed-then, Cuts-nil, Cuts-more, exit-read, exit-long, exit-memory, exit-write, exit-end-write, exit-ok}
 use Rattle.candesk_calls.proofs.streaming.stream_lines.Goals as goal
 

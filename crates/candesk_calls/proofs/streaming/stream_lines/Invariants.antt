@@ -1,5 +1,5 @@
 use Rattle.std.proofs.Common.{◌≡◌, ℕ, ◌-◌, ◌^◌, min, List, [], length}
-use Rattle.dbc_model.specs.Device.{Wrote, Pulled}
+use Rattle.byte_devices.specs.Device.{Wrote, Pulled}
 use Rattle.can_small.specs.Small.{messages_of}
 use Rattle.candesk_calls.specs.Lines.{texts, IsShort, AllShort}
 use Rattle.candesk_calls.specs.Cuts.{Cuts, HasNoLineFeed}

@@ -1,6 +1,6 @@
 use Rattle.std.proofs.Common.{◌≡◌, ◌⊎◌, ◌∙◌, ap, subst}
-use Rattle.dbc_model.specs.Databases.{IsDatabase}
-use Rattle.dbc_model.specs.CanonicalText.{canonical_text}
+use Rattle.dbc_records.specs.Databases.{IsDatabase}
+use Rattle.dbc_records.specs.CanonicalText.{canonical_text}
 use Rattle.dbc_reader.specs.Grammar as grammar
 use Rattle.dbc_reader.specs.Pattern.{memory_fault}
 use Rattle.dbc_reader.specs.Texts.{HasDatabase, HasFirstFault}

@@ -1,5 +1,5 @@
 use Rattle.std.proofs.Common.{◌≡◌, [], IsTrue}
-use Rattle.dbc_model.specs.Records.{signals_fit}
+use Rattle.dbc_records.specs.Records.{signals_fit}
 use Rattle.dbc_reader.specs.Reading.Cursors.{left_at}
 use Rattle.dbc_reader.specs.Reading.Readers.{size}
 use Rattle.dbc_reader.specs.Reading.Messages.{signals_from}

@@ -1,6 +1,6 @@
 use Rattle.std.proofs.Common.{length}
 use Rattle.std.specs.Prelude.{nat_le}
-use Rattle.dbc_model.specs.Databases.{timing_fits}
+use Rattle.dbc_records.specs.Databases.{timing_fits}
 use Rattle.dbc_reader.proofs.Facts.MessageNames.{fits, both}
 use Rattle.dbc_reader.proofs.reader.add_timed.Goals as goal
 

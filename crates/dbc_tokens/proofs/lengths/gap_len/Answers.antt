@@ -1,7 +1,7 @@
 use Rattle.std.proofs.Common.{Some, None, subst}
 use Rattle.std.proofs.lemmas.List.{take_rest}
 use Rattle.memchr.specs.Find.{IsFirstByte, is_byte}
-use Rattle.dbc_model.specs.Lexical.{line_feed}
+use Rattle.dbc_values.specs.Lexical.{line_feed}
 use Rattle.dbc_tokens.proofs.Searches.{gap_after_comment, gap_is_all}
 use Rattle.dbc_tokens.proofs.lengths.gap_len.Goals as goal
 

@@ -1,7 +1,7 @@
 use Rattle.std.proofs.Common.{◌≡◌, ◌+◌, ◌-◌, Some, None, sym, subst, ◌∙◌, arith}
 use Rattle.std.proofs.lemmas.List.{take_rest, get_or-drop, length-drop}
 use Rattle.memchr.specs.Find.{IsFirstByte, is_byte}
-use Rattle.dbc_model.specs.Lexical.{quote}
+use Rattle.dbc_values.specs.Lexical.{quote}
 use Rattle.dbc_tokens.proofs.Searches.{not_escaped, escaped, text_ends, text_goes_on, text_never_ends, first_byte}
 use Rattle.dbc_tokens.proofs.lengths.text_len.Goals as goal
 

@@ -1,6 +1,6 @@
 use Rattle.std.proofs.Common.{◌≡◌, ◌+◌, ◌-◌, ◌<◌, ◌≤◌, false, length, drop, get_or}
 use Rattle.std.specs.Option.{option_map}
-use Rattle.dbc_model.specs.Lexical.{quote}
+use Rattle.dbc_values.specs.Lexical.{quote}
 use Rattle.dbc_tokens.specs.Reading.Scanner.{text_len}
 use Rattle.dbc_tokens.proofs.lengths.text_len.Given as goal
 
