@@ -8,7 +8,7 @@ use std::test::Fail;
 fn reads_a_text(rt: HostRuntime) -> Result<(), Fail> {
     let text = b"VERSION \"v\"\nBU_: A B\nBO_ 291 M: 8 A\n";
     let database = read(rt.alloc(), text).ok().ok_or("a database")?;
-    assert_eq!(rt; database.version.as_bytes(), b"v");
+    assert_eq!(rt; database.version.as_bytes(), b"v".as_slice());
     assert_eq!(rt; database.nodes.len(), 2);
     assert_eq!(rt; database.messages.len(), 1);
     Ok(())
