@@ -1,4 +1,5 @@
 pub use Rattle.dbc_tokens.specs.Tokens
+pub use Rattle.dbc_tokens.specs.Places
 pub use Rattle.dbc_tokens.specs.Views
 pub use Rattle.dbc_tokens.specs.Reading.Scanner
 pub use Rattle.dbc_reader.specs.Classes

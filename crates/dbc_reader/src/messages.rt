@@ -2,7 +2,8 @@
 ghost use Rattle.std.specs.Prelude.{◌≡◌, ◌<◌, [], false, IfOk, OnOk, IsTrue, length};
 ghost use Rattle.std.specs.List.{list_any};
 ghost use Rattle.std.specs.Str.{bytes_eq};
-ghost use Rattle.dbc_records.specs.Records.{signal_fits, signals_fit, names_of};
+ghost use Rattle.dbc_model.specs.Databases.{most_messages};
+ghost use Rattle.dbc_model.specs.Records.{most_signals, signal_fits, signals_fit, names_of};
 ghost use Rattle.dbc_reader.specs.Reading.Cursors.{left_at};
 ghost use Rattle.dbc_reader.specs.Reading.Readers.{GivesTo};
 ghost use Rattle.dbc_reader.specs.Reading.Messages.{begin_message_at, head_at, begin_signal_at, signal_name_at, tag_at, sign_at, place_at, signal_at, signals_from, message_at};
@@ -12,8 +13,7 @@ use crate::numerals::{id, order, pair, whole};
 use crate::parts::{mark, name, receivers, text};
 use crate::stopped::Stopped;
 use crate::{classes, tags};
-use dbc_records::{Database, Head, Message, Signal, Tag};
-use dbc_values::{List, Name};
+use dbc_model::{Database, Head, List, Message, Name, Signal, Tag};
 use dbc_tokens::Cause;
 use std::alloc::Global;
 
@@ -21,7 +21,7 @@ use std::alloc::Global;
 #[tactic(auto, unfolding(crate::specs::Reading::Messages::begin_message_at))]
 fn begin_message(at: &mut Cursor<'_>, count: usize) -> Result<(), Stopped>
     ensures value { GivesTo result (left_at at.new) (begin_message_at count (left_at at.old)) }
-    ensures count { OnOk result (count < 65535) }
+    ensures count { OnOk result (count < most_messages) }
 {
     let token = at.take()?;
     if !classes::has_word(token, b"BO_") {
@@ -37,7 +37,7 @@ fn begin_message(at: &mut Cursor<'_>, count: usize) -> Result<(), Stopped>
 #[tactic(auto, unfolding(crate::specs::Reading::Messages::head_at))]
 pub fn head(alloc: Global, at: &mut Cursor<'_>, count: usize) -> Result<Head, Stopped>
     ensures value { GivesTo result (left_at at.new) (head_at count (left_at at.old)) }
-    ensures count { OnOk result (count < 65535) }
+    ensures count { OnOk result (count < most_messages) }
 {
     begin_message(at, count)?;
     let number = id(at)?;
@@ -57,7 +57,7 @@ pub fn head(alloc: Global, at: &mut Cursor<'_>, count: usize) -> Result<Head, St
 #[tactic(auto, unfolding(crate::specs::Reading::Messages::begin_signal_at))]
 fn begin_signal(at: &mut Cursor<'_>, count: usize) -> Result<(), Stopped>
     ensures value { GivesTo result (left_at at.new) (begin_signal_at count (left_at at.old)) }
-    ensures count { OnOk result (count < 999) }
+    ensures count { OnOk result (count < most_signals) }
 {
     let token = at.take()?;
     if !classes::has_word(token, b"SG_") {
@@ -160,7 +160,7 @@ fn place_here(at: &mut Cursor<'_>) -> Result<Place, Stopped>
 #[tactic(auto, unfolding(crate::specs::Reading::Messages::signal_at))]
 pub fn signal(alloc: Global, at: &mut Cursor<'_>, signals: &[Signal]) -> Result<Signal, Stopped>
     ensures value { GivesTo result (left_at at.new) (signal_at signals.now (left_at at.old)) }
-    ensures count { OnOk result (length signals.now < 999) }
+    ensures count { OnOk result (length signals.now < most_signals) }
     ensures fresh { IfOk result (λ signal. list_any (bytes_eq signal.name) (names_of signals.now) ≡ false) }
 {
     begin_signal(at, signals.len())?;
@@ -189,7 +189,7 @@ pub fn signal(alloc: Global, at: &mut Cursor<'_>, signals: &[Signal]) -> Result<
 }
 
 // Takes the signals of a message.
-#[tactic(auto, using(crate::proofs::Turns::Signals::signals_on, crate::proofs::Turns::Signals::signals_end, crate::proofs::Turns::Signals::signals_less, crate::proofs::Facts::MessageNames::signals_fit_more), unfolding(dbc_records::specs::Records::signals_fit))]
+#[tactic(auto, using(crate::proofs::Turns::Signals::signals_on, crate::proofs::Turns::Signals::signals_end, crate::proofs::Turns::Signals::signals_less, crate::proofs::Facts::MessageNames::signals_fit_more), unfolding(dbc_model::specs::Records::signals_fit))]
 fn signals(alloc: Global, at: &mut Cursor<'_>) -> Result<List<Signal>, Stopped>
     ensures value { GivesTo result (left_at at.new) (signals_from [] (left_at at.old)) }
     ensures fit { IfOk result (λ signals. IsTrue (signals_fit signals)) }
@@ -206,7 +206,7 @@ fn signals(alloc: Global, at: &mut Cursor<'_>) -> Result<List<Signal>, Stopped>
 #[tactic(auto, unfolding(crate::specs::Reading::Messages::message_at))]
 pub fn message(alloc: Global, at: &mut Cursor<'_>, count: usize) -> Result<Message, Stopped>
     ensures value { GivesTo result (left_at at.new) (message_at count (left_at at.old)) }
-    ensures count { OnOk result (count < 65535) }
+    ensures count { OnOk result (count < most_messages) }
 {
     let head = head(alloc, at, count)?;
     let signals = signals(alloc, at)?;

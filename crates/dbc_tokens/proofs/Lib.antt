@@ -8,3 +8,4 @@ pub mod Gaps
 pub mod CutStep
 pub mod LineFeeds
 pub mod CutLaws
+pub mod Places

@@ -29,16 +29,6 @@ mod tests {
 
     const CASES: &[Case] = &[
         Case {
-            text: b"",
-            tokens: &[],
-            fault: None,
-        },
-        Case {
-            text: b" \t\r\n// to the end",
-            tokens: &[],
-            fault: None,
-        },
-        Case {
             text: b"BO_ 500 Motor: 8 Gateway\n SG_ Speed : 7|16@0+",
             tokens: &[
                 (Kind::Word, b"BO_", 1),
@@ -60,24 +50,6 @@ mod tests {
             fault: None,
         },
         Case {
-            text: b"1. .5 1.e5 .5E1 00 1E+3 2e-7",
-            tokens: &[
-                (Kind::Number, b"1.", 1),
-                (Kind::Number, b".5", 1),
-                (Kind::Number, b"1.e5", 1),
-                (Kind::Number, b".5E1", 1),
-                (Kind::Number, b"00", 1),
-                (Kind::Number, b"1E+3", 1),
-                (Kind::Number, b"2e-7", 1),
-            ],
-            fault: None,
-        },
-        Case {
-            text: b"1E",
-            tokens: &[(Kind::Number, b"1", 1), (Kind::Word, b"E", 1)],
-            fault: None,
-        },
-        Case {
             text: b"1E+",
             tokens: &[
                 (Kind::Number, b"1", 1),
@@ -87,75 +59,9 @@ mod tests {
             fault: None,
         },
         Case {
-            text: b"1.2.3",
-            tokens: &[(Kind::Number, b"1.2", 1), (Kind::Number, b".3", 1)],
-            fault: None,
-        },
-        Case {
-            text: b"1..5",
-            tokens: &[(Kind::Number, b"1.", 1), (Kind::Number, b".5", 1)],
-            fault: None,
-        },
-        Case {
-            text: b"1E5E5.5",
-            tokens: &[
-                (Kind::Number, b"1E5", 1),
-                (Kind::Word, b"E5", 1),
-                (Kind::Number, b".5", 1),
-            ],
-            fault: None,
-        },
-        Case {
-            text: b"0x10 8N S-1 17-17",
-            tokens: &[
-                (Kind::Number, b"0", 1),
-                (Kind::Word, b"x10", 1),
-                (Kind::Number, b"8", 1),
-                (Kind::Word, b"N", 1),
-                (Kind::Word, b"S", 1),
-                (Kind::Mark, b"-", 1),
-                (Kind::Number, b"1", 1),
-                (Kind::Number, b"17", 1),
-                (Kind::Mark, b"-", 1),
-                (Kind::Number, b"17", 1),
-            ],
-            fault: None,
-        },
-        Case {
-            text: b";[],()",
-            tokens: &[
-                (Kind::Mark, b";", 1),
-                (Kind::Mark, b"[", 1),
-                (Kind::Mark, b"]", 1),
-                (Kind::Mark, b",", 1),
-                (Kind::Mark, b"(", 1),
-                (Kind::Mark, b")", 1),
-            ],
-            fault: None,
-        },
-        Case {
-            text: b"\"\"\"a\"\"b\"",
-            tokens: &[
-                (Kind::Text, b"\"\"", 1),
-                (Kind::Text, b"\"a\"", 1),
-                (Kind::Text, b"\"b\"", 1),
-            ],
-            fault: None,
-        },
-        Case {
             text: b"\"a \\\" b\" c",
             tokens: &[(Kind::Text, b"\"a \\\" b\"", 1), (Kind::Word, b"c", 1)],
             fault: None,
-        },
-        Case {
-            text: b"x \"a\\\\\"",
-            tokens: &[(Kind::Word, b"x", 1)],
-            fault: Some(1),
-        },
-        Case {
-            text: b"x\n\"a\n",
-            tokens: &[(Kind::Word, b"x", 1)],
-            fault: Some(2),
         },
         Case {
             text: b"a\"\n//\n\"b\n",
@@ -167,53 +73,9 @@ mod tests {
             fault: None,
         },
         Case {
-            text: b"// one\r two\n//\n\r\nx / y",
-            tokens: &[(Kind::Word, b"x", 4)],
-            fault: Some(4),
-        },
-        Case {
-            text: b"a//b\"c\nd",
-            tokens: &[(Kind::Word, b"a", 1), (Kind::Word, b"d", 2)],
-            fault: None,
-        },
-        Case {
             text: b"\n\n.E5",
             tokens: &[],
             fault: Some(3),
-        },
-        Case {
-            text: b"1 .",
-            tokens: &[(Kind::Number, b"1", 1)],
-            fault: Some(1),
-        },
-        Case {
-            text: b"a\0b",
-            tokens: &[(Kind::Word, b"a", 1)],
-            fault: Some(1),
-        },
-        Case {
-            text: b"N\x80",
-            tokens: &[(Kind::Word, b"N", 1)],
-            fault: Some(1),
-        },
-        Case {
-            text: b"a\x0bb",
-            tokens: &[(Kind::Word, b"a", 1)],
-            fault: Some(1),
-        },
-        Case {
-            text: b"a\\",
-            tokens: &[(Kind::Word, b"a", 1)],
-            fault: Some(1),
-        },
-        Case {
-            text: b"_ __1 a_B2",
-            tokens: &[
-                (Kind::Word, b"_", 1),
-                (Kind::Word, b"__1", 1),
-                (Kind::Word, b"a_B2", 1),
-            ],
-            fault: None,
         },
     ];
 
