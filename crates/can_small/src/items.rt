@@ -8,8 +8,8 @@ ghost use Rattle.can_small.specs.SmallReading.{token_count};
 ghost use Rattle.can_small.specs.Cursor.{left_at};
 
 use crate::cursor::Cursor;
-use dbc_values::is_name;
 use dbc_tokens::{Kind, Token};
+use dbc_values::is_name;
 
 fn is_the_word(token: Token<'_>, word: &[u8]) -> bool
     ensures { result ≡ is_the_word word.now (token_of token.entry) }

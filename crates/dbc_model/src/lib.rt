@@ -6,18 +6,18 @@
 #![tactic(auto)]
 
 mod printing;
-#[cfg(test)]
-mod tests;
 
-pub use byte_devices::limp;
-pub use byte_devices::{Broken, FromRead, FromWrite, Held, Sink, Source, WriteFault, flush, hold, hold_pieces, put_all};
-pub use dbc_records::{
-    AttrDef, AttrDefault, AttrRow, AttrValue, Comment, Database, Entry, FloatRow, Form, Head, Kept, Limits, Message, MuxRow, Object,
-    Range, Signal, TableRow, Tag, Target, ValueRow,
+pub use byte_devices::{
+    Broken, FromRead, FromWrite, Held, Sink, Source, WriteFault, flush, hold, hold_pieces, limp,
+    put_all,
 };
-pub use dbc_values::laws;
+pub use dbc_records::{
+    AttrDef, AttrDefault, AttrRow, AttrValue, Comment, Database, Entry, FloatRow, Form, Head, Kept,
+    Limits, Message, MuxRow, Object, Range, Signal, TableRow, Tag, Target, ValueRow,
+};
 pub use dbc_values::{
-    Checked, Copied, Decimal, List, Memory, Name, Piece, Scale, Symbol, Text, Whole, digits_len, is_kept_word, is_letter, is_name,
-    is_number, is_piece, is_string, is_symbol, is_text, is_word, is_word_byte, same, whole_of,
+    Checked, Copied, Decimal, List, Memory, Name, Piece, Scale, Symbol, Text, Whole, digits_len,
+    is_kept_word, is_letter, is_name, is_number, is_piece, is_string, is_symbol, is_text, is_word,
+    is_word_byte, laws, same, whole_of,
 };
 pub use printing::print;

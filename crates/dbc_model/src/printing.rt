@@ -11,14 +11,17 @@ mod parts;
 mod rows;
 mod style;
 
-use dbc_records::{AttrDef, AttrDefault, AttrRow, Comment, Database, FloatRow, Kept, Message, MuxRow, TableRow, ValueRow};
-use dbc_values::{Decimal, List, Name, Symbol, Text};
-use byte_devices::{Held, Sink, WriteFault, flush, hold, hold_pieces};
 use crate::printing::attributes::{AttributeLine, CommentLine, DefaultLine, DefinitionLine};
 use crate::printing::messages::MessageLines;
 use crate::printing::parts::{SpacedName, hold_line_end, hold_spaced_mark, hold_spaced_number};
 use crate::printing::rows::{FloatLine, KeptLine, MuxLine, TableLine, ValuesLine};
 use crate::printing::style::{Style, hold_list};
+use byte_devices::{Held, Sink, WriteFault, flush, hold, hold_pieces};
+use dbc_records::{
+    AttrDef, AttrDefault, AttrRow, Comment, Database, FloatRow, Kept, Message, MuxRow, TableRow,
+    ValueRow,
+};
+use dbc_values::{Decimal, List, Name, Symbol, Text};
 
 #[tactic(auto, unfolding(dbc_records::specs::Layout::layout_text, dbc_records::specs::CanonicalText::version_layout))]
 fn hold_version<W: Sink>(sink: &mut W, held: &mut Held, version: &Text) -> Result<(), WriteFault>

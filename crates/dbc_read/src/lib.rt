@@ -8,8 +8,6 @@
 pub mod laws;
 pub mod print_laws;
 mod rereading;
-#[cfg(test)]
-mod tests;
 
 pub use dbc_reader::{Statement, read, read_one};
 pub use dbc_tokens::{Cause, Kind, Next, ReadFault, Token, Tokens, tokens};

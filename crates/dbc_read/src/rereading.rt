@@ -57,20 +57,3 @@ pub fn reread(alloc: Global, database: &Database) -> Result<Database, Memory>
         },
     }
 }
-
-#[cfg(test)]
-mod tests {
-    use super::reread;
-    use dbc_reader::read;
-    use std::test::Fail;
-
-    #[test]
-    fn rereads_a_database(rt: HostRuntime) -> Result<(), Fail> {
-        let text = b"BS_: 1 : 2 , 3.50\nBU_: A B\n";
-        let database = read(rt.alloc(), text).ok().ok_or("a database")?;
-        let again = reread(rt.alloc(), &database)?;
-        assert!(rt; again.bit_timing.is_some());
-        assert_eq!(rt; again.nodes.len(), 2);
-        Ok(())
-    }
-}

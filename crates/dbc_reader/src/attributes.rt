@@ -12,7 +12,9 @@ use crate::cursor::Cursor;
 use crate::numerals::{decimal, id};
 use crate::parts::{mark, name, text, texts, word};
 use crate::stopped::Stopped;
-use dbc_records::{AttrDef, AttrDefault, AttrRow, AttrValue, Comment, Form, Limits, Object, Target};
+use dbc_records::{
+    AttrDef, AttrDefault, AttrRow, AttrValue, Comment, Form, Limits, Object, Target,
+};
 use dbc_tokens::Next;
 use std::alloc::Global;
 

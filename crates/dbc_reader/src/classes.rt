@@ -6,8 +6,8 @@ ghost use Rattle.dbc_reader.specs.Classes.{has_word, has_mark, has_name, has_sym
 ghost use Rattle.dbc_reader.specs.Reading.Parts.{begins_decimal, begins_int, begins_receiver};
 ghost use Rattle.dbc_reader.specs.Reading.Databases.{has_object_word, has_value_word, has_attribute_word, begins_statement};
 
-use dbc_values::{Decimal, Whole, is_kept_word, is_name, is_piece, is_string, is_symbol, whole_of};
 use dbc_tokens::Token;
+use dbc_values::{Decimal, Whole, is_kept_word, is_name, is_piece, is_string, is_symbol, whole_of};
 
 fn same(a: &[u8], b: &[u8]) -> bool
     ensures { result ≡ bytes_eq a.now b.now }

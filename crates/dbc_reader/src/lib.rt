@@ -18,8 +18,6 @@ mod statements;
 mod stopped;
 mod tables;
 mod tags;
-#[cfg(test)]
-mod tests;
 
 pub use reader::{read, read_one};
 pub use statement::Statement;

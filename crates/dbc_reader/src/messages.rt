@@ -2,8 +2,8 @@
 ghost use Rattle.std.specs.Prelude.{◌≡◌, ◌<◌, [], false, IfOk, OnOk, IsTrue, length};
 ghost use Rattle.std.specs.List.{list_any};
 ghost use Rattle.std.specs.Str.{bytes_eq};
-ghost use Rattle.dbc_model.specs.Databases.{most_messages};
-ghost use Rattle.dbc_model.specs.Records.{most_signals, signal_fits, signals_fit, names_of};
+ghost use Rattle.dbc_records.specs.Databases.{most_messages};
+ghost use Rattle.dbc_records.specs.Records.{most_signals, signal_fits, signals_fit, names_of};
 ghost use Rattle.dbc_reader.specs.Reading.Cursors.{left_at};
 ghost use Rattle.dbc_reader.specs.Reading.Readers.{GivesTo};
 ghost use Rattle.dbc_reader.specs.Reading.Messages.{begin_message_at, head_at, begin_signal_at, signal_name_at, tag_at, sign_at, place_at, signal_at, signals_from, message_at};
@@ -13,8 +13,9 @@ use crate::numerals::{id, order, pair, whole};
 use crate::parts::{mark, name, receivers, text};
 use crate::stopped::Stopped;
 use crate::{classes, tags};
-use dbc_model::{Database, Head, List, Message, Name, Signal, Tag};
+use dbc_records::{Database, Head, Message, Signal, Tag};
 use dbc_tokens::Cause;
+use dbc_values::{List, Name};
 use std::alloc::Global;
 
 // Takes the keyword of a message, in a text that has had so many.
@@ -189,7 +190,7 @@ pub fn signal(alloc: Global, at: &mut Cursor<'_>, signals: &[Signal]) -> Result<
 }
 
 // Takes the signals of a message.
-#[tactic(auto, using(crate::proofs::Turns::Signals::signals_on, crate::proofs::Turns::Signals::signals_end, crate::proofs::Turns::Signals::signals_less, crate::proofs::Facts::MessageNames::signals_fit_more), unfolding(dbc_model::specs::Records::signals_fit))]
+#[tactic(auto, using(crate::proofs::Turns::Signals::signals_on, crate::proofs::Turns::Signals::signals_end, crate::proofs::Turns::Signals::signals_less, crate::proofs::Facts::MessageNames::signals_fit_more), unfolding(dbc_records::specs::Records::signals_fit))]
 fn signals(alloc: Global, at: &mut Cursor<'_>) -> Result<List<Signal>, Stopped>
     ensures value { GivesTo result (left_at at.new) (signals_from [] (left_at at.old)) }
     ensures fit { IfOk result (λ signals. IsTrue (signals_fit signals)) }

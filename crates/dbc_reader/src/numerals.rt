@@ -10,8 +10,8 @@ use crate::cursor::Cursor;
 use crate::parts::{mark, text};
 use crate::stopped::Stopped;
 use dbc_records::Entry;
-use dbc_values::{Decimal, List, Whole, whole_of};
 use dbc_tokens::{Cause, Next};
+use dbc_values::{Decimal, List, Whole, whole_of};
 use std::alloc::Global;
 
 /// Takes a whole number from `least` to `most`, however it is written.

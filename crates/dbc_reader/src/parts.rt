@@ -10,8 +10,8 @@ ghost use Rattle.dbc_reader.specs.Reading.Parts.{word_at, mark_at, name_at, symb
 use crate::classes;
 use crate::cursor::Cursor;
 use crate::stopped::Stopped;
-use dbc_values::{List, Name, Piece, Symbol, Text};
 use dbc_tokens::{Cause, Next};
+use dbc_values::{List, Name, Piece, Symbol, Text};
 use std::alloc::Global;
 
 /// Takes this word.

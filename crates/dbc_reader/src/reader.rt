@@ -16,8 +16,8 @@ use crate::statements::add_statements;
 use crate::stopped::Stopped;
 use crate::tables::{mux, table, values};
 use dbc_records::{AttrRow, Database};
-use dbc_values::{Decimal, List, Memory, Text};
 use dbc_tokens::{Cause, ReadFault};
+use dbc_values::{Decimal, List, Memory, Text};
 use std::alloc::Global;
 
 // Takes the version, or gives the empty text where none stands here.

@@ -2,8 +2,8 @@
 ghost use Rattle.std.specs.Prelude.{◌≡◌};
 ghost use Rattle.dbc_reader.specs.declared.stopped.Stopped.TheVariants as stops;
 
-use dbc_values::Memory;
 use dbc_tokens::{Cause, ReadFault};
+use dbc_values::Memory;
 
 /// Why reading stopped.
 #[derive(Clone, Copy, Debug)]

@@ -7,8 +7,8 @@ ghost use Rattle.dbc_records.specs.declared.tag.Tag.TheVariants as tags;
 ghost use Rattle.dbc_reader.specs.Classes.{whole_of, front, muxed_of, tag_of};
 
 use dbc_records::Tag;
-use dbc_values::{Whole, whole_of};
 use dbc_tokens::Cause;
+use dbc_values::{Whole, whole_of};
 
 fn are_digits(bytes: &[u8]) -> bool
     ensures { result ≡ list_all is_digit bytes.now }

@@ -1,8 +1,8 @@
 //! Attributes: their values and their defaults.
 ghost use Rattle.std.specs.Prelude.{◌≡◌, Some};
 
-use dbc_values::{Checked, Copied, Decimal, Memory, Text};
 use crate::target::Target;
+use dbc_values::{Checked, Copied, Decimal, Memory, Text};
 use std::marker::Model;
 
 /// The value of an attribute. It need not fit the attribute's definition.

@@ -1,8 +1,8 @@
 //! Comments.
 ghost use Rattle.std.specs.Prelude.{◌≡◌, Some};
 
-use dbc_values::{Checked, Copied, Memory, Text};
 use crate::target::Target;
+use dbc_values::{Checked, Copied, Memory, Text};
 use std::marker::Model;
 
 /// A comment: `CM_ target "text";`.

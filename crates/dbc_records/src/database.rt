@@ -5,7 +5,6 @@ ghost use Rattle.dbc_records.specs.Databases.{IsBitTiming, timing_fits, database
 
 use crate::attribute::{AttrDefault, AttrRow};
 use crate::comment::Comment;
-use dbc_values::{Checked, Copied, Decimal, List, Memory, Name, Symbol, Text};
 use crate::definition::AttrDef;
 use crate::float_row::FloatRow;
 use crate::kept::Kept;
@@ -13,6 +12,7 @@ use crate::message::Message;
 use crate::mux_row::MuxRow;
 use crate::table_row::TableRow;
 use crate::value_row::ValueRow;
+use dbc_values::{Checked, Copied, Decimal, List, Memory, Name, Symbol, Text};
 use std::marker::Model;
 
 /// A database: the statements of a text by their kinds, each kind in the order of the text.

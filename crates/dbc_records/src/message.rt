@@ -5,8 +5,8 @@ ghost use Rattle.std.specs.Str.{bytes_eq};
 ghost use Rattle.dbc_records.specs.Records.{names_of, are_distinct, signals_fit};
 
 use crate::head::Head;
-use dbc_values::{Checked, Copied, List, Memory, same};
 use crate::signal::Signal;
+use dbc_values::{Checked, Copied, List, Memory, same};
 use std::marker::Model;
 
 /// A message: its first line, and its signals in the order of the text. No two signals have one name.

@@ -2,8 +2,8 @@
 ghost use Rattle.std.specs.Prelude.{◌≡◌, Some, None, if◌then◌else◌};
 ghost use Rattle.dbc_records.specs.Records.{signal_fits};
 
-use dbc_values::{Checked, Copied, Decimal, List, Memory, Name, Text};
 use crate::tag::Tag;
+use dbc_values::{Checked, Copied, Decimal, List, Memory, Name, Text};
 use std::marker::Model;
 
 /// A signal of a message: `SG_ name tag : start|length@order sign (factor,offset) [minimum|maximum] "unit" receivers`.

@@ -14,9 +14,9 @@ mod number;
 mod piece;
 mod scale;
 mod symbol;
-mod text;
 #[cfg(test)]
 mod tests;
+mod text;
 
 pub use decimal::Decimal;
 pub use list::{Checked, Copied, List};

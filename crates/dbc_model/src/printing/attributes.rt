@@ -4,12 +4,14 @@ ghost use Rattle.byte_devices.specs.Device.{Sends};
 ghost use Rattle.dbc_records.specs.Layout.{layout_text};
 ghost use Rattle.dbc_records.specs.CanonicalText.{target_layout, comment_key, object_word, object_layout, number_limits_layout, texts_layout, form_layout, definition_key, value_layout, default_key, attribute_key};
 
-use dbc_records::{AttrDef, AttrDefault, AttrRow, AttrValue, Comment, Form, Limits, Object, Target};
-use byte_devices::{Held, Sink, WriteFault, hold_pieces};
 use crate::printing::parts::{
     hold_spaced_number, hold_spaced_text, hold_spaced_word, hold_statement_end, hold_word,
 };
 use crate::printing::style::{Style, hold_separated};
+use byte_devices::{Held, Sink, WriteFault, hold_pieces};
+use dbc_records::{
+    AttrDef, AttrDefault, AttrRow, AttrValue, Comment, Form, Limits, Object, Target,
+};
 use dbc_values::Text;
 use itoa::Buffer;
 

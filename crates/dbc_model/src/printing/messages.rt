@@ -4,11 +4,11 @@ ghost use Rattle.byte_devices.specs.Device.{Sends};
 ghost use Rattle.dbc_records.specs.Layout.{Order, item_text, layout_text};
 ghost use Rattle.dbc_records.specs.CanonicalText.{sign_mark, head_layout, signal_name_layout, tag_layout, place_layout, scale_layout, limits_layout, receivers_layout};
 
+use crate::printing::parts::{SpacedName, hold_line_end, hold_pair, hold_spaced_text};
+use crate::printing::style::{Style, hold_list, hold_separated};
 use byte_devices::{Held, Sink, WriteFault, hold, hold_pieces};
 use dbc_records::{Head, Message, Signal, Tag};
 use dbc_values::Name;
-use crate::printing::parts::{SpacedName, hold_line_end, hold_pair, hold_spaced_text};
-use crate::printing::style::{Style, hold_list, hold_separated};
 use itoa::Buffer;
 
 #[tactic(auto, unfolding(dbc_records::specs::Layout::layout_text, dbc_records::specs::CanonicalText::head_layout))]

@@ -3,8 +3,8 @@ ghost use Rattle.std.specs.Prelude.{◌≡◌, ◌+◌, ◌<◌, ◌≤◌, leng
 ghost use Rattle.byte_devices.specs.Device.{Sends};
 ghost use Rattle.dbc_records.specs.Layout.{decimal_text, sign_text, magnitude_text, point_before_last, filled};
 
-use dbc_values::Decimal;
 use byte_devices::{Held, Sink, WriteFault, hold, hold_pieces};
+use dbc_values::Decimal;
 use itoa::Buffer;
 
 // The greatest number of digits that are written before or behind a point.

@@ -3,10 +3,10 @@ ghost use Rattle.byte_devices.specs.Device.{Sends};
 ghost use Rattle.dbc_records.specs.Layout.{layout_text};
 ghost use Rattle.dbc_records.specs.CanonicalText.{blank, mark_layout, spaced_mark, number_layout, spaced_number, spaced_text, spaced_name, spaced_word, word_layout, signal_key, line_end, statement_end, spaced_end, pair_layout};
 
-use dbc_values::{Decimal, Name, Text};
-use byte_devices::{Held, Sink, WriteFault, hold, hold_pieces};
 use crate::printing::numbers::hold_decimal;
 use crate::printing::style::Style;
+use byte_devices::{Held, Sink, WriteFault, hold, hold_pieces};
+use dbc_values::{Decimal, Name, Text};
 use itoa::Buffer;
 
 /// Holds the mark.

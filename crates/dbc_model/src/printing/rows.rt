@@ -3,13 +3,13 @@ ghost use Rattle.byte_devices.specs.Device.{Sends};
 ghost use Rattle.dbc_records.specs.Layout.{layout_text};
 ghost use Rattle.dbc_records.specs.CanonicalText.{table_key, values_key, float_key, float_kind, mux_key, ranges_layout};
 
-use byte_devices::{Held, Sink, WriteFault, hold_pieces};
-use dbc_records::{Entry, FloatRow, Kept, MuxRow, Range, TableRow, ValueRow};
-use dbc_values::Piece;
 use crate::printing::parts::{
     SpacedName, hold_signal_key, hold_spaced_end, hold_statement_end, hold_word,
 };
 use crate::printing::style::{Style, hold_list, hold_separated};
+use byte_devices::{Held, Sink, WriteFault, hold_pieces};
+use dbc_records::{Entry, FloatRow, Kept, MuxRow, Range, TableRow, ValueRow};
+use dbc_values::Piece;
 use itoa::Buffer;
 
 // A number and its text.

@@ -1,0 +1,77 @@
+//! What no contract says: that reading, printing, reading again and copying succeed, on every kind of statement.
+
+use dbc_model::limp::Limp;
+use dbc_model::{Copied, Database, FromWrite, WriteFault, print};
+use dbc_read::{Cause, ReadFault, Statement, read, read_one, reread};
+use std::alloc::Global;
+use std::test::Fail;
+
+// a database as it is printed
+const TEXT: &[u8] =
+    b"VERSION \"1.0\"\nNS_ :\n\tCM_\nBS_: 0.5 : 0 , 0.5\nBU_: N K\nVAL_TABLE_ T -1 \"off\" 2 \"on\" ;\n\
+BO_ 291 A: 8 N\n SG_ S m3M : 7|8@0- (0.5,-1) [0|0.5] \"km\" N,K\n SG_ M M : 0|1@1+ (1,0) [0|1] \"\"\nBO_ 7 B: 0 K\n\
+CM_ \"d\";\nCM_ BU_ N \"n\";\nCM_ BO_ 291 \"b\";\nCM_ SG_ 291 S \"speed\";\n\
+BA_DEF_ BO_ \"a\" ENUM \"yes\",\"no\";\nBA_DEF_ BU_ \"i\" INT 0 9;\nBA_DEF_ \"h\" HEX;\nBA_DEF_ SG_ \"f\" FLOAT -1 1;\nBA_DEF_ EV_ \"s\" STRING;\n\
+BA_DEF_DEF_ \"a\" \"yes\";\nBA_DEF_DEF_ \"i\" 3;\nBA_ \"a\" 1;\nBA_ \"i\" BU_ N 0.5;\nBA_ \"a\" BO_ 291 \"no\";\nBA_ \"f\" SG_ 291 S -1;\n\
+VAL_ 291 S -1 \"off\" ;\nSIG_VALTYPE_ 291 S : 2;\nSG_MUL_VAL_ 291 S M 5-18446744073709551615, 0-0;\nEV_ e : 0 ;\n";
+
+fn whole(alloc: Global) -> Result<Database, Fail> {
+    Ok(read(alloc, TEXT).ok().ok_or("no database")?)
+}
+
+fn printed(alloc: Global, database: &Database) -> Result<Vec<u8>, Fail> {
+    let mut sink = FromWrite::new(Vec::new(alloc));
+    print(database, &mut sink).or(Err("no print"))?;
+    Ok(sink.into_inner())
+}
+
+#[test]
+fn copies(rt: HostRuntime) -> Result<(), Fail> {
+    let copy = whole(rt.alloc())?.copy()?;
+    assert_eq!(rt; printed(rt.alloc(), &copy)?.as_slice(), TEXT);
+    Ok(())
+}
+
+#[test]
+fn rereads(rt: HostRuntime) -> Result<(), Fail> {
+    let again = reread(rt.alloc(), &whole(rt.alloc())?)?;
+    assert_eq!(rt; printed(rt.alloc(), &again)?.as_slice(), TEXT);
+    Ok(())
+}
+
+#[test]
+fn refuses_a_text(rt: HostRuntime) {
+    let fault = ReadFault {
+        line: 2,
+        cause: Cause::Statement,
+    };
+    assert_eq!(rt; read(rt.alloc(), b"BS_:\nBS_:").err(), Some(fault));
+}
+
+#[test]
+fn reads_a_statement(rt: HostRuntime) -> Result<(), Fail> {
+    let text = b" BO_ 291 M: 8 A // the motor";
+    match read_one(rt.alloc(), text).ok().ok_or("a statement")? {
+        Statement::Head(head) => assert_eq!(rt; head.number, 291),
+        _ => return Err("a head".into()),
+    }
+    Ok(())
+}
+
+fn breaks_at(alloc: Global, database: &Database, limit: usize) -> bool {
+    let mut sink = Limp::new(Vec::new(alloc), 16, u64::MAX, limit);
+    print(database, &mut sink) == Err(WriteFault) && sink.bytes() == &TEXT[..limit.min(TEXT.len())]
+}
+
+// A sink that takes one byte a call, and one that fails at each byte in turn.
+#[test]
+fn limping_sinks(rt: HostRuntime) -> Result<(), Fail> {
+    let database = whole(rt.alloc())?;
+    let mut slow = Limp::new(Vec::new(rt.alloc()), 1, u64::MAX, usize::MAX);
+    assert_eq!(rt; print(&database, &mut slow), Ok(()));
+    assert_eq!(rt; slow.bytes(), TEXT);
+    for limit in 0..TEXT.len() {
+        assert!(rt; breaks_at(rt.alloc(), &database, limit));
+    }
+    Ok(())
+}
