@@ -1,7 +1,7 @@
 -- The job that clap's matches name.
-use Rattle.std.proofs.Common.{◌≡◌, true, List, [], Option, Some, None, Result, Ok, Err, codes, option_map, refl, sym, inl, inr, ◌∙◌}
+use Rattle.std.proofs.Common.{◌≡◌, true, List, [], Option, Some, None, Result, Ok, Err, codes, option_map, refl, sym, inl, inr}
 use Rattle.std.specs.Prelude.{◌⊎◌, IfOk, IfErr}
-use Rattle.clap.specs.Words.{HasKind, Row, Text, fault_of, first_of, first_value, found_of, is_simple, is_simple_and_free, kind_of, rows_of, subcommand_name_of, subcommand_of, subcommand_rows_of}
+use Rattle.clap.specs.Words.{HasKind, Row, Text, fault_of, first_value, found_of, is_simple, is_simple_and_free, kind_of, rows_of, subcommand_name_of, subcommand_of, subcommand_rows_of}
 use Rattle.clap.specs.declared.error.Error.{Error}
 use Rattle.clap.specs.declared.parser.matches.ArgMatches.{ArgMatches}
 use Rattle.clap.specs.declared.parser.matches.ArgMatches.TheViews.{out-ArgMatches}

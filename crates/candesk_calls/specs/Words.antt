@@ -1,6 +1,6 @@
 -- Which words of the command line are which job. How words are read at all, with options, `--` and `help`, is told by the
 -- definitions of clap for a command line with these commands and options.
-use Rattle.std.specs.Prelude.{◌≡◌, ◌≢◌, ⊤, true, List, ◌∷◌, [], codes, Option, Some, None, option_and_then, option_map, Result, Ok, Err, ◌⊎◌, if◌then◌else◌}
+use Rattle.std.specs.Prelude.{◌≡◌, ◌≢◌, ⊤, true, List, [], codes, Option, Some, None, option_and_then, option_map, Result, Ok, Err, ◌⊎◌, if◌then◌else◌}
 use Rattle.std.specs.Str.{bytes_eq}
 use Rattle.clap.specs.Words.{App, Rule, Row, Text, new_app, new_rule, with_rule, with_subcommand, subcommand_of, first_of, fault_of, IsAmong}
 use Rattle.clap.specs.declared.error.kind.ErrorKind.{ErrorKind}

@@ -49,11 +49,13 @@ impl From<AllocError> for NoJob {
     }
 }
 
+// What `--version` says behind the program's name.
 const VERSION: &str = "0.1.0";
 
+// What stands below the options in the help of `decode`.
 const DECODE_NOTES: &str = "\
 Standard input is a log as `candump -L` writes it. Standard output has each of its lines, and behind a line with a data
-frame what the frame says.
+frame what the frame says by the database.
 
 As yet FILE has to be a small database: at most one list of nodes, then messages with 11-bit identifiers and at most 8
 bytes, whose signals are unsigned, in Intel order and untagged, with whole factors and offsets of at most 10^9 in size,
@@ -63,6 +65,7 @@ Example:
   $ candesk decode examples/wheel.dbc < examples/wheel.log
   (1.5) can0 123#0A01 :: Wheel(Speed: 537 rpm)";
 
+// What stands below the options in the help of `print`.
 const PRINT_NOTES: &str = "\
 Standard input is not read. Standard output is the database in its one canonical form.
 
