@@ -1,5 +1,5 @@
 -- How a stream ends, from what is known of each way.
-use Rattle.std.proofs.Common.{◌≡◌, ℕ, List, IfSome, Result, Ok, Err, refl}
+use Rattle.std.proofs.Common.{ℕ, List, IfSome, Result, Ok, Err, refl}
 use Rattle.std.specs.Prelude.{IfOk, IsErrOf}
 use Rattle.byte_devices.specs.Device.{Rises, Unread, Written}
 use Rattle.candesk_calls.specs.declared.fault.StreamFault.{StreamFault}

@@ -1,2 +1,4 @@
 pub mod Ending
 pub mod Reading
+pub mod Commands
+pub mod WordRows

@@ -1,4 +1,5 @@
 pub mod Statuses
+pub mod Words
 pub mod Refusals
 pub mod Lines
 pub mod Cuts

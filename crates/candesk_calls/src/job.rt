@@ -1,4 +1,8 @@
 //! The words of the command line.
+ghost use Rattle.std.specs.Prelude.{◌≡◌, false, map, Some, None, IfOk, IfErr, ◌⊎◌};
+ghost use Rattle.clap.specs.Words.{app_of, kind_of, subcommand_rows_of};
+ghost use Rattle.clap.specs.declared.builder.command.Command.TheViews.{out-Command};
+ghost use Rattle.candesk_calls.specs.Words.{on_file, command_line, command_named, job_found, SaysOf, IsJobOf};
 
 use clap::error::ErrorKind;
 use clap::{Arg, ArgMatches};
@@ -36,16 +40,22 @@ pub enum NoJob {
 }
 
 impl From<AllocError> for NoJob {
+    ghost use Rattle.candesk_calls.specs.declared.job.NoJob.TheVariants.{Memory};
+
+    ghost from_gives = { λ _ e. e ≡ Memory };
+
     fn from(_error: AllocError) -> NoJob {
         NoJob::Memory
     }
 }
 
+// What `--version` says behind the program's name.
 const VERSION: &str = "0.1.0";
 
+// What stands below the options in the help of `decode`.
 const DECODE_NOTES: &str = "\
 Standard input is a log as `candump -L` writes it. Standard output has each of its lines, and behind a line with a data
-frame what the frame says.
+frame what the frame says by the database.
 
 As yet FILE has to be a small database: at most one list of nodes, then messages with 11-bit identifiers and at most 8
 bytes, whose signals are unsigned, in Intel order and untagged, with whole factors and offsets of at most 10^9 in size,
@@ -55,6 +65,7 @@ Example:
   $ candesk decode examples/wheel.dbc < examples/wheel.log
   (1.5) can0 123#0A01 :: Wheel(Speed: 537 rpm)";
 
+// What stands below the options in the help of `print`.
 const PRINT_NOTES: &str = "\
 Standard input is not read. Standard output is the database in its one canonical form.
 
@@ -73,7 +84,10 @@ fn on_file<'a>(
     name: &'a str,
     about: &'a str,
     notes: &'a str,
-) -> Result<clap::Command<'a>, AllocError> {
+) -> Result<clap::Command<'a>, AllocError>
+    ensures app { IfOk result (λ command. app_of command ≡ on_file name.entry.now) }
+    ensures local { IfOk result (λ command. (out-Command command).has_globals ≡ false) }
+{
     let file = Arg::new(alloc, "FILE")
         .required(true)
         .help("The path of a DBC database");
@@ -84,7 +98,9 @@ fn on_file<'a>(
 }
 
 // The command line: `candesk decode FILE`, `candesk print FILE`.
-fn command_line<'a>(alloc: Global) -> Result<clap::Command<'a>, AllocError> {
+fn command_line<'a>(alloc: Global) -> Result<clap::Command<'a>, AllocError>
+    ensures { IfOk result (λ command. app_of command ≡ command_line) }
+{
     let decode = on_file(
         alloc,
         "decode",
@@ -108,7 +124,9 @@ fn command_line<'a>(alloc: Global) -> Result<clap::Command<'a>, AllocError> {
 }
 
 // What `clap`'s fault says of the words.
-fn no_job(alloc: Global, fault: &clap::Error) -> NoJob {
+fn no_job(alloc: Global, fault: &clap::Error) -> NoJob
+    ensures { SaysOf (kind_of fault.now) result }
+{
     match fault.kind() {
         ErrorKind::OutOfMemory => NoJob::Memory,
         ErrorKind::DisplayHelp | ErrorKind::DisplayVersion => match fault.to_string(alloc) {
@@ -119,25 +137,39 @@ fn no_job(alloc: Global, fault: &clap::Error) -> NoJob {
     }
 }
 
+fn command_named(name: &str) -> Option<Command>
+    ensures { result ≡ command_named name.now }
+{
+    match name {
+        "decode" => Some(Command::Decode),
+        "print" => Some(Command::Print),
+        _ => None,
+    }
+}
+
 // The job that the matches name.
-fn job_in(alloc: Global, matches: &ArgMatches<'_>) -> Result<Job, NoJob> {
-    let (command, found) = match matches.subcommand() {
-        Some(("decode", found)) => (Command::Decode, found),
-        Some(("print", found)) => (Command::Print, found),
-        _ => return Err(NoJob::Usage),
+fn job_in(alloc: Global, matches: &ArgMatches<'_>) -> Result<Job, NoJob>
+    ensures ok { IfOk result (λ job. job_found (subcommand_rows_of matches.now) ≡ Some (job.command, job.file.bytes.items)) }
+    ensures err { IfErr result (λ why. (why ≡ NoJob.Memory) ⊎ ((why ≡ NoJob.Usage) × (job_found (subcommand_rows_of matches.now) ≡ None))) }
+{
+    let Some((name, found)) = matches.subcommand() else {
+        return Err(NoJob::Usage);
+    };
+    let Some(command) = command_named(name) else {
+        return Err(NoJob::Usage);
     };
     let Some(file) = found.get_str("FILE") else {
         return Err(NoJob::Usage);
     };
-    Ok(Job {
-        command,
-        file: String::from_str(alloc, file)?,
-    })
+    let file = String::from_str(alloc, file)?;
+    Ok(Job { command, file })
 }
 
 /// Reads the words after the program's name. Options stand before or behind FILE, `--` ends them, `help` is the
 /// word for `--help`, and `--version` and `-V` stand before a command alone.
-pub fn job_of<'a>(alloc: Global, words: &'a [&'a str]) -> Result<Job, NoJob> {
+pub fn job_of<'a>(alloc: Global, words: &'a [&'a str]) -> Result<Job, NoJob>
+    ensures { IsJobOf (map (λ word. word.now) words.now) result }
+{
     let command = command_line(alloc)?;
     match command.try_get_matches_from(words) {
         Ok(matches) => job_in(alloc, &matches),

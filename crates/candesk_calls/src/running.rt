@@ -64,7 +64,7 @@ fn print_status_of(fault: PrintFault) -> u8
 const LONGEST_FAULT: usize = 96;
 
 /// Writes a fault's line, `candesk: ` and what is said of it. It takes no memory, and where the sink fails nothing more
-/// can be said.
+/// can be said. It only prints, so no clause says what is written.
 pub fn report<E: Sink>(errors: &mut E, fault: impl Display + Drop) {
     let mut line: ArrayString<LONGEST_FAULT> = ArrayString::new();
     let _ = writeln!(line, "candesk: {fault}");

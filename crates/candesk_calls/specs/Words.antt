@@ -1,0 +1,62 @@
+-- Which words of the command line are which job. How words are read at all, with options, `--` and `help`, is told by the
+-- definitions of clap for a command line with these commands and options.
+use Rattle.std.specs.Prelude.{◌≡◌, ◌≢◌, ⊤, true, List, [], codes, Option, Some, None, option_and_then, option_map, Result, Ok, Err, ◌⊎◌, if◌then◌else◌}
+use Rattle.std.specs.Str.{bytes_eq}
+use Rattle.clap.specs.Words.{App, Rule, Row, Text, new_app, new_rule, with_rule, with_subcommand, subcommand_of, first_of, fault_of, IsAmong}
+use Rattle.clap.specs.declared.error.kind.ErrorKind.{ErrorKind}
+use Rattle.clap.specs.declared.error.kind.ErrorKind.TheVariants as kinds
+use Rattle.candesk_calls.specs.declared.job.Command.{Command}
+use Rattle.candesk_calls.specs.declared.job.Command.TheVariants as commands
+use Rattle.candesk_calls.specs.declared.job.Job.{Job}
+use Rattle.candesk_calls.specs.declared.job.NoJob.{NoJob}
+use Rattle.candesk_calls.specs.declared.job.NoJob.TheVariants as reasons
+
+-- ---- the command line
+
+-- one FILE has to be there
+abbrev pub file_rule : Rule
+file_rule = record (new_rule (codes "FILE")) { required = true }
+
+-- a command on a FILE
+abbrev pub on_file : Text → App
+on_file name = with_rule (new_app name) file_rule
+
+-- the words before a command, which has to be there: `--help` and `--version` alone
+abbrev pub before_command : App
+before_command = let app = new_app (codes "candesk") in
+    record app { top = record app.top { has_version = true; no_binary_name = true; subcommand_required = true } }
+
+abbrev pub command_line : App
+command_line = with_subcommand (with_subcommand before_command (on_file (codes "decode")).top) (on_file (codes "print")).top
+
+-- ---- jobs
+
+abbrev pub command_named : Text → Option Command
+command_named name =
+    if bytes_eq name (codes "decode") then Some commands.Decode
+    else (if bytes_eq name (codes "print") then Some commands.Print else None)
+
+-- the command and its FILE, from what clap finds in the words
+abbrev pub job_found : Option (Text × List Row) → Option (Command × Text)
+job_found None = None
+job_found (Some found) = option_and_then (λ command. option_map (λ file. (command, file)) (first_of (codes "FILE") found.1)) (command_named found.0)
+
+-- the job that the words name
+abbrev pub job_named : List Text → Option (Command × Text)
+job_named words = job_found (subcommand_of command_line words)
+
+-- what is said of words with a fault of this kind
+abbrev pub SaysOf : ErrorKind → NoJob → Type 0
+SaysOf kind reasons.Usage = (kind ≢ kinds.OutOfMemory) × (kind ≢ kinds.DisplayHelp) × (kind ≢ kinds.DisplayVersion)
+SaysOf kind (reasons.Answer text) = (kind ≡ kinds.DisplayHelp) ⊎ (kind ≡ kinds.DisplayVersion)
+SaysOf kind reasons.File = ⊥
+SaysOf kind reasons.Memory = ⊤
+
+-- The job is the one that the words name, and they have no fault. Else they have a fault of which this is said, or name
+-- no job, or memory ran out.
+abbrev pub IsJobOf : List Text → Result Job NoJob → Type 0
+IsJobOf words (Ok job) = (fault_of command_line words ≡ []) × (job_named words ≡ Some (job.command, job.file.bytes.items))
+IsJobOf words (Err reasons.Memory) = ⊤
+IsJobOf words (Err reasons.Usage) = job_named words ≡ None ⊎ ((kind : ErrorKind) × IsAmong kind (fault_of command_line words) × SaysOf kind reasons.Usage)
+IsJobOf words (Err (reasons.Answer text)) = (kind : ErrorKind) × IsAmong kind (fault_of command_line words) × SaysOf kind (reasons.Answer text)
+IsJobOf words (Err reasons.File) = ⊥
