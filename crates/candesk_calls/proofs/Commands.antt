@@ -54,17 +54,14 @@ IsJobOf-found words m (Ok job) f e ok err = (f, rw (sym e) ok)
 IsJobOf-found words m (Err reasons.Memory) f e ok err = tt
 IsJobOf-found words m (Err reasons.Usage) f e ok (inl q) = cc
 IsJobOf-found words m (Err reasons.Usage) f e ok (inr q) = inl (rw (sym e) q.1)
-IsJobOf-found words m (Err (reasons.Answer text)) f e ok (inl q) = cc
-IsJobOf-found words m (Err (reasons.Answer text)) f e ok (inr q) = let bad : reasons.Answer text ≡ reasons.Usage = q.0 in cc
-IsJobOf-found words m (Err reasons.File) f e ok (inl q) = cc
-IsJobOf-found words m (Err reasons.File) f e ok (inr q) = let bad : reasons.File ≡ reasons.Usage = q.0 in cc
+IsJobOf-found words m (Err (reasons.Help text)) f e ok (inl q) = cc
+IsJobOf-found words m (Err (reasons.Help text)) f e ok (inr q) = let bad : reasons.Help text ≡ reasons.Usage = q.0 in cc
 
 -- where it has one
 pub IsJobOf-fault : (words : List Text) (fault : Error) (why : NoJob) → HasKind (fault_of command_line words) fault → SaysOf (kind_of fault) why → IsJobOf words (Err why)
 IsJobOf-fault words fault reasons.Memory h says = tt
 IsJobOf-fault words fault reasons.Usage (inl q) says = absurd (says.0 q)
 IsJobOf-fault words fault reasons.Usage (inr q) says = inr (kind_of fault, q, says)
-IsJobOf-fault words fault (reasons.Answer text) (inl q) (inl h) = cc
-IsJobOf-fault words fault (reasons.Answer text) (inl q) (inr h) = cc
-IsJobOf-fault words fault (reasons.Answer text) (inr q) says = (kind_of fault, q, says)
-IsJobOf-fault words fault reasons.File h says = absurd says
+IsJobOf-fault words fault (reasons.Help text) (inl q) (inl h) = cc
+IsJobOf-fault words fault (reasons.Help text) (inl q) (inr h) = cc
+IsJobOf-fault words fault (reasons.Help text) (inr q) says = (kind_of fault, q, says)

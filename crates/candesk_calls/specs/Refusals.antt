@@ -5,10 +5,9 @@ use Rattle.candesk_calls.specs.declared.job.NoJob.{NoJob}
 use Rattle.candesk_calls.specs.declared.job.NoJob.TheVariants as reasons
 use Rattle.candesk_calls.specs.Statuses.{done, usage, device, memory}
 
--- The answer was written, or a beginning of it and then a put failed. Else nothing was written.
+-- The help was written, or a beginning of it and then a put failed. Else nothing was written.
 abbrev pub RefusesWith : NoJob → Written → Written → ℕ → Type 0
 RefusesWith reasons.Usage old new status = (new ≡ old) × (status ≡ usage)
-RefusesWith reasons.File old new status = (new ≡ old) × (status ≡ device)
 RefusesWith reasons.Memory old new status = (new ≡ old) × (status ≡ memory)
-RefusesWith (reasons.Answer text) old new status =
+RefusesWith (reasons.Help text) old new status =
     (Wrote old new text.bytes.items × (status ≡ done)) ⊎ (Broke old new text.bytes.items × (status ≡ device))

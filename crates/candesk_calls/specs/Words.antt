@@ -48,8 +48,7 @@ job_named words = job_found (subcommand_of command_line words)
 -- what is said of words with a fault of this kind
 abbrev pub SaysOf : ErrorKind → NoJob → Type 0
 SaysOf kind reasons.Usage = (kind ≢ kinds.OutOfMemory) × (kind ≢ kinds.DisplayHelp) × (kind ≢ kinds.DisplayVersion)
-SaysOf kind (reasons.Answer text) = (kind ≡ kinds.DisplayHelp) ⊎ (kind ≡ kinds.DisplayVersion)
-SaysOf kind reasons.File = ⊥
+SaysOf kind (reasons.Help text) = (kind ≡ kinds.DisplayHelp) ⊎ (kind ≡ kinds.DisplayVersion)
 SaysOf kind reasons.Memory = ⊤
 
 -- The job is the one that the words name, and they have no fault. Else they have a fault of which this is said, or name
@@ -58,5 +57,4 @@ abbrev pub IsJobOf : List Text → Result Job NoJob → Type 0
 IsJobOf words (Ok job) = (fault_of command_line words ≡ []) × (job_named words ≡ Some (job.command, job.file.bytes.items))
 IsJobOf words (Err reasons.Memory) = ⊤
 IsJobOf words (Err reasons.Usage) = job_named words ≡ None ⊎ ((kind : ErrorKind) × IsAmong kind (fault_of command_line words) × SaysOf kind reasons.Usage)
-IsJobOf words (Err (reasons.Answer text)) = (kind : ErrorKind) × IsAmong kind (fault_of command_line words) × SaysOf kind (reasons.Answer text)
-IsJobOf words (Err reasons.File) = ⊥
+IsJobOf words (Err (reasons.Help text)) = (kind : ErrorKind) × IsAmong kind (fault_of command_line words) × SaysOf kind (reasons.Help text)

@@ -31,10 +31,8 @@ pub struct Job {
 pub enum NoJob {
     /// The words name no command, not one FILE, or an option that isn't there.
     Usage,
-    /// They ask for help or for the version, and this is the answer.
-    Answer(String),
-    /// The file that they name can't be read.
-    File,
+    /// They ask for help or for the version, and this is its text.
+    Help(String),
     /// An allocation was refused.
     Memory,
 }
@@ -130,7 +128,7 @@ fn no_job(alloc: Global, fault: &clap::Error) -> NoJob
     match fault.kind() {
         ErrorKind::OutOfMemory => NoJob::Memory,
         ErrorKind::DisplayHelp | ErrorKind::DisplayVersion => match fault.to_string(alloc) {
-            Ok(text) => NoJob::Answer(text),
+            Ok(text) => NoJob::Help(text),
             Err(_) => NoJob::Memory,
         },
         _ => NoJob::Usage,

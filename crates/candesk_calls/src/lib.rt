@@ -19,6 +19,6 @@ pub use decoding::decode_run;
 pub use fault::{PrintFault, RunFault, StreamFault};
 pub use job::{Command, Job, NoJob, job_of};
 pub use printing::print_run;
-pub use refusing::refuse;
+pub use refusing::{refuse, refuse_file};
 pub use running::{report, run, status};
 pub use streaming::decode_stream;

@@ -1,7 +1,7 @@
 //! What no contract says: fault lines, and that calls succeed where memory is there. `scripts/run_rows` tries the built
 //! program on more words, databases and logs.
 
-use crate::{Command, Job, NoJob, job_of, refuse, run, status};
+use crate::{Command, Job, NoJob, job_of, refuse, refuse_file, run, status};
 use dbc_model::limp::Limp;
 use std::alloc::{AllocError, Global};
 use std::test::Fail;
@@ -88,7 +88,7 @@ fn words(rt: HostRuntime) -> Result<(), Fail> {
         matches!(&job, Ok(Job { command: Command::Print, file }) if file.as_str() == "--f")
     );
     let version = job_of(rt.alloc(), ["--version"].as_slice());
-    assert!(rt; matches!(&version, Err(NoJob::Answer(text)) if text.as_str() == "candesk 0.1.0\n"));
+    assert!(rt; matches!(&version, Err(NoJob::Help(text)) if text.as_str() == "candesk 0.1.0\n"));
     Ok(())
 }
 
@@ -97,9 +97,9 @@ fn refusals(rt: HostRuntime) -> Result<(), Fail> {
     let alloc = rt.alloc();
     let mut to = sink(alloc, ALL);
     let mut errors = sink(alloc, ALL);
-    assert_eq!(rt; refuse(&NoJob::File, &mut to, &mut errors), status::DEVICE);
+    assert_eq!(rt; refuse_file(&mut errors), status::DEVICE);
     assert_eq!(rt; errors.bytes(), b"candesk: cannot read file\n".as_slice());
-    let answer = NoJob::Answer(String::from_str(alloc, "said\n")?);
+    let answer = NoJob::Help(String::from_str(alloc, "said\n")?);
     assert_eq!(rt; refuse(&answer, &mut to, &mut errors), status::DONE);
     assert_eq!(rt; to.bytes(), b"said\n".as_slice());
     Ok(())
