@@ -8,18 +8,18 @@ work=$(mktemp -d)
 trap 'rm -rf "$work"' EXIT
 
 mkdir -p "$work/crates/cut_speed/src"
-for crate in dbc_model dbc_read; do
+for crate in dbc_values dbc_tokens; do
     cp -r "$top/crates/$crate" "$work/crates/"
     grep "^$crate:" "$top/crates.txt" >> "$work/crates.txt"
 done
-echo "cut_speed: dbc_read" >> "$work/crates.txt"
+echo "cut_speed: dbc_tokens" >> "$work/crates.txt"
 cp "$top/HANDLES" "$work/"
 
 cat > "$work/crates/cut_speed/src/main.rt" << 'PROGRAM'
 //! Cuts the text on standard input five times, and prints for each the number of tokens and the nanoseconds.
 #![tactic(auto)]
 
-use dbc_read::tokens;
+use dbc_tokens::tokens;
 use std::io::{self, Read};
 use std::time::Instant;
 

@@ -7,9 +7,12 @@ work=$(mktemp -d)
 trap 'rm -rf "$work"' EXIT
 
 mkdir -p "$work/crates/print_bench/src"
-cp -r "$root/crates/dbc_model" "$work/crates/"
+for crate in byte_devices dbc_values dbc_records dbc_model; do
+    cp -r "$root/crates/$crate" "$work/crates/"
+    grep "^$crate:" "$root/crates.txt" >> "$work/crates.txt"
+done
 echo "Handles allowed: none." > "$work/HANDLES"
-printf 'dbc_model: arrayvec itoa thiserror\nprint_bench: dbc_model itoa\n' > "$work/crates.txt"
+echo "print_bench: dbc_model itoa" >> "$work/crates.txt"
 cat > "$work/crates/print_bench/src/main.rt" <<'PROGRAM'
 #![tactic(auto)]
 
