@@ -3,7 +3,7 @@
 use Rattle.std.specs.Prelude.{ℕ, ℤ, pos, negsuc, suc, ◌+◌, ◌-◌, nat_le, Bool, ◌&&◌, List, [], ◌∷◌, ◌++◌, length, take, drop, replicate, codes, decimal, if◌then◌else◌}
 use Rattle.std.specs.List.{flat_map}
 use Rattle.std.specs.Fmt.{signed_decimal}
-use Rattle.dbc_values.specs.Lexical.{point, quoted}
+use Rattle.dbc_values.specs.Lexical.{point, digit_zero, quoted}
 use Rattle.dbc_values.specs.Decimals.{Decimal}
 
 -- ---- items
@@ -36,7 +36,7 @@ abbrev pub plain_digits : ℕ
 plain_digits = 20
 
 abbrev pub zeros : ℕ → List ℕ
-zeros count = replicate count 48
+zeros count = replicate count digit_zero
 
 -- `digits · 10^exponent`, as `1E-31`
 abbrev pub with_exponent : List ℕ → ℤ → List ℕ

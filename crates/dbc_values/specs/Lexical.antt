@@ -45,6 +45,12 @@ point = 46
 abbrev pub slash : ℕ
 slash = 47
 
+abbrev pub digit_zero : ℕ
+digit_zero = 48
+
+abbrev pub digit_nine : ℕ
+digit_nine = 57
+
 abbrev pub colon : ℕ
 colon = 58
 
@@ -53,6 +59,15 @@ semicolon = 59
 
 abbrev pub at_sign : ℕ
 at_sign = 64
+
+abbrev pub capital_a : ℕ
+capital_a = 65
+
+abbrev pub capital_e : ℕ
+capital_e = 69
+
+abbrev pub capital_z : ℕ
+capital_z = 90
 
 abbrev pub opening_bracket : ℕ
 opening_bracket = 91
@@ -66,6 +81,15 @@ closing_bracket = 93
 abbrev pub underscore : ℕ
 underscore = 95
 
+abbrev pub small_a : ℕ
+small_a = 97
+
+abbrev pub small_e : ℕ
+small_e = 101
+
+abbrev pub small_z : ℕ
+small_z = 122
+
 abbrev pub bar : ℕ
 bar = 124
 
@@ -78,11 +102,11 @@ is_line_feed b = b == line_feed
 
 -- `0` to `9`
 abbrev pub is_digit : ℕ → Bool
-is_digit b = nat_le 48 b && nat_le b 57
+is_digit b = nat_le digit_zero b && nat_le b digit_nine
 
 -- an ASCII letter or an underscore
 abbrev pub is_letter : ℕ → Bool
-is_letter b = (nat_le 65 b && nat_le b 90) || (nat_le 97 b && nat_le b 122) || b == underscore
+is_letter b = (nat_le capital_a b && nat_le b capital_z) || (nat_le small_a b && nat_le b small_z) || b == underscore
 
 abbrev pub is_word_byte : ℕ → Bool
 is_word_byte b = is_letter b || is_digit b
@@ -96,7 +120,7 @@ is_sign b = b == plus || b == minus
 
 -- `E` or `e`
 abbrev pub is_exponent_mark : ℕ → Bool
-is_exponent_mark b = b == 69 || b == 101
+is_exponent_mark b = b == capital_e || b == small_e
 
 abbrev pub is_point : ℕ → Bool
 is_point b = b == point

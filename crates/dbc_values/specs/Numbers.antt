@@ -29,6 +29,10 @@ written_exponent number = signed_digits_value 10 (after_first is_exponent_mark n
 unfoldable pub exponent_of : List ℕ → ℤ
 exponent_of number = written_exponent number -ℤ pos (length (digits_behind_point number))
 
+-- the most digits of a decimal
+abbrev pub most_digits : ℕ
+most_digits = 36
+
 -- ---- whole numbers by value: `1.0` is 1, and `80E-1` is 8
 
 -- `m · 10^e` is the whole number n
@@ -60,9 +64,9 @@ pub record SpellsWhole (number : List ℕ) (whole : Whole) : Type 0 where
 
 -- ---- what is kept of a number while it is read; the clauses of public calls don't speak of it
 
--- the number where it has at most 36 digits
+-- the number where it has at most the digits of a decimal
 abbrev pub at_most_36_digits : ℕ → Option ℕ
-at_most_36_digits n = if nat_lt n (10 ^ 36) then Some n else None
+at_most_36_digits n = if nat_lt n (10 ^ most_digits) then Some n else None
 
 -- m is a number with some zeros behind it, of which the last digit is not zero unless it is 0 as a whole
 pub record HasDigits (m : ℕ) (digits : Option ℕ) (zeros : ℕ) : Type 0 where

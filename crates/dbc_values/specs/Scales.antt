@@ -40,10 +40,17 @@ places_of factor offset = max (digits_behind factor.exponent) (digits_behind off
 abbrev pub reach_fits : ℕ → ℕ → ℕ → Bool
 reach_fits factor offset length = nat_lt (factor * 2 ^ length + offset) (10 ^ 38)
 
+-- the most raw bits that a signal with a scale may have, and the most decimal places
+abbrev pub most_raw_bits : ℕ
+most_raw_bits = 64
+
+abbrev pub most_places : ℕ
+most_places = 36
+
 unfoldable pub scale_fits : Decimal → Decimal → ℕ → Bool
 scale_fits factor offset length =
     let places = places_of factor offset in
-    nat_le length 64 && nat_le places 36 && reach_fits (magnitude_at places factor) (magnitude_at places offset) length
+    nat_le length most_raw_bits && nat_le places most_places && reach_fits (magnitude_at places factor) (magnitude_at places offset) length
 
 unfoldable pub scale_of : Decimal → Decimal → ℕ → Scale
 scale_of factor offset length =
@@ -51,6 +58,6 @@ scale_of factor offset length =
     record { factor = whole_at places factor; offset = whole_at places offset; places = places; length = length }
 
 pub record IsScale (scale : Scale) : Type 0 where
-  pub length : scale.length ≤ 64
-  pub places : scale.places ≤ 36
+  pub length : scale.length ≤ most_raw_bits
+  pub places : scale.places ≤ most_places
   pub reach : IsTrue (reach_fits (unsigned_abs scale.factor) (unsigned_abs scale.offset) scale.length)
