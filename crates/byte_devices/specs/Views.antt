@@ -23,6 +23,15 @@ bytes_of limp = limp.bytes.items
 abbrev pub failures_of : Limp → ℕ
 failures_of limp = limp.failures
 
+-- how a limping device limps: how many bytes it moves in a call at most, and how many calls and bytes are left to it
+pub record Limping : Type 0 where
+  pub most : ℕ
+  pub calls : ℕ
+  pub bytes : ℕ
+
+abbrev pub limping_of : Limp → Limping
+limping_of limp = record { most = limp.most; calls = limp.calls_left; bytes = limp.bytes_left }
+
 -- as a source: the bytes from its place on
 abbrev pub unread_of_limp : Limp → Unread
 unread_of_limp limp = record { bytes = Some (drop limp.place limp.bytes.items); failures = limp.failures; patience = limp.calls_left }

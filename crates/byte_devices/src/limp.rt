@@ -19,7 +19,7 @@ pub struct Limp {
 
 impl Limp {
     ghost use Rattle.byte_devices.specs.Device.{Rises};
-    ghost use Rattle.byte_devices.specs.Views.{bytes_of, failures_of, unread_of_limp, written_of_limp};
+    ghost use Rattle.byte_devices.specs.Views.{bytes_of, failures_of, limping_of, unread_of_limp, written_of_limp};
 
     /// A device over these bytes that moves at most `most` of them in a call. It fails in each call after the first
     /// `calls`, and where `limit` bytes have moved.
@@ -27,6 +27,7 @@ impl Limp {
         requires { 0 < most }
         ensures source { unread_of_limp result ≡ record { bytes = Some bytes.items; failures = 0; patience = calls } }
         ensures sink { written_of_limp result ≡ record { bytes = Some bytes.items; failures = 0 } }
+        ensures limping { limping_of result ≡ record { most = most; calls = calls; bytes = limit } }
     {
         Limp {
             bytes,

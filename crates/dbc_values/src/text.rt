@@ -1,5 +1,5 @@
 //! Texts: what stands between the quotes of a string.
-ghost use Rattle.std.specs.Prelude.{◌≡◌, IfOk, OnErr, IsTrue, Some, None, if◌then◌else◌};
+ghost use Rattle.std.specs.Prelude.{◌≡◌, ◌<◌, length, IfOk, OnErr, IsTrue, Some, None, if◌then◌else◌};
 ghost use Rattle.dbc_values.specs.Lexical.{is_text};
 
 use crate::list::{Checked, Copied};
@@ -41,13 +41,18 @@ pub fn is_text(bytes: &[u8]) -> bool
 }
 
 impl Text {
-    /// The text of these bytes, or `None` where they can't stand between quotes.
+    /// The text of these bytes, or `None` where they can't stand between quotes. The empty text takes no memory.
     pub fn new(alloc: Global, bytes: &[u8]) -> Result<Option<Text>, Memory>
         ensures made { IfOk result (λ made. made ≡ (if is_text bytes.now then Some bytes.now else None)) }
         ensures memory_for_one { OnErr result (IsTrue (is_text bytes.now)) }
+        ensures memory_for_bytes { OnErr result (0 < length bytes.now) }
     {
         if !is_text(bytes) {
             return Ok(None);
+        }
+        if bytes.is_empty() {
+            let bytes = Vec::new(alloc);
+            return Ok(Some(Text { bytes }));
         }
         let bytes = Vec::from_slice(alloc, bytes)?;
         Ok(Some(Text { bytes }))
