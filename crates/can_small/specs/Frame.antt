@@ -6,9 +6,8 @@ use Rattle.std.specs.Str.{bytes_eq}
 use Rattle.std.specs.Result.{result_ok}
 use Rattle.std.specs.Int.{from_be_bytes, w16}
 use Rattle.hex.specs.Hex.{decode_of}
-use Rattle.dbc_values.specs.Lexical.{space, tab, opening_parenthesis, closing_parenthesis, is_digit, is_point}
+use Rattle.dbc_values.specs.Lexical.{space, tab, digit_zero, opening_parenthesis, closing_parenthesis, is_digit, is_point}
 use Rattle.can_small.specs.Small.{greatest_identifier, most_bytes}
-use Rattle.can_small.specs.SmallTokens.{digit_zero}
 use Rattle.can_small.specs.declared.frame.Frame as coded
 
 -- `#`

@@ -4,7 +4,7 @@
 -- numbers are judged by their value, are the profile of candesk.
 use Rattle.std.specs.Prelude.{ℕ, ◌-◌, ◌^◌, nat_le, Bool, true, false, ◌&&◌, ◌==◌, List, [], ◌∷◌, ◌++◌, length, take, codes, Option, Some, None, Result, Ok, Err, if◌then◌else◌}
 use Rattle.std.specs.Str.{bytes_eq}
-use Rattle.dbc_values.specs.Lexical.{is_kept_word, is_name, is_digits}
+use Rattle.dbc_values.specs.Lexical.{is_kept_word, is_name, is_digits, small_m}
 use Rattle.dbc_values.specs.Numbers.{whole_of_number}
 use Rattle.dbc_values.specs.Decimals.{Decimal, decimal_of_number}
 use Rattle.dbc_values.specs.Names.{is_symbol}
@@ -122,10 +122,6 @@ unfoldable pub muxed_of : List ℕ → Result Tag Cause
 muxed_of bytes =
     if is_digits bytes then counted tags.Muxed bytes
     else (if is_digits (front bytes) && bytes_eq bytes (front bytes ++ codes "M") then counted tags.Both (front bytes) else Err causes.Statement)
-
--- what the tag of a multiplexed signal begins with
-abbrev pub small_m : ℕ
-small_m = 109
 
 -- `M`, `m5`, `m5M`
 unfoldable pub tag_of : List ℕ → Result Tag Cause

@@ -7,13 +7,9 @@ ghost use Rattle.dbc_reader.specs.Reading.Parts.{begins_decimal, begins_int, beg
 ghost use Rattle.dbc_reader.specs.Reading.Databases.{has_object_word, has_value_word, has_attribute_word, begins_statement};
 
 use dbc_tokens::Token;
-use dbc_values::{Decimal, Whole, is_kept_word, is_name, is_piece, is_string, is_symbol, whole_of};
-
-fn same(a: &[u8], b: &[u8]) -> bool
-    ensures { result ≡ bytes_eq a.now b.now }
-{
-    a == b
-}
+use dbc_values::{
+    Decimal, Whole, is_kept_word, is_name, is_piece, is_string, is_symbol, same, whole_of,
+};
 
 /// Whether the token is this word.
 #[tactic(auto, unfolding(crate::specs::Classes::has_word))]

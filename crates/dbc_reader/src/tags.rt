@@ -1,20 +1,13 @@
 //! Tags of signals.
 ghost use Rattle.std.specs.Prelude.{◌≡◌, ◌-◌, ◌^◌, ◌&&◌, ◌++◌, Some, None, Ok, Err, codes, option_map, if◌then◌else◌};
-ghost use Rattle.std.specs.List.{list_all};
 ghost use Rattle.std.specs.Str.{bytes_eq};
-ghost use Rattle.dbc_values.specs.Lexical.{is_digit, is_digits};
+ghost use Rattle.dbc_values.specs.Lexical.{is_digits};
 ghost use Rattle.dbc_records.specs.declared.tag.Tag.TheVariants as tags;
 ghost use Rattle.dbc_reader.specs.Classes.{whole_of, front, muxed_of, tag_of};
 
 use dbc_records::Tag;
 use dbc_tokens::Cause;
-use dbc_values::{Whole, whole_of};
-
-fn are_digits(bytes: &[u8]) -> bool
-    ensures { result ≡ list_all is_digit bytes.now }
-{
-    bytes.iter().all(|b| b.is_ascii_digit())
-}
+use dbc_values::{Whole, are_digits, whole_of};
 
 fn is_digits(bytes: &[u8]) -> bool
     ensures { result ≡ is_digits bytes.now }

@@ -87,6 +87,9 @@ small_a = 97
 abbrev pub small_e : ℕ
 small_e = 101
 
+abbrev pub small_m : ℕ
+small_m = 109
+
 abbrev pub small_z : ℕ
 small_z = 122
 

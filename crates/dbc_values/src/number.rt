@@ -52,7 +52,8 @@ fn is_exponent_mark(b: u8) -> bool
     b == b'E' || b == b'e'
 }
 
-fn are_digits(bytes: &[u8]) -> bool
+/// Whether all bytes are digits.
+pub fn are_digits(bytes: &[u8]) -> bool
     ensures { result ≡ list_all is_digit bytes.now }
 {
     bytes.iter().all(|b| b.is_ascii_digit())
