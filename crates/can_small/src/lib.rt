@@ -5,11 +5,11 @@
 //! one line of a log with them.
 #![tactic(auto)]
 
-pub mod cursor;
+mod cursor;
 pub mod database;
-pub mod frame;
-pub mod items;
+mod frame;
+mod items;
 pub mod laws;
 pub mod line;
 pub mod reading;
-pub mod statements;
+mod statements;

@@ -20,5 +20,5 @@ pub use fault::{PrintFault, RunFault, StreamFault};
 pub use job::{Command, Job, NoJob, job_of};
 pub use printing::print_run;
 pub use refusing::{refuse, refuse_file};
-pub use running::{report, run, status};
+pub use running::{run, status};
 pub use streaming::decode_stream;
