@@ -1,3 +1,5 @@
+pub mod Takes
+pub mod Readable
 pub mod Items
 pub mod Apart
 pub mod Texts

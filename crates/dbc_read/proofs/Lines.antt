@@ -19,13 +19,13 @@ use Rattle.dbc_reader.specs.Spelling.{Symbols, Timing, Nodes, Table, OfMessage, 
 use Rattle.dbc_read.specs.PrintLaws.{PrintedUniquely, IsTiming}
 use Rattle.dbc_reader.proofs.Turns.{ok_is}
 use Rattle.dbc_reader.proofs.Sound.Adding.{joined}
-use Rattle.dbc_reader.proofs.Takes.{Takes, Stops}
-use Rattle.dbc_reader.proofs.Takes.Rows.{table_takes, values_take, float_takes, mux_takes}
-use Rattle.dbc_reader.proofs.Takes.Notes.{comment_takes, definition_takes, default_takes, attribute_takes}
-use Rattle.dbc_reader.proofs.Takes.Messages.{message_takes, signal_takes}
-use Rattle.dbc_reader.proofs.Takes.Kept.{kept_takes}
-use Rattle.dbc_reader.proofs.Takes.Adding.{symbols_added, nodes_added}
-use Rattle.dbc_reader.proofs.Takes.Databases.{version_takes, timing_takes}
+use Rattle.dbc_read.proofs.Takes.{Takes, Stops}
+use Rattle.dbc_read.proofs.Takes.Rows.{table_takes, values_take, float_takes, mux_takes}
+use Rattle.dbc_read.proofs.Takes.Notes.{comment_takes, definition_takes, default_takes, attribute_takes}
+use Rattle.dbc_read.proofs.Takes.Messages.{message_takes, signal_takes}
+use Rattle.dbc_read.proofs.Takes.Kept.{kept_takes}
+use Rattle.dbc_read.proofs.Takes.Adding.{symbols_added, nodes_added}
+use Rattle.dbc_read.proofs.Takes.Databases.{version_takes, timing_takes}
 use Rattle.dbc_read.proofs.Items.{Shows, stand_apart}
 use Rattle.dbc_read.proofs.Items.Lexemes.{printed}
 use Rattle.dbc_read.proofs.Apart.{Line}

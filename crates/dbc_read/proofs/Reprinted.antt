@@ -14,8 +14,8 @@ use Rattle.dbc_reader.specs.Texts.{HasDatabase, HasFirstFault}
 use Rattle.dbc_read.specs.PrintLaws.{PrintLaw}
 use Rattle.dbc_tokens.proofs.CutLaws.{cut_unique}
 use Rattle.dbc_reader.proofs.Turns.{ok_is}
-use Rattle.dbc_reader.proofs.Takes.Databases.{database_again}
-use Rattle.dbc_reader.proofs.Texts.Readable.{fault_or_database}
+use Rattle.dbc_read.proofs.Takes.Databases.{database_again}
+use Rattle.dbc_read.proofs.Readable.{fault_or_database}
 use Rattle.dbc_read.proofs.Shown.Databases.{canonical_has}
 
 -- a reading of a text that has a database ends with it

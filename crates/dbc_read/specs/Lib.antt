@@ -8,5 +8,5 @@ pub use Rattle.dbc_reader.specs.Grammar
 pub use Rattle.dbc_reader.specs.Forms
 pub use Rattle.dbc_reader.specs.Spelling
 pub use Rattle.dbc_reader.specs.Texts
-pub use Rattle.dbc_reader.specs.Laws
+pub mod Laws
 pub mod PrintLaws

@@ -3,5 +3,4 @@ pub mod Facts
 pub mod Agrees
 pub mod Sound
 pub mod Yields
-pub mod Takes
 pub mod Texts

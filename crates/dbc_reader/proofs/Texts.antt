@@ -1,5 +1,2 @@
--- What the families say together: the clauses of the two readers of texts, and the laws.
+-- What the families say together: the clauses of the two readers of texts.
 pub mod Readings
-pub mod Readable
-pub mod OneReadings
-pub mod FaultLines

@@ -4,6 +4,5 @@ pub mod Grammar
 pub mod Forms
 pub mod Spelling
 pub mod Texts
-pub mod Laws
 -- how the code goes through tokens: a middle step
 pub mod Reading

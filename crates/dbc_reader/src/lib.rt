@@ -1,14 +1,13 @@
 //! Reading of a DBC text: the database that its tokens spell, and the fault that reading ends with.
 //!
 //! [`read`] and [`read_one`] give what the tokens spell by `specs/Spelling.antt`, or the first fault of
-//! `specs/Pattern.antt`; [`laws`] says that a text has the one or the other.
+//! `specs/Pattern.antt`. That a text has the one or the other is a law of `dbc_read`.
 #![tactic(auto)]
 
 mod attributes;
 mod classes;
 mod cursor;
 mod kept;
-pub mod laws;
 mod messages;
 mod numerals;
 mod parts;

@@ -27,7 +27,7 @@ use Rattle.dbc_records.specs.declared.definition.Form.{Form}
 use Rattle.dbc_records.specs.declared.definition.Form.TheVariants as forms
 use Rattle.dbc_records.specs.Layout.{Word, Mark, Name, Text, Whole, Int, Number, Switch, Muxed, Both}
 use Rattle.dbc_records.specs.CanonicalText.{blank, mark_layout, spaced_mark, number_layout, spaced_number, spaced_text, spaced_name, spaced_word, word_layout, signal_key, line_end, statement_end, spaced_end, version_layout, symbol_layout, symbols_title, symbols_layout, timing_numbers, perhaps_numbers, timing_title, timing_layout, nodes_title, nodes_layout, entry_layout, table_key, table_layout, values_key, values_layout, head_layout, signal_name_layout, tag_layout, sign_mark, place_layout, pair_layout, scale_layout, limits_layout, further_receiver, receivers_layout, signal_layout, message_layout, target_layout, comment_key, comment_layout, object_layout, number_limits_layout, further_text, texts_layout, form_layout, definition_key, definition_layout, value_layout, default_key, default_layout, attribute_key, attribute_layout, float_key, float_kind, float_layout, range_layout, further_range, ranges_layout, mux_key, mux_layout, piece_layout, kept_layout, front_layout, attributes_layout, rows_layout, database_layout}
-use Rattle.dbc_reader.proofs.Takes.Kinds.{within_ints}
+use Rattle.dbc_read.proofs.Takes.Kinds.{within_ints}
 use Rattle.dbc_read.proofs.Items.{IsItem}
 use Rattle.dbc_read.proofs.Apart.{AreItems, Start, Middle, Close, Line, start_then, start_close, middle_both, middle_close, line_both, close_line, middle_none, middle_each, line_each, middle_separated, spaced, word_start}
 

@@ -11,7 +11,7 @@ use Rattle.std.proofs.lemmas.Str.Parse.{digit_from_value}
 use Rattle.dbc_values.specs.Lexical.{is_digit, is_digits, is_word_byte, is_word}
 use Rattle.dbc_reader.specs.Forms.{SpellsNumber, SpellsTag}
 use Rattle.dbc_tokens.proofs.Runs.{all_append, all_weaker}
-use Rattle.dbc_reader.proofs.Takes.Tags.{spells_digits}
+use Rattle.dbc_read.proofs.Takes.Tags.{spells_digits}
 
 -- ---- digits
 

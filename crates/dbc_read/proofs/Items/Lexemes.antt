@@ -17,7 +17,7 @@ use Rattle.dbc_reader.specs.Forms.{Says, IsOne, IsSigned, SpellsNumber, SpellsTa
 use Rattle.dbc_read.proofs.Items.{Lexeme, lexeme, sign_lexemes, kind_of_piece, lexemes, AreTokens, HaveLexemes, Printed, IsItem}
 use Rattle.dbc_read.proofs.Items.Digits.{decimal_spells, tag_spells, tag_is_word}
 use Rattle.dbc_read.proofs.Items.Decimals.{magnitude_spells}
-use Rattle.dbc_reader.proofs.Takes.Tags.{spells_digits}
+use Rattle.dbc_read.proofs.Takes.Tags.{spells_digits}
 
 -- whole numbers of 64 bits are printed with all their digits
 short : (n : ℕ) → n < 2 ^ 64 → n < 10 ^ 64

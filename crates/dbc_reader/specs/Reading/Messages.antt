@@ -18,6 +18,10 @@ use Rattle.dbc_reader.specs.Reading.Parts.{mark_at, name_at, text_at, whole_at, 
 
 -- ---- heads
 
+-- where a signal's bits stand and how they are read, for proofs in other crates
+abbrev pub SignalPlace : Type 0
+SignalPlace = Place
+
 abbrev pub begun : Bool → Bool → Cause → Result (Unit {0}) Cause
 begun word fits full = if word then (if fits then Ok tt else Err full) else Err causes.Statement
 

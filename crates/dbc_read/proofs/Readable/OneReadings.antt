@@ -8,9 +8,9 @@ use Rattle.dbc_reader.specs.Pattern.{Pattern, first_fault, nothing_seen}
 use Rattle.dbc_reader.specs.Grammar as grammar
 use Rattle.dbc_reader.specs.Spelling.{Spells, SpellsStatement}
 use Rattle.dbc_reader.specs.Texts.{HasFirstFault}
-use Rattle.dbc_reader.specs.Laws.{ExactlyOne, NoSuch, OneReading, OneReadingAlone}
+use Rattle.dbc_read.specs.Laws.{ExactlyOne, NoSuch, OneReading, OneReadingAlone}
 use Rattle.dbc_tokens.proofs.CutLaws.{cut_is, cut_unique}
-use Rattle.dbc_reader.proofs.Texts.Readable.{fault_or_database, one_database, fault_or_statement, one_statement}
+use Rattle.dbc_read.proofs.Readable.{fault_or_database, one_database, fault_or_statement, one_statement}
 
 -- ---- faults
 

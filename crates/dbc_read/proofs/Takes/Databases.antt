@@ -22,11 +22,11 @@ use Rattle.dbc_reader.specs.Reading.Databases.{object_words, value_words, attrib
 use Rattle.dbc_reader.proofs.Sound.{all_then_twice}
 use Rattle.dbc_reader.proofs.Sound.Adding.{joined}
 use Rattle.dbc_reader.proofs.Sound.Databases.{timing_is, gather_untimed, gather_timed}
-use Rattle.dbc_reader.proofs.Takes.Fits.{AllFit, all_fit, fit_both, parted, placed_both}
-use Rattle.dbc_reader.proofs.Takes.{chosen-first, halves, Takes, Opens, Stops, takes_value, takes_next, takes_as, takes_where, takes_first, takes_none, opens_one, opens_as}
-use Rattle.dbc_reader.proofs.Takes.Kinds.{word_takes, mark_takes, text_takes, unsigned_takes, decimal_from_number}
-use Rattle.dbc_reader.proofs.Takes.Notes.{word_opens}
-use Rattle.dbc_reader.proofs.Takes.Statements.{MayAdd, Closes, no_start, statements_added}
+use Rattle.dbc_read.proofs.Takes.Fits.{AllFit, all_fit, fit_both, parted, placed_both}
+use Rattle.dbc_read.proofs.Takes.{chosen-first, halves, Takes, Opens, Stops, takes_value, takes_next, takes_as, takes_where, takes_first, takes_none, opens_one, opens_as}
+use Rattle.dbc_read.proofs.Takes.Kinds.{word_takes, mark_takes, text_takes, unsigned_takes, decimal_from_number}
+use Rattle.dbc_read.proofs.Takes.Notes.{word_opens}
+use Rattle.dbc_read.proofs.Takes.Statements.{MayAdd, Closes, no_start, statements_added}
 
 -- ---- the version
 

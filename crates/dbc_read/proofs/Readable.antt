@@ -1,10 +1,12 @@
 -- Tokens have no first fault exactly where they spell something, and then they spell it alone.
+pub mod OneReadings
+pub mod FaultLines
 use Rattle.std.proofs.Common.{◌≡◌, Option, Some, None, Result, Ok, Err, refl, sym, ap, subst, ◌∙◌}
 use Rattle.dbc_tokens.specs.declared.fault.ReadFault.{ReadFault}
 use Rattle.dbc_tokens.specs.Tokens.{Cut, End}
 use Rattle.dbc_reader.specs.Pattern.{first_fault, nothing_seen}
 use Rattle.dbc_reader.specs.Grammar as grammar
-use Rattle.dbc_reader.specs.Laws.{FaultOrDatabase, FaultOrStatement, OneDatabase, OneStatement}
+use Rattle.dbc_read.specs.Laws.{FaultOrDatabase, FaultOrStatement, OneDatabase, OneStatement}
 use Rattle.dbc_reader.specs.Reading.Databases.{database_at, statement_at}
 use Rattle.dbc_reader.proofs.Turns.{ok_is}
 use Rattle.dbc_reader.proofs.Agrees.{Judges}
@@ -13,8 +15,8 @@ use Rattle.dbc_reader.proofs.Agrees.Statements.{statement_judges}
 use Rattle.dbc_reader.proofs.Yields.Databases.{database_is_proper, statement_is_proper}
 use Rattle.dbc_reader.proofs.Sound.Databases.{database_sound}
 use Rattle.dbc_reader.proofs.Sound.Statements.{statement_sound}
-use Rattle.dbc_reader.proofs.Takes.Databases.{database_again}
-use Rattle.dbc_reader.proofs.Takes.Alone.{statement_again}
+use Rattle.dbc_read.proofs.Takes.Databases.{database_again}
+use Rattle.dbc_read.proofs.Takes.Alone.{statement_again}
 
 abbrev read : {A : Type 0} → A → Cut → Result (A × Cut) ReadFault
 read a rest = Ok (a, rest)

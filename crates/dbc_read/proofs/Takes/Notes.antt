@@ -35,9 +35,9 @@ use Rattle.dbc_reader.proofs.Turns.Lists.{mark_shrinks, text_shrinks}
 use Rattle.dbc_reader.proofs.Facts.Names.{no_digit_no_number}
 use Rattle.dbc_reader.proofs.Sound.{all_then_twice}
 use Rattle.dbc_reader.proofs.Sound.Notes.{text_form, further_text_form, comment_form, texts_layout_form, word_then, string_form, definition_form, default_form, attribute_form}
-use Rattle.dbc_reader.proofs.Takes.{Takes, Anything, Opens, Stops, Allows, takes_value, takes_then, takes_next, takes_as, takes_last, takes_where, takes_first, takes_second, takes_none, opens_one, allows_stop, allows_both, takes_list}
-use Rattle.dbc_reader.proofs.Takes.Kinds.{decimal_from_number, word_takes, mark_takes, name_takes, text_takes, quoted_is_string, id_takes, decimal_takes}
-use Rattle.dbc_reader.proofs.Takes.Rows.{mark_opens, mark_opens_itself, semicolon_is_no_comma}
+use Rattle.dbc_read.proofs.Takes.{Takes, Anything, Opens, Stops, Allows, takes_value, takes_then, takes_next, takes_as, takes_last, takes_where, takes_first, takes_second, takes_none, opens_one, allows_stop, allows_both, takes_list}
+use Rattle.dbc_read.proofs.Takes.Kinds.{decimal_from_number, word_takes, mark_takes, name_takes, text_takes, quoted_is_string, id_takes, decimal_takes}
+use Rattle.dbc_read.proofs.Takes.Rows.{mark_opens, mark_opens_itself, semicolon_is_no_comma}
 
 -- ---- what words, texts and numbers begin with
 

@@ -23,11 +23,11 @@ use Rattle.dbc_reader.specs.Reading.Databases.{object_words, value_words, attrib
 use Rattle.dbc_reader.proofs.Turns.Statements.{statements_on, statements_end}
 use Rattle.dbc_reader.proofs.Sound.{all_then_twice}
 use Rattle.dbc_reader.proofs.Sound.Adding.{joined, joined_none, joined_twice, symbols_are, nodes_are, piece_form, either_word}
-use Rattle.dbc_reader.proofs.Takes.Fits.{Fits, AllFit}
-use Rattle.dbc_reader.proofs.Takes.{halves, Takes, Opens, Stops, opens_one, opens_as}
-use Rattle.dbc_reader.proofs.Takes.Notes.{word_opens}
-use Rattle.dbc_reader.proofs.Takes.Messages.{EndsSignals}
-use Rattle.dbc_reader.proofs.Takes.Adding.{MayFollow, symbols_added, nodes_added, message_added, table_added, values_added, float_added, mux_added, comment_added, definition_added, default_added, attribute_added, kept_added}
+use Rattle.dbc_read.proofs.Takes.Fits.{Fits, AllFit}
+use Rattle.dbc_read.proofs.Takes.{halves, Takes, Opens, Stops, opens_one, opens_as}
+use Rattle.dbc_read.proofs.Takes.Notes.{word_opens}
+use Rattle.dbc_read.proofs.Takes.Messages.{EndsSignals}
+use Rattle.dbc_read.proofs.Takes.Adding.{MayFollow, symbols_added, nodes_added, message_added, table_added, values_added, float_added, mux_added, comment_added, definition_added, default_added, attribute_added, kept_added}
 
 -- ---- one statement
 

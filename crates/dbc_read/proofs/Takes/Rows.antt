@@ -21,8 +21,8 @@ use Rattle.dbc_reader.proofs.Turns.{bind_shrinks, bind_keeps, keeps, value_keeps
 use Rattle.dbc_reader.proofs.Turns.Lists.{mark_shrinks, entry_shrinks, range_shrinks}
 use Rattle.dbc_reader.proofs.Sound.{first_and}
 use Rattle.dbc_reader.proofs.Sound.Rows.{entry_form, table_form, values_form, float_form, range_form, further_form, mux_form}
-use Rattle.dbc_reader.proofs.Takes.{Takes, Anything, Opens, Stops, takes_value, takes_then, takes_next, takes_as, takes_where, takes_first, takes_none, opens_one, allows_stop, takes_list, alone}
-use Rattle.dbc_reader.proofs.Takes.Kinds.{is_the_mark, number_is_no_mark, Within, within, word_takes, mark_takes, name_takes, text_takes, whole_takes, id_takes, int_takes, int_opens}
+use Rattle.dbc_read.proofs.Takes.{Takes, Anything, Opens, Stops, takes_value, takes_then, takes_next, takes_as, takes_where, takes_first, takes_none, opens_one, allows_stop, takes_list, alone}
+use Rattle.dbc_read.proofs.Takes.Kinds.{is_the_mark, number_is_no_mark, Within, within, word_takes, mark_takes, name_takes, text_takes, whole_takes, id_takes, int_takes, int_opens}
 
 -- ---- a mark behind a list
 

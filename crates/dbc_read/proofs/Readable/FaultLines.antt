@@ -16,7 +16,7 @@ use Rattle.dbc_tokens.specs.declared.fault.ReadFault.{ReadFault}
 use Rattle.dbc_tokens.specs.Tokens.{Token, Cut, End, Fault, ◌▸◌, HasTokens, line_feeds}
 use Rattle.dbc_reader.specs.Classes.{has_word, has_mark, has_name, has_symbol, has_string, has_piece, has_kept_word, has_number, bounded, whole_of, order_digit, order_of, tagged, counted, front, muxed_of, tag_of}
 use Rattle.dbc_reader.specs.Pattern.{Class, Word, Mark, Name, Symbol, String, Whole, Number, Order, Tag as TagClass, Piece, KeptWord, BeginsMessage, BeginsSignal, SignalName, Seen, plain, judged_so, verdict, Pattern, may_end, Left, after, fault_in, ruled, judged, first_fault, nothing_seen}
-use Rattle.dbc_reader.specs.Laws.{FaultsAreOfTexts}
+use Rattle.dbc_read.specs.Laws.{FaultsAreOfTexts}
 
 -- ---- causes
 

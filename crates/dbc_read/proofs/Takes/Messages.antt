@@ -16,24 +16,23 @@ use Rattle.dbc_records.specs.Layout.{Word, Mark, Name, Text, Order, items_of}
 use Rattle.dbc_records.specs.CanonicalText.{head_layout, tag_layout}
 use Rattle.dbc_tokens.specs.declared.fault.Cause.{Cause}
 use Rattle.dbc_tokens.specs.declared.fault.Cause.TheVariants as causes
-use Rattle.dbc_reader.specs.declared.messages.Place.{Place}
 use Rattle.dbc_tokens.specs.Tokens.{Token, Cut, End, Fault, ◌▸◌}
 use Rattle.dbc_reader.specs.Classes.{has_word, has_mark, has_name, order_digit, order_of}
 use Rattle.dbc_reader.specs.Forms.{Part, Is, Perhaps, SpellsNumber, Spelled, of_layout, ◌▸▸◌}
 use Rattle.dbc_reader.specs.Spelling.{receivers_form, signal_form, form, OfMessage}
 use Rattle.dbc_reader.specs.Reading.Readers.{one, starts}
 use Rattle.dbc_reader.specs.Reading.Parts.{order_at, pair_at, comma_at, begins_receiver, receivers_from, receivers_at}
-use Rattle.dbc_reader.specs.Reading.Messages.{begun, begin_message_at, head_at, begin_signal_at, fresh, signal_name_at, sign_at, place_at, signal_at, signals_from, message_at}
+use Rattle.dbc_reader.specs.Reading.Messages.{SignalPlace, begun, begin_message_at, head_at, begin_signal_at, fresh, signal_name_at, sign_at, place_at, signal_at, signals_from, message_at}
 use Rattle.dbc_reader.proofs.Turns.{bind_shrinks, after_shrinks, value_keeps}
 use Rattle.dbc_reader.proofs.Turns.Lists.{name_shrinks, comma_keeps}
 use Rattle.dbc_reader.proofs.Turns.Signals.{signal_shrinks}
 use Rattle.dbc_reader.proofs.Sound.Messages.{sign_form, place_form, pair_form, further_name_form, signal_form_is}
-use Rattle.dbc_reader.proofs.Takes.{Takes, Anything, Opens, Stops, Allows, takes_value, takes_then, takes_next, takes_as, takes_last, opens_as, allows_as, all_pushed, takes_where, takes_first, takes_second, takes_none, takes_one, opens_one, allows_stop, takes_list, takes_repeated, pushed}
-use Rattle.dbc_reader.proofs.Takes.Kinds.{is_the_word, is_the_mark, Within, within, number_whole, mark_takes, name_takes, text_takes, whole_takes, id_takes, decimal_takes}
+use Rattle.dbc_read.proofs.Takes.{Takes, Anything, Opens, Stops, Allows, takes_value, takes_then, takes_next, takes_as, takes_last, opens_as, allows_as, all_pushed, takes_where, takes_first, takes_second, takes_none, takes_one, opens_one, allows_stop, takes_list, takes_repeated, pushed}
+use Rattle.dbc_read.proofs.Takes.Kinds.{is_the_word, is_the_mark, Within, within, number_whole, mark_takes, name_takes, text_takes, whole_takes, id_takes, decimal_takes}
 use Rattle.dbc_reader.proofs.Facts.MessageNames.{same_either_way}
-use Rattle.dbc_reader.proofs.Takes.Tags.{tag_takes}
-use Rattle.dbc_reader.proofs.Takes.Rows.{mark_opens, mark_opens_itself, perhaps_takes}
-use Rattle.dbc_reader.proofs.Takes.Notes.{word_opens}
+use Rattle.dbc_read.proofs.Takes.Tags.{tag_takes}
+use Rattle.dbc_read.proofs.Takes.Rows.{mark_opens, mark_opens_itself, perhaps_takes}
+use Rattle.dbc_read.proofs.Takes.Notes.{word_opens}
 
 -- ---- the words that begin messages and signals
 
@@ -85,7 +84,7 @@ unfolding sign_at has_mark
 sign_takes true = takes_first _ (mark_opens_itself 45) (takes_next _ (mark_takes 45) takes_value)
 sign_takes false = takes_second _ (mark_opens (λ bytes. bytes_eq bytes (45 ∷ [])) 43 refl) (takes_next _ (mark_takes 43) takes_value)
 
-place_takes : (place : Place) → place.start < 2 ^ 16 → (nat_le 1 place.length && nat_le place.length 14280) ≡ true → Takes place_at place (place_form place) Anything
+place_takes : (place : SignalPlace) → place.start < 2 ^ 16 → (nat_le 1 place.length && nat_le place.length 14280) ≡ true → Takes place_at place (place_form place) Anything
 unfolding place_at
 place_takes place start fits =
     takes_next _ (whole_takes 0 65535 place.start (within 0 65535 place.start (omega arith) (omega (arith, start)) (omega (arith, start)))) (takes_next _ (mark_takes 124)
@@ -169,7 +168,7 @@ seven a b c d e f g =
     append_assoc ((((a ++ b) ++ c) ++ d) ++ e) f g ∙ append_assoc (((a ++ b) ++ c) ++ d) e (f ++ g) ∙ append_assoc ((a ++ b) ++ c) d (e ++ (f ++ g))
     ∙ append_assoc (a ++ b) c (d ++ (e ++ (f ++ g))) ∙ append_assoc a b (c ++ (d ++ (e ++ (f ++ g))))
 
-abbrev place_of : Signal → Place
+abbrev place_of : Signal → SignalPlace
 place_of s = record { start = s.start; length = s.length; intel = s.intel; signed = s.signed }
 
 colon_stands : {parts : List Part} → Allows (Is (Mark 58) ∷ parts) (Stops begins_receiver) (λ cut. starts (has_mark 58) cut ≡ true)

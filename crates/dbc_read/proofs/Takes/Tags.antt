@@ -20,8 +20,8 @@ use Rattle.dbc_reader.specs.Reading.Readers.{starts}
 use Rattle.dbc_reader.specs.Reading.Parts.{tag_token_at}
 use Rattle.dbc_reader.specs.Reading.Messages.{tag_at}
 use Rattle.dbc_reader.proofs.Sound.Tags.{digits_are}
-use Rattle.dbc_reader.proofs.Takes.{Takes, takes_where, takes_second, takes_one, opens_one}
-use Rattle.dbc_reader.proofs.Takes.Kinds.{within, whole_is}
+use Rattle.dbc_read.proofs.Takes.{Takes, takes_where, takes_second, takes_one, opens_one}
+use Rattle.dbc_read.proofs.Takes.Kinds.{within, whole_is}
 
 -- ---- digits behind an `m`
 

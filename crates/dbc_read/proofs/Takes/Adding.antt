@@ -23,12 +23,12 @@ use Rattle.dbc_reader.proofs.Turns.{bind_shrinks, value_keeps}
 use Rattle.dbc_reader.proofs.Turns.Lists.{name_shrinks, symbol_shrinks}
 use Rattle.dbc_reader.proofs.Sound.Notes.{comment_form, attribute_form}
 use Rattle.dbc_reader.proofs.Sound.Adding.{joined, joined_none, symbols_joined, nodes_joined, symbols_are, nodes_are, piece_form}
-use Rattle.dbc_reader.proofs.Takes.{chosen-first, chosen-second, Takes, Anything, Opens, Stops, takes_value, takes_next, takes_last, takes_as, takes_first, takes_second, opens_one, takes_list}
-use Rattle.dbc_reader.proofs.Takes.Kinds.{word_takes, mark_takes, name_takes, symbol_takes}
-use Rattle.dbc_reader.proofs.Takes.Rows.{table_takes, values_take, float_takes, mux_takes}
-use Rattle.dbc_reader.proofs.Takes.Notes.{word_opens, comment_takes, definition_takes, default_takes, attribute_takes}
-use Rattle.dbc_reader.proofs.Takes.Messages.{EndsSignals, message_takes}
-use Rattle.dbc_reader.proofs.Takes.Kept.{NotKept, unkept_word, unkept_values, unkept_comment, unkept_attribute, begins_as_kept, kept_takes}
+use Rattle.dbc_read.proofs.Takes.{chosen-first, chosen-second, Takes, Anything, Opens, Stops, takes_value, takes_next, takes_last, takes_as, takes_first, takes_second, opens_one, takes_list}
+use Rattle.dbc_read.proofs.Takes.Kinds.{word_takes, mark_takes, name_takes, symbol_takes}
+use Rattle.dbc_read.proofs.Takes.Rows.{table_takes, values_take, float_takes, mux_takes}
+use Rattle.dbc_read.proofs.Takes.Notes.{word_opens, comment_takes, definition_takes, default_takes, attribute_takes}
+use Rattle.dbc_read.proofs.Takes.Messages.{EndsSignals, message_takes}
+use Rattle.dbc_read.proofs.Takes.Kept.{NotKept, unkept_word, unkept_values, unkept_comment, unkept_attribute, begins_as_kept, kept_takes}
 
 -- ---- a database and one statement more
 

@@ -26,10 +26,10 @@ use Rattle.dbc_reader.proofs.Turns.Lists.{piece_shrinks}
 use Rattle.dbc_reader.proofs.Facts.KeptBeginnings.{kept_by_tokens, any_of_four}
 use Rattle.dbc_reader.proofs.Facts.Names.{no_digit_no_number, word_is_no_number}
 use Rattle.dbc_reader.proofs.Sound.Adding.{piece_form}
-use Rattle.dbc_reader.proofs.Takes.{Takes, Anything, Opens, Stops, takes_value, takes_then, takes_next, takes_as, opens_one, allows_stop, takes_list}
-use Rattle.dbc_reader.proofs.Takes.Kinds.{mark_takes, piece_takes}
-use Rattle.dbc_reader.proofs.Takes.Rows.{mark_opens}
-use Rattle.dbc_reader.proofs.Takes.Notes.{word_opens, text_no_word, number_no_word}
+use Rattle.dbc_read.proofs.Takes.{Takes, Anything, Opens, Stops, takes_value, takes_then, takes_next, takes_as, opens_one, allows_stop, takes_list}
+use Rattle.dbc_read.proofs.Takes.Kinds.{mark_takes, piece_takes}
+use Rattle.dbc_read.proofs.Takes.Rows.{mark_opens}
+use Rattle.dbc_read.proofs.Takes.Notes.{word_opens, text_no_word, number_no_word}
 
 -- ---- what stands behind the first token
 

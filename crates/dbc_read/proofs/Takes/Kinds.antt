@@ -24,7 +24,7 @@ use Rattle.dbc_reader.specs.Forms.{Part, Is, Unsigned, IsOne, IsSign, IsSigned, 
 use Rattle.dbc_reader.specs.Reading.Readers.{Reader, and_then, ◌>>=◌, value, token_at, answered, starts, choose}
 use Rattle.dbc_reader.specs.Reading.Parts.{word_at, mark_at, name_at, symbol_at, text_at, piece_at, whole_at, id_at, number_at, decimal_at, int_at, begins_int}
 use Rattle.dbc_reader.proofs.Sound.{all_then_twice}
-use Rattle.dbc_reader.proofs.Takes.{Takes, Anything, Opens, takes_one, alone}
+use Rattle.dbc_read.proofs.Takes.{Takes, Anything, Opens, takes_one, alone}
 
 -- ---- tests of tokens
 

@@ -22,11 +22,11 @@ use Rattle.dbc_reader.specs.Reading.Attributes.{message_target_at}
 use Rattle.dbc_reader.specs.Reading.Databases.{message_attribute_at, one_of_six_at, statement_at}
 use Rattle.dbc_reader.proofs.Sound.Notes.{attribute_form}
 use Rattle.dbc_reader.proofs.Sound.Messages.{signal_form_is}
-use Rattle.dbc_reader.proofs.Takes.{Takes, Anything, Opens, Stops, takes_value, takes_next, takes_last, takes_as, takes_where, takes_first, takes_second, opens_as}
-use Rattle.dbc_reader.proofs.Takes.Kinds.{word_takes, mark_takes, text_takes, id_takes}
-use Rattle.dbc_reader.proofs.Takes.Rows.{table_takes, values_take, mux_takes}
-use Rattle.dbc_reader.proofs.Takes.Notes.{word_opens, given_takes}
-use Rattle.dbc_reader.proofs.Takes.Messages.{head_takes, signal_takes}
+use Rattle.dbc_read.proofs.Takes.{Takes, Anything, Opens, Stops, takes_value, takes_next, takes_last, takes_as, takes_where, takes_first, takes_second, opens_as}
+use Rattle.dbc_read.proofs.Takes.Kinds.{word_takes, mark_takes, text_takes, id_takes}
+use Rattle.dbc_read.proofs.Takes.Rows.{table_takes, values_take, mux_takes}
+use Rattle.dbc_read.proofs.Takes.Notes.{word_opens, given_takes}
+use Rattle.dbc_read.proofs.Takes.Messages.{head_takes, signal_takes}
 
 -- what may stand behind a statement that stands alone
 abbrev Closed : Cut → Type 0

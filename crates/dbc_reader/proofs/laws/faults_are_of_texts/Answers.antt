@@ -1,5 +1,0 @@
-use Rattle.dbc_reader.proofs.Texts.FaultLines.{faults_are_of_texts}
-use Rattle.dbc_reader.proofs.laws.faults_are_of_texts.Goals as goal
-
-pub returns : goal.returns
-returns c = faults_are_of_texts
