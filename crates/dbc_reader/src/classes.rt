@@ -1,6 +1,5 @@
 //! Classes of tokens.
 ghost use Rattle.std.specs.Prelude.{◌≡◌, false};
-ghost use Rattle.std.specs.Str.{bytes_eq};
 ghost use Rattle.dbc_tokens.specs.Views.{token_of};
 ghost use Rattle.dbc_reader.specs.Classes.{has_word, has_mark, has_name, has_symbol, has_string, has_piece, has_whole, has_number, has_kept_word};
 ghost use Rattle.dbc_reader.specs.Reading.Parts.{begins_decimal, begins_int, begins_receiver};

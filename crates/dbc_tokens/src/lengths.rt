@@ -1,7 +1,7 @@
 //! How long the gap or the token at the front of a text is.
 ghost use Rattle.std.specs.Prelude.{◌≡◌, ◌-◌, ◌<◌, ◌≤◌, false, not, ◌||◌, ◌==◌, length, slice_index, IfSome};
 ghost use Rattle.std.specs.List.{prefix_len};
-ghost use Rattle.dbc_values.specs.Lexical.{backslash, is_blank, is_digit, is_letter, is_word_byte, is_mark};
+ghost use Rattle.dbc_values.specs.Lexical.{backslash, is_blank, is_letter, is_word_byte, is_mark};
 ghost use Rattle.dbc_tokens.specs.Reading.Scanner.{gap_len, text_len, mantissa_len, sign_len, exponent_len, number_len, token_at};
 
 use crate::token::Kind;

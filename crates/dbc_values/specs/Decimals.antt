@@ -1,7 +1,7 @@
 -- Exact decimals: numbers of a database text as sign, whole number and power of ten, in one form each.
 -- Source: the DBC file format, "General Definitions" (signed_integer, unsigned_integer, double). That numbers are kept
 -- exactly, and the bounds, are the profile of candesk.
-use Rattle.std.specs.Prelude.{◌≡◌, ℕ, zero, suc, ℤ, pos, negsuc, ◌+ℤ◌, ◌-ℤ◌, int_le, nat_lt, Bool, not, ◌&&◌, ◌==◌, ◌*◌, ◌^◌, ◌/◌, ◌%◌, ◌⊎◌, false, List, Option, Some, None, IsTrue, if◌then◌else◌}
+use Rattle.std.specs.Prelude.{◌≡◌, ℕ, zero, suc, ℤ, pos, ◌+ℤ◌, ◌-ℤ◌, int_le, nat_lt, Bool, not, ◌&&◌, ◌==◌, ◌*◌, ◌^◌, ◌/◌, ◌%◌, ◌⊎◌, false, List, Option, Some, None, IsTrue, if◌then◌else◌}
 use Rattle.std.specs.Ordering.{int_eq}
 use Rattle.std.specs.Str.Parse.{starts_with_minus, without_leading_sign}
 use Rattle.dbc_values.specs.Lexical.{is_number}
