@@ -58,6 +58,42 @@ fn reads_a_statement(rt: HostRuntime) -> Result<(), Fail> {
     Ok(())
 }
 
+// The cause for which the text is refused as one statement, or nothing where it is one.
+fn cause_of(alloc: Global, text: &[u8]) -> Option<Cause> {
+    match read_one(alloc, text) {
+        Ok(_) => None,
+        Err(fault) => Some(fault.cause),
+    }
+}
+
+#[test]
+fn statements_that_stand_alone(rt: HostRuntime) {
+    let statements: [&[u8]; 6] = [
+        b"BO_ 291 M: 8 A",
+        b"SG_ S m0 : 0|8@1+ (1,0) [0|0] \"\" N",
+        b"VAL_TABLE_ T 0 \"a\" ;",
+        b"VAL_ 291 S 0 \"a\" ;",
+        b"SG_MUL_VAL_ 291 S M 0-1, 3-5;",
+        b"BA_ \"a\" BO_ 291 1;",
+    ];
+    for text in statements {
+        assert_eq!(rt; cause_of(rt.alloc(), text), None);
+    }
+    let others: [&[u8]; 8] = [
+        b"",
+        b"BU_: X",
+        b"VAL_ X 0 \"a\" ;",
+        b"CM_ \"x\";",
+        b"BO_ 291 M: 8 A SG_ S : 0|8@1+ (1,0) [0|0] \"\"",
+        b"BA_ \"a\" 1;",
+        b"BA_ \"a\" SG_ 291 S 1;",
+        b"VAL_TABLE_ T ; VAL_TABLE_ T ;",
+    ];
+    for text in others {
+        assert_eq!(rt; cause_of(rt.alloc(), text), Some(Cause::Statement));
+    }
+}
+
 fn breaks_at(alloc: Global, database: &Database, limit: usize) -> bool {
     let mut sink = Limp::new(Vec::new(alloc), 16, u64::MAX, limit);
     print(database, &mut sink) == Err(WriteFault) && sink.bytes() == &TEXT[..limit.min(TEXT.len())]
