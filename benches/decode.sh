@@ -1,5 +1,6 @@
 #!/usr/bin/env bash
-# How fast a log is decoded: lines per second over 1,000,000 lines of the example, the best of five runs.
+# How fast a log is decoded: lines per second over 1,000,000 lines of the example, whose database has one message, the best
+# of five runs.
 set -eu
 root=$(cd "$(dirname "$(readlink -f "$0")")/.." && pwd)
 work=$(mktemp -d)

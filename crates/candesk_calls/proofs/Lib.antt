@@ -1,4 +1,3 @@
-pub mod Ending
-pub mod Reading
 pub mod Commands
 pub mod WordRows
+pub mod Drawing

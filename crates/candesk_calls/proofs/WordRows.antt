@@ -3,7 +3,7 @@ use Rattle.std.proofs.Common.{◌≡◌, [], ◌∷◌, Some, codes, refl}
 use Rattle.clap.specs.Words.{fault_of}
 use Rattle.clap.specs.declared.error.kind.ErrorKind.TheVariants.{DisplayVersion, MissingRequiredArgument, UnknownArgument}
 use Rattle.clap.proofs.OnLiterals.{clap_on_literals}
-use Rattle.candesk_calls.specs.declared.job.Command.TheVariants.{Decode, Print}
+use Rattle.candesk_calls.specs.declared.job.Command.TheVariants.{Decode, Dump, Print}
 use Rattle.candesk_calls.specs.Words.{command_line, job_named}
 
 decode-job : job_named (codes "decode" ∷ codes "a" ∷ []) ≡ Some (Decode, codes "a")
@@ -17,6 +17,10 @@ decode-has_no_fault = refl
 print-job : job_named (codes "print" ∷ codes "--" ∷ codes "--a" ∷ []) ≡ Some (Print, codes "--a")
 unfolding clap_on_literals
 print-job = refl
+
+dump-job : job_named (codes "dump" ∷ codes "a" ∷ []) ≡ Some (Dump, codes "a")
+unfolding clap_on_literals
+dump-job = refl
 
 version : fault_of command_line (codes "-V" ∷ []) ≡ DisplayVersion ∷ []
 unfolding clap_on_literals

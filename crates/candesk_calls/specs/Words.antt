@@ -27,14 +27,15 @@ before_command = let app = new_app (codes "candesk") in
     record app { top = record app.top { has_version = true; no_binary_name = true; subcommand_required = true } }
 
 abbrev pub command_line : App
-command_line = with_subcommand (with_subcommand before_command (on_file (codes "decode")).top) (on_file (codes "print")).top
+command_line = with_subcommand (with_subcommand (with_subcommand before_command (on_file (codes "decode")).top) (on_file (codes "dump")).top) (on_file (codes "print")).top
 
 -- ---- jobs
 
 abbrev pub command_named : Text → Option Command
 command_named name =
     if bytes_eq name (codes "decode") then Some commands.Decode
-    else (if bytes_eq name (codes "print") then Some commands.Print else None)
+    else (if bytes_eq name (codes "dump") then Some commands.Dump
+    else (if bytes_eq name (codes "print") then Some commands.Print else None))
 
 -- the command and its FILE, from what clap finds in the words
 abbrev pub job_found : Option (Text × List Row) → Option (Command × Text)

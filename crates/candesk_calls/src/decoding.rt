@@ -2,14 +2,14 @@
 ghost use Rattle.candesk_calls.specs.Run.{Runs};
 
 use crate::fault::RunFault;
-use crate::streaming::decode_stream;
-use can_small::reading::{Refusal, read_small};
+use can_decode::decode_stream;
+use can_layout::{Meter, make_plans};
 use dbc_model::{Sink, Source};
-use dbc_tokens::{Cause, ReadFault};
+use dbc_reader::read;
 use std::alloc::Global;
 
-/// Reads the database text, then the log to its end, and writes the decoded line and an LF for each line of it. It
-/// answers how many lines there are, up to `u64::MAX`.
+/// Reads the database text, makes the plans of its messages, then reads the log to its end, and writes the decoded line
+/// and an LF for each line of it. It answers how many lines there are, up to `u64::MAX`.
 pub fn decode_run<R: Source, W: Sink>(
     alloc: Global,
     text: &[u8],
@@ -18,17 +18,15 @@ pub fn decode_run<R: Source, W: Sink>(
 ) -> Result<u64, RunFault>
     ensures { Runs text.now (R.unread source.old) (R.unread source.new) (W.written sink.old) (W.written sink.new) result }
 {
-    let messages = match read_small(alloc, text) {
-        Ok(messages) => messages,
-        Err(Refusal::NotSmall) => {
-            return Err(RunFault::Read(ReadFault {
-                line: 0,
-                cause: Cause::Statement,
-            }));
-        }
-        Err(Refusal::Memory) => return Err(RunFault::Memory),
+    let database = match read(alloc, text) {
+        Ok(database) => database,
+        Err(fault) => return Err(RunFault::Read(fault)),
     };
-    match decode_stream(alloc, messages.as_slice(), source, sink) {
+    let mut meter = Meter::new();
+    let Ok(plans) = make_plans(alloc, &database, &mut meter) else {
+        return Err(RunFault::Memory);
+    };
+    match decode_stream(alloc, &database, plans.as_slice(), &mut meter, source, sink) {
         Ok(count) => Ok(count),
         Err(fault) => Err(RunFault::Stream(fault)),
     }

@@ -13,6 +13,8 @@ use std::alloc::{AllocError, Global};
 pub enum Command {
     /// Decodes the log on standard input.
     Decode,
+    /// Draws the messages of the database.
+    Dump,
     /// Prints the canonical text of the database.
     Print,
 }
@@ -55,13 +57,21 @@ const DECODE_NOTES: &str = "\
 Standard input is a log as `candump -L` writes it. Standard output has each of its lines, and behind a line with a data
 frame what the frame says by the database.
 
-As yet FILE has to be a small database: at most one list of nodes, then messages with 11-bit identifiers and at most 8
-bytes, whose signals are unsigned, in Intel order and untagged, with whole factors and offsets of at most 10^9 in size,
-and no comments.
-
 Example:
   $ candesk decode examples/wheel.dbc < examples/wheel.log
   (1.5) can0 123#0A01 :: Wheel(Speed: 537 rpm)";
+
+// What stands below the options in the help of `dump`.
+const DUMP_NOTES: &str = "\
+Standard input is not read. Standard output is a picture of each message: its name, number and size, then a line for
+each byte with a cell for each bit, then a line for each signal, by whose number the cells name it.
+
+Example:
+  $ candesk dump examples/wheel.dbc
+  Message Wheel 291 2
+     0:   0   0   0   0   0   0   0   0
+     1:   0   0   0   0   0   0   0   0
+     0 Speed 0|16@1+";
 
 // What stands below the options in the help of `print`.
 const PRINT_NOTES: &str = "\
@@ -95,7 +105,7 @@ fn on_file<'a>(
         .arg(file)
 }
 
-// The command line: `candesk decode FILE`, `candesk print FILE`.
+// The command line: `candesk decode FILE`, `candesk dump FILE`, `candesk print FILE`.
 fn command_line<'a>(alloc: Global) -> Result<clap::Command<'a>, AllocError>
     ensures { IfOk result (λ command. app_of command ≡ command_line) }
 {
@@ -105,6 +115,12 @@ fn command_line<'a>(alloc: Global) -> Result<clap::Command<'a>, AllocError>
         "Decodes a log of `candump -L` on standard input",
         DECODE_NOTES,
     )?;
+    let dump = on_file(
+        alloc,
+        "dump",
+        "Draws the messages of a database, bit by bit, on standard output",
+        DUMP_NOTES,
+    )?;
     let print = on_file(
         alloc,
         "print",
@@ -112,12 +128,13 @@ fn command_line<'a>(alloc: Global) -> Result<clap::Command<'a>, AllocError>
         PRINT_NOTES,
     )?;
     clap::Command::new(alloc, "candesk")
-        .about("Prints CAN databases and decodes logs, with proved answers")
+        .about("Prints and draws CAN databases and decodes logs, with proved answers")
         .version(VERSION)
         .no_binary_name(true)
         .bin_name("candesk")?
         .subcommand_required(true)
         .subcommand(decode)?
+        .subcommand(dump)?
         .subcommand(print)
 }
 
@@ -140,6 +157,7 @@ fn command_named(name: &str) -> Option<Command>
 {
     match name {
         "decode" => Some(Command::Decode),
+        "dump" => Some(Command::Dump),
         "print" => Some(Command::Print),
         _ => None,
     }

@@ -1,15 +1,18 @@
 //! A job on a file's bytes, the standard streams and an exit status.
 ghost use Rattle.std.specs.Prelude.{◌≡◌, Err};
 ghost use Rattle.candesk_calls.specs.Printing.{status_of_cause, print_status_of, PrintingEndsWith};
+ghost use Rattle.candesk_calls.specs.Dumping.{dump_status_of, DumpingEndsWith};
 ghost use Rattle.candesk_calls.specs.Run.{DecodingEndsWith, EndsWith, status_of};
 
 use crate::decoding::decode_run;
-use crate::fault::{PrintFault, RunFault, StreamFault};
+use crate::dumping::dump_run;
+use crate::fault::{DumpFault, PrintFault, RunFault};
 use crate::job::{Command, Job};
 use crate::printing::print_run;
 use arrayvec::ArrayString;
 use dbc_model::{Sink, Source, put_all};
 use dbc_tokens::Cause;
+use line_stream::StreamFault;
 use std::alloc::Global;
 use std::fmt::{Display, Write};
 
@@ -32,7 +35,7 @@ fn status_of(fault: RunFault) -> u8
     ensures { result ≡ status_of (Err fault) }
 {
     match fault {
-        RunFault::Read(_) => status::REFUSED,
+        RunFault::Read(fault) => status_of_cause(fault.cause),
         RunFault::Memory | RunFault::Stream(StreamFault::Memory) => status::MEMORY,
         RunFault::Stream(StreamFault::LongLine | StreamFault::Read | StreamFault::Write) => {
             status::DEVICE
@@ -57,6 +60,17 @@ fn print_status_of(fault: PrintFault) -> u8
     match fault {
         PrintFault::Read(fault) => status_of_cause(fault.cause),
         PrintFault::Write => status::DEVICE,
+    }
+}
+
+// The status of a fault of `dump`.
+fn dump_status_of(fault: DumpFault) -> u8
+    ensures { result ≡ dump_status_of (Err fault) }
+{
+    match fault {
+        DumpFault::Read(fault) => status_of_cause(fault.cause),
+        DumpFault::Write => status::DEVICE,
+        DumpFault::Memory => status::MEMORY,
     }
 }
 
@@ -103,6 +117,19 @@ fn print<W: Sink, E: Sink>(alloc: Global, text: &[u8], sink: &mut W, errors: &mu
     }
 }
 
+// Draws, and says the fault.
+fn dump<W: Sink, E: Sink>(alloc: Global, text: &[u8], sink: &mut W, errors: &mut E) -> u8
+    ensures { DumpingEndsWith text.now (W.written sink.old) (W.written sink.new) result }
+{
+    match dump_run(alloc, text, sink) {
+        Ok(()) => status::DONE,
+        Err(fault) => {
+            report(errors, fault);
+            dump_status_of(fault)
+        }
+    }
+}
+
 /// Does the job on the bytes of its file: writes the output to `sink` and a fault's line to `errors`, and answers the
 /// exit status. `source` is standard input, which only `decode` reads. That `errors` fails doesn't change the status.
 pub fn run<R: Source, W: Sink, E: Sink>(
@@ -117,6 +144,7 @@ pub fn run<R: Source, W: Sink, E: Sink>(
 {
     match job.command {
         Command::Decode => decode(alloc, text, source, sink, errors),
+        Command::Dump => dump(alloc, text, sink, errors),
         Command::Print => print(alloc, text, sink, errors),
     }
 }

@@ -10,4 +10,6 @@ returns c =
     let top = λ (a : App). a.top in
     let first : app_of c.in_ok-subcommand.field-0 ≡ with_subcommand before_command (on_file (codes "decode")).top =
     c.in_ok-subcommand.ensures.shape c.in_ok-decode.ensures.local ∙ ap₂ with_subcommand before (ap top c.in_ok-decode.ensures.app) in
-    IfOk-weaker c.subcommand-2.result _ _ (λ r h. h.shape c.in_ok-print.ensures.local ∙ ap₂ with_subcommand first (ap top c.in_ok-print.ensures.app)) c.subcommand-2.ensures
+    let second : app_of c.in_ok-subcommand-2.field-0 ≡ with_subcommand (with_subcommand before_command (on_file (codes "decode")).top) (on_file (codes "dump")).top =
+    c.in_ok-subcommand-2.ensures.shape c.in_ok-dump.ensures.local ∙ ap₂ with_subcommand first (ap top c.in_ok-dump.ensures.app) in
+    IfOk-weaker c.subcommand-3.result _ _ (λ r h. h.shape c.in_ok-print.ensures.local ∙ ap₂ with_subcommand second (ap top c.in_ok-print.ensures.app)) c.subcommand-3.ensures

@@ -1,0 +1,4 @@
+pub mod Bits
+pub mod Steps
+pub mod Grids
+pub mod Cells

@@ -1,0 +1,74 @@
+//! The bits of a message, drawn as a grid of bytes and bits.
+ghost use Rattle.std.specs.Prelude.{◌≡◌, ◌++◌, OnOk};
+ghost use Rattle.can_bits.specs.Grids.{right, grid_text};
+ghost use Rattle.can_bits.specs.Cells.{shown, cells_text, cells_line};
+
+use crate::cell::Cell;
+use crate::field::Field;
+use crate::table::Table;
+use dbc_values::Memory;
+use itoa::Buffer;
+
+// Shorter words are filled up to this width on the left.
+const COLUMNS: usize = 4;
+
+const BITS_DOWN: [u8; 8] = [7, 6, 5, 4, 3, 2, 1, 0];
+
+/// Appends a word to the right of four columns, or as it is where it is longer.
+#[tactic(auto, unfolding(crate::specs::Grids::right))]
+pub fn push_right(text: &mut Vec<u8>, word: &[u8]) -> Result<(), Memory>
+    ensures { OnOk result (text.new.items ≡ text.old.items ++ right word.now) }
+{
+    for _column in word.len()..COLUMNS {
+        text.push(b' ')?;
+    }
+    text.extend_from_slice(word)?;
+    Ok(())
+}
+
+fn push_cell(text: &mut Vec<u8>, cell: Cell) -> Result<(), Memory>
+    ensures { OnOk result (text.new.items ≡ text.old.items ++ right (shown cell)) }
+{
+    match cell {
+        Cell::Free => push_right(text, b"."),
+        Cell::One(place) => {
+            let mut number = Buffer::new();
+            push_right(text, number.format(place).as_bytes())
+        }
+        Cell::Several => push_right(text, b"*"),
+    }
+}
+
+fn push_cells(text: &mut Vec<u8>, byte: u16, table: &Table) -> Result<(), Memory>
+    ensures { OnOk result (text.new.items ≡ text.old.items ++ cells_text table.now.cells.items byte) }
+{
+    for bit in BITS_DOWN {
+        let position = 8 * usize::from(byte) + usize::from(bit);
+        push_cell(text, table.at(position))?;
+    }
+    Ok(())
+}
+
+#[tactic(auto, using(crate::proofs::Pushing::pushed_then), unfolding(crate::specs::Cells::cells_line))]
+fn push_byte_line(text: &mut Vec<u8>, byte: u16, table: &Table) -> Result<(), Memory>
+    ensures { OnOk result (text.new.items ≡ text.old.items ++ cells_line table.now.cells.items byte) }
+{
+    let mut number = Buffer::new();
+    push_right(text, number.format(byte).as_bytes())?;
+    text.extend_from_slice(b":")?;
+    push_cells(text, byte, table)?;
+    text.extend_from_slice(b"\n")?;
+    Ok(())
+}
+
+/// Draws a message of `size` bytes with these fields: a line for each byte, its most significant bit on the left. A cell
+/// names the one field that has the bit by its place among the fields.
+pub fn push_grid(text: &mut Vec<u8>, size: u16, fields: &[Field]) -> Result<(), Memory>
+    ensures { OnOk result (text.new.items ≡ text.old.items ++ grid_text size fields.now) }
+{
+    let table = Table::of(*text.allocator(), size, fields)?;
+    for byte in 0..size {
+        push_byte_line(text, byte, &table)?;
+    }
+    Ok(())
+}

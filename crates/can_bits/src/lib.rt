@@ -1,0 +1,19 @@
+//! Where the bits of signals lie in the data of a message, what they are there, and how they are drawn.
+//!
+//! A [`Field`] is a start bit, a length and a byte order. [`Steps`] finds its raw value a byte at a time; what that value is,
+//! `specs/Bits.antt` says bit by bit.
+#![tactic(auto)]
+
+mod cell;
+mod field;
+mod grid;
+mod step;
+mod steps;
+mod table;
+#[cfg(test)]
+mod tests;
+
+pub use field::Field;
+pub use grid::{push_grid, push_right};
+pub use step::{Shift, Step};
+pub use steps::Steps;

@@ -1,0 +1,77 @@
+-- The text of a signal's value.
+-- Source: cantools, the single-line form of `decode` (a value and its unit, or the text of a named value); the DBC file
+-- format, "Signal Definitions" (physical value) and "Signal Value Descriptions". That values are written exactly is the
+-- profile of candesk.
+use Rattle.std.specs.Prelude.{ℕ, ℤ, zero, suc, ◌+ℤ◌, ◌*ℤ◌, ◌/◌, ◌%◌, ◌==◌, ◌||◌, int_lt, pos, unsigned_abs, List, [], ◌∷◌, ◌++◌, map, Option, Some, None, codes, decimal, if◌then◌else◌}
+use Rattle.std.specs.List.{find}
+use Rattle.std.specs.Ordering.{int_eq}
+use Rattle.dbc_values.specs.Lexical.{space, line_feed, carriage_return}
+use Rattle.dbc_values.specs.Scales.{Scale}
+use Rattle.dbc_records.specs.Layout.{point_before_last, filled}
+use Rattle.dbc_records.specs.Records.{Entry}
+use Rattle.can_bits.specs.Bits.{raw_value}
+use Rattle.can_layout.specs.Pictures.{cause_word}
+use Rattle.can_layout.specs.declared.row.Reading.{Reading}
+use Rattle.can_layout.specs.declared.row.Reading.TheVariants.{Refused, Read}
+use Rattle.can_layout.specs.Decoders.{Decoder}
+
+-- ---- exact decimals
+
+-- a whole number with the point that many places from the right
+pub record Fixed : Type 0 where
+  pub digits : ℕ
+  pub places : ℕ
+
+-- the same number with the fewest places: no zero stands last behind the point
+abbrev pub fewest_places : ℕ → ℕ → Fixed
+fewest_places digits zero = record { digits = digits; places = 0 }
+fewest_places digits (suc places) = if digits % 10 == 0 then fewest_places (digits / 10) places else record { digits = digits; places = suc places }
+
+-- at least one digit stands before the point
+unfoldable pub fixed_text : Fixed → List ℕ
+fixed_text fixed = if fixed.places == 0 then decimal fixed.digits else point_before_last fixed.places (filled fixed.places (decimal fixed.digits))
+
+abbrev pub sign_of : ℤ → List ℕ
+sign_of value = if int_lt value (pos 0) then codes "-" else []
+
+-- the one decimal of `value` over ten to the number of places
+unfoldable pub scaled_text : ℤ → ℕ → List ℕ
+scaled_text value places = sign_of value ++ fixed_text (fewest_places (unsigned_abs value) places)
+
+-- ---- values
+
+-- factor times raw plus offset
+abbrev pub scaled : Scale → ℤ → ℤ
+scaled scale raw = (scale.factor *ℤ raw) +ℤ scale.offset
+
+-- CR and LF are shown as a blank, so that a line stays one
+abbrev pub shown_byte : ℕ → ℕ
+shown_byte b = if b == carriage_return || b == line_feed then space else b
+
+abbrev pub shown : List ℕ → List ℕ
+shown text = map shown_byte text
+
+-- a blank and the unit, where there is one
+abbrev pub unit_text : List ℕ → List ℕ
+unit_text [] = []
+unit_text (b ∷ unit) = codes " " ++ shown (b ∷ unit)
+
+-- the first name of a raw value
+abbrev pub first_entry : ℤ → List Entry → Option Entry
+first_entry raw entries = find (λ entry. int_eq entry.number raw) entries
+
+abbrev pub number_text : Decoder → ℤ → List ℕ
+number_text decoder raw = scaled_text (scaled decoder.scale raw) decoder.scale.places ++ unit_text decoder.unit
+
+-- a raw value that is named is shown by its name, without a unit
+abbrev pub named_or_number : Decoder → ℤ → Option Entry → List ℕ
+named_or_number decoder raw (Some entry) = shown entry.text
+named_or_number decoder raw None = number_text decoder raw
+
+abbrev pub decoder_text : Decoder → ℤ → List ℕ
+decoder_text decoder raw = named_or_number decoder raw (first_entry raw decoder.entries)
+
+-- the value in data, or why there is none
+abbrev pub reading_text : List ℕ → Reading → List ℕ
+reading_text bytes (Refused cause) = codes "?" ++ cause_word cause
+reading_text bytes (Read decoder) = decoder_text decoder (raw_value bytes decoder.signed decoder.bits)

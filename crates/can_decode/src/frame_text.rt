@@ -1,0 +1,88 @@
+//! What is said of a frame, as text.
+ghost use Rattle.std.specs.Prelude.{◌≡◌, ◌++◌, OnOk, option_map};
+ghost use Rattle.std.specs.List.{flat_map};
+ghost use Rattle.can_decode.specs.DecodedLines.{wrong_size_text, unknown_text, data_text, text_of_kind};
+
+use crate::message::push_message;
+use crate::target::Target;
+use crate::value::push_bytes;
+use dbc_values::Memory;
+use itoa::Buffer;
+use log_frames::{Frame, Kind};
+use std::alloc::Global;
+
+// Pieces, one after another.
+fn push_pieces(text: &mut Vec<u8>, pieces: &[&[u8]]) -> Result<(), Memory>
+    ensures { OnOk result (text.new.items ≡ text.old.items ++ flat_map (λ piece. piece.now) pieces.now) }
+{
+    for piece in pieces {
+        text.extend_from_slice(piece)?;
+    }
+    Ok(())
+}
+
+#[tactic(auto, unfolding(crate::specs::DecodedLines::wrong_size_text))]
+fn push_wrong_size(text: &mut Vec<u8>, there: usize, wanted: u16) -> Result<(), Memory>
+    ensures { OnOk result (text.new.items ≡ text.old.items ++ wrong_size_text there wanted) }
+{
+    let mut there_number = Buffer::new();
+    let mut wanted_number = Buffer::new();
+    let pieces: [&[u8]; 5] = [
+        b"Wrong data size: ",
+        there_number.format(there).as_bytes(),
+        b" instead of ",
+        wanted_number.format(wanted).as_bytes(),
+        b" bytes",
+    ];
+    push_pieces(text, &pieces)
+}
+
+#[tactic(auto, unfolding(crate::specs::DecodedLines::unknown_text))]
+fn push_unknown(alloc: Global, text: &mut Vec<u8>, identifier: u32) -> Result<(), Memory>
+    ensures { OnOk result (text.new.items ≡ text.old.items ++ unknown_text identifier) }
+{
+    let mut number = Buffer::new();
+    let hexadecimal = format!(in alloc; "{identifier:x}")?;
+    let pieces: [&[u8]; 5] = [
+        b"Unknown frame id ",
+        number.format(identifier).as_bytes(),
+        b" (0x",
+        hexadecimal.as_bytes(),
+        b")",
+    ];
+    push_pieces(text, &pieces)
+}
+
+// What is said of a data frame.
+fn push_data(
+    alloc: Global,
+    text: &mut Vec<u8>,
+    frame: &Frame,
+    target: Option<&Target<'_>>,
+) -> Result<(), Memory>
+    ensures { OnOk result (text.new.items ≡ text.old.items ++ data_text frame.now (option_map (λ target. target.now) target.entry)) }
+{
+    match target {
+        None => push_unknown(alloc, text, frame.identifier),
+        Some(target) if frame.bytes.len() < target.plan.size() as usize => {
+            push_wrong_size(text, frame.bytes.len(), target.plan.size())
+        }
+        Some(target) => push_message(text, frame, target),
+    }
+}
+
+/// What is said of a frame, by what it goes to.
+pub(crate) fn push_frame(
+    alloc: Global,
+    text: &mut Vec<u8>,
+    frame: &Frame,
+    target: Option<&Target<'_>>,
+) -> Result<(), Memory>
+    ensures { OnOk result (text.new.items ≡ text.old.items ++ text_of_kind frame.now.kind frame.now (option_map (λ target. target.now) target.entry)) }
+{
+    match frame.kind {
+        Kind::Error => push_bytes(text, b"Error frame"),
+        Kind::Remote => push_bytes(text, b"Remote frame"),
+        Kind::Classic | Kind::Fd => push_data(alloc, text, frame, target),
+    }
+}

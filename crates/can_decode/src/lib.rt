@@ -1,0 +1,22 @@
+//! Log lines in, decoded lines out.
+//!
+//! [`decode_line`] says what the frame of a line is by a database and the plans of its messages; [`choose`] tells which message
+//! a frame goes to.
+#![tactic(auto)]
+
+mod choice;
+mod frame_text;
+mod j1939;
+mod line;
+mod message;
+mod stream;
+mod target;
+mod value;
+
+pub use can_rows::group_number;
+pub use choice::choose;
+pub use j1939::J1939;
+pub use line::decode_line;
+pub use line_stream::StreamFault;
+pub use log_frames::{Frame, Kind, read_frame};
+pub use stream::decode_stream;

@@ -1,0 +1,107 @@
+//! What a frame says by its message, as text.
+ghost use Rattle.std.specs.Prelude.{◌≡◌, ◌++◌, OnOk, decimal, if◌then◌else◌};
+ghost use Rattle.can_decode.specs.DecodedLines.{signal_text, further_signal, present_rows, signals_text, destination_text, group_text, bracket_text, message_text};
+
+use crate::j1939::J1939;
+use crate::target::Target;
+use crate::value::{push_bytes, push_reading};
+use can_layout::{Plan, Row};
+use dbc_values::Memory;
+use itoa::Buffer;
+use log_frames::Frame;
+
+/// A whole number.
+pub(crate) fn push_number(text: &mut Vec<u8>, number: u64) -> Result<(), Memory>
+    ensures { OnOk result (text.new.items ≡ text.old.items ++ decimal number) }
+{
+    let mut room = Buffer::new();
+    push_bytes(text, room.format(number).as_bytes())
+}
+
+#[tactic(auto, using(crate::proofs::Pushing::pushed_then), unfolding(crate::specs::DecodedLines::signal_text))]
+fn push_signal(text: &mut Vec<u8>, row: &Row, bytes: &[u8]) -> Result<(), Memory>
+    ensures { OnOk result (text.new.items ≡ text.old.items ++ signal_text bytes.now row.now) }
+{
+    push_bytes(text, row.name.as_bytes())?;
+    push_bytes(text, b": ")?;
+    push_reading(text, &row.reading, bytes)
+}
+
+// A signal, behind others where `some` says so.
+fn push_next(text: &mut Vec<u8>, some: bool, row: &Row, bytes: &[u8]) -> Result<(), Memory>
+    ensures { OnOk result (text.new.items ≡ text.old.items ++ (if some then further_signal bytes.now row.now else signal_text bytes.now row.now)) }
+{
+    if some {
+        push_bytes(text, b", ")?;
+    }
+    push_signal(text, row, bytes)
+}
+
+// The signals that are there, a comma and a blank between them.
+fn push_signals(text: &mut Vec<u8>, plan: &Plan, bytes: &[u8]) -> Result<(), Memory>
+    ensures { OnOk result (text.new.items ≡ text.old.items ++ signals_text bytes.now (present_rows bytes.now plan.now.rows plan.now.rows)) }
+{
+    let mut some = false;
+    for signal in 0..plan.signals() {
+        if plan.present(signal, bytes) {
+            push_next(text, some, plan.row(signal), bytes)?;
+            some = true;
+        }
+    }
+    Ok(())
+}
+
+fn push_destination(text: &mut Vec<u8>, identifier: u32) -> Result<(), Memory>
+    ensures { OnOk result (text.new.items ≡ text.old.items ++ destination_text identifier) }
+{
+    let fields = J1939::of(identifier);
+    if fields.format >= FIRST_BROADCAST_FORMAT {
+        return Ok(());
+    }
+    push_bytes(text, b" d")?;
+    push_number(text, u64::from(fields.specific))
+}
+
+// From this PDU format on an identifier has no destination.
+const FIRST_BROADCAST_FORMAT: u8 = 240;
+
+// Priority, source and destination.
+#[tactic(auto, using(crate::proofs::Pushing::pushed_then), unfolding(crate::specs::DecodedLines::group_text))]
+fn push_group(text: &mut Vec<u8>, identifier: u32) -> Result<(), Memory>
+    ensures { OnOk result (text.new.items ≡ text.old.items ++ group_text identifier) }
+{
+    let fields = J1939::of(identifier);
+    push_bytes(text, b"[p")?;
+    push_number(text, u64::from(fields.priority))?;
+    push_bytes(text, b" s")?;
+    push_number(text, u64::from(fields.source))?;
+    push_destination(text, identifier)?;
+    push_bytes(text, b"]")
+}
+
+fn push_bracket(text: &mut Vec<u8>, identifier: u32, group: bool) -> Result<(), Memory>
+    ensures { OnOk result (text.new.items ≡ text.old.items ++ bracket_text identifier group) }
+{
+    if group {
+        push_group(text, identifier)
+    } else {
+        Ok(())
+    }
+}
+
+/// The message's name, and the signals that are there.
+#[tactic(auto, using(crate::proofs::Pushing::pushed_then), unfolding(crate::specs::DecodedLines::message_text))]
+pub(crate) fn push_message(
+    text: &mut Vec<u8>,
+    frame: &Frame,
+    target: &Target<'_>,
+) -> Result<(), Memory>
+    ensures { OnOk result (text.new.items ≡ text.old.items ++ message_text frame.now target.now) }
+{
+    let message = target.message;
+    push_bytes(text, message.head.name.as_bytes())?;
+    push_bracket(text, frame.identifier, target.group)?;
+    push_bytes(text, b"(")?;
+    push_signals(text, target.plan, frame.bytes.as_slice())?;
+    push_bytes(text, b")")
+}

@@ -1,0 +1,79 @@
+//! Pictures of one message, and of all.
+ghost use Rattle.std.specs.Prelude.{◌≡◌, ◌<◌, IfOk, OnOk, Some, length, map, slice_get};
+ghost use Rattle.std.specs.Option.{option_map};
+ghost use Rattle.can_layout.specs.Pictures.{picture_of};
+ghost use Rattle.can_layout.specs.Meters.{with_picture, repeated, AtMost};
+
+use crate::legend::picture_in;
+use crate::meter::Meter;
+use crate::rows::MessageRows;
+use can_rows::{Indexed, Lookup};
+use dbc_records::{Database, Message};
+use dbc_values::Memory;
+use std::alloc::Global;
+
+/// The picture of a message, by the rows of a database: a [`Database`] goes through them for each signal, an [`Indexed`] one
+/// finds them. The meter counts it, also where memory is refused.
+pub fn picture_with<L: Lookup>(
+    alloc: Global,
+    lookup: &L,
+    message: &Message,
+    meter: &mut Meter,
+) -> Result<Vec<u8>, Memory>
+    ensures picture { IfOk result (λ picture. picture.items ≡ picture_of (L.whole lookup.now) message.now) }
+    ensures counted { meter.new ≡ with_picture meter.old }
+{
+    meter.count_picture();
+    picture_in(
+        alloc,
+        &MessageRows::of(lookup, message.head.number),
+        message,
+    )
+}
+
+/// The picture of the message at a place. It goes through the rows of the database for each signal. The meter counts it,
+/// also where memory is refused.
+pub fn picture(
+    alloc: Global,
+    database: &Database,
+    place: usize,
+    meter: &mut Meter,
+) -> Result<Vec<u8>, Memory>
+    requires { place < length database.now.messages }
+    ensures picture { IfOk result (λ picture. Some picture.items ≡ option_map (picture_of database.now) (slice_get database.now.messages place)) }
+    ensures counted { meter.new ≡ with_picture meter.old }
+{
+    picture_with(alloc, database, &database.messages.as_slice()[place], meter)
+}
+
+// The pictures of messages, in order.
+fn pictures_of<L: Lookup>(
+    alloc: Global,
+    lookup: &L,
+    messages: &[Message],
+    meter: &mut Meter,
+) -> Result<Vec<Vec<u8>>, Memory>
+    ensures pictures { IfOk result (λ pictures. map (λ picture. picture.items) pictures.items ≡ map (picture_of (L.whole lookup.now)) messages.now) }
+    ensures counted { OnOk result (meter.new ≡ repeated (length messages.now) with_picture meter.old) }
+    ensures at_most { AtMost (length messages.now) with_picture meter.old meter.new }
+{
+    let mut pictures = Vec::new(alloc);
+    for message in messages {
+        pictures.push(picture_with(alloc, lookup, message, meter)?)?;
+    }
+    Ok(pictures)
+}
+
+/// The pictures of all messages, in order, by an index of the rows. The meter counts each.
+pub fn pictures(
+    alloc: Global,
+    database: &Database,
+    meter: &mut Meter,
+) -> Result<Vec<Vec<u8>>, Memory>
+    ensures pictures { IfOk result (λ pictures. map (λ picture. picture.items) pictures.items ≡ map (picture_of database.now) database.now.messages) }
+    ensures counted { OnOk result (meter.new ≡ repeated (length database.now.messages) with_picture meter.old) }
+    ensures at_most { AtMost (length database.now.messages) with_picture meter.old meter.new }
+{
+    let indexed = Indexed::of(alloc, database)?;
+    pictures_of(alloc, &indexed, database.messages.as_slice(), meter)
+}

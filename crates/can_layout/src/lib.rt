@@ -1,0 +1,36 @@
+//! What the data of a message says of its signals: decode plans, multiplexing, and pictures of messages.
+//!
+//! A [`Plan`] says how each signal of a message is read and when it is there. Plans and pictures read only their message and the
+//! rows of its number.
+#![tactic(auto)]
+
+mod above;
+mod asking;
+mod decoder;
+mod drawing;
+pub mod laws;
+mod legend;
+mod link;
+mod making;
+mod meter;
+mod plan;
+mod refusal;
+mod row;
+mod rows;
+mod switches;
+mod text;
+mod walk;
+
+pub use above::Above;
+pub use asking::{cause, chain};
+pub use can_bits::{Field, Steps};
+pub use can_rows::{Indexed, Lookup, group_in, group_number, group_of, groups, is_bad_number};
+pub use decoder::Decoder;
+pub use drawing::{picture, picture_with, pictures};
+pub use link::Link;
+pub use making::{make_plan, make_plans, plan_with};
+pub use meter::Meter;
+pub use plan::Plan;
+pub use refusal::Cause;
+pub use row::{Reading, Row};
+pub use walk::{Walk, walk_of};

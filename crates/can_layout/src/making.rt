@@ -1,0 +1,79 @@
+//! Plans of one message, and of all.
+ghost use Rattle.std.specs.Prelude.{◌≡◌, ◌<◌, IfOk, OnOk, Some, length, map, slice_get};
+ghost use Rattle.std.specs.Option.{option_map};
+ghost use Rattle.can_layout.specs.Plans.{plan_of};
+ghost use Rattle.can_layout.specs.Meters.{with_plan, repeated, AtMost};
+
+use crate::meter::Meter;
+use crate::plan::{Plan, plan_in};
+use crate::rows::MessageRows;
+use can_rows::{Indexed, Lookup};
+use dbc_records::{Database, Message};
+use dbc_values::Memory;
+use std::alloc::Global;
+
+/// The plan of a message, by the rows of a database: a [`Database`] goes through them for each signal, an [`Indexed`] one
+/// finds them. The meter counts it, also where memory is refused.
+pub fn plan_with<L: Lookup>(
+    alloc: Global,
+    lookup: &L,
+    message: &Message,
+    meter: &mut Meter,
+) -> Result<Plan, Memory>
+    ensures plan { IfOk result (λ plan. plan ≡ plan_of (L.whole lookup.now) message.now) }
+    ensures counted { meter.new ≡ with_plan meter.old }
+{
+    meter.count_plan();
+    plan_in(
+        alloc,
+        &MessageRows::of(lookup, message.head.number),
+        message,
+    )
+}
+
+/// The plan of the message at a place. It goes through the rows of the database for each signal. The meter counts it, also
+/// where memory is refused.
+pub fn make_plan(
+    alloc: Global,
+    database: &Database,
+    place: usize,
+    meter: &mut Meter,
+) -> Result<Plan, Memory>
+    requires { place < length database.now.messages }
+    ensures plan { IfOk result (λ plan. Some plan ≡ option_map (plan_of database.now) (slice_get database.now.messages place)) }
+    ensures counted { meter.new ≡ with_plan meter.old }
+{
+    plan_with(alloc, database, &database.messages.as_slice()[place], meter)
+}
+
+// The plans of messages, in order.
+fn plans_of<L: Lookup>(
+    alloc: Global,
+    lookup: &L,
+    messages: &[Message],
+    meter: &mut Meter,
+) -> Result<Vec<Plan>, Memory>
+    ensures plans { IfOk result (λ plans. plans.items ≡ map (plan_of (L.whole lookup.now)) messages.now) }
+    ensures counted { OnOk result (meter.new ≡ repeated (length messages.now) with_plan meter.old) }
+    ensures at_most { AtMost (length messages.now) with_plan meter.old meter.new }
+{
+    let mut plans = Vec::new(alloc);
+    for message in messages {
+        plans.push(plan_with(alloc, lookup, message, meter)?)?;
+    }
+    Ok(plans)
+}
+
+/// The plans of all messages, in order, by an index of the rows. The meter counts each.
+pub fn make_plans(
+    alloc: Global,
+    database: &Database,
+    meter: &mut Meter,
+) -> Result<Vec<Plan>, Memory>
+    ensures plans { IfOk result (λ plans. plans.items ≡ map (plan_of database.now) database.now.messages) }
+    ensures counted { OnOk result (meter.new ≡ repeated (length database.now.messages) with_plan meter.old) }
+    ensures at_most { AtMost (length database.now.messages) with_plan meter.old meter.new }
+{
+    let indexed = Indexed::of(alloc, database)?;
+    plans_of(alloc, &indexed, database.messages.as_slice(), meter)
+}

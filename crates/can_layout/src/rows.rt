@@ -1,0 +1,54 @@
+//! The rows of one message.
+ghost use Rattle.std.specs.Prelude.{◌≡◌};
+ghost use Rattle.std.specs.Option.{option_map};
+ghost use Rattle.can_rows.specs.Rows.{rows_of, first_values, first_float, first_mux};
+
+use can_rows::Lookup;
+use dbc_records::{FloatRow, MuxRow, ValueRow};
+use dbc_values::Name;
+use std::marker::Model;
+
+/// The rows of one message number.
+#[derive(Drop)]
+pub(crate) struct MessageRows<'a, L: Lookup> {
+    lookup: &'a L,
+    number: u32,
+}
+
+impl<'a, L: Lookup> Model for MessageRows<'a, L> {
+    ghost use Rattle.can_rows.specs.Rows.{SignalRows, rows_of};
+
+    ghost Value = { SignalRows };
+
+    ghost view = { λ rows. rows_of rows.number (L.whole rows.lookup.now) };
+}
+
+impl<'a, L: Lookup> MessageRows<'a, L> {
+    /// The rows of a number.
+    pub fn of(lookup: &'a L, number: u32) -> MessageRows<'a, L>
+        ensures { result ≡ rows_of number (L.whole lookup.now) }
+    {
+        MessageRows { lookup, number }
+    }
+
+    /// The named values of a signal.
+    pub fn values(&self, signal: &Name) -> Option<&ValueRow>
+        ensures { option_map (λ row. row.now) result ≡ first_values signal.now self.now }
+    {
+        self.lookup.values(self.number, signal)
+    }
+
+    /// The float type of a signal.
+    pub fn float(&self, signal: &Name) -> Option<&FloatRow>
+        ensures { option_map (λ row. row.now) result ≡ first_float signal.now self.now }
+    {
+        self.lookup.float(self.number, signal)
+    }
+
+    /// The switch of a signal.
+    pub fn mux(&self, signal: &Name) -> Option<&MuxRow>
+        ensures { option_map (λ row. row.now) result ≡ first_mux signal.now self.now }
+    {
+        self.lookup.mux(self.number, signal)
+    }
+}

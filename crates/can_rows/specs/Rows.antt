@@ -1,0 +1,48 @@
+-- The rows of a database that speak of a signal. A row belongs to the message number and the signal name with which it is
+-- written, whether or not such a message or signal is there; of several rows with one key the first counts.
+-- Source: the DBC file format, "Signal Value Descriptions (Value Encodings)", "Signal Extended Value Type Definitions" and
+-- "Extended Multiplexing". Of rows that are written twice it says nothing; that the first counts is the profile of candesk.
+use Rattle.std.specs.Prelude.{◌==◌, ◌&&◌, ℕ, Bool, List, Option, filter}
+use Rattle.std.specs.List.{find}
+use Rattle.std.specs.Str.{bytes_eq}
+use Rattle.dbc_records.specs.Records.{ValueRow, FloatRow, MuxRow}
+use Rattle.dbc_records.specs.Databases.{Database}
+
+-- the rows of one message number
+pub record SignalRows : Type 0 where
+  pub values : List ValueRow
+  pub floats : List FloatRow
+  pub muxes : List MuxRow
+
+-- those of a database, in its order
+unfoldable pub rows_of : ℕ → Database → SignalRows
+rows_of number database = record {
+  values = filter (λ row. row.number == number) database.values;
+  floats = filter (λ row. row.number == number) database.floats;
+  muxes = filter (λ row. row.number == number) database.muxes;
+}
+
+-- the first row of a signal
+abbrev pub first_named : {R : Type 0} → (R → List ℕ) → List ℕ → List R → Option R
+first_named signal_of name rows = find (λ row. bytes_eq (signal_of row) name) rows
+
+-- its named values
+abbrev pub first_values : List ℕ → SignalRows → Option ValueRow
+first_values name rows = first_named (λ row. row.signal) name rows.values
+
+-- its float type
+abbrev pub first_float : List ℕ → SignalRows → Option FloatRow
+first_float name rows = first_named (λ row. row.signal) name rows.floats
+
+-- its switch, and the numbers of it with which the signal is there
+abbrev pub first_mux : List ℕ → SignalRows → Option MuxRow
+first_mux name rows = first_named (λ row. row.signal) name rows.muxes
+
+-- ---- by number and name at once
+
+abbrev pub has_key : {R : Type 0} → (R → ℕ) → (R → List ℕ) → ℕ → List ℕ → R → Bool
+has_key number_of signal_of number name row = number_of row == number && bytes_eq (signal_of row) name
+
+-- the first row of a key in a whole list
+abbrev pub first_row : {R : Type 0} → (R → ℕ) → (R → List ℕ) → ℕ → List ℕ → List R → Option R
+first_row number_of signal_of number name rows = find (has_key number_of signal_of number name) rows

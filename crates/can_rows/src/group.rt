@@ -1,0 +1,96 @@
+//! Which messages stand for a parameter group of SAE J1939, and for which.
+ghost use Rattle.std.specs.Prelude.{◌≡◌, IfOk, map};
+ghost use Rattle.can_rows.specs.Groups.{group_number_of, group_of, is_bad_number, is_extended};
+
+use crate::format::frame_format;
+use crate::indexed::Indexed;
+use crate::lookup::Lookup;
+use dbc_records::{Database, Message};
+use dbc_values::{Memory, same};
+use std::alloc::Global;
+
+/// The frame format of messages that stand for a parameter group.
+const GROUP_FORMAT: &[u8] = b"J1939PG";
+
+/// The greatest identifier of 11 bits.
+const MOST_STANDARD: u32 = 2_047;
+
+/// The first PDU format of groups without a destination.
+const FIRST_BROADCAST_FORMAT: u32 = 240;
+
+fn is_extended(number: u32) -> bool
+    ensures { result ≡ is_extended number }
+{
+    number >> 31 == 1
+}
+
+/// Whether a message number stands for no identifier. Bit 31 says that the identifier has 29 bits; it has 11 else.
+#[tactic(auto, unfolding(crate::specs::Groups::is_bad_number))]
+pub fn is_bad_number(number: u32) -> bool
+    ensures { result ≡ is_bad_number number }
+{
+    if is_extended(number) {
+        (number >> 29) % 4 != 0
+    } else {
+        number > MOST_STANDARD
+    }
+}
+
+/// The parameter group number of an identifier of 29 bits. Higher bits count for nothing.
+#[tactic(auto, unfolding(crate::specs::Groups::group_number_of))]
+pub fn group_number(identifier: u32) -> u32
+    ensures { result ≡ group_number_of identifier }
+{
+    let extended_page = (identifier >> 25) % 2;
+    let page = (identifier >> 24) % 2;
+    let format = (identifier >> 16) % 256;
+    let specific = if format >= FIRST_BROADCAST_FORMAT {
+        (identifier >> 8) % 256
+    } else {
+        0
+    };
+    extended_page * 0x2_0000 + page * 0x1_0000 + format * 0x100 + specific
+}
+
+/// The parameter group that messages of this number stand for, if they stand for one.
+#[tactic(auto, unfolding(crate::specs::Groups::group_of, crate::specs::Groups::is_group_number))]
+pub fn group_in<L: Lookup>(lookup: &L, number: u32) -> Option<u32>
+    ensures { result ≡ group_of number (L.whole lookup.now) }
+{
+    if !is_extended(number) || is_bad_number(number) {
+        return None;
+    }
+    match frame_format(lookup, number) {
+        Some(text) if same(text, GROUP_FORMAT) => Some(group_number(number)),
+        _ => None,
+    }
+}
+
+/// The parameter group that messages of this number stand for in a database. [`group_in`] an index finds it faster.
+pub fn group_of(database: &Database, number: u32) -> Option<u32>
+    ensures { result ≡ group_of number database.now }
+{
+    group_in(database, number)
+}
+
+fn groups_in<L: Lookup>(
+    alloc: Global,
+    lookup: &L,
+    messages: &[Message],
+) -> Result<Vec<Option<u32>>, Memory>
+    ensures { IfOk result (λ groups. groups.items ≡ map (λ message. group_of message.head.number (L.whole lookup.now)) messages.now) }
+{
+    let mut groups = Vec::with_capacity(alloc, messages.len())?;
+    for message in messages {
+        groups.push(group_in(lookup, message.head.number))?;
+    }
+    Ok(groups)
+}
+
+/// The parameter group of each message of a database, in order. The database is indexed for it.
+pub fn groups(alloc: Global, database: &Database) -> Result<Vec<Option<u32>>, Memory>
+    ensures { IfOk result (λ groups. groups.items ≡ map (λ message. group_of message.head.number database.now) database.now.messages) }
+{
+    let indexed = Indexed::of(alloc, database)?;
+    groups_in(alloc, &indexed, database.messages.as_slice())
+}

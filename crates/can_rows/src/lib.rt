@@ -1,0 +1,20 @@
+//! The rows of a database that speak of a signal, found by message number and signal name, and the parameter groups of
+//! messages.
+//!
+//! [`Lookup`] finds rows: a database by going through them, an [`Indexed`] database by its keys.
+#![tactic(auto)]
+
+mod format;
+mod format_index;
+mod group;
+mod index;
+mod indexed;
+pub mod laws;
+mod lookup;
+mod row;
+#[cfg(test)]
+mod tests;
+
+pub use group::{group_in, group_number, group_of, groups, is_bad_number};
+pub use indexed::Indexed;
+pub use lookup::Lookup;

@@ -1,9 +1,0 @@
-pub mod Bounds
-pub mod Listing
-pub mod NameLists
-pub mod Pushing
-pub mod Rows
-pub mod Runs
-pub mod SmallLaws
-pub mod SmallTexts
-pub mod Values

@@ -1,8 +1,0 @@
-pub mod Small
-pub mod SmallTokens
-pub mod SmallForms
-pub mod SmallReading
-pub mod Cursor
-pub mod Frame
-pub mod Raw
-pub mod Line

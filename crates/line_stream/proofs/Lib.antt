@@ -1,0 +1,4 @@
+pub mod Handling
+pub mod Reading
+pub mod Ending
+pub mod OfTexts

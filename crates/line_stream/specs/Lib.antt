@@ -1,0 +1,5 @@
+pub mod Lines
+pub mod Cuts
+pub mod Runs
+pub mod Stream
+pub mod LineTexts

@@ -1,0 +1,87 @@
+-- What comes of lines that are handled one after another, and what is written for them, wherever that ends.
+use Rattle.std.specs.Prelude.{◌≡◌, ℕ, ◌<◌, List, [], ◌∷◌, ◌++◌, length, ◌⊎◌}
+use Rattle.std.specs.Io.KnownBytes.{Appends}
+use Rattle.byte_devices.specs.Device.{Rises, Written, Wrote, Broke, Passes}
+use Rattle.line_stream.specs.Lines.{IsShort, AllShort}
+
+-- from the first state these lines may lead, step by step, to the second, and this is all their text
+abbrev pub Runs : {State : Type 0} → (State → List ℕ → State → List ℕ → Type 0) → State → List (List ℕ) → State → List ℕ → Type 0
+Runs Step before [] after text = (after ≡ before) × (text ≡ [])
+Runs {State} Step before (line ∷ lines) after text =
+    (between : State) × (first rest : List ℕ) × Step before line between first × Runs Step between lines after rest × (text ≡ first ++ rest)
+
+-- all of the first text was written, then a beginning of the second, and then a put failed
+pub record Breaks (old new : Written) (whole part : List ℕ) : Type 0 where
+  pub front : List ℕ
+  pub back : List ℕ
+  pub parts : part ≡ front ++ back
+  pub bytes : Appends old.bytes new.bytes (whole ++ front)
+  pub failures : Rises old.failures new.failures
+
+-- For a handler: its steps, the lines for which memory may be wanting in a state, what may be held from one line to the
+-- next, and the most bytes of a line that is handed to it.
+module _ {State : Type 0} (Step : State → List ℕ → State → List ℕ → Type 0) (Stops : State → List ℕ → Type 0) (Waits : List ℕ → Type 0) (most : ℕ) where
+  -- these lines, none of them long, were handled, and all their text was written
+  pub record Handled (before : State) (old : Written) (lines : List (List ℕ)) (after : State) (new : Written) : Type 0 where
+    pub text : List ℕ
+    pub short : AllShort most lines
+    pub ran : Runs Step before lines after text
+    pub wrote : Wrote old new text
+
+  -- these lines, none of them long, were handled, and their text was written but for its end, which is held
+  pub record HandledBut (before : State) (old : Written) (lines : List (List ℕ)) (after : State) (new : Written) (held : List ℕ) : Type 0 where
+    pub text : List ℕ
+    pub short : AllShort most lines
+    pub ran : Runs Step before lines after text
+    pub passes : Passes old new [] text held
+    pub waits : Waits held
+
+  -- for one of these lines memory was wanting; those before were handled, and all their text was written
+  pub record StopsAmong (before : State) (old : Written) (all : List (List ℕ)) (after : State) (new : Written) : Type 0 where
+    pub lines : List (List ℕ)
+    pub line : List ℕ
+    pub more : List (List ℕ)
+    pub parts : all ≡ lines ++ line ∷ more
+    pub stops : Stops after line
+    pub handled : Handled before old lines after new
+
+  -- A put failed for one of these lines. It and those before were handled. The text of those before was written but for
+  -- its end, which was held, and of that end and the line's own text a beginning was written.
+  pub record BreaksInside (before : State) (old : Written) (all : List (List ℕ)) (after : State) (new : Written) : Type 0 where
+    pub lines : List (List ℕ)
+    pub line : List ℕ
+    pub more : List (List ℕ)
+    pub parts : all ≡ lines ++ line ∷ more
+    pub short : AllShort most (lines ++ line ∷ [])
+    pub between : State
+    pub out : List ℕ
+    pub waiting : List ℕ
+    pub last : List ℕ
+    pub ran : Runs Step before lines between (out ++ waiting)
+    pub waits : Waits waiting
+    pub step : Step between line after last
+    pub breaks : Breaks old new out (waiting ++ last)
+
+  -- A put failed behind the first of these lines, which were handled. Their text was written but for its end, which was
+  -- held and isn't empty, and of which a beginning was written.
+  pub record BreaksBehind (before : State) (old : Written) (all : List (List ℕ)) (after : State) (new : Written) : Type 0 where
+    pub lines : List (List ℕ)
+    pub more : List (List ℕ)
+    pub parts : all ≡ lines ++ more
+    pub short : AllShort most lines
+    pub out : List ℕ
+    pub waiting : List ℕ
+    pub ran : Runs Step before lines after (out ++ waiting)
+    pub waits : Waits waiting
+    pub some : 0 < length waiting
+    pub breaks : Breaks old new out waiting
+
+  -- a put failed for or behind one of these lines
+  abbrev pub BreaksAmong : State → Written → List (List ℕ) → State → Written → Type 0
+  BreaksAmong before old all after new = BreaksInside before old all after new ⊎ BreaksBehind before old all after new
+
+  -- a put failed at this line: for it, or for what was held before, which isn't empty
+  abbrev pub FailsAt : State → Written → List ℕ → List ℕ → State → Written → Type 0
+  FailsAt before old held line after new =
+      (IsShort most line × (text : List ℕ) × Step before line after text × Broke old new (held ++ text))
+      ⊎ ((after ≡ before) × (0 < length held) × Broke old new held)

@@ -1,0 +1,3 @@
+pub mod LogLines
+pub mod Frames
+pub mod Seen

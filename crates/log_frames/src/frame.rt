@@ -1,0 +1,65 @@
+//! Frames.
+ghost use Rattle.std.specs.Prelude.{◌≡◌};
+ghost use Rattle.log_frames.specs.Frames.{is_data, number_of};
+
+use arrayvec::ArrayVec;
+use std::marker::Model;
+
+/// What a frame is.
+#[derive(Clone, Copy, Debug, PartialEq, Eq)]
+pub enum Kind {
+    /// A data frame of at most 8 bytes.
+    Classic,
+    /// An FD data frame, of at most 64 bytes.
+    Fd,
+    /// A request for a frame, which has no bytes.
+    Remote,
+    /// A controller's report, in any of the other forms and with the bytes of that form.
+    Error,
+}
+
+/// A frame of a log.
+#[derive(Drop)]
+pub struct Frame {
+    /// What it is.
+    pub kind: Kind,
+    /// Whether its identifier has 29 bits, and not 11; such an identifier may be small, too.
+    pub extended: bool,
+    /// Its identifier alone, without the bits that tell width and kind.
+    pub identifier: u32,
+    /// Its bytes.
+    pub bytes: ArrayVec<u8, 64>,
+}
+
+impl Model for Frame {
+    ghost use Rattle.log_frames.specs.Frames as frames;
+
+    ghost Value = { frames.Frame };
+
+    ghost view = { λ a. record { kind = a.kind; extended = a.extended; identifier = a.identifier; bytes = a.bytes.items } };
+
+    ghost invariant = { λ a. frames.IsFrame (record { kind = a.kind; extended = a.extended; identifier = a.identifier; bytes = a.bytes.items }) };
+}
+
+impl Frame {
+    /// Whether it is a data frame: its bytes hold signals.
+    pub fn is_data(&self) -> bool
+        ensures { result ≡ is_data self.now }
+    {
+        match self.kind {
+            Kind::Classic | Kind::Fd => true,
+            Kind::Remote | Kind::Error => false,
+        }
+    }
+
+    /// The number by which a database knows the frame: its identifier, and bit 31 where that has 29 bits.
+    pub fn number(&self) -> u32
+        ensures { result ≡ number_of self.now }
+    {
+        if self.extended {
+            self.identifier + (1 << 31)
+        } else {
+            self.identifier
+        }
+    }
+}

@@ -1,0 +1,63 @@
+//! Identifiers.
+ghost use Rattle.std.specs.Prelude.{◌≡◌, [], ◌∷◌, length, IfSome, option_map};
+ghost use Rattle.log_frames.specs.Frames.{identifier_of, of_three_digits, of_eight_digits};
+ghost use Rattle.log_frames.specs.Seen.{identifier_view, IsIdentifier};
+
+/// An identifier as its digits tell it.
+#[derive(Clone, Copy)]
+pub struct Identifier {
+    /// Whether it has 29 bits, and not 11.
+    pub extended: bool,
+    /// Whether it marks an error frame.
+    pub marks_error: bool,
+    /// The identifier alone.
+    pub number: u32,
+}
+
+#[tactic(auto, unfolding(crate::specs::Frames::of_three_digits))]
+fn of_three_digits(a: u8, b: u8, c: u8) -> Option<Identifier>
+    ensures value { option_map identifier_view result ≡ of_three_digits (a ∷ b ∷ c ∷ []) }
+    ensures valid { IfSome result IsIdentifier }
+{
+    let digits = [b'0', a, b, c];
+    let mut bytes = [0u8; 2];
+    hex::decode_to_slice(digits.as_slice(), &mut bytes).ok()?;
+    let number = u16::from_be_bytes(bytes);
+    if number > 2047 {
+        return None;
+    }
+    Some(Identifier {
+        extended: false,
+        marks_error: false,
+        number: u32::from(number),
+    })
+}
+
+#[tactic(auto, unfolding(crate::specs::Frames::of_eight_digits))]
+fn of_eight_digits(digits: &[u8]) -> Option<Identifier>
+    requires { length digits.now ≡ 8 }
+    ensures value { option_map identifier_view result ≡ of_eight_digits digits.now }
+    ensures valid { IfSome result IsIdentifier }
+{
+    let mut bytes = [0u8; 4];
+    hex::decode_to_slice(digits, &mut bytes).ok()?;
+    let word = u32::from_be_bytes(bytes);
+    Some(Identifier {
+        extended: true,
+        marks_error: word / (1 << 29) % 2 == 1,
+        number: word % (1 << 29),
+    })
+}
+
+/// The identifier that these digits spell: three of them one of 11 bits, eight of them one of 29 bits.
+#[tactic(auto, unfolding(crate::specs::Frames::identifier_of))]
+pub fn identifier_of(digits: &[u8]) -> Option<Identifier>
+    ensures value { option_map identifier_view result ≡ identifier_of digits.now }
+    ensures valid { IfSome result IsIdentifier }
+{
+    match digits {
+        [a, b, c] => of_three_digits(*a, *b, *c),
+        [_, _, _, _, _, _, _, _] => of_eight_digits(digits),
+        _ => None,
+    }
+}

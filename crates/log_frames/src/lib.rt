@@ -1,0 +1,18 @@
+//! The frames of a log's lines, as `candump -L` writes them: classic data frames, FD data frames, remote frames and error
+//! frames, with identifiers of 11 or 29 bits.
+//!
+//! [`read_frame`] reads the frame of one line. It takes no memory, and what a line says beside its frame, the stamp and
+//! the interface, is only tested.
+#![tactic(auto)]
+
+mod form;
+mod frame;
+mod identifier;
+mod line;
+mod reading;
+#[cfg(test)]
+mod tests;
+
+pub use frame::{Frame, Kind};
+pub use line::body_of;
+pub use reading::read_frame;
