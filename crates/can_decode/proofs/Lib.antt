@@ -1,3 +1,5 @@
 pub mod Pushing
 pub mod Signals
 pub mod Targets
+pub mod Indexes
+pub mod Shown

@@ -4,4 +4,5 @@ pub use Rattle.line_stream.specs.LineTexts
 pub mod Values
 pub mod Identifiers
 pub mod Choices
+pub mod Remembering
 pub mod DecodedLines

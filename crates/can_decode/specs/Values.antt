@@ -2,7 +2,7 @@
 -- Source: cantools, the single-line form of `decode` (a value and its unit, or the text of a named value); the DBC file
 -- format, "Signal Definitions" (physical value) and "Signal Value Descriptions". That values are written exactly is the
 -- profile of candesk.
-use Rattle.std.specs.Prelude.{ℕ, ℤ, zero, suc, ◌+ℤ◌, ◌*ℤ◌, ◌/◌, ◌%◌, ◌==◌, ◌||◌, int_lt, pos, unsigned_abs, List, [], ◌∷◌, ◌++◌, map, Option, Some, None, codes, decimal, if◌then◌else◌}
+use Rattle.std.specs.Prelude.{ℕ, ℤ, zero, suc, ◌+ℤ◌, ◌*ℤ◌, ◌/◌, ◌%◌, ◌==◌, ◌||◌, int_lt, pos, unsigned_abs, Bool, List, [], ◌∷◌, ◌++◌, map, Option, Some, None, codes, decimal, if◌then◌else◌}
 use Rattle.std.specs.List.{find}
 use Rattle.std.specs.Ordering.{int_eq}
 use Rattle.dbc_values.specs.Lexical.{space, line_feed, carriage_return}
@@ -45,8 +45,11 @@ abbrev pub scaled : Scale → ℤ → ℤ
 scaled scale raw = (scale.factor *ℤ raw) +ℤ scale.offset
 
 -- CR and LF are shown as a blank, so that a line stays one
+abbrev pub breaks_line : ℕ → Bool
+breaks_line b = b == carriage_return || b == line_feed
+
 abbrev pub shown_byte : ℕ → ℕ
-shown_byte b = if b == carriage_return || b == line_feed then space else b
+shown_byte b = if breaks_line b then space else b
 
 abbrev pub shown : List ℕ → List ℕ
 shown text = map shown_byte text

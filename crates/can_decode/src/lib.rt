@@ -5,18 +5,24 @@
 #![tactic(auto)]
 
 mod choice;
+mod choices;
+mod choosing;
 mod frame_text;
 mod j1939;
+mod known_line;
 mod line;
 mod message;
+mod remembered;
 mod stream;
 mod target;
 mod value;
 
 pub use can_rows::group_number;
 pub use choice::choose;
+pub use choices::Choices;
 pub use j1939::J1939;
+pub use known_line::decode_at;
 pub use line::decode_line;
 pub use line_stream::StreamFault;
 pub use log_frames::{Frame, Kind, read_frame};
-pub use stream::decode_stream;
+pub use stream::{decode_stream, decode_stream_by};

@@ -4,7 +4,10 @@ ghost use Rattle.line_stream.specs.LineTexts.{Streams};
 ghost use Rattle.can_layout.specs.Plans.{plan_of};
 ghost use Rattle.can_decode.specs.DecodedLines.{decoded_line};
 
+use crate::choices::{Choices, Finding};
+use crate::choosing::{Choose, Walking};
 use crate::line::push_line;
+use crate::remembered::Remembered;
 use byte_devices::{Sink, Source};
 use can_layout::{Meter, Plan};
 use dbc_records::Database;
@@ -12,45 +15,82 @@ use dbc_values::Memory;
 use line_stream::{LineText, StreamFault, stream_texts};
 use std::alloc::Global;
 use std::marker::Model;
+use std::mem::swap;
 
 // The decoded lines of a database.
 #[derive(Drop)]
-struct Decoded<'a> {
+struct Decoded<'a, C: Choose> {
     database: &'a Database,
     plans: &'a [Plan],
+    chooser: C,
+    meter: Meter,
 }
 
-impl<'a> Model for Decoded<'a> {
+impl<'a, C: Choose> Model for Decoded<'a, C> {
     ghost use Rattle.std.specs.Prelude.{◌≡◌, map};
     ghost use Rattle.dbc_records.specs.Databases.{Database};
     ghost use Rattle.can_layout.specs.Plans.{plan_of};
+    ghost use Rattle.can_decode.specs.Remembering.{DecodesBy};
 
     ghost Value = { Database };
 
-    ghost view = { λ decoded. decoded.database.now };
+    ghost view = { λ a. a.database.now };
 
-    ghost invariant = { λ decoded. decoded.plans.now ≡ map (plan_of decoded.database.now) decoded.database.now.messages };
+    ghost invariant = { λ a. DecodesBy a.database.now a.plans.now (C.whole a.chooser) };
 }
 
-impl<'a> LineText for Decoded<'a> {
+impl<'a, C: Choose> LineText for Decoded<'a, C> {
     ghost use Rattle.can_decode.specs.DecodedLines.{decoded_line};
 
     ghost text_of = { λ database. decoded_line database };
 
-    type Meter = Meter;
-
-    fn renew(&self, meter: &mut Meter, text: &mut Vec<u8>, line: &[u8]) -> Result<(), Memory> {
-        meter.count_line();
+    fn renew(&mut self, text: &mut Vec<u8>, line: &[u8]) -> Result<(), Memory> {
+        self.meter.count_line();
         text.clear();
-        push_line(*text.allocator(), text, self.database, self.plans, line)?;
+        push_line(
+            *text.allocator(),
+            text,
+            &mut self.chooser,
+            self.database,
+            self.plans,
+            line,
+        )?;
         text.push(b'\n')?;
         Ok(())
     }
 }
 
+// Decodes by what finds the messages of numbers.
+fn stream_by<'a, C: Choose, R: Source, W: Sink>(
+    alloc: Global,
+    chooser: C,
+    database: &'a Database,
+    plans: &'a [Plan],
+    meter: &mut Meter,
+    source: &mut R,
+    sink: &mut W,
+) -> Result<u64, StreamFault>
+    requires database { C.whole chooser ≡ database.now }
+    requires plans { plans.now ≡ map (plan_of database.now) database.now.messages }
+    ensures { Streams (decoded_line database.now) (R.unread source.old) (R.unread source.new) (W.written sink.old) (W.written sink.new) result }
+{
+    let mut decoded = Decoded {
+        database,
+        plans,
+        chooser: Remembered::new(chooser),
+        meter: Meter::new(),
+    };
+    swap(&mut decoded.meter, meter);
+    let result = stream_texts(alloc, &mut decoded, source, sink);
+    swap(&mut decoded.meter, meter);
+    result
+}
+
 /// Reads the source to its end, writes the decoded line and an LF for each line, and answers how many lines there are,
 /// up to `u64::MAX`. `plans` are those of the messages in order. A line has at most 4,096 bytes, its CR counted and its
 /// LF not. Before it pulls again, it has written the texts of all lines that were read whole.
+///
+/// What a number goes to is remembered, and is found by going through the messages. [`decode_stream_by`] has an index.
 pub fn decode_stream<R: Source, W: Sink>(
     alloc: Global,
     database: &Database,
@@ -62,6 +102,36 @@ pub fn decode_stream<R: Source, W: Sink>(
     requires { plans.now ≡ map (plan_of database.now) database.now.messages }
     ensures { Streams (decoded_line database.now) (R.unread source.old) (R.unread source.new) (W.written sink.old) (W.written sink.new) result }
 {
-    let decoded = Decoded { database, plans };
-    stream_texts(alloc, &decoded, meter, source, sink)
+    stream_by(
+        alloc,
+        Walking { database },
+        database,
+        plans,
+        meter,
+        source,
+        sink,
+    )
+}
+
+/// As [`decode_stream`], and finds what a number goes to in an index.
+pub fn decode_stream_by<'a, R: Source, W: Sink>(
+    alloc: Global,
+    choices: &Choices<'a>,
+    plans: &'a [Plan],
+    meter: &mut Meter,
+    source: &mut R,
+    sink: &mut W,
+) -> Result<u64, StreamFault>
+    requires { plans.now ≡ map (plan_of choices.now) choices.now.messages }
+    ensures { Streams (decoded_line choices.now) (R.unread source.old) (R.unread source.new) (W.written sink.old) (W.written sink.new) result }
+{
+    stream_by(
+        alloc,
+        Finding { choices },
+        choices.database(),
+        plans,
+        meter,
+        source,
+        sink,
+    )
 }

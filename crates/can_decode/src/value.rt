@@ -1,7 +1,8 @@
 //! The values of signals, as text.
 ghost use Rattle.std.specs.Prelude.{◌≡◌, ◌==◌, ◌<◌, ◌≤◌, ◌++◌, ◌^◌, OnOk, decimal, unsigned_abs, option_map, if◌then◌else◌};
+ghost use Rattle.std.specs.List.{list_any};
 ghost use Rattle.dbc_records.specs.Layout.{point_before_last, filled, zeros};
-ghost use Rattle.can_decode.specs.Values.{fewest_places, fixed_text, sign_of, scaled_text, shown_byte, shown, unit_text, first_entry, number_text, decoder_text, reading_text};
+ghost use Rattle.can_decode.specs.Values.{fewest_places, fixed_text, sign_of, scaled_text, shown_byte, breaks_line, shown, unit_text, first_entry, number_text, decoder_text, reading_text};
 
 use can_layout::{Decoder, Reading};
 use dbc_records::Entry;
@@ -16,20 +17,44 @@ pub(crate) fn push_bytes(text: &mut Vec<u8>, bytes: &[u8]) -> Result<(), Memory>
     Ok(())
 }
 
+fn breaks_line(b: u8) -> bool
+    ensures { result ≡ breaks_line b }
+{
+    b == b'\r' || b == b'\n'
+}
+
 fn shown_byte(b: u8) -> u8
     ensures { result ≡ shown_byte b }
 {
-    if b == b'\r' || b == b'\n' { b' ' } else { b }
+    if breaks_line(b) { b' ' } else { b }
 }
 
-// A text, on one line.
-fn push_shown(text: &mut Vec<u8>, bytes: &[u8]) -> Result<(), Memory>
+// A text, byte by byte on one line.
+fn push_each_shown(text: &mut Vec<u8>, bytes: &[u8]) -> Result<(), Memory>
     ensures { OnOk result (text.new.items ≡ text.old.items ++ shown bytes.now) }
 {
     for b in bytes {
         text.push(shown_byte(*b))?;
     }
     Ok(())
+}
+
+fn has_break(bytes: &[u8]) -> bool
+    ensures { result ≡ list_any breaks_line bytes.now }
+{
+    bytes.iter().any(|b| breaks_line(*b))
+}
+
+// A text, on one line. Most texts are on one line.
+#[tactic(auto, using(crate::proofs::Shown::shown_whole))]
+fn push_shown(text: &mut Vec<u8>, bytes: &[u8]) -> Result<(), Memory>
+    ensures { OnOk result (text.new.items ≡ text.old.items ++ shown bytes.now) }
+{
+    if has_break(bytes) {
+        push_each_shown(text, bytes)
+    } else {
+        push_bytes(text, bytes)
+    }
 }
 
 // A blank and a unit, where there is one.
@@ -48,6 +73,33 @@ fn push_unit(text: &mut Vec<u8>, unit: &[u8]) -> Result<(), Memory>
 
 // The same number with the fewest places behind its point.
 fn fewest_places(digits: u128, places: u8) -> (u128, u8)
+    ensures digits { result.0 ≡ (fewest_places digits places).digits }
+    ensures places { result.1 ≡ (fewest_places digits places).places }
+{
+    match u64::try_from(digits) {
+        Ok(small) => {
+            let (number, behind) = fewest_places_of_word(small, places);
+            (u128::from(number), behind)
+        }
+        Err(_) => fewest_places_of_any(digits, places),
+    }
+}
+
+// That of a number of one word, as most are.
+fn fewest_places_of_word(digits: u64, places: u8) -> (u64, u8)
+    ensures digits { result.0 ≡ (fewest_places digits places).digits }
+    ensures places { result.1 ≡ (fewest_places digits places).places }
+{
+    let mut number = digits;
+    let mut behind = places;
+    while behind > 0 && number % 10 == 0 {
+        number /= 10;
+        behind -= 1;
+    }
+    (number, behind)
+}
+
+fn fewest_places_of_any(digits: u128, places: u8) -> (u128, u8)
     ensures digits { result.0 ≡ (fewest_places digits places).digits }
     ensures places { result.1 ≡ (fewest_places digits places).places }
 {

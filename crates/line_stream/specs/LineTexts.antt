@@ -65,6 +65,6 @@ Streams text_of before after old new (Err faults.Write) =
     Rises old.failures new.failures × IfSome before.bytes (λ input. StopsAtWrite text_of input old new)
 Streams text_of before after old new (Err faults.Memory) = IfSome before.bytes (λ input. StopsAtMemory text_of input old new)
 
--- the step of a line that has one text: no state is seen, and that text is written
-abbrev pub WritesText : (List ℕ → List ℕ) → Unit {0} → List ℕ → Unit {0} → List ℕ → Type 0
-WritesText text_of before line after text = text ≡ line_text text_of line
+-- the step of a line that has one text: what texts depend on stays, and that text is written
+abbrev pub WritesText : {State : Type 0} → (State → List ℕ → List ℕ) → State → List ℕ → State → List ℕ → Type 0
+WritesText text_of before line after text = (after ≡ before) × (text ≡ line_text (text_of before) line)

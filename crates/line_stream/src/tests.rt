@@ -1,26 +1,32 @@
 //! What no contract says: that runs succeed, and the texts of faults.
-ghost use Rattle.std.specs.Prelude.{◌++◌};
+ghost use Rattle.std.specs.Prelude.{ℕ, List, ◌++◌};
 
 use crate::fault::StreamFault;
 use crate::texts::{LineText, stream_texts};
 use byte_devices::limp::Limp;
 use dbc_values::Memory;
+use std::marker::Model;
 use std::test::Fail;
 
 // Lines with a mark before each.
 #[derive(Drop)]
 struct Marked<'t> {
     mark: &'t [u8],
+    // how many lines there were
+    lines: u64,
+}
+
+impl<'t> Model for Marked<'t> {
+    ghost Value = { List ℕ };
+
+    ghost view = { λ marked. marked.mark.now };
 }
 
 impl<'t> LineText for Marked<'t> {
-    ghost text_of = { λ marked line. marked.mark.now ++ line };
+    ghost text_of = { λ mark line. mark ++ line };
 
-    // How many lines there were.
-    type Meter = u64;
-
-    fn renew(&self, meter: &mut u64, text: &mut Vec<u8>, line: &[u8]) -> Result<(), Memory> {
-        *meter = meter.saturating_add(1);
+    fn renew(&mut self, text: &mut Vec<u8>, line: &[u8]) -> Result<(), Memory> {
+        self.lines = self.lines.saturating_add(1);
         text.clear();
         text.extend_from_slice(self.mark)?;
         text.extend_from_slice(line)?;
@@ -34,12 +40,11 @@ fn lines_byte_by_byte(rt: HostRuntime) -> Result<(), Fail> {
     let alloc = rt.alloc();
     let mut source = Limp::new(b"one\n\nhalf".to_vec(alloc)?, 1, u64::MAX, usize::MAX);
     let mut sink = Limp::new(Vec::new(alloc), 2, u64::MAX, usize::MAX);
-    let mut meter = 0;
-    let texts = Marked { mark: b"> " };
-    let result = stream_texts(alloc, &texts, &mut meter, &mut source, &mut sink);
+    let mut texts = Marked { mark: b"> ", lines: 0 };
+    let result = stream_texts(alloc, &mut texts, &mut source, &mut sink);
     assert_eq!(rt; result, Ok(3));
     assert_eq!(rt; sink.bytes(), b"> one\n> \n> half\n".as_slice());
-    assert_eq!(rt; meter, 3);
+    assert_eq!(rt; texts.lines, 3);
     Ok(())
 }
 
@@ -48,8 +53,8 @@ fn a_line_and_a_half(rt: HostRuntime) -> Result<(), Fail> {
     let alloc = rt.alloc();
     let mut source = Limp::new(b"one\ntwo\n".to_vec(alloc)?, 3, u64::MAX, 6);
     let mut sink = Limp::new(Vec::new(alloc), 9, u64::MAX, usize::MAX);
-    let texts = Marked { mark: b"> " };
-    let result = stream_texts(alloc, &texts, &mut 0, &mut source, &mut sink);
+    let mut texts = Marked { mark: b"> ", lines: 0 };
+    let result = stream_texts(alloc, &mut texts, &mut source, &mut sink);
     assert_eq!(rt; result, Err(StreamFault::Read));
     assert_eq!(rt; sink.bytes(), b"> one\n".as_slice());
     assert_eq!(rt; StreamFault::Read.to_string(alloc)?.as_str(), "41 Read");

@@ -10,6 +10,7 @@ use arrayvec::ArrayVec;
 use byte_devices::{Held, Sink, Source, WriteFault, hold};
 use dbc_values::Memory;
 use std::alloc::Global;
+use std::marker::PhantomData;
 
 const LONGEST: usize = 4096;
 
@@ -18,30 +19,29 @@ pub trait LineText: Drop {
     // The text of a line, without the LF that is written behind it.
     ghost text_of: { Self → List ℕ → List ℕ };
 
-    /// What lines change and no text depends on, such as a table of what was looked up before.
-    type Meter: Drop;
-
-    /// Puts the text of a line, and an LF behind it, into `text` in the place of what it held.
-    fn renew(&self, meter: &mut Self::Meter, text: &mut Vec<u8>, line: &[u8]) -> Result<(), Memory>
-        ensures { OnOk result (text.new.items ≡ text_of self.now line.now ++ line_feed ∷ []) };
+    /// Puts the text of a line, and an LF behind it, into `text` in the place of what it held. What it changes of itself, such
+    /// as a table of what was looked up before, is nothing that contracts see.
+    fn renew(&mut self, text: &mut Vec<u8>, line: &[u8]) -> Result<(), Memory>
+        ensures text { OnOk result (text.new.items ≡ text_of self.old line.now ++ line_feed ∷ []) }
+        ensures same { self.new ≡ self.old };
 }
 
-// The texts of lines as what is done for lines.
+// Lines are handled by writing their texts.
 #[derive(Drop)]
-struct Writer<'t, T> {
-    texts: &'t T,
+struct Writer<T> {
+    texts: PhantomData<T>,
 }
 
-impl<'t, T: LineText> Handler for Writer<'t, T> {
+impl<T: LineText> Handler for Writer<T> {
     ghost use Rattle.line_stream.specs.LineTexts.{WritesText};
 
-    type State = T::Meter;
+    type State = T;
 
-    ghost View = { Unit {0} };
+    ghost View = { T };
 
-    ghost view = { λ _. tt };
+    ghost view = { λ texts. texts };
 
-    ghost Step = { λ writer. WritesText (T.text_of writer.texts.now) };
+    ghost Step = { λ _. WritesText T.text_of };
 
     ghost Stops = { λ _ _ _. Unit {0} };
 
@@ -49,13 +49,13 @@ impl<'t, T: LineText> Handler for Writer<'t, T> {
 
     fn handle<W: Sink>(
         &self,
-        meter: &mut T::Meter,
+        texts: &mut T,
         room: &mut Vec<u8>,
         sink: &mut W,
         held: &mut Held,
         line: &[u8],
     ) -> Result<(), Stop> {
-        let Ok(()) = self.texts.renew(meter, room, line) else {
+        let Ok(()) = texts.renew(room, line) else {
             return Err(Stop::Memory);
         };
         if let Err(WriteFault) = hold(sink, held, room.as_slice()) {
@@ -72,13 +72,13 @@ impl<'t, T: LineText> Handler for Writer<'t, T> {
 /// are written.
 pub fn stream_texts<T: LineText, R: Source, W: Sink>(
     alloc: Global,
-    texts: &T,
-    meter: &mut T::Meter,
+    texts: &mut T,
     source: &mut R,
     sink: &mut W,
 ) -> Result<u64, StreamFault>
-    ensures { Streams (T.text_of texts.now) (R.unread source.old) (R.unread source.new) (W.written sink.old) (W.written sink.new) result }
+    ensures { Streams (T.text_of texts.old) (R.unread source.old) (R.unread source.new) (W.written sink.old) (W.written sink.new) result }
 {
     let mut line = ArrayVec::<u8, LONGEST>::new();
-    stream_lines(alloc, &Writer { texts }, meter, source, sink, &mut line)
+    let writer = Writer { texts: PhantomData };
+    stream_lines(alloc, &writer, texts, source, sink, &mut line)
 }

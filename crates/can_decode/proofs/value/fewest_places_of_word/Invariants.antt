@@ -1,6 +1,6 @@
 use Rattle.std.proofs.Common.{◌≡◌}
 use Rattle.can_decode.specs.Values.{fewest_places}
-use Rattle.can_decode.proofs.value.fewest_places.Given as goal
+use Rattle.can_decode.proofs.value.fewest_places_of_word.Given as goal
 
 -- the places that are left give what all give
 abbrev pub invariant-loop-behind : goal.invariant-loop-behind

@@ -1,0 +1,85 @@
+//! What numbers went to before.
+ghost use Rattle.std.specs.Prelude.{◌≡◌, ◌<◌};
+ghost use Rattle.can_decode.specs.Choices.{choice_of};
+ghost use Rattle.can_decode.specs.Remembering.{IsRemembered};
+
+use crate::choosing::{Choice, Choose};
+use std::marker::Model;
+
+// Every number of 11 bits has a place of its own.
+const REMEMBERED: usize = 2048;
+
+// A number, and what it goes to.
+#[derive(Clone, Copy)]
+struct Entry {
+    number: u32,
+    choice: Option<Choice>,
+}
+
+/// Finds what numbers go to, and remembers it in a table of fixed size: a number takes the place of another one.
+#[derive(Drop)]
+pub(crate) struct Remembered<C: Choose> {
+    chooser: C,
+    entries: [Entry; REMEMBERED],
+}
+
+impl<C: Choose> Model for Remembered<C> {
+    ghost use Rattle.std.specs.Prelude.{All};
+    ghost use Rattle.dbc_records.specs.Databases.{Database};
+    ghost use Rattle.can_decode.specs.Remembering.{IsRemembered};
+
+    ghost Value = { Database };
+
+    ghost view = { λ a. C.whole a.chooser };
+
+    ghost invariant = { λ a. All (IsRemembered (C.whole a.chooser)) a.entries };
+}
+
+// The place in the table for a number. Those of 29 bits are spread over it.
+fn slot_of(number: u32) -> usize
+    ensures { result < 2048 }
+{
+    let spread = if number <= 2047 {
+        number
+    } else {
+        number.wrapping_mul(0x9E37_79B1) >> 21
+    };
+    spread as usize % REMEMBERED
+}
+
+fn entry_of<C: Choose>(chooser: &mut C, number: u32) -> Entry
+    ensures entry { IsRemembered (C.whole chooser.old) result }
+    ensures number { result.number ≡ number }
+    ensures same { C.whole chooser.new ≡ C.whole chooser.old }
+{
+    let choice = chooser.choice(number);
+    Entry { number, choice }
+}
+
+impl<C: Choose> Remembered<C> {
+    /// One that has found only what the number 0 goes to.
+    pub(crate) fn new(mut chooser: C) -> Self
+        ensures { result ≡ C.whole chooser }
+    {
+        let entry = entry_of(&mut chooser, 0);
+        Remembered {
+            chooser,
+            entries: [entry; REMEMBERED],
+        }
+    }
+}
+
+impl<C: Choose> Choose for Remembered<C> {
+    ghost whole = { λ database. database };
+
+    fn choice(&mut self, number: u32) -> Option<Choice> {
+        let slot = slot_of(number);
+        let remembered = self.entries[slot];
+        if remembered.number == number {
+            return remembered.choice;
+        }
+        let entry = entry_of(&mut self.chooser, number);
+        self.entries[slot] = entry;
+        entry.choice
+    }
+}
