@@ -1,0 +1,14 @@
+//! What is doubtful in a database: each as data, and as a line.
+//!
+//! A [`Diagnostic`] is a [`Code`] and the [`Subject`] that it speaks of. [`write_lines`] writes many of them.
+#![tactic(auto)]
+
+mod code;
+mod diagnostic;
+mod row_key;
+mod subject;
+
+pub use code::Code;
+pub use diagnostic::Diagnostic;
+pub use row_key::RowKey;
+pub use subject::Subject;
