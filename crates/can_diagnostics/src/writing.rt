@@ -26,22 +26,14 @@ fn hold_code<W: Sink>(sink: &mut W, held: &mut Held, code: Code) -> Result<(), W
 }
 
 #[tactic(auto, unfolding(crate::specs::Lines::subject_text))]
-fn hold_subject<W: Sink>(
-    sink: &mut W,
-    held: &mut Held,
-    subject: &Subject,
-) -> Result<(), WriteFault>
+fn hold_subject<W: Sink>(sink: &mut W, held: &mut Held, subject: &Subject) -> Result<(), WriteFault>
     ensures { Sends (W.written sink.old) (W.written sink.new) held.old.items result (subject_text subject.now) held.new.items }
 {
     let mut buffer = Buffer::new();
     let mut decimal = Buffer::new();
     match subject {
         Subject::Message(number, message) => {
-            let pieces: [&[u8]; 3] = [
-                buffer.format(*number).as_bytes(),
-                b" ",
-                message.as_bytes(),
-            ];
+            let pieces: [&[u8]; 3] = [buffer.format(*number).as_bytes(), b" ", message.as_bytes()];
             hold_pieces(sink, held, &pieces)
         }
         Subject::Sender(number, message, node) => {
