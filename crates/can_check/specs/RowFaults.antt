@@ -18,17 +18,20 @@ use Rattle.can_check.specs.Finding.{where_true, stands_in, each_after}
 use Rattle.can_check.specs.Known.{numbers_of, signals_of, defined_in, is_known_node}
 use Rattle.can_check.specs.MessageFaults.{message_faults}
 
--- the keys of all rows, in the order in which rows are printed
+-- ---- keys, in the order in which rows are printed
+
+unfoldable pub front_keys : Database → List RowKey
+front_keys d = map key_of_table d.tables ++ map key_of_comment d.comments
+
+unfoldable pub attribute_keys : Database → List RowKey
+attribute_keys d = map key_of_definition d.definitions ++ (map key_of_default d.defaults ++ map key_of_attribute d.attributes)
+
+unfoldable pub signal_keys : Database → List RowKey
+signal_keys d = map key_of_values d.values ++ (map key_of_float d.floats ++ map key_of_mux d.muxes)
+
+-- the keys of all rows
 unfoldable pub row_keys : Database → List RowKey
-row_keys d =
-    map key_of_table d.tables
-    ++ (map key_of_comment d.comments
-    ++ (map key_of_definition d.definitions
-    ++ (map key_of_default d.defaults
-    ++ (map key_of_attribute d.attributes
-    ++ (map key_of_values d.values
-    ++ (map key_of_float d.floats
-    ++ map key_of_mux d.muxes))))))
+row_keys d = front_keys d ++ (attribute_keys d ++ signal_keys d)
 
 -- ---- rows of what is not there
 

@@ -196,7 +196,7 @@ fn push_switch_loop(
 }
 
 /// Adds what is doubtful of the layout of a message: codes 5 to 9.
-#[tactic(auto, unfolding(crate::specs::MessageFaults::layout_faults))]
+#[tactic(auto, using(crate::proofs::Pushing::pushed_then), unfolding(crate::specs::MessageFaults::layout_faults))]
 pub(crate) fn push_layout_faults<L: Lookup>(
     found: &mut Vec<Diagnostic>,
     occupancy: &mut Occupancy,

@@ -9,6 +9,7 @@ mod known;
 mod layout_rules;
 mod message_rules;
 mod node_rules;
+mod row;
 mod row_rules;
 mod signal_rules;
 #[cfg(test)]

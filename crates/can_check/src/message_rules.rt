@@ -82,7 +82,7 @@ fn push_shared_group<L: Lookup>(
 }
 
 /// Adds what is doubtful of a message's number and name: codes 1 to 4.
-#[tactic(auto, unfolding(crate::specs::MessageFaults::head_faults))]
+#[tactic(auto, using(crate::proofs::Pushing::pushed_then), unfolding(crate::specs::MessageFaults::head_faults))]
 pub(crate) fn push_head_faults<L: Lookup>(
     found: &mut Vec<Diagnostic>,
     known: &Known<'_>,

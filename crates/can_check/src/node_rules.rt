@@ -64,7 +64,7 @@ fn push_all_unknown_receivers(
 }
 
 /// Adds the sender and the receivers of a message that are no nodes of the database: code 13.
-#[tactic(auto, unfolding(crate::specs::MessageFaults::unknown_nodes))]
+#[tactic(auto, using(crate::proofs::Pushing::pushed_then), unfolding(crate::specs::MessageFaults::unknown_nodes))]
 pub(crate) fn push_unknown_nodes(
     found: &mut Vec<Diagnostic>,
     known: &Known<'_>,
