@@ -1,7 +1,7 @@
 -- What is doubtful of a message and its signals, by rising codes; in a code the message itself, then its signals in order.
 -- Source: the DBC file format, "Message Definitions", "Signal Definitions", "Node Definitions"; SAE J1939-21, "Parameter Group
 -- Numbers". Which of it is told is the profile of candesk.
-use Rattle.std.specs.Prelude.{◌==◌, ◌&&◌, ℕ, Bool, not, List, [], ◌++◌, Option, Some, None, map, slice_get, if◌then◌else◌}
+use Rattle.std.specs.Prelude.{◌==◌, ◌&&◌, ℕ, Bool, not, List, [], ◌∷◌, ◌++◌, Option, Some, None, map, slice_get, if◌then◌else◌}
 use Rattle.std.specs.List.{flat_map, zip, list_any}
 use Rattle.std.specs.Str.{bytes_eq}
 use Rattle.std.specs.Ordering.{int_eq}

@@ -20,7 +20,7 @@ fn lacks_signal<'a>(known: &Known<'a>, number: u32, name: &'a [u8]) -> bool
 }
 
 fn lacks_target<'a>(known: &Known<'a>, place: Place<'a>) -> bool
-    ensures { result ≡ lacks_target known.now (target_of place) }
+    ensures { result ≡ lacks_target known.now (target_of place.entry) }
 {
     match place {
         Place::Whole => false,
@@ -32,7 +32,7 @@ fn lacks_target<'a>(known: &Known<'a>, place: Place<'a>) -> bool
 
 // Whether the row names what is not there.
 fn is_dangling<'a>(known: &Known<'a>, key: Key<'a>) -> bool
-    ensures { result ≡ is_dangling known.now (row_key key) }
+    ensures { result ≡ is_dangling known.now (row_key key.entry) }
 {
     match key {
         Key::Table(_) | Key::Definition(..) | Key::Default(_) => false,
@@ -51,7 +51,7 @@ fn lacks_definition(known: &Known<'_>, name: &[u8]) -> bool
 
 // Whether the row gives an attribute that is not defined.
 fn is_undefined(known: &Known<'_>, key: Key<'_>) -> bool
-    ensures { result ≡ is_undefined known.now (row_key key) }
+    ensures { result ≡ is_undefined known.now (row_key key.entry) }
 {
     match key {
         Key::Default(name) | Key::Attribute(name, _) => lacks_definition(known, name),
