@@ -1,4 +1,3 @@
-use Rattle.std.proofs.Common.{◌≡◌}
 use Rattle.can_overlap.proofs.Words.{has-none_there}
 use Rattle.can_overlap.proofs.table.empty.Goals as goal
 
