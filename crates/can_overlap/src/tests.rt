@@ -10,7 +10,7 @@ use dbc_values::{List, Memory};
 use std::alloc::Global;
 use std::test::Fail;
 
-// The way up from a signal that is there with the numbers up to `last` of the signal at place 0.
+// The way up from a signal that is there with the numbers from `first` to `last` of the signal at place 0.
 fn switched(alloc: Global, first: u64, last: u64) -> Result<Walk, Memory> {
     let mut ranges = List::new(alloc);
     ranges.push(Range { first, last })?;
