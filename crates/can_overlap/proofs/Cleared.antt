@@ -1,5 +1,6 @@
 -- A table whose marks are all taken out again.
 use Rattle.std.proofs.Common.{◌≡◌, ℕ, ◌<◌, ◌≤◌, Bool, true, false, not, ◌&&◌, ltb, List, length, get_or, arith, refl, ap, ◌∙◌, ⊎_elim}
+use Rattle.std.proofs.Math.Bool.{and-false}
 use Rattle.std.specs.List.{list_any}
 use Rattle.std.proofs.lemmas.Bool.{cases_lt}
 use Rattle.std.proofs.lemmas.List.Folds.{list_any_at}
@@ -8,10 +9,6 @@ use Rattle.can_bits.specs.declared.field.Field.{Field}
 use Rattle.can_bits.specs.Bits.{has_position}
 use Rattle.can_overlap.specs.Occupancy.{is_marked, IsOccupancy}
 use Rattle.can_overlap.specs.declared.places.Places.{Places}
-
-and_false : (b : Bool) → (b && false) ≡ false
-and_false true = refl
-and_false false = refl
 
 is_behind : (n m : ℕ) → m ≤ n → ltb n m ≡ false
 is_behind n m h = grind (arith, common_steps)
@@ -24,8 +21,8 @@ none_left fields rows d marked position other =
     ⊎_elim
     (λ (h : other < length fields).
     elim (has (get_or fields other d)) as (λ b. has (get_or fields other d) ≡ b → (is_marked rows position other && not (list_any has fields)) ≡ false) [
-      | true ↦ λ is. ap (λ b. is_marked rows position other && not b) (list_any_at has fields other d h is) ∙ and_false (is_marked rows position other)
-      | false ↦ λ is. ap (λ b. b && not (list_any has fields)) (marked position other d ∙ ap (λ b. ltb other (length fields) && b) is ∙ and_false (ltb other (length fields)))
+      | true ↦ λ is. ap (λ b. is_marked rows position other && not b) (list_any_at has fields other d h is) ∙ and-false (is_marked rows position other)
+      | false ↦ λ is. ap (λ b. b && not (list_any has fields)) (marked position other d ∙ ap (λ b. ltb other (length fields) && b) is ∙ and-false (ltb other (length fields)))
     ] refl)
     (λ (h : length fields ≤ other). ap (λ b. b && not (list_any has fields)) (marked position other d ∙ ap (λ b. b && has (get_or fields other d)) (is_behind other (length fields) h)))
     (cases_lt other (length fields))

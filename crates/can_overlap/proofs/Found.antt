@@ -3,7 +3,7 @@ use Rattle.std.proofs.Common.{◌≡◌, ℕ, zero, suc, ◌<◌, ◌≤◌, Boo
 use Rattle.std.specs.List.{list_all, slice_get}
 use Rattle.std.specs.Option.{option_and_then}
 use Rattle.std.proofs.lemmas.Bool.{cases_lt}
-use Rattle.std.proofs.lemmas.Option.{slice_get-get_or}
+use Rattle.std.proofs.lemmas.Option.{slice_get-get_or, slice_get_past}
 use Rattle.can_layout.specs.Links.{Link}
 use Rattle.can_overlap.specs.Overlaps.{agree, agrees_with, ranges_meet}
 use Rattle.can_overlap.specs.Chains.{AreFound, agrees_if_there}
@@ -33,11 +33,6 @@ abbrev value_of : Option ℕ → ℕ
 value_of None = 0
 value_of (Some n) = n
 
-slice_get-behind : {X : Type 0} (xs : List X) (i : ℕ) → length xs ≤ i → slice_get xs i ≡ None
-slice_get-behind [] i h = refl
-slice_get-behind (x ∷ xs) zero h = absurd (omega arith)
-slice_get-behind (x ∷ xs) (suc i) h = slice_get-behind xs i (omega arith)
-
 module _ (links : List Link) (places : List ℕ) (found : AreFound links places) (link : Link) where
   -- a link of the switch stands where the table says
   stands : (j : ℕ) → j < length links → (get_or links j link).switch ≡ link.switch → slice_get places link.switch ≡ Some j
@@ -54,7 +49,7 @@ module _ (links : List Link) (places : List ℕ) (found : AreFound links places)
       ap (λ o. agrees_if_there o link) (slice_get-get_or links p link h)
       ∙ sym (one_decides (λ x. agree x link) links p link h (λ j within other. other_switch (get_or links j link) link (λ e. other (same j within e)))))
       (λ (h : length links ≤ p).
-      ap (λ o. agrees_if_there o link) (slice_get-behind links p h)
+      ap (λ o. agrees_if_there o link) (slice_get_past links p h)
       ∙ sym (all_pass (λ x. agree x link) links link (λ j within. other_switch (get_or links j link) link (λ e. let here = same j within e in omega (arith, here, h, within)))))
       (cases_lt p (length links))
 

@@ -1,5 +1,6 @@
 -- What a signal and the later ones give, by whether they share a position.
-use Rattle.std.proofs.Common.{◌≡◌, ℕ, suc, ◌+◌, ◌<◌, ◌≤◌, Bool, true, false, ◌&&◌, ltb, List, [], ◌∷◌, ◌++◌, length, get_or, take, drop, drop-cons, append_assoc, arith, refl, ap, ◌∙◌, sym}
+use Rattle.std.proofs.Common.{append-nil, ◌≡◌, ℕ, suc, ◌+◌, ◌<◌, ◌≤◌, Bool, true, false, ◌&&◌, ltb, List, [], ◌∷◌, ◌++◌, length, get_or, take, take_all, drop, drop-cons, append_assoc, arith, refl, ap, ◌∙◌, sym}
+use Rattle.std.proofs.Math.Bool.{and-false}
 use Rattle.std.specs.List.{flat_map, enumerate_from, list_any, range_with_len}
 use Rattle.std.proofs.lemmas.List.FromFn.{get_or-enumerate_from, length-enumerate_from}
 use Rattle.std.proofs.lemmas.Grind.{common_steps}
@@ -13,7 +14,7 @@ use Rattle.can_overlap.specs.declared.places.Places.{Places}
 use Rattle.can_overlap.specs.Places.{has}
 use Rattle.can_overlap.specs.Overlaps.{Laid, laid_from, share, together, pair_where, pair_of, for_pairs, overlapping}
 use Rattle.can_overlap.specs.Occupancy.{is_marked, IsOccupancy, met_pair, met_pairs, laid_at}
-use Rattle.can_overlap.proofs.Skips.{flat_map-none, flat_map-skip, append_nothing}
+use Rattle.can_overlap.proofs.Skips.{flat_map-none, flat_map-skip}
 
 -- ---- the places of a set, one after the other
 
@@ -35,7 +36,7 @@ module _ (first : ℕ) (chain : List Link) (words : List ℕ) (from : ℕ) (late
   pub none_met : (found : List Pair) (n : ℕ) (d : ℕ × Walk) → ((k : ℕ) → k < n → k < length later → has words (from + k) ≡ false)
       → found ≡ found ++ flat_map (met_pair first chain words) (take n (enumerate_from from later))
   none_met found n d nothing =
-      sym (ap (λ ys. found ++ ys) (flat_map-none (met_pair first chain words) (enumerate_from from later) n d (λ k low high. apart k d (within k high) (nothing k low (within k high)))) ∙ append_nothing found)
+      sym (ap (λ ys. found ++ ys) (flat_map-none (met_pair first chain words) (enumerate_from from later) n d (λ k low high. apart k d (within k high) (nothing k low (within k high)))) ∙ append-nil found)
 
   -- the place at a is in the set, and those up to b are not
   pub next_met : (found : List Pair) (a b : ℕ) (d : ℕ × Walk) → a < b → a < length later → has words (from + a) ≡ true
@@ -49,7 +50,7 @@ module _ (first : ℕ) (chain : List Link) (words : List ℕ) (from : ℕ) (late
       ∙ ap (λ ys. found ++ ys) (sym (flat_map-skip (met_pair first chain words) (enumerate_from from later) a b d order inside (λ k low high most. apart k d (within k most) (nothing k low high (within k most)))))
 
   pub all_met : (n : ℕ) → length later ≤ n → take n (enumerate_from from later) ≡ enumerate_from from later
-  all_met n h = let e : length (enumerate_from from later) ≡ length later = length-enumerate_from from later in grind (arith, common_steps)
+  all_met n h = let e : length (enumerate_from from later) ≡ length later = length-enumerate_from from later in take_all n (enumerate_from from later) (omega arith)
 
 -- ---- the same as the pairs that are defined
 
@@ -69,15 +70,11 @@ chained a chain is words from (field ∷ fields) (walk ∷ walks) lengths shares
     ∙ ap (λ w. pair_where (share a.field field && together w walk) a.place from ++ met_pairs a.place chain words (from + 1) walks) (sym is)
     ∙ ap (λ ys. pair_where (share a.field field && together a.walk walk) a.place from ++ ys) rest
 
-and_false : (b : Bool) → (b && false) ≡ false
-and_false true = refl
-and_false false = refl
-
 pub unchained : (a : Laid) → ((walk : Walk) → together a.walk walk ≡ false) → (later : List Laid) → flat_map (pair_of a) later ≡ []
 unchained a never [] = refl
 unchained a never (b ∷ later) =
     ap (λ c. pair_where (share a.field b.field && c) a.place b.place ++ flat_map (pair_of a) later) (never b.walk)
-    ∙ ap (λ c. pair_where c a.place b.place ++ flat_map (pair_of a) later) (and_false (share a.field b.field))
+    ∙ ap (λ c. pair_where c a.place b.place ++ flat_map (pair_of a) later) (and-false (share a.field b.field))
     ∙ unchained a never later
 
 pub never_together : (a b : Walk) → ((links : List Link) → a ≡ Chain links → ⊥) → together a b ≡ false
@@ -105,11 +102,21 @@ dropped : {X : Type 0} (xs : List X) (i : ℕ) (d : X) → i < length xs → dro
 dropped xs i d h = let next : suc i ≡ i + 1 = omega arith in drop-cons xs i d h ∙ ap (λ (k : ℕ). get_or xs i d ∷ drop k xs) next
 
 -- the pairs of one more first signal
-pub for_pairs-step : (fields : List Field) (walks : List Walk) (i : ℕ) (d : Field) (w : Walk) → i < length fields → i < length walks
+for_pairs-step : (fields : List Field) (walks : List Walk) (i : ℕ) (d : Field) (w : Walk) → i < length fields → i < length walks
     → for_pairs pair_of (laid_from i (drop i fields) (drop i walks))
     ≡ flat_map (pair_of (laid_at fields walks i d w)) (laid_from (i + 1) (drop (i + 1) fields) (drop (i + 1) walks))
     ++ for_pairs pair_of (laid_from (i + 1) (drop (i + 1) fields) (drop (i + 1) walks))
 for_pairs-step fields walks i d w h other = rw (dropped fields i d h, dropped walks i w other) refl
+
+pub more_pairs : (fields : List Field) (walks : List Walk) (i : ℕ) (d : Field) (w : Walk) (found more all : List Pair) → i < length fields → i < length walks
+    → more ≡ found ++ flat_map (pair_of (laid_at fields walks i d w)) (laid_from (i + 1) (drop (i + 1) fields) (drop (i + 1) walks))
+    → found ++ for_pairs pair_of (laid_from i (drop i fields) (drop i walks)) ≡ all
+    → more ++ for_pairs pair_of (laid_from (i + 1) (drop (i + 1) fields) (drop (i + 1) walks)) ≡ all
+more_pairs fields walks i d w found more all h other pushed so_far =
+    ap (λ (pairs : List Pair). pairs ++ for_pairs pair_of (laid_from (i + 1) (drop (i + 1) fields) (drop (i + 1) walks))) pushed
+    ∙ append_assoc found (flat_map (pair_of (laid_at fields walks i d w)) (laid_from (i + 1) (drop (i + 1) fields) (drop (i + 1) walks))) (for_pairs pair_of (laid_from (i + 1) (drop (i + 1) fields) (drop (i + 1) walks)))
+    ∙ ap (λ (pairs : List Pair). found ++ pairs) (sym (for_pairs-step fields walks i d w h other))
+    ∙ so_far
 
 -- fewer than two signals have no pair
 pub no_pairs : (fields : List Field) (walks : List Walk) → length fields < 2 → [] ≡ overlapping fields walks

@@ -1,10 +1,10 @@
 //! Chains whose links are found by their switches.
-ghost use Rattle.std.specs.Prelude.{◌≡◌, Some, IsTrue, slice_get};
+ghost use Rattle.std.specs.Prelude.{◌≡◌, ℕ, ◌<◌, Some, IsTrue, length, slice_get};
 ghost use Rattle.std.specs.Option.{option_map, option_and_then};
 ghost use Rattle.std.specs.List.{list_all};
 ghost use Rattle.can_layout.specs.declared.walk.Walk.TheVariants as walks;
 ghost use Rattle.can_overlap.specs.Overlaps.{agrees_with, together};
-ghost use Rattle.can_overlap.specs.Chains.{AreFound};
+ghost use Rattle.can_overlap.specs.Chains.{AreApart, AreFound};
 
 use crate::agreeing::{agree, agrees_with};
 use can_layout::{Link, Walk};
@@ -30,13 +30,22 @@ impl<'a> Model for Chain<'a> {
     ghost invariant = { λ chain. IsTrue chain.found → AreFound chain.links.now chain.places.now };
 }
 
-/// Enters the places of a chain's links by their switches. Switches behind the table's end are left out, and of a switch that
-/// stands twice the later place stays.
-pub(crate) fn enter(places: &mut [usize], links: &[Link]) {
+fn enter(places: &mut [usize], link: &Link, place: usize)
+    ensures here { link.now.switch < length places.old → slice_get places.new link.now.switch ≡ Some place }
+    ensures others { (switch : ℕ) → (switch ≡ link.now.switch → ⊥) → slice_get places.new switch ≡ slice_get places.old switch }
+{
+    if link.switch < places.len() {
+        places[link.switch] = place;
+    }
+}
+
+/// Enters the places of a chain's links by their switches. A switch behind the table's end is left out, and of links of one switch
+/// the last one's place stays.
+pub(crate) fn enter_all(places: &mut [usize], links: &[Link])
+    ensures { AreApart (length places.old) links.now → AreFound links.now places.new }
+{
     for (place, link) in links.iter().enumerate() {
-        if link.switch < places.len() {
-            places[link.switch] = place;
-        }
+        enter(places, link, place);
     }
 }
 

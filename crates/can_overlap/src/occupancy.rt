@@ -6,7 +6,7 @@ ghost use Rattle.can_overlap.specs.Occupancy.{IsClear};
 use crate::pair::Pair;
 use crate::pairing::pairs_in;
 use crate::places::Places;
-use crate::table::{clear_all, grow, mark_all};
+use crate::table::{clear_all, empty, grow, mark_all};
 use can_layout::{Field, Walk};
 use dbc_values::Memory;
 use std::alloc::Global;
@@ -22,9 +22,7 @@ pub struct Occupancy {
 impl Occupancy {
     /// An empty table. It takes no memory.
     pub fn new(alloc: Global) -> Occupancy {
-        Occupancy {
-            rows: Vec::new(alloc),
-        }
+        Occupancy { rows: empty(alloc) }
     }
 }
 

@@ -7,7 +7,7 @@ ghost use Rattle.can_layout.specs.declared.walk.Walk.TheVariants as walks;
 ghost use Rattle.can_overlap.specs.Overlaps.{together, laid_from, pair_of, pair_where, overlapping};
 ghost use Rattle.can_overlap.specs.Occupancy.{laid_at, met_pairs, reach, IsOccupancy};
 
-use crate::chain::{Chain, enter};
+use crate::chain::{Chain, enter_all};
 use crate::pair::Pair;
 use crate::places::Places;
 use crate::table::met_by;
@@ -65,7 +65,7 @@ fn push_chained(
     requires few { length walks.now ≤ 999 }
     ensures { OnOk result (found.new.items ≡ found.old.items ++ met_pairs first links.now met.now.words (first + 1) (drop (first + 1) walks.now)) }
 {
-    enter(places, links);
+    enter_all(places, links);
     let chain = Chain::of(links, places);
     let (_, later) = walks.split_at(first + 1);
     push_met(found, &chain, first, later, met, first + 1)?;

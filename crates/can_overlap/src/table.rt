@@ -8,6 +8,14 @@ ghost use Rattle.can_overlap.specs.Occupancy.{is_marked, reach, IsClear, IsOccup
 use crate::places::Places;
 use can_layout::Field;
 use dbc_values::Memory;
+use std::alloc::Global;
+
+/// No rows.
+pub(crate) fn empty(alloc: Global) -> Vec<Places>
+    ensures { IsClear result.items }
+{
+    Vec::new(alloc)
+}
 
 // More than each position of a field. The positions of each byte are counted from either end, so that the greatest may be up to
 // 14 further on than start and length tell.

@@ -1,12 +1,9 @@
-use Rattle.std.proofs.Common.{ℕ, ◌+◌, ◌<◌, List, ◌++◌, length, drop, append_assoc, false, arith, ap, sym, ◌∙◌}
-use Rattle.std.specs.List.{flat_map}
+use Rattle.std.proofs.Common.{◌<◌, List, ◌++◌, length, false, arith, ap}
 use Rattle.can_bits.specs.declared.field.Field.{Field}
-use Rattle.can_layout.specs.declared.walk.Walk.{Walk}
 use Rattle.can_layout.specs.declared.walk.Walk.TheVariants.{Loop}
 use Rattle.can_overlap.specs.declared.pair.Pair.{Pair}
 use Rattle.can_overlap.specs.Overlaps.{for_pairs, laid_from, pair_of, overlapping}
-use Rattle.can_overlap.specs.Occupancy.{laid_at}
-use Rattle.can_overlap.proofs.Meeting.{for_pairs-step}
+use Rattle.can_overlap.proofs.Meeting.{more_pairs}
 use Rattle.can_overlap.proofs.pairing.pairs_in.Goals as goal
 
 pub loop-first-init : goal.loop-first-init
@@ -15,13 +12,7 @@ loop-first-init c = ap (λ (pairs : List Pair). pairs ++ for_pairs pair_of (laid
 
 pub loop-first-preserved : goal.loop-first-preserved
 loop-first-preserved c =
-    let fields : List Field = c.args.fields.now in
-    let walks : List Walk = c.args.walks.now in
-    let first : ℕ = c.loop-first.first in
     let field : Field = record { start = 0; length = 0; intel = false } in
-    let within : first < length walks = omega (arith, c.requires.lengths, c.loop-first-test.true) in
-    let rest : List Pair = for_pairs pair_of (laid_from (first + 1) (drop (first + 1) fields) (drop (first + 1) walks)) in
-    ap (λ (pairs : List Pair). pairs ++ rest) (c.in_ok-push_pairs.ensures field Loop)
-    ∙ append_assoc c.loop-first.found.items (flat_map (pair_of (laid_at fields walks first field Loop)) (laid_from (first + 1) (drop (first + 1) fields) (drop (first + 1) walks))) rest
-    ∙ ap (λ (pairs : List Pair). c.loop-first.found.items ++ pairs) (sym (for_pairs-step fields walks first field Loop c.loop-first-test.true within))
-    ∙ c.loop-first.invariant
+    let within : c.loop-first.first < length c.args.walks.now = omega (arith, c.requires.lengths, c.loop-first-test.true) in
+    more_pairs c.args.fields.now c.args.walks.now c.loop-first.first field Loop c.loop-first.found.items c.push_pairs.new.found.items (overlapping c.args.fields.now c.args.walks.now)
+    c.loop-first-test.true within (c.in_ok-push_pairs.ensures field Loop) c.loop-first.invariant

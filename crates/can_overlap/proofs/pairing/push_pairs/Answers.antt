@@ -1,4 +1,4 @@
-use Rattle.std.proofs.Common.{◌≡◌, ℕ, ◌+◌, ◌-◌, ◌<◌, List, ◌++◌, length, get_or, drop, length-drop, false, arith, ap, sym, ◌∙◌}
+use Rattle.std.proofs.Common.{append-nil, ◌≡◌, ℕ, ◌+◌, ◌-◌, ◌<◌, List, ◌++◌, length, get_or, drop, length-drop, false, arith, ap, sym, ◌∙◌}
 use Rattle.std.proofs.lemmas.List.{get_or_default, get_or-drop}
 use Rattle.can_bits.specs.declared.field.Field.{Field}
 use Rattle.can_layout.specs.Links.{Link}
@@ -9,7 +9,6 @@ use Rattle.can_overlap.specs.Places.{has}
 use Rattle.can_overlap.specs.Overlaps.{laid_from, share, together}
 use Rattle.can_overlap.specs.Occupancy.{laid_at, met_pairs}
 use Rattle.can_overlap.proofs.Meeting.{chained, unchained, never_together, share_from_marks}
-use Rattle.can_overlap.proofs.Skips.{append_nothing}
 use Rattle.can_overlap.proofs.pairing.push_pairs.Goals as goal
 
 pub returns-in_ok-push_chained-in-Chain : goal.returns-in_ok-push_chained-in-Chain
@@ -41,4 +40,4 @@ returns-in_default c = λ field walk.
     let is : get_or walks first walk ≡ c.index-walks-first.result = get_or_default walks first walk c.index-walks-first.result inside ∙ sym c.index-walks-first.is in
     let never : (other : Walk) → together (get_or walks first walk) other ≡ false = λ other. ap (λ w. together w other) is ∙ never_together c.index-walks-first.result other c.in_default.not-Chain in
     sym (ap (λ (pairs : List Pair). c.args.found.now.items ++ pairs) (unchained (laid_at fields walks first field walk) never (laid_from (first + 1) (drop (first + 1) fields) (drop (first + 1) walks)))
-    ∙ append_nothing c.args.found.now.items)
+    ∙ append-nil c.args.found.now.items)
