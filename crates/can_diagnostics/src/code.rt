@@ -5,41 +5,41 @@ ghost use Rattle.can_diagnostics.specs.Codes.{code_number, code_word};
 /// What is doubtful. The numbers, 1 to 18 in this order, and the words don't change.
 #[derive(Clone, Copy, Debug, PartialEq, Eq)]
 pub enum Code {
-    /// The number of a message is no CAN identifier.
+    /// The number of a message is no identifier of 11 or 29 bits.
     BadIdentifier,
     /// Another message has the number.
     SharedIdentifier,
     /// Another message has the name.
     SharedName,
-    /// Another message is of the same parameter group.
+    /// Another group message has the message's group number.
     SharedGroup,
-    /// A signal reaches beyond the data of its message.
+    /// A bit of a signal lies beyond its message's size.
     Outside,
     /// Two signals that can be there together have a bit in common.
     Overlap,
-    /// The switch of a multiplexed signal is not there.
+    /// The switch of a multiplexed signal isn't there.
     NoSwitch,
-    /// The row of a signal's multiplexing doesn't fit the signal.
+    /// The row of a signal's multiplexing has a range that ends before it begins, or names a signal that is no switch.
     BadMuxRow,
-    /// The switches of a signal lead back to it.
+    /// The way up from a signal, from switch to switch, leads to a signal twice.
     SwitchLoop,
-    /// A float has not the bits of one.
+    /// The raw bits of a signal are an IEEE 754 float.
     Float,
-    /// A signal has too many bits to be read.
+    /// A signal has more than 64 bits.
     Long,
-    /// The factor or offset of a signal can't be computed with.
+    /// No scale holds the values of a signal exactly.
     Scale,
-    /// A node is not listed.
+    /// A sender or a receiver is no node of the database.
     UnknownNode,
-    /// A signal never has a value that is named.
+    /// A named value is none that the signal's raw bits can have.
     ValueOutOfRange,
-    /// A value is named twice.
+    /// An earlier entry of the row names the value.
     RepeatedValue,
-    /// A row is for something that is not there.
+    /// A row is for a message, a signal or a node that isn't there.
     DanglingRow,
-    /// An earlier row has the key.
+    /// An earlier row of the kind has the key.
     RepeatedRow,
-    /// An attribute has no definition.
+    /// A default or a value is of an attribute without a definition.
     UnknownAttribute,
 }
 
