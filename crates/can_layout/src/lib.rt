@@ -18,6 +18,8 @@ mod refusal;
 mod row;
 mod rows;
 mod switches;
+#[cfg(test)]
+mod tests;
 mod text;
 mod walk;
 
