@@ -1,5 +1,4 @@
 pub mod Statuses
-pub mod Words
 pub mod Refusals
 pub mod Printing
 pub mod Dumping

@@ -7,8 +7,8 @@ use Rattle.line_stream.specs.LineTexts.{Streams}
 use Rattle.can_decode.specs.DecodedLines.{decoded_line}
 use Rattle.candesk_calls.specs.declared.fault.RunFault.{RunFault}
 use Rattle.candesk_calls.specs.declared.fault.RunFault.TheVariants as faults
-use Rattle.candesk_calls.specs.declared.job.Command.{Command}
-use Rattle.candesk_calls.specs.declared.job.Command.TheVariants as commands
+use Rattle.candesk_words.specs.declared.job.Command.{Command}
+use Rattle.candesk_words.specs.declared.job.Command.TheVariants as commands
 use Rattle.line_stream.specs.declared.fault.StreamFault.TheVariants as streams
 use Rattle.candesk_calls.specs.Dumping.{DumpingEndsWith}
 use Rattle.candesk_calls.specs.Printing.{status_of_cause, PrintingEndsWith}

@@ -7,9 +7,9 @@ ghost use Rattle.candesk_calls.specs.Run.{DecodingEndsWith, EndsWith, status_of}
 use crate::decoding::decode_run;
 use crate::dumping::dump_run;
 use crate::fault::{DumpFault, PrintFault, RunFault};
-use crate::job::{Command, Job};
 use crate::printing::print_run;
 use arrayvec::ArrayString;
+use candesk_words::{Command, Job};
 use dbc_model::{Sink, Source, put_all};
 use dbc_tokens::Cause;
 use line_stream::StreamFault;

@@ -1,7 +1,7 @@
 //! What no contract says: fault lines, and that calls succeed where memory is there. `scripts/run_rows` tries the built
 //! program on more words, databases and logs.
 
-use crate::{Command, Job, NoJob, job_of, refuse, refuse_file, run, status};
+use crate::{Command, Job, NoJob, refuse, refuse_file, run, status};
 use dbc_model::limp::Limp;
 use std::alloc::{AllocError, Global};
 use std::test::Fail;
@@ -78,17 +78,6 @@ fn runs(rt: HostRuntime) -> Result<(), AllocError> {
     for (command, limits, status, output, line) in table {
         assert!(rt; ends_so(rt.alloc(), command, limits, status, output, line)?);
     }
-    Ok(())
-}
-
-#[test]
-fn words(rt: HostRuntime) -> Result<(), Fail> {
-    let job = job_of(rt.alloc(), ["print", "--", "--f"].as_slice());
-    assert!(rt;
-        matches!(&job, Ok(Job { command: Command::Print, file }) if file.as_str() == "--f")
-    );
-    let version = job_of(rt.alloc(), ["--version"].as_slice());
-    assert!(rt; matches!(&version, Err(NoJob::Help(text)) if text.as_str() == "candesk 0.1.0\n"));
     Ok(())
 }
 
