@@ -4,8 +4,12 @@ use Rattle.clap.specs.Words.{fault_of}
 use Rattle.clap.specs.declared.error.kind.ErrorKind.TheVariants.{DisplayVersion, MissingRequiredArgument, UnknownArgument}
 use Rattle.clap.proofs.OnLiterals.{clap_on_literals}
 use Rattle.candesk_words.proofs.OnLiterals.{words_on_literals}
-use Rattle.candesk_words.specs.declared.job.Command.TheVariants.{Decode, Dump, Print}
+use Rattle.candesk_words.specs.declared.job.Command.TheVariants.{Check, Decode, Dump, Print}
 use Rattle.candesk_words.specs.Words.{command_line, job_named}
+
+check-job : job_named (codes "check" ∷ codes "a" ∷ []) ≡ Some (Check, codes "a")
+unfolding clap_on_literals words_on_literals
+check-job = refl
 
 decode-job : job_named (codes "decode" ∷ codes "a" ∷ []) ≡ Some (Decode, codes "a")
 unfolding clap_on_literals words_on_literals

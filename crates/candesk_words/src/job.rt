@@ -11,6 +11,8 @@ use std::alloc::{AllocError, Global};
 /// What the program can do with a database.
 #[derive(Clone, Copy, Debug, PartialEq, Eq)]
 pub enum Command {
+    /// Says what is doubtful in the database.
+    Check,
     /// Decodes the log on standard input.
     Decode,
     /// Draws the messages of the database.
@@ -68,6 +70,7 @@ fn command_named(name: &str) -> Option<Command>
     ensures { result ≡ command_named name.now }
 {
     match name {
+        "check" => Some(Command::Check),
         "decode" => Some(Command::Decode),
         "dump" => Some(Command::Dump),
         "print" => Some(Command::Print),

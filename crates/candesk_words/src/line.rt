@@ -17,7 +17,7 @@ fn before_command<'a>(alloc: Global) -> Result<Command<'a>, AllocError>
     ensures { IfOk result (λ line. app_of line ≡ before_command) }
 {
     let line = Command::new(alloc, "candesk")
-        .about("Prints and draws CAN databases and decodes logs, with proved answers")
+        .about("Checks, prints and draws CAN databases and decodes logs, with proved answers")
         .version(VERSION)
         .no_binary_name(true)
         .bin_name("candesk")?
@@ -60,6 +60,13 @@ fn with_command<'a>(
     line.subcommand(command)
 }
 
+fn with_check<'a>(alloc: Global, line: Command<'a>) -> Result<Command<'a>, AllocError>
+    ensures { IfOk result (λ longer. app_of longer ≡ with_command (app_of line.entry) (codes "check")) }
+{
+    let about = "Says what is doubtful in a database on standard output";
+    with_command(alloc, line, "check", about, notes::CHECK)
+}
+
 fn with_decode<'a>(alloc: Global, line: Command<'a>) -> Result<Command<'a>, AllocError>
     ensures { IfOk result (λ longer. app_of longer ≡ with_command (app_of line.entry) (codes "decode")) }
 {
@@ -81,12 +88,13 @@ fn with_print<'a>(alloc: Global, line: Command<'a>) -> Result<Command<'a>, Alloc
     with_command(alloc, line, "print", about, notes::PRINT)
 }
 
-/// The command line: `candesk decode FILE`, `candesk dump FILE`, `candesk print FILE`.
+/// The command line: `candesk check FILE`, `candesk decode FILE`, `candesk dump FILE`, `candesk print FILE`.
 #[tactic(auto, unfolding(crate::specs::Words::command_line))]
 pub fn command_line<'a>(alloc: Global) -> Result<Command<'a>, AllocError>
     ensures { IfOk result (λ line. app_of line ≡ command_line) }
 {
     let line = before_command(alloc)?;
+    let line = with_check(alloc, line)?;
     let line = with_decode(alloc, line)?;
     let line = with_dump(alloc, line)?;
     with_print(alloc, line)

@@ -1,5 +1,15 @@
 //! What the help of each command says below its options.
 
+/// Of `check`.
+pub const CHECK: &str = "\
+Standard input is not read. Standard output has a line for each thing that is doubtful in the database: its number and
+word, and where it is. The status is 1 where there is one.
+
+Example, of a message whose sender is no node:
+  $ printf 'BU_: Ecu\\nBO_ 1 A: 0 N\\n' > doubtful.dbc
+  $ candesk check doubtful.dbc
+  13 UnknownNode 1 A N";
+
 /// Of `decode`.
 pub const DECODE: &str = "\
 Standard input is a log as `candump -L` writes it. Standard output has each of its lines, and behind a line with a data
