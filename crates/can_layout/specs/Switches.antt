@@ -1,14 +1,17 @@
 -- What stands right above a signal in multiplexing.
 -- Source: the DBC file format, "Signal Definitions" (multiplexer indicator) and "Extended Multiplexing". That a row counts
 -- before the tag is the profile of candesk.
-use Rattle.std.specs.Prelude.{◌==◌, ℕ, Bool, true, false, List, [], ◌∷◌, Option, Some, None, map, position, count_by, if◌then◌else◌}
+use Rattle.std.specs.Prelude.{◌==◌, ℕ, Bool, true, false, List, [], ◌∷◌, length, Option, Some, None, map, position, count_by, if◌then◌else◌}
+use Rattle.std.specs.List.{range_with_len}
 use Rattle.std.specs.Str.{bytes_eq}
 use Rattle.dbc_records.specs.Records.{Signal, MuxRow}
 use Rattle.dbc_records.specs.declared.tag.Tag.{Tag}
 use Rattle.dbc_records.specs.declared.tag.Tag.TheVariants as tags
 use Rattle.dbc_records.specs.declared.mux_row.Range.{Range}
 use Rattle.can_rows.specs.Rows.{SignalRows, first_mux}
+use Rattle.can_layout.specs.Walks.{walk_of}
 use Rattle.can_layout.specs.declared.above.Above.{Above}
+use Rattle.can_layout.specs.declared.walk.Walk.{Walk}
 use Rattle.can_layout.specs.declared.above.Above.TheVariants.{Nothing, Missing, Switch}
 
 -- the place of the signal of a name
@@ -52,3 +55,7 @@ above_of rows signals signal = by_row signals signal.tag (first_mux signal.name 
 -- above each signal of a message
 abbrev pub aboves_of : SignalRows → List Signal → List Above
 aboves_of rows signals = map (above_of rows signals) signals
+
+-- the ways up from each signal of a message
+abbrev pub walks_of : SignalRows → List Signal → List Walk
+walks_of rows signals = map (walk_of (aboves_of rows signals)) (range_with_len 0 (length signals))

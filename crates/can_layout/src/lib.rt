@@ -22,7 +22,7 @@ mod text;
 mod walk;
 
 pub use above::Above;
-pub use asking::{cause, chain};
+pub use asking::{cause, chain, message_walks};
 pub use can_bits::{Field, Steps};
 pub use can_rows::{Indexed, Lookup, group_in, group_number, group_of, groups, is_bad_number};
 pub use decoder::Decoder;
@@ -33,4 +33,5 @@ pub use meter::Meter;
 pub use plan::Plan;
 pub use refusal::Cause;
 pub use row::{Reading, Row};
+pub use rows::MessageRows;
 pub use walk::{Walk, walk_of};

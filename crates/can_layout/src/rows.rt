@@ -8,9 +8,9 @@ use dbc_records::{FloatRow, MuxRow, ValueRow};
 use dbc_values::Name;
 use std::marker::Model;
 
-/// The rows of one message number.
+/// The rows of one message number, by a signal's name: the first of each kind.
 #[derive(Drop)]
-pub(crate) struct MessageRows<'a, L: Lookup> {
+pub struct MessageRows<'a, L: Lookup> {
     lookup: &'a L,
     number: u32,
 }

@@ -1,6 +1,5 @@
 //! What stands right above each signal of a message.
 ghost use Rattle.std.specs.Prelude.{◌≡◌, IfOk, count_by, position};
-ghost use Rattle.std.specs.Str.{bytes_eq};
 ghost use Rattle.can_layout.specs.Switches.{place_named, only_switch, is_switch, above_of, aboves_of, under, just, by_tag};
 
 use crate::above::Above;
@@ -8,14 +7,8 @@ use crate::link::Link;
 use crate::rows::MessageRows;
 use can_rows::Lookup;
 use dbc_records::{Range, Signal, Tag};
-use dbc_values::{Copied, List, Memory};
+use dbc_values::{Copied, List, Memory, same};
 use std::alloc::Global;
-
-fn same(a: &[u8], b: &[u8]) -> bool
-    ensures { result ≡ bytes_eq a.now b.now }
-{
-    a == b
-}
 
 // The place of the signal of a name.
 fn place_named(name: &[u8], signals: &[Signal]) -> Option<usize>

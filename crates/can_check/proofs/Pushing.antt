@@ -1,0 +1,7 @@
+-- One list of diagnostics pushed behind another.
+use Rattle.std.proofs.Common.{◌≡◌, List, ◌++◌, ap, ◌∙◌, append_assoc}
+use Rattle.can_diagnostics.specs.declared.diagnostic.Diagnostic.{Diagnostic}
+
+-- the later push stands first, so that the tactics find what lies between
+pub pushed_then : (old mid new xs ys : List Diagnostic) → new ≡ mid ++ ys → mid ≡ old ++ xs → new ≡ old ++ (xs ++ ys)
+pushed_then old mid new xs ys q p = q ∙ ap (λ (t : List Diagnostic). t ++ ys) p ∙ append_assoc old xs ys

@@ -1,0 +1,17 @@
+-- What is found of items, given those before, one part of a list after another.
+use Rattle.std.proofs.Common.{◌≡◌, List, [], ◌∷◌, ◌++◌, refl, sym, ap, ◌∙◌, append_assoc, append-nil}
+use Rattle.can_check.specs.Finding.{each_after}
+
+pub each_after-append : {X Y : Type 0} (f : List X → X → List Y) (before xs ys : List X) → each_after f before (xs ++ ys) ≡ each_after f before xs ++ each_after f (before ++ xs) ys
+each_after-append f before [] ys = ap (λ b. each_after f b ys) (sym (append-nil before))
+each_after-append f before (x ∷ xs) ys =
+    ap (λ r. f before x ++ r) (each_after-append f (before ++ x ∷ []) xs ys ∙ ap (λ b. each_after f (before ++ x ∷ []) xs ++ each_after f b ys) (append_assoc before (x ∷ []) xs))
+    ∙ sym (append_assoc (f before x) (each_after f (before ++ x ∷ []) xs) (each_after f (before ++ (x ∷ xs)) ys))
+
+-- the later part stands first, so that the tactics find what lies between
+pub after_then : {X Y : Type 0} (f : List X → X → List Y) (found mid now : List Y) (before seen xs ys : List X)
+    → now ≡ mid ++ each_after f seen ys → mid ≡ found ++ each_after f before xs → seen ≡ before ++ xs → now ≡ found ++ each_after f before (xs ++ ys)
+after_then f found mid now before seen xs ys q p e =
+    q ∙ ap (λ m. m ++ each_after f seen ys) p ∙ append_assoc found (each_after f before xs) (each_after f seen ys)
+    ∙ ap (λ s. found ++ (each_after f before xs ++ each_after f s ys)) e
+    ∙ ap (λ r. found ++ r) (sym (each_after-append f before xs ys))

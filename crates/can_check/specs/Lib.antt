@@ -1,0 +1,5 @@
+pub mod Finding
+pub mod Known
+pub mod SignalRules
+pub mod MessageFaults
+pub mod RowFaults

@@ -1,0 +1,160 @@
+-- What is doubtful of a message and its signals, by rising codes; in a code the message itself, then its signals in order.
+-- Source: the DBC file format, "Message Definitions", "Signal Definitions", "Node Definitions"; SAE J1939-21, "Parameter Group
+-- Numbers". Which of it is told is the profile of candesk.
+use Rattle.std.specs.Prelude.{◌==◌, ◌&&◌, ℕ, Bool, not, List, [], ◌∷◌, ◌++◌, Option, Some, None, map, slice_get, if◌then◌else◌}
+use Rattle.std.specs.List.{flat_map, zip, list_any}
+use Rattle.std.specs.Str.{bytes_eq}
+use Rattle.std.specs.Ordering.{int_eq}
+use Rattle.dbc_records.specs.Records.{Head, Signal, Message, Entry}
+use Rattle.dbc_records.specs.Databases.{Database}
+use Rattle.can_bits.specs.Bits.{field_of}
+use Rattle.can_rows.specs.Rows.{SignalRows, rows_of, first_values, first_mux}
+use Rattle.can_rows.specs.Groups.{is_bad_number, pseudo_number, group_of}
+use Rattle.can_layout.specs.Plans.{entries_of}
+use Rattle.can_layout.specs.Switches.{walks_of}
+use Rattle.can_layout.specs.declared.walk.Walk.{Walk}
+use Rattle.can_overlap.specs.Overlaps.{overlapping}
+use Rattle.can_overlap.specs.declared.pair.Pair.{Pair}
+use Rattle.can_diagnostics.specs.Diagnostics.{of_message, of_sender, of_signal, of_pair, of_receiver, of_value}
+use Rattle.can_diagnostics.specs.declared.code.Code.{Code}
+use Rattle.can_diagnostics.specs.declared.code.Code.TheVariants as codes
+use Rattle.can_diagnostics.specs.declared.diagnostic.Diagnostic.{Diagnostic}
+use Rattle.can_check.specs.Finding.{where_true, is_shared, each_after}
+use Rattle.can_check.specs.Known.{numbers_of, names_of, groups_of, is_known_node}
+use Rattle.can_check.specs.SignalRules.{has_no_switch, is_loop, is_bad_row, lies_outside, is_float, is_long, has_no_scale, is_out_of_range}
+
+-- the message that holds signals of no message
+abbrev pub is_pseudo : Head → Bool
+is_pseudo head = head.number == pseudo_number
+
+-- ---- the message
+
+-- its number is no identifier
+unfoldable pub bad_identifier : Message → List Diagnostic
+bad_identifier m = where_true (is_bad_number m.head.number && not (is_pseudo m.head)) (of_message codes.BadIdentifier m.head)
+
+-- another message has its number
+unfoldable pub shared_identifier : Database → Message → List Diagnostic
+shared_identifier database m = where_true (is_shared (λ a b. a == b) m.head.number (numbers_of database)) (of_message codes.SharedIdentifier m.head)
+
+-- another message has its name
+unfoldable pub shared_name : Database → Message → List Diagnostic
+shared_name database m = where_true (is_shared bytes_eq m.head.name (names_of database)) (of_message codes.SharedName m.head)
+
+abbrev pub in_shared_group : Database → Head → Option ℕ → List Diagnostic
+in_shared_group database head None = []
+in_shared_group database head (Some group) = where_true (is_shared (λ a b. a == b) group (groups_of database)) (of_message codes.SharedGroup head)
+
+-- it and another are group messages of one group
+unfoldable pub shared_group : Database → Message → List Diagnostic
+shared_group database m = in_shared_group database m.head (group_of m.head.number database)
+
+-- ---- its signals
+
+-- the signals that pass a test
+abbrev pub signals_where : Code → Head → (Signal → Bool) → List Signal → List Diagnostic
+signals_where code head test signals = flat_map (λ signal. where_true (test signal) (of_signal code head signal)) signals
+
+-- the signals whose ways up pass a test
+abbrev pub walks_where : Code → Head → (Walk → Bool) → List Signal → List Walk → List Diagnostic
+walks_where code head test signals walks = flat_map (λ one. where_true (test one.1) (of_signal code head one.0)) (zip signals walks)
+
+-- a bit of a signal is not in the message
+unfoldable pub outside : Message → List Diagnostic
+outside m = if is_pseudo m.head then [] else signals_where codes.Outside m.head (lies_outside m.head.size) m.signals
+
+abbrev pub pair_between : Head → Option Signal → Option Signal → List Diagnostic
+pair_between head (Some first) (Some second) = of_pair codes.Overlap head first second ∷ []
+pair_between head (Some first) None = []
+pair_between head None second = []
+
+abbrev pub pair_at : Message → Pair → List Diagnostic
+pair_at m pair = pair_between m.head (slice_get m.signals pair.first) (slice_get m.signals pair.second)
+
+-- two signals have a bit in common, and can be there together
+unfoldable pub overlaps : Message → List Walk → List Diagnostic
+overlaps m walks = if is_pseudo m.head then [] else flat_map (pair_at m) (overlapping (map field_of m.signals) walks)
+
+-- a multiplexed signal has no switch
+unfoldable pub no_switch : Message → List Walk → List Diagnostic
+no_switch m walks = walks_where codes.NoSwitch m.head has_no_switch m.signals walks
+
+-- the first row of its multiplexing says what can't be
+unfoldable pub bad_mux_row : SignalRows → Message → List Diagnostic
+bad_mux_row rows m = signals_where codes.BadMuxRow m.head (λ signal. is_bad_row m.signals (first_mux signal.name rows)) m.signals
+
+-- its switches stand in a circle
+unfoldable pub switch_loop : Message → List Walk → List Diagnostic
+switch_loop m walks = walks_where codes.SwitchLoop m.head is_loop m.signals walks
+
+unfoldable pub floats : SignalRows → Message → List Diagnostic
+floats rows m = signals_where codes.Float m.head (is_float rows) m.signals
+
+unfoldable pub long : Message → List Diagnostic
+long m = signals_where codes.Long m.head is_long m.signals
+
+unfoldable pub no_scale : Message → List Diagnostic
+no_scale m = signals_where codes.Scale m.head has_no_scale m.signals
+
+-- ---- nodes
+
+abbrev pub unknown_sender : Database → Head → List Diagnostic
+unknown_sender database head = where_true (not (is_known_node database head.sender)) (of_sender codes.UnknownNode head)
+
+abbrev pub unknown_receiver : Database → Head → Signal → List ℕ → List Diagnostic
+unknown_receiver database head signal node = where_true (not (is_known_node database node)) (of_receiver codes.UnknownNode head signal node)
+
+abbrev pub unknown_receivers : Database → Head → Signal → List Diagnostic
+unknown_receivers database head signal = flat_map (unknown_receiver database head signal) signal.receivers
+
+-- its sender, or a receiver of a signal, is not in the list of nodes
+unfoldable pub unknown_nodes : Database → Message → List Diagnostic
+unknown_nodes database m = unknown_sender database m.head ++ flat_map (unknown_receivers database m.head) m.signals
+
+-- ---- named values
+
+-- the named values of a signal, by its first row
+abbrev pub named : SignalRows → Signal → List Entry
+named rows signal = entries_of (first_values signal.name rows)
+
+abbrev pub out_of_range : Head → Signal → Entry → List Diagnostic
+out_of_range head signal entry = where_true (is_out_of_range signal entry) (of_value codes.ValueOutOfRange head signal entry.number)
+
+-- a named value that the signal never has
+unfoldable pub values_out_of_range : SignalRows → Message → List Diagnostic
+values_out_of_range rows m = flat_map (λ signal. flat_map (out_of_range m.head signal) (named rows signal)) m.signals
+
+abbrev pub repeated_value : Head → Signal → List Entry → Entry → List Diagnostic
+repeated_value head signal before entry = where_true (list_any (λ earlier. int_eq entry.number earlier.number) before) (of_value codes.RepeatedValue head signal entry.number)
+
+abbrev pub repeated_in : SignalRows → Head → Signal → List Diagnostic
+repeated_in rows head signal = each_after (repeated_value head signal) [] (named rows signal)
+
+-- a named value that stood earlier in its row
+unfoldable pub repeated_values : SignalRows → Message → List Diagnostic
+repeated_values rows m = flat_map (repeated_in rows m.head) m.signals
+
+-- ---- all of it
+
+-- codes 1 to 4
+unfoldable pub head_faults : Database → Message → List Diagnostic
+head_faults database m = bad_identifier m ++ (shared_identifier database m ++ (shared_name database m ++ shared_group database m))
+
+-- codes 5 to 9
+unfoldable pub layout_faults : SignalRows → Message → List Walk → List Diagnostic
+layout_faults rows m walks = outside m ++ (overlaps m walks ++ (no_switch m walks ++ (bad_mux_row rows m ++ switch_loop m walks)))
+
+-- codes 10 to 12
+unfoldable pub reading_faults : SignalRows → Message → List Diagnostic
+reading_faults rows m = floats rows m ++ (long m ++ no_scale m)
+
+-- codes 14 and 15
+unfoldable pub value_faults : SignalRows → Message → List Diagnostic
+value_faults rows m = values_out_of_range rows m ++ repeated_values rows m
+
+abbrev pub faults_by : Database → SignalRows → Message → List Diagnostic
+faults_by database rows m =
+    head_faults database m ++ (layout_faults rows m (walks_of rows m.signals) ++ (reading_faults rows m ++ (unknown_nodes database m ++ value_faults rows m)))
+
+unfoldable pub message_faults : Database → Message → List Diagnostic
+message_faults database m = faults_by database (rows_of m.head.number database) m

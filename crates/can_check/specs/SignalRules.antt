@@ -1,0 +1,80 @@
+-- What may be doubtful of a signal: each a test.
+-- Source: the DBC file format, "Signal Definitions", "Extended Multiplexing", "Signal Extended Value Type Definitions",
+-- "Signal Value Descriptions".
+use Rattle.std.specs.Prelude.{ℕ, ℤ, pos, neg_ℤ, int_le, ◌-◌, ◌-ℤ◌, ◌^◌, ◌&&◌, ◌||◌, nat_lt, nat_le, Bool, true, false, not, List, Option, Some, None, if◌then◌else◌}
+use Rattle.std.specs.List.{list_any}
+use Rattle.std.specs.Str.{bytes_eq}
+use Rattle.dbc_values.specs.Scales.{scale_fits, most_raw_bits}
+use Rattle.dbc_records.specs.Records.{Signal, Entry, ValueRow, MuxRow}
+use Rattle.dbc_records.specs.declared.tag.Tag.{Tag}
+use Rattle.dbc_records.specs.declared.tag.Tag.TheVariants as tags
+use Rattle.dbc_records.specs.declared.mux_row.Range.{Range}
+use Rattle.can_bits.specs.Bits.{field_of, is_outside}
+use Rattle.can_rows.specs.Rows.{SignalRows, first_float}
+use Rattle.can_layout.specs.Plans.{is_float_row}
+use Rattle.can_layout.specs.declared.walk.Walk.{Walk}
+use Rattle.can_layout.specs.declared.walk.Walk.TheVariants as walks
+
+-- ---- multiplexing
+
+-- the signal's own switch is not in the message
+abbrev pub has_no_switch : Walk → Bool
+has_no_switch (walks.Chain links) = false
+has_no_switch (walks.Absent own) = own
+has_no_switch walks.Loop = false
+
+-- the way up from the signal comes to one for the second time
+abbrev pub is_loop : Walk → Bool
+is_loop (walks.Chain links) = false
+is_loop (walks.Absent own) = false
+is_loop walks.Loop = true
+
+-- a tag with an `M`
+abbrev pub can_switch : Tag → Bool
+can_switch tags.Plain = false
+can_switch tags.Switch = true
+can_switch (tags.Muxed n) = false
+can_switch (tags.Both n) = true
+
+-- a range that holds no number
+abbrev pub is_empty_range : Range → Bool
+is_empty_range range = nat_lt range.last range.first
+
+-- the signal of the name, which has no `M`
+abbrev pub is_no_switch : List ℕ → Signal → Bool
+is_no_switch name signal = bytes_eq signal.name name && not (can_switch signal.tag)
+
+-- a row with a range that holds no number, or with a switch that is in the message and has no `M`
+abbrev pub is_bad_row : List Signal → Option MuxRow → Bool
+is_bad_row signals None = false
+is_bad_row signals (Some row) = list_any is_empty_range row.ranges || list_any (is_no_switch row.switch) signals
+
+-- ---- what keeps a signal from being decoded
+
+-- a bit of it is not in so many bytes
+abbrev pub lies_outside : ℕ → Signal → Bool
+lies_outside size signal = is_outside size (field_of signal)
+
+abbrev pub is_float : SignalRows → Signal → Bool
+is_float rows signal = is_float_row (first_float signal.name rows)
+
+abbrev pub is_long : Signal → Bool
+is_long signal = nat_lt most_raw_bits signal.length
+
+-- its values have too many digits
+abbrev pub has_no_scale : Signal → Bool
+has_no_scale signal = nat_le signal.length most_raw_bits && not (scale_fits signal.factor signal.offset signal.length)
+
+-- ---- named values
+
+-- the least and the greatest raw value of so many bits
+abbrev pub least_raw : Bool → ℕ → ℤ
+least_raw signed bits = if signed then neg_ℤ (pos (2 ^ (bits - 1))) else pos 0
+
+abbrev pub greatest_raw : Bool → ℕ → ℤ
+greatest_raw signed bits = if signed then pos (2 ^ (bits - 1)) -ℤ pos 1 else pos (2 ^ bits) -ℤ pos 1
+
+-- a named value that the signal never has
+abbrev pub is_out_of_range : Signal → Entry → Bool
+is_out_of_range signal entry =
+    not (int_le (least_raw signal.signed signal.length) entry.number && int_le entry.number (greatest_raw signal.signed signal.length))

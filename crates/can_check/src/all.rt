@@ -1,0 +1,121 @@
+//! All that is doubtful, of one message and of a whole database.
+ghost use Rattle.std.specs.Prelude.{◌≡◌, ◌++◌, ◌<◌, IfOk, OnOk, Some, length, slice_get, option_map};
+ghost use Rattle.std.specs.List.{flat_map};
+ghost use Rattle.can_check.specs.MessageFaults.{reading_faults, faults_by, message_faults, floats, long, no_scale};
+ghost use Rattle.can_check.specs.RowFaults.{all_faults};
+
+use crate::known::Known;
+use crate::layout_rules::push_layout_faults;
+use crate::message_rules::push_head_faults;
+use crate::node_rules::push_unknown_nodes;
+use crate::row_rules::push_row_faults;
+use crate::signal_rules::{HasNoScale, IsFloat, IsLong, push_where};
+use crate::value_rules::push_value_faults;
+use can_diagnostics::{Code, Diagnostic};
+use can_layout::{Indexed, Lookup, MessageRows, message_walks};
+use can_overlap::Occupancy;
+use dbc_records::{Database, Message};
+use dbc_values::Memory;
+use std::alloc::Global;
+
+// Adds the signals that can't be decoded for other causes than where they lie: codes 10 to 12.
+#[tactic(auto, using(crate::proofs::Pushing::pushed_then), unfolding(crate::specs::MessageFaults::reading_faults, crate::specs::MessageFaults::floats, crate::specs::MessageFaults::long, crate::specs::MessageFaults::no_scale))]
+fn push_reading_faults<L: Lookup>(
+    found: &mut Vec<Diagnostic>,
+    rows: &MessageRows<'_, L>,
+    message: &Message,
+) -> Result<(), Memory>
+    ensures { OnOk result (found.new.items ≡ found.old.items ++ reading_faults rows.now message.now) }
+{
+    let head = &message.head;
+    let signals = message.signals.as_slice();
+    push_where(found, Code::Float, head, &IsFloat { rows }, signals)?;
+    push_where(found, Code::Long, head, &IsLong, signals)?;
+    push_where(found, Code::Scale, head, &HasNoScale, signals)
+}
+
+// Adds the diagnostics of a message, by the rows of its number.
+#[tactic(auto, using(crate::proofs::Pushing::pushed_then))]
+fn push_by_rows<L: Lookup>(
+    found: &mut Vec<Diagnostic>,
+    known: &Known<'_>,
+    lookup: &L,
+    occupancy: &mut Occupancy,
+    rows: &MessageRows<'_, L>,
+    message: &Message,
+) -> Result<(), Memory>
+    requires { L.whole lookup.now ≡ known.now }
+    ensures { OnOk result (found.new.items ≡ found.old.items ++ faults_by known.now rows.now message.now) }
+{
+    let walks = message_walks(*found.allocator(), rows, message.signals.as_slice())?;
+    push_head_faults(found, known, lookup, message)?;
+    push_layout_faults(found, occupancy, rows, message, walks.as_slice())?;
+    push_reading_faults(found, rows, message)?;
+    push_unknown_nodes(found, known, message)?;
+    push_value_faults(found, rows, message)
+}
+
+// Adds the diagnostics of a message.
+#[tactic(auto, unfolding(crate::specs::MessageFaults::message_faults))]
+fn push_message<L: Lookup>(
+    found: &mut Vec<Diagnostic>,
+    known: &Known<'_>,
+    lookup: &L,
+    occupancy: &mut Occupancy,
+    message: &Message,
+) -> Result<(), Memory>
+    requires { L.whole lookup.now ≡ known.now }
+    ensures { OnOk result (found.new.items ≡ found.old.items ++ message_faults known.now message.now) }
+{
+    let rows = MessageRows::of(lookup, message.head.number);
+    push_by_rows(found, known, lookup, occupancy, &rows, message)
+}
+
+// Adds the diagnostics of messages, in order.
+fn push_messages<L: Lookup>(
+    found: &mut Vec<Diagnostic>,
+    known: &Known<'_>,
+    lookup: &L,
+    messages: &[Message],
+) -> Result<(), Memory>
+    requires { L.whole lookup.now ≡ known.now }
+    ensures { OnOk result (found.new.items ≡ found.old.items ++ flat_map (message_faults known.now) messages.now) }
+{
+    let mut occupancy = Occupancy::new(*found.allocator());
+    for message in messages {
+        push_message(found, known, lookup, &mut occupancy, message)?;
+    }
+    Ok(())
+}
+
+/// The diagnostics of the message at a place: codes 1 to 15. The whole database is indexed for it.
+pub fn message_faults(
+    alloc: Global,
+    database: &Database,
+    place: usize,
+) -> Result<Vec<Diagnostic>, Memory>
+    requires { place < length database.now.messages }
+    ensures { IfOk result (λ found. Some found.items ≡ option_map (message_faults database.now) (slice_get database.now.messages place)) }
+{
+    let known = Known::of(alloc, database)?;
+    let indexed = Indexed::of(alloc, database)?;
+    let mut found = Vec::new(alloc);
+    let mut occupancy = Occupancy::new(alloc);
+    let message = &database.messages.as_slice()[place];
+    push_message(&mut found, &known, &indexed, &mut occupancy, message)?;
+    Ok(found)
+}
+
+/// All diagnostics of a database: those of each message in order, and then those of the rows. The time grows about as the
+/// database and the list do, whatever numbers, names and keys stand in it.
+#[tactic(auto, using(crate::proofs::Pushing::pushed_then), unfolding(crate::specs::RowFaults::all_faults))]
+pub fn all_faults(alloc: Global, database: &Database) -> Result<Vec<Diagnostic>, Memory>
+    ensures { IfOk result (λ found. found.items ≡ all_faults database.now) }
+{
+    let known = Known::of(alloc, database)?;
+    let indexed = Indexed::of(alloc, database)?;
+    let mut found = Vec::new(alloc);
+    push_messages(&mut found, &known, &indexed, database.messages.as_slice())?;
+    push_row_faults(&mut found, &known)?;
+    Ok(found)
+}

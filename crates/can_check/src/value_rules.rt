@@ -1,0 +1,141 @@
+//! Named values.
+ghost use Rattle.std.specs.Prelude.{◌≡◌, ◌++◌, ◌<◌, [], OnOk, option_map};
+ghost use Rattle.std.specs.List.{flat_map};
+ghost use Rattle.can_layout.specs.Plans.{entries_of};
+ghost use Rattle.can_check.specs.Finding.{each_after};
+ghost use Rattle.can_check.specs.SignalRules.{is_out_of_range};
+ghost use Rattle.can_check.specs.MessageFaults.{named, out_of_range, values_out_of_range, repeated_value, repeated_in, repeated_values, value_faults};
+
+use can_diagnostics::{Code, Diagnostic};
+use can_layout::{Lookup, MessageRows};
+use dbc_records::{Entry, Head, Message, Signal, ValueRow};
+use dbc_values::Memory;
+use std::collections::BTreeSet;
+
+// The entries of a row.
+fn entries_of(row: Option<&ValueRow>) -> &[Entry]
+    ensures { result.now ≡ entries_of (option_map (λ row. row.now) row.entry) }
+{
+    match row {
+        Some(row) => row.entries.as_slice(),
+        None => &[],
+    }
+}
+
+// The named values of a signal, by its first row.
+fn named<'r, L: Lookup>(rows: &'r MessageRows<'_, L>, signal: &Signal) -> &'r [Entry]
+    ensures { result.now ≡ named rows.now signal.now }
+{
+    entries_of(rows.values(&signal.name))
+}
+
+// Whether a signal never has the value of an entry. No entry needs more than 65 bits.
+fn is_out_of_range(signal: &Signal, entry: &Entry) -> bool
+    ensures { result ≡ is_out_of_range signal.now entry.now }
+{
+    let bits = u32::from(signal.length).min(100);
+    if signal.signed {
+        let bound = 1i128 << (bits - 1);
+        entry.number < -bound || bound <= entry.number
+    } else {
+        entry.number < 0 || 1i128 << bits <= entry.number
+    }
+}
+
+// Adds the entries that a signal never has.
+fn push_out_of_range(
+    found: &mut Vec<Diagnostic>,
+    head: &Head,
+    signal: &Signal,
+    entries: &[Entry],
+) -> Result<(), Memory>
+    ensures { OnOk result (found.new.items ≡ found.old.items ++ flat_map (out_of_range head.now signal.now) entries.now) }
+{
+    for entry in entries {
+        if is_out_of_range(signal, entry) {
+            found.push(Diagnostic::of_value(Code::ValueOutOfRange, head, signal, entry.number)?)?;
+        }
+    }
+    Ok(())
+}
+
+fn push_all_out_of_range<L: Lookup>(
+    found: &mut Vec<Diagnostic>,
+    rows: &MessageRows<'_, L>,
+    head: &Head,
+    signals: &[Signal],
+) -> Result<(), Memory>
+    ensures { OnOk result (found.new.items ≡ found.old.items ++ flat_map (λ signal. flat_map (out_of_range head.now signal) (named rows.now signal)) signals.now) }
+{
+    for signal in signals {
+        push_out_of_range(found, head, signal, named(rows, signal))?;
+    }
+    Ok(())
+}
+
+#[tactic(auto, unfolding(crate::specs::MessageFaults::values_out_of_range))]
+fn push_values_out_of_range<L: Lookup>(
+    found: &mut Vec<Diagnostic>,
+    rows: &MessageRows<'_, L>,
+    message: &Message,
+) -> Result<(), Memory>
+    ensures { OnOk result (found.new.items ≡ found.old.items ++ values_out_of_range rows.now message.now) }
+{
+    push_all_out_of_range(found, rows, &message.head, message.signals.as_slice())
+}
+
+// Adds the entries whose number stood earlier.
+fn push_repeated(
+    found: &mut Vec<Diagnostic>,
+    head: &Head,
+    signal: &Signal,
+    entries: &[Entry],
+) -> Result<(), Memory>
+    ensures { OnOk result (found.new.items ≡ found.old.items ++ each_after (repeated_value head.now signal.now) [] entries.now) }
+{
+    let mut seen: BTreeSet<i128> = BTreeSet::new(*found.allocator());
+    for entry in entries {
+        if !seen.insert(entry.number)? {
+            found.push(Diagnostic::of_value(Code::RepeatedValue, head, signal, entry.number)?)?;
+        }
+    }
+    Ok(())
+}
+
+fn push_all_repeated<L: Lookup>(
+    found: &mut Vec<Diagnostic>,
+    rows: &MessageRows<'_, L>,
+    head: &Head,
+    signals: &[Signal],
+) -> Result<(), Memory>
+    ensures { OnOk result (found.new.items ≡ found.old.items ++ flat_map (repeated_in rows.now head.now) signals.now) }
+{
+    for signal in signals {
+        push_repeated(found, head, signal, named(rows, signal))?;
+    }
+    Ok(())
+}
+
+#[tactic(auto, unfolding(crate::specs::MessageFaults::repeated_values))]
+fn push_repeated_values<L: Lookup>(
+    found: &mut Vec<Diagnostic>,
+    rows: &MessageRows<'_, L>,
+    message: &Message,
+) -> Result<(), Memory>
+    ensures { OnOk result (found.new.items ≡ found.old.items ++ repeated_values rows.now message.now) }
+{
+    push_all_repeated(found, rows, &message.head, message.signals.as_slice())
+}
+
+/// Adds what is doubtful of named values: codes 14 and 15.
+#[tactic(auto, using(crate::proofs::Pushing::pushed_then), unfolding(crate::specs::MessageFaults::value_faults))]
+pub(crate) fn push_value_faults<L: Lookup>(
+    found: &mut Vec<Diagnostic>,
+    rows: &MessageRows<'_, L>,
+    message: &Message,
+) -> Result<(), Memory>
+    ensures { OnOk result (found.new.items ≡ found.old.items ++ value_faults rows.now message.now) }
+{
+    push_values_out_of_range(found, rows, message)?;
+    push_repeated_values(found, rows, message)
+}

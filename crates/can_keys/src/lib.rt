@@ -1,0 +1,20 @@
+//! Keys that are told apart: each set says of a key whether it was added, and how often, in logarithmic time.
+//!
+//! Keys are compared whole and not by a hash, so no keys, however they are chosen, make a set slow. Contracts see a set as the
+//! list of all keys that were added, in order.
+#![tactic(auto)]
+
+mod key;
+mod keys;
+mod names;
+mod numbers;
+mod row_keys;
+mod signal_names;
+#[cfg(test)]
+mod tests;
+
+pub use key::{Key, Place};
+pub use names::Names;
+pub use numbers::Numbers;
+pub use row_keys::RowKeys;
+pub use signal_names::SignalNames;

@@ -1,0 +1,4 @@
+pub mod Chains
+pub mod Occupancy
+pub mod Overlaps
+pub mod Places

@@ -1,0 +1,55 @@
+//! Whether two signals can be there together.
+ghost use Rattle.std.specs.Prelude.{◌≡◌};
+ghost use Rattle.std.specs.List.{list_any};
+ghost use Rattle.can_overlap.specs.Overlaps.{have_common, ranges_meet, agree, agrees_with, all_agree, together};
+
+use can_layout::{Link, Walk};
+use dbc_records::Range;
+
+fn have_common(a: &Range, b: &Range) -> bool
+    ensures { result ≡ have_common a.now b.now }
+{
+    a.first.max(b.first) <= a.last.min(b.last)
+}
+
+fn meets_one(a: &Range, b: &[Range]) -> bool
+    ensures { result ≡ list_any (λ y. have_common a.now y) b.now }
+{
+    b.iter().any(|y| have_common(a, y))
+}
+
+fn ranges_meet(a: &[Range], b: &[Range]) -> bool
+    ensures { result ≡ ranges_meet a.now b.now }
+{
+    a.iter().any(|x| meets_one(x, b))
+}
+
+/// Whether the links are of different switches, or have a number in common.
+pub(crate) fn agree(a: &Link, b: &Link) -> bool
+    ensures { result ≡ agree a.now b.now }
+{
+    a.switch != b.switch || ranges_meet(a.ranges.as_slice(), b.ranges.as_slice())
+}
+
+/// Whether a link agrees with each of a chain.
+pub(crate) fn agrees_with(chain: &[Link], link: &Link) -> bool
+    ensures { result ≡ agrees_with chain.now link.now }
+{
+    chain.iter().all(|x| agree(x, link))
+}
+
+fn all_agree(a: &[Link], b: &[Link]) -> bool
+    ensures { result ≡ all_agree a.now b.now }
+{
+    b.iter().all(|y| agrees_with(a, y))
+}
+
+/// Whether signals with these ways up can be there together. It compares each link with each: [`crate::overlaps`] doesn't.
+pub fn together(first: &Walk, second: &Walk) -> bool
+    ensures { result ≡ together first.now second.now }
+{
+    match (first, second) {
+        (Walk::Chain(a), Walk::Chain(b)) => all_agree(a.as_slice(), b.as_slice()),
+        _ => false,
+    }
+}

@@ -1,0 +1,95 @@
+//! Two signals behind the end of a message of one byte, and multiplexed signals, by hand.
+use crate::agreeing::together;
+use crate::occupancy::{Occupancy, overlaps};
+use crate::pair::Pair;
+use crate::places::Places;
+use crate::table::{empty, grow, mark_all};
+use can_layout::{Field, Link, Walk};
+use dbc_records::Range;
+use dbc_values::{List, Memory};
+use std::alloc::Global;
+use std::test::Fail;
+
+// The way up from a signal that is there with the numbers from `first` to `last` of the signal at place 0.
+fn switched(alloc: Global, first: u64, last: u64) -> Result<Walk, Memory> {
+    let mut ranges = List::new(alloc);
+    ranges.push(Range { first, last })?;
+    let mut links = List::new(alloc);
+    links.push(Link { switch: 0, ranges })?;
+    Ok(Walk::Chain(links))
+}
+
+fn there(alloc: Global) -> Walk {
+    Walk::Chain(List::new(alloc))
+}
+
+const fn intel(start: u16, length: u16) -> Field {
+    Field {
+        start,
+        length,
+        intel: true,
+    }
+}
+
+const fn pair(first: usize, second: usize) -> Pair {
+    Pair { first, second }
+}
+
+// The table of two fields.
+fn rows_of(alloc: Global, fields: &[Field; 2]) -> Result<Vec<Places>, Memory> {
+    let mut rows = empty(alloc);
+    grow(&mut rows, fields)?;
+    mark_all(&mut rows, fields);
+    Ok(rows)
+}
+
+// Whether the row of a position has both of the places 0 and 1.
+fn has_both(rows: &[Places], position: usize) -> bool {
+    match rows.get(position) {
+        Some(row) => row.next_from(0) == 0 && row.next_from(1) == 1,
+        None => false,
+    }
+}
+
+#[test]
+fn table_behind_the_end(rt: HostRuntime) -> Result<(), Fail> {
+    let rows = rows_of(rt.alloc(), &[intel(8, 8), intel(12, 8)])?;
+    for position in 0..rows.len() {
+        let inside = 12 <= position && position < 16;
+        assert_eq!(rt; has_both(&rows, position), inside);
+    }
+    Ok(())
+}
+
+#[test]
+fn behind_the_end(rt: HostRuntime) -> Result<(), Fail> {
+    let mut occupancy = Occupancy::new(rt.alloc());
+    let fields = [intel(8, 8), intel(12, 8)];
+    let walks = [there(rt.alloc()), there(rt.alloc())];
+    let found = overlaps(rt.alloc(), &mut occupancy, &fields, &walks)?;
+    assert_eq!(rt; found.as_slice(), [pair(0, 1)].as_slice());
+    Ok(())
+}
+
+#[test]
+fn on_one_switch(rt: HostRuntime) -> Result<(), Fail> {
+    let mut occupancy = Occupancy::new(rt.alloc());
+    let fields = [intel(0, 8), intel(0, 8), intel(0, 8), intel(0, 8)];
+    let zero = switched(rt.alloc(), 0, 0)?;
+    let one = switched(rt.alloc(), 1, 1)?;
+    let both = switched(rt.alloc(), 0, 1)?;
+    let walks = [zero, one, both, Walk::Loop];
+    let found = overlaps(rt.alloc(), &mut occupancy, &fields, &walks)?;
+    assert_eq!(rt; found.as_slice(), [pair(0, 2), pair(1, 2)].as_slice());
+    Ok(())
+}
+
+#[test]
+fn ways_up(rt: HostRuntime) -> Result<(), Fail> {
+    let zero = switched(rt.alloc(), 0, 0)?;
+    let one = switched(rt.alloc(), 1, 1)?;
+    assert!(rt; !together(&zero, &one));
+    assert!(rt; together(&zero, &there(rt.alloc())));
+    assert!(rt; !together(&zero, &Walk::Loop));
+    Ok(())
+}
