@@ -2,4 +2,5 @@ pub mod Statuses
 pub mod Refusals
 pub mod Printing
 pub mod Dumping
+pub mod Checking
 pub mod Run
