@@ -1,5 +1,5 @@
 -- How diagnostics are found in lists.
-use Rattle.std.specs.Prelude.{ℕ, Bool, List, [], ◌∷◌, ◌++◌, nat_le, count_by, if◌then◌else◌}
+use Rattle.std.specs.Prelude.{Bool, List, [], ◌∷◌, ◌++◌, nat_le, count_by, if◌then◌else◌}
 use Rattle.std.specs.List.{list_any}
 use Rattle.can_diagnostics.specs.declared.diagnostic.Diagnostic.{Diagnostic}
 

@@ -1,8 +1,8 @@
 -- What is doubtful of a message and its signals, by rising codes; in a code the message itself, then its signals in order.
 -- Source: the DBC file format, "Message Definitions", "Signal Definitions", "Node Definitions"; SAE J1939-21, "Parameter Group
 -- Numbers". Which of it is told is the profile of candesk.
-use Rattle.std.specs.Prelude.{◌==◌, ◌&&◌, ℕ, Bool, not, List, [], ◌∷◌, ◌++◌, Option, Some, None, map, slice_get, if◌then◌else◌}
-use Rattle.std.specs.List.{flat_map, zip, list_any}
+use Rattle.std.specs.Prelude.{◌==◌, ◌&&◌, ℕ, ℤ, Bool, false, not, List, [], ◌∷◌, ◌++◌, Option, Some, None, map, slice_get, if◌then◌else◌}
+use Rattle.std.specs.List.{flat_map, enumerate_from}
 use Rattle.std.specs.Str.{bytes_eq}
 use Rattle.std.specs.Ordering.{int_eq}
 use Rattle.dbc_records.specs.Records.{Head, Signal, Message, Entry}
@@ -19,7 +19,7 @@ use Rattle.can_diagnostics.specs.Diagnostics.{of_message, of_sender, of_signal, 
 use Rattle.can_diagnostics.specs.declared.code.Code.{Code}
 use Rattle.can_diagnostics.specs.declared.code.Code.TheVariants as codes
 use Rattle.can_diagnostics.specs.declared.diagnostic.Diagnostic.{Diagnostic}
-use Rattle.can_check.specs.Finding.{where_true, is_shared, each_after}
+use Rattle.can_check.specs.Finding.{where_true, is_shared, stands_in, each_after}
 use Rattle.can_check.specs.Known.{numbers_of, names_of, groups_of, is_known_node}
 use Rattle.can_check.specs.SignalRules.{has_no_switch, is_loop, is_bad_row, lies_outside, is_float, is_long, has_no_scale, is_out_of_range}
 
@@ -55,9 +55,14 @@ shared_group database m = in_shared_group database m.head (group_of m.head.numbe
 abbrev pub signals_where : Code → Head → (Signal → Bool) → List Signal → List Diagnostic
 signals_where code head test signals = flat_map (λ signal. where_true (test signal) (of_signal code head signal)) signals
 
--- the signals whose ways up pass a test
+abbrev pub walk_passes : (Walk → Bool) → Option Walk → Bool
+walk_passes test None = false
+walk_passes test (Some walk) = test walk
+
+-- the signals whose ways up, which stand at their places, pass a test
 abbrev pub walks_where : Code → Head → (Walk → Bool) → List Signal → List Walk → List Diagnostic
-walks_where code head test signals walks = flat_map (λ one. where_true (test one.1) (of_signal code head one.0)) (zip signals walks)
+walks_where code head test signals walks =
+    flat_map (λ placed. where_true (walk_passes test (slice_get walks placed.0)) (of_signal code head placed.1)) (enumerate_from 0 signals)
 
 -- a bit of a signal is not in the message
 unfoldable pub outside : Message → List Diagnostic
@@ -124,11 +129,14 @@ out_of_range head signal entry = where_true (is_out_of_range signal entry) (of_v
 unfoldable pub values_out_of_range : SignalRows → Message → List Diagnostic
 values_out_of_range rows m = flat_map (λ signal. flat_map (out_of_range m.head signal) (named rows signal)) m.signals
 
-abbrev pub repeated_value : Head → Signal → List Entry → Entry → List Diagnostic
-repeated_value head signal before entry = where_true (list_any (λ earlier. int_eq entry.number earlier.number) before) (of_value codes.RepeatedValue head signal entry.number)
+abbrev pub repeated_value : Head → Signal → List ℤ → ℤ → List Diagnostic
+repeated_value head signal before number = where_true (stands_in int_eq number before) (of_value codes.RepeatedValue head signal number)
+
+abbrev pub repeated_among : Head → Signal → List Entry → List Diagnostic
+repeated_among head signal entries = each_after (repeated_value head signal) [] (map (λ entry. entry.number) entries)
 
 abbrev pub repeated_in : SignalRows → Head → Signal → List Diagnostic
-repeated_in rows head signal = each_after (repeated_value head signal) [] (named rows signal)
+repeated_in rows head signal = repeated_among head signal (named rows signal)
 
 -- a named value that stood earlier in its row
 unfoldable pub repeated_values : SignalRows → Message → List Diagnostic

@@ -1,11 +1,11 @@
 -- What may be doubtful of a signal: each a test.
 -- Source: the DBC file format, "Signal Definitions", "Extended Multiplexing", "Signal Extended Value Type Definitions",
 -- "Signal Value Descriptions".
-use Rattle.std.specs.Prelude.{ℕ, ℤ, pos, neg_ℤ, int_le, ◌-◌, ◌-ℤ◌, ◌^◌, ◌&&◌, ◌||◌, nat_lt, nat_le, Bool, true, false, not, List, Option, Some, None, if◌then◌else◌}
+use Rattle.std.specs.Prelude.{ℕ, ℤ, pos, negsuc, ◌-◌, ◌^◌, ◌&&◌, ◌||◌, nat_lt, nat_le, Bool, true, false, not, List, Option, Some, None, if◌then◌else◌}
 use Rattle.std.specs.List.{list_any}
 use Rattle.std.specs.Str.{bytes_eq}
 use Rattle.dbc_values.specs.Scales.{scale_fits, most_raw_bits}
-use Rattle.dbc_records.specs.Records.{Signal, Entry, ValueRow, MuxRow}
+use Rattle.dbc_records.specs.Records.{Signal, Entry, MuxRow}
 use Rattle.dbc_records.specs.declared.tag.Tag.{Tag}
 use Rattle.dbc_records.specs.declared.tag.Tag.TheVariants as tags
 use Rattle.dbc_records.specs.declared.mux_row.Range.{Range}
@@ -67,14 +67,11 @@ has_no_scale signal = nat_le signal.length most_raw_bits && not (scale_fits sign
 
 -- ---- named values
 
--- the least and the greatest raw value of so many bits
-abbrev pub least_raw : Bool → ℕ → ℤ
-least_raw signed bits = if signed then neg_ℤ (pos (2 ^ (bits - 1))) else pos 0
-
-abbrev pub greatest_raw : Bool → ℕ → ℤ
-greatest_raw signed bits = if signed then pos (2 ^ (bits - 1)) -ℤ pos 1 else pos (2 ^ bits) -ℤ pos 1
+-- a raw value of so many bits: with a sign from -2^(bits - 1) to 2^(bits - 1) - 1, and else from 0 to 2^bits - 1
+abbrev pub in_raw_range : Bool → ℕ → ℤ → Bool
+in_raw_range signed bits (pos n) = nat_lt n (2 ^ (if signed then bits - 1 else bits))
+in_raw_range signed bits (negsuc n) = signed && nat_lt n (2 ^ (bits - 1))
 
 -- a named value that the signal never has
 abbrev pub is_out_of_range : Signal → Entry → Bool
-is_out_of_range signal entry =
-    not (int_le (least_raw signal.signed signal.length) entry.number && int_le entry.number (greatest_raw signal.signed signal.length))
+is_out_of_range signal entry = not (in_raw_range signal.signed signal.length entry.number)

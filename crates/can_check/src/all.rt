@@ -35,7 +35,7 @@ fn push_reading_faults<L: Lookup>(
 }
 
 // Adds the diagnostics of a message, by the rows of its number.
-#[tactic(auto, using(crate::proofs::Pushing::pushed_then))]
+#[tactic(auto, using(crate::proofs::Pushing::pushed_then, crate::proofs::Counts::as_many))]
 fn push_by_rows<L: Lookup>(
     found: &mut Vec<Diagnostic>,
     known: &Known<'_>,

@@ -72,6 +72,7 @@ fn groups_among(alloc: Global, groups: &[Option<u32>]) -> Result<Numbers, Memory
     Ok(numbers)
 }
 
+#[tactic(auto, using(crate::proofs::Counts::flat_map_of_map))]
 fn groups_of(alloc: Global, database: &Database) -> Result<Numbers, Memory>
     ensures { IfOk result (λ numbers. numbers ≡ groups_of database.now) }
 {

@@ -2,11 +2,12 @@
 ghost use Rattle.std.specs.Prelude.{◌≡◌, ◌++◌, OnOk, IfOk, length, map, slice_get, option_map};
 ghost use Rattle.std.specs.List.{flat_map};
 ghost use Rattle.can_bits.specs.Bits.{field_of};
-ghost use Rattle.can_diagnostics.specs.declared.code.Code.TheVariants as codes;
-ghost use Rattle.can_check.specs.SignalRules.{has_no_switch, is_loop};
-ghost use Rattle.can_check.specs.MessageFaults.{is_pseudo, walks_where, outside, pair_between, pair_at, overlaps, no_switch, bad_mux_row, switch_loop, layout_faults};
+ghost use Rattle.can_diagnostics.specs.Diagnostics.{of_signal};
+ghost use Rattle.can_check.specs.Finding.{where_true};
+ghost use Rattle.can_check.specs.MessageFaults.{is_pseudo, walk_passes, walks_where, outside, pair_between, pair_at, overlaps, no_switch, bad_mux_row, switch_loop, layout_faults};
 
 use crate::signal_rules::{HasBadRow, LiesOutside, push_where};
+use crate::walk_rules::{HasNoSwitch, IsLoop, WalkTest};
 use can_diagnostics::{Code, Diagnostic};
 use can_layout::{Field, Lookup, MessageRows, Walk};
 use can_overlap::{Occupancy, Pair};
@@ -33,7 +34,13 @@ fn push_outside(found: &mut Vec<Diagnostic>, message: &Message) -> Result<(), Me
         return Ok(());
     }
     let test = LiesOutside { size: head.size };
-    push_where(found, Code::Outside, head, &test, message.signals.as_slice())
+    push_where(
+        found,
+        Code::Outside,
+        head,
+        &test,
+        message.signals.as_slice(),
+    )
 }
 
 // The signal at a place.
@@ -65,11 +72,7 @@ fn push_pair(found: &mut Vec<Diagnostic>, message: &Message, pair: Pair) -> Resu
     push_between(found, &message.head, first, second)
 }
 
-fn push_pairs(
-    found: &mut Vec<Diagnostic>,
-    message: &Message,
-    pairs: &[Pair],
-) -> Result<(), Memory>
+fn push_pairs(found: &mut Vec<Diagnostic>, message: &Message, pairs: &[Pair]) -> Result<(), Memory>
     ensures { OnOk result (found.new.items ≡ found.old.items ++ flat_map (pair_at message.now) pairs.now) }
 {
     for pair in pairs {
@@ -89,7 +92,7 @@ fn fields_of(alloc: Global, signals: &[Signal]) -> Result<Vec<Field>, Memory>
     Ok(fields)
 }
 
-#[tactic(auto, unfolding(crate::specs::MessageFaults::overlaps))]
+#[tactic(auto, unfolding(crate::specs::MessageFaults::overlaps, dbc_records::specs::Records::signals_fit))]
 fn push_overlaps(
     found: &mut Vec<Diagnostic>,
     occupancy: &mut Occupancy,
@@ -108,37 +111,45 @@ fn push_overlaps(
     push_pairs(found, message, pairs.as_slice())
 }
 
-fn has_no_switch(walk: &Walk) -> bool
-    ensures { result ≡ has_no_switch walk.now }
+// The way up from a signal at a place passes a test.
+fn passes_at<T: WalkTest>(test: &T, walks: &[Walk], place: usize) -> bool
+    ensures { result ≡ walk_passes (T.passes test.now) (slice_get walks.now place) }
 {
-    match walk {
-        Walk::Absent { own } => *own,
-        Walk::Chain(_) | Walk::Loop => false,
+    match walks.get(place) {
+        Some(walk) => test.is_passed(walk),
+        None => false,
     }
 }
 
-fn is_loop(walk: &Walk) -> bool
-    ensures { result ≡ is_loop walk.now }
-{
-    match walk {
-        Walk::Loop => true,
-        Walk::Chain(_) | Walk::Absent { .. } => false,
-    }
-}
-
-// Adds the diagnostic of each signal whose way up has no switch at its beginning.
-fn push_without_switch(
+// Adds the diagnostic of a signal where there is reason to.
+fn push_if(
     found: &mut Vec<Diagnostic>,
+    test: bool,
+    code: Code,
     head: &Head,
+    signal: &Signal,
+) -> Result<(), Memory>
+    ensures { OnOk result (found.new.items ≡ found.old.items ++ where_true test (of_signal code head.now signal.now)) }
+{
+    if test {
+        found.push(Diagnostic::of_signal(code, head, signal)?)?;
+    }
+    Ok(())
+}
+
+// Adds the diagnostic of each signal whose way up passes a test.
+fn push_walks<T: WalkTest>(
+    found: &mut Vec<Diagnostic>,
+    code: Code,
+    head: &Head,
+    test: &T,
     signals: &[Signal],
     walks: &[Walk],
 ) -> Result<(), Memory>
-    ensures { OnOk result (found.new.items ≡ found.old.items ++ walks_where codes.NoSwitch head.now has_no_switch signals.now walks.now) }
+    ensures { OnOk result (found.new.items ≡ found.old.items ++ walks_where code head.now (T.passes test.now) signals.now walks.now) }
 {
-    for (signal, walk) in signals.iter().zip(walks) {
-        if has_no_switch(walk) {
-            found.push(Diagnostic::of_signal(Code::NoSwitch, head, signal)?)?;
-        }
+    for (place, signal) in signals.iter().enumerate() {
+        push_if(found, passes_at(test, walks, place), code, head, signal)?;
     }
     Ok(())
 }
@@ -151,7 +162,14 @@ fn push_no_switch(
 ) -> Result<(), Memory>
     ensures { OnOk result (found.new.items ≡ found.old.items ++ no_switch message.now walks.now) }
 {
-    push_without_switch(found, &message.head, message.signals.as_slice(), walks)
+    push_walks(
+        found,
+        Code::NoSwitch,
+        &message.head,
+        &HasNoSwitch,
+        message.signals.as_slice(),
+        walks,
+    )
 }
 
 #[tactic(auto, unfolding(crate::specs::MessageFaults::bad_mux_row))]
@@ -167,23 +185,6 @@ fn push_bad_mux_row<L: Lookup>(
     push_where(found, Code::BadMuxRow, &message.head, &test, signals)
 }
 
-// Adds the diagnostic of each signal whose way up is a loop.
-fn push_loops(
-    found: &mut Vec<Diagnostic>,
-    head: &Head,
-    signals: &[Signal],
-    walks: &[Walk],
-) -> Result<(), Memory>
-    ensures { OnOk result (found.new.items ≡ found.old.items ++ walks_where codes.SwitchLoop head.now is_loop signals.now walks.now) }
-{
-    for (signal, walk) in signals.iter().zip(walks) {
-        if is_loop(walk) {
-            found.push(Diagnostic::of_signal(Code::SwitchLoop, head, signal)?)?;
-        }
-    }
-    Ok(())
-}
-
 #[tactic(auto, unfolding(crate::specs::MessageFaults::switch_loop))]
 fn push_switch_loop(
     found: &mut Vec<Diagnostic>,
@@ -192,7 +193,14 @@ fn push_switch_loop(
 ) -> Result<(), Memory>
     ensures { OnOk result (found.new.items ≡ found.old.items ++ switch_loop message.now walks.now) }
 {
-    push_loops(found, &message.head, message.signals.as_slice(), walks)
+    push_walks(
+        found,
+        Code::SwitchLoop,
+        &message.head,
+        &IsLoop,
+        message.signals.as_slice(),
+        walks,
+    )
 }
 
 /// Adds what is doubtful of the layout of a message: codes 5 to 9.

@@ -13,6 +13,9 @@ mod row;
 mod row_rules;
 mod signal_rules;
 mod value_rules;
+mod walk_rules;
 
 pub use all::{all_faults, message_faults};
-pub use can_diagnostics::{Code, Diagnostic, RowKey, Subject, hold_diagnostic, write_diagnostic, write_lines};
+pub use can_diagnostics::{
+    Code, Diagnostic, RowKey, Subject, hold_diagnostic, write_diagnostic, write_lines,
+};

@@ -4,9 +4,7 @@ ghost use Rattle.can_keys.specs.RowKeys.{row_key};
 
 use can_diagnostics::RowKey;
 use can_keys::Key;
-use dbc_records::{
-    AttrDef, AttrDefault, AttrRow, Comment, FloatRow, MuxRow, TableRow, ValueRow,
-};
+use dbc_records::{AttrDef, AttrDefault, AttrRow, Comment, FloatRow, MuxRow, TableRow, ValueRow};
 use dbc_values::{Checked, Memory};
 
 /// A row with a key.

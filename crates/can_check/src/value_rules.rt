@@ -1,16 +1,16 @@
 //! Named values.
-ghost use Rattle.std.specs.Prelude.{◌≡◌, ◌++◌, ◌<◌, [], OnOk, option_map};
+ghost use Rattle.std.specs.Prelude.{◌≡◌, ◌^◌, ◌<◌, nat_lt, [], ◌∷◌, ◌++◌, OnOk, IsTrue, option_map};
 ghost use Rattle.std.specs.List.{flat_map};
+ghost use Rattle.dbc_records.specs.Records.{entry_fits};
 ghost use Rattle.can_layout.specs.Plans.{entries_of};
-ghost use Rattle.can_check.specs.Finding.{each_after};
-ghost use Rattle.can_check.specs.SignalRules.{is_out_of_range};
-ghost use Rattle.can_check.specs.MessageFaults.{named, out_of_range, values_out_of_range, repeated_value, repeated_in, repeated_values, value_faults};
+ghost use Rattle.can_check.specs.SignalRules.{in_raw_range, is_out_of_range};
+ghost use Rattle.can_check.specs.MessageFaults.{named, out_of_range, values_out_of_range, repeated_value, repeated_among, repeated_in, repeated_values, value_faults};
 
 use can_diagnostics::{Code, Diagnostic};
+use can_keys::Integers;
 use can_layout::{Lookup, MessageRows};
 use dbc_records::{Entry, Head, Message, Signal, ValueRow};
 use dbc_values::Memory;
-use std::collections::BTreeSet;
 
 // The entries of a row.
 fn entries_of(row: Option<&ValueRow>) -> &[Entry]
@@ -29,17 +29,32 @@ fn named<'r, L: Lookup>(rows: &'r MessageRows<'_, L>, signal: &Signal) -> &'r [E
     entries_of(rows.values(&signal.name))
 }
 
-// Whether a signal never has the value of an entry. No entry needs more than 65 bits.
+// Whether a number is below a power of two. No number of an entry needs more than 64 bits.
+#[tactic(auto, using(crate::proofs::Counts::below_power))]
+fn is_below_power(number: u128, bits: u16) -> bool
+    requires { number < 2 ^ 64 }
+    ensures { result ≡ nat_lt number (2 ^ bits) }
+{
+    bits >= 64 || number < 1 << bits
+}
+
+fn in_raw_range(signed: bool, bits: u16, number: i128) -> bool
+    requires { IsTrue (entry_fits number) }
+    ensures { result ≡ in_raw_range signed bits number }
+{
+    if number >= 0 {
+        let value_bits = if signed { bits.saturating_sub(1) } else { bits };
+        is_below_power(number.unsigned_abs(), value_bits)
+    } else {
+        signed && is_below_power((number + 1).unsigned_abs(), bits.saturating_sub(1))
+    }
+}
+
+// Whether a signal never has the value of an entry.
 fn is_out_of_range(signal: &Signal, entry: &Entry) -> bool
     ensures { result ≡ is_out_of_range signal.now entry.now }
 {
-    let bits = u32::from(signal.length).min(100);
-    if signal.signed {
-        let bound = 1i128 << (bits - 1);
-        entry.number < -bound || bound <= entry.number
-    } else {
-        entry.number < 0 || 1i128 << bits <= entry.number
-    }
+    !in_raw_range(signal.signed, signal.length, entry.number)
 }
 
 // Adds the entries that a signal never has.
@@ -84,6 +99,23 @@ fn push_values_out_of_range<L: Lookup>(
     push_all_out_of_range(found, rows, &message.head, message.signals.as_slice())
 }
 
+// Adds an entry whose number stood earlier, and takes its number among those.
+fn push_entry(
+    found: &mut Vec<Diagnostic>,
+    seen: &mut Integers,
+    head: &Head,
+    signal: &Signal,
+    entry: &Entry,
+) -> Result<(), Memory>
+    ensures found { OnOk result (found.new.items ≡ found.old.items ++ repeated_value head.now signal.now seen.old entry.now.number) }
+    ensures seen { OnOk result (seen.new ≡ seen.old ++ entry.now.number ∷ []) }
+{
+    if !seen.add(entry.number)? {
+        found.push(Diagnostic::of_value(Code::RepeatedValue, head, signal, entry.number)?)?;
+    }
+    Ok(())
+}
+
 // Adds the entries whose number stood earlier.
 fn push_repeated(
     found: &mut Vec<Diagnostic>,
@@ -91,13 +123,11 @@ fn push_repeated(
     signal: &Signal,
     entries: &[Entry],
 ) -> Result<(), Memory>
-    ensures { OnOk result (found.new.items ≡ found.old.items ++ each_after (repeated_value head.now signal.now) [] entries.now) }
+    ensures { OnOk result (found.new.items ≡ found.old.items ++ repeated_among head.now signal.now entries.now) }
 {
-    let mut seen: BTreeSet<i128> = BTreeSet::new(*found.allocator());
+    let mut seen = Integers::new(*found.allocator());
     for entry in entries {
-        if !seen.insert(entry.number)? {
-            found.push(Diagnostic::of_value(Code::RepeatedValue, head, signal, entry.number)?)?;
-        }
+        push_entry(found, &mut seen, head, signal, entry)?;
     }
     Ok(())
 }

@@ -4,6 +4,7 @@
 //! list of all keys that were added, in order.
 #![tactic(auto)]
 
+mod integers;
 mod key;
 mod keys;
 mod names;
@@ -13,6 +14,7 @@ mod signal_names;
 #[cfg(test)]
 mod tests;
 
+pub use integers::Integers;
 pub use key::{Key, Place};
 pub use names::Names;
 pub use numbers::Numbers;
