@@ -39,11 +39,7 @@ fn say<W: Sink>(found: &[Diagnostic], sink: &mut W) -> Result<Verdict, CheckFaul
 }
 
 // Looks at all of the database, and then writes the lines.
-fn say_all<W: Sink>(
-    alloc: Global,
-    database: &Database,
-    sink: &mut W,
-) -> Result<Verdict, CheckFault>
+fn say_all<W: Sink>(alloc: Global, database: &Database, sink: &mut W) -> Result<Verdict, CheckFault>
     ensures { Says (all_faults database.now) (W.written sink.old) (W.written sink.new) result }
 {
     let Ok(found) = all_faults(alloc, database) else {
@@ -54,11 +50,7 @@ fn say_all<W: Sink>(
 
 /// Reads the database text to its end, looks at all of the database, and then writes a line for each thing that is doubtful
 /// in it, in the order of messages and then of rows.
-pub fn check_run<W: Sink>(
-    alloc: Global,
-    text: &[u8],
-    sink: &mut W,
-) -> Result<Verdict, CheckFault>
+pub fn check_run<W: Sink>(alloc: Global, text: &[u8], sink: &mut W) -> Result<Verdict, CheckFault>
     ensures { ChecksAll text.now (W.written sink.old) (W.written sink.new) result }
 {
     match read(alloc, text) {
