@@ -1,6 +1,6 @@
 pub mod Statuses
-pub mod Words
 pub mod Refusals
 pub mod Printing
 pub mod Dumping
+pub mod Checking
 pub mod Run

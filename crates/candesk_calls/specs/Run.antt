@@ -7,9 +7,10 @@ use Rattle.line_stream.specs.LineTexts.{Streams}
 use Rattle.can_decode.specs.DecodedLines.{decoded_line}
 use Rattle.candesk_calls.specs.declared.fault.RunFault.{RunFault}
 use Rattle.candesk_calls.specs.declared.fault.RunFault.TheVariants as faults
-use Rattle.candesk_calls.specs.declared.job.Command.{Command}
-use Rattle.candesk_calls.specs.declared.job.Command.TheVariants as commands
+use Rattle.candesk_words.specs.declared.job.Command.{Command}
+use Rattle.candesk_words.specs.declared.job.Command.TheVariants as commands
 use Rattle.line_stream.specs.declared.fault.StreamFault.TheVariants as streams
+use Rattle.candesk_calls.specs.Checking.{CheckingEndsWith}
 use Rattle.candesk_calls.specs.Dumping.{DumpingEndsWith}
 use Rattle.candesk_calls.specs.Printing.{status_of_cause, PrintingEndsWith}
 use Rattle.candesk_calls.specs.Statuses.{done, device, memory}
@@ -42,8 +43,9 @@ abbrev pub DecodingEndsWith : List ℕ → Unread → Unread → Written → Wri
 DecodingEndsWith text before after old new status =
     (outcome : Result ℕ RunFault) × Runs text before after old new outcome × (status ≡ status_of outcome)
 
--- the command ended so; `dump` and `print` read nothing from the source
+-- the command ended so; all but `decode` read nothing from the source
 abbrev pub EndsWith : Command → List ℕ → Unread → Unread → Written → Written → ℕ → Type 0
+EndsWith commands.Check text before after old new status = (after ≡ before) × CheckingEndsWith text old new status
 EndsWith commands.Decode text before after old new status = DecodingEndsWith text before after old new status
 EndsWith commands.Dump text before after old new status = (after ≡ before) × DumpingEndsWith text old new status
 EndsWith commands.Print text before after old new status = (after ≡ before) × PrintingEndsWith text old new status

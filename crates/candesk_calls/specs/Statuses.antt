@@ -9,6 +9,10 @@ done = 0
 abbrev pub refused : ℕ
 refused = 1
 
+-- something in the database is doubtful
+abbrev pub doubtful : ℕ
+doubtful = 1
+
 -- the words are no job
 abbrev pub usage : ℕ
 usage = 2

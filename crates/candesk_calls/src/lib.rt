@@ -1,24 +1,24 @@
-//! The program's calls: the words of its command line, and what each command does with a database and the standard
-//! streams.
+//! The program's calls: what each command does with a database and the standard streams.
 //!
-//! [`job_of`] reads the words, [`run`] does a job on the bytes of its file, and [`refuse`] says why there is none. [`run`] stands on
-//! [`decode_run`], [`print_run`] and [`dump_run`], whose contracts say what is written.
+//! [`job_of`] of `candesk_words` reads the words, [`run`] does a job on the bytes of its file, and [`refuse`] says why there is none.
+//! [`run`] stands on [`decode_run`], [`print_run`], [`dump_run`] and [`check_run`], whose contracts say what is written.
 #![tactic(auto)]
 
+mod checking;
 mod decoding;
 mod dumping;
 mod fault;
-mod job;
 mod printing;
 mod refusing;
 mod running;
 #[cfg(test)]
 mod tests;
 
+pub use candesk_words::{Command, Job, NoJob, job_of};
+pub use checking::{Verdict, check_run};
 pub use decoding::decode_run;
 pub use dumping::dump_run;
-pub use fault::{DumpFault, PrintFault, RunFault};
-pub use job::{Command, Job, NoJob, job_of};
+pub use fault::{CheckFault, DumpFault, PrintFault, RunFault};
 pub use line_stream::StreamFault;
 pub use printing::print_run;
 pub use refusing::{refuse, refuse_file};

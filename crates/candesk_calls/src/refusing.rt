@@ -3,8 +3,8 @@ ghost use Rattle.std.specs.Prelude.{◌≡◌};
 ghost use Rattle.candesk_calls.specs.Refusals.{RefusesWith};
 ghost use Rattle.candesk_calls.specs.Statuses.{device};
 
-use crate::job::NoJob;
 use crate::running::{report, status};
+use candesk_words::NoJob;
 use dbc_model::{Memory, Sink, put_all};
 
 /// Writes the help that the words ask for to `sink`, or why there is no job to `errors`, and answers the exit status.

@@ -2,14 +2,16 @@
 ghost use Rattle.std.specs.Prelude.{◌≡◌, Err};
 ghost use Rattle.candesk_calls.specs.Printing.{status_of_cause, print_status_of, PrintingEndsWith};
 ghost use Rattle.candesk_calls.specs.Dumping.{dump_status_of, DumpingEndsWith};
+ghost use Rattle.candesk_calls.specs.Checking.{check_status_of, CheckingEndsWith};
 ghost use Rattle.candesk_calls.specs.Run.{DecodingEndsWith, EndsWith, status_of};
 
+use crate::checking::{Verdict, check_run};
 use crate::decoding::decode_run;
 use crate::dumping::dump_run;
-use crate::fault::{DumpFault, PrintFault, RunFault};
-use crate::job::{Command, Job};
+use crate::fault::{CheckFault, DumpFault, PrintFault, RunFault};
 use crate::printing::print_run;
 use arrayvec::ArrayString;
+use candesk_words::{Command, Job};
 use dbc_model::{Sink, Source, put_all};
 use dbc_tokens::Cause;
 use line_stream::StreamFault;
@@ -22,6 +24,8 @@ pub mod status {
     pub const DONE: u8 = 0;
     /// The database was refused.
     pub const REFUSED: u8 = 1;
+    /// Something in the database is doubtful.
+    pub const DOUBTFUL: u8 = 1;
     /// The words are no job.
     pub const USAGE: u8 = 2;
     /// A file, a read or a write failed, or a line was too long.
@@ -74,6 +78,19 @@ fn dump_status_of(fault: DumpFault) -> u8
     }
 }
 
+// The status of an outcome of `check`.
+fn check_status_of(outcome: Result<Verdict, CheckFault>) -> u8
+    ensures { result ≡ check_status_of outcome }
+{
+    match outcome {
+        Ok(Verdict::Clean) => status::DONE,
+        Ok(Verdict::Doubtful) => status::DOUBTFUL,
+        Err(CheckFault::Read(fault)) => status_of_cause(fault.cause),
+        Err(CheckFault::Write) => status::DEVICE,
+        Err(CheckFault::Memory) => status::MEMORY,
+    }
+}
+
 // Room for the longest fault line.
 const LONGEST_FAULT: usize = 96;
 
@@ -83,6 +100,17 @@ pub fn report<E: Sink>(errors: &mut E, fault: impl Display + Drop) {
     let mut line: ArrayString<LONGEST_FAULT> = ArrayString::new();
     let _ = writeln!(line, "candesk: {fault}");
     let _ = put_all(errors, line.as_bytes());
+}
+
+// Checks, and says the fault.
+fn check<W: Sink, E: Sink>(alloc: Global, text: &[u8], sink: &mut W, errors: &mut E) -> u8
+    ensures { CheckingEndsWith text.now (W.written sink.old) (W.written sink.new) result }
+{
+    let outcome = check_run(alloc, text, sink);
+    if let Err(fault) = outcome {
+        report(errors, fault);
+    }
+    check_status_of(outcome)
 }
 
 // Decodes, and says the fault.
@@ -143,6 +171,7 @@ pub fn run<R: Source, W: Sink, E: Sink>(
     ensures { EndsWith job.now.command text.now (R.unread source.old) (R.unread source.new) (W.written sink.old) (W.written sink.new) result }
 {
     match job.command {
+        Command::Check => check(alloc, text, sink, errors),
         Command::Decode => decode(alloc, text, source, sink, errors),
         Command::Dump => dump(alloc, text, sink, errors),
         Command::Print => print(alloc, text, sink, errors),

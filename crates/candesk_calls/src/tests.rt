@@ -1,7 +1,7 @@
 //! What no contract says: fault lines, and that calls succeed where memory is there. `scripts/run_rows` tries the built
 //! program on more words, databases and logs.
 
-use crate::{Command, Job, NoJob, job_of, refuse, refuse_file, run, status};
+use crate::{Command, Job, NoJob, Verdict, check_run, refuse, refuse_file, run, status};
 use dbc_model::limp::Limp;
 use std::alloc::{AllocError, Global};
 use std::test::Fail;
@@ -48,7 +48,8 @@ fn ends_so(
 
 #[test]
 fn runs(rt: HostRuntime) -> Result<(), AllocError> {
-    let table: [(Command, (usize, usize), u8, &[u8], &[u8]); 5] = [
+    let table: [(Command, (usize, usize), u8, &[u8], &[u8]); 6] = [
+        (Command::Check, (0, ALL), status::DONE, b"", b""),
         (Command::Decode, (ALL, ALL), status::DONE, DECODED, b""),
         // of the lines of which the LF was read
         (
@@ -82,13 +83,11 @@ fn runs(rt: HostRuntime) -> Result<(), AllocError> {
 }
 
 #[test]
-fn words(rt: HostRuntime) -> Result<(), Fail> {
-    let job = job_of(rt.alloc(), ["print", "--", "--f"].as_slice());
-    assert!(rt;
-        matches!(&job, Ok(Job { command: Command::Print, file }) if file.as_str() == "--f")
-    );
-    let version = job_of(rt.alloc(), ["--version"].as_slice());
-    assert!(rt; matches!(&version, Err(NoJob::Help(text)) if text.as_str() == "candesk 0.1.0\n"));
+fn checks(rt: HostRuntime) -> Result<(), AllocError> {
+    let mut to = sink(rt.alloc(), ALL);
+    let verdict = check_run(rt.alloc(), b"BU_: Ecu\nBO_ 1 A: 0 N\n", &mut to);
+    assert!(rt; verdict == Ok(Verdict::Doubtful));
+    assert!(rt; to.bytes() == b"13 UnknownNode 1 A N\n".as_slice());
     Ok(())
 }
 

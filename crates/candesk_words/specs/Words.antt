@@ -5,11 +5,11 @@ use Rattle.std.specs.Str.{bytes_eq}
 use Rattle.clap.specs.Words.{App, Rule, Row, Text, new_app, new_rule, with_rule, with_subcommand, subcommand_of, first_of, fault_of, IsAmong}
 use Rattle.clap.specs.declared.error.kind.ErrorKind.{ErrorKind}
 use Rattle.clap.specs.declared.error.kind.ErrorKind.TheVariants as kinds
-use Rattle.candesk_calls.specs.declared.job.Command.{Command}
-use Rattle.candesk_calls.specs.declared.job.Command.TheVariants as commands
-use Rattle.candesk_calls.specs.declared.job.Job.{Job}
-use Rattle.candesk_calls.specs.declared.job.NoJob.{NoJob}
-use Rattle.candesk_calls.specs.declared.job.NoJob.TheVariants as reasons
+use Rattle.candesk_words.specs.declared.job.Command.{Command}
+use Rattle.candesk_words.specs.declared.job.Command.TheVariants as commands
+use Rattle.candesk_words.specs.declared.job.Job.{Job}
+use Rattle.candesk_words.specs.declared.job.NoJob.{NoJob}
+use Rattle.candesk_words.specs.declared.job.NoJob.TheVariants as reasons
 
 -- ---- the command line
 
@@ -18,24 +18,29 @@ abbrev pub file_rule : Rule
 file_rule = record (new_rule (codes "FILE")) { required = true }
 
 -- a command on a FILE
-abbrev pub on_file : Text → App
+unfoldable pub on_file : Text → App
 on_file name = with_rule (new_app name) file_rule
 
 -- the words before a command, which has to be there: `--help` and `--version` alone
-abbrev pub before_command : App
+unfoldable pub before_command : App
 before_command = let app = new_app (codes "candesk") in
     record app { top = record app.top { has_version = true; no_binary_name = true; subcommand_required = true } }
 
-abbrev pub command_line : App
-command_line = with_subcommand (with_subcommand (with_subcommand before_command (on_file (codes "decode")).top) (on_file (codes "dump")).top) (on_file (codes "print")).top
+-- one command more
+unfoldable pub with_command : App → Text → App
+with_command line name = with_subcommand line (on_file name).top
+
+unfoldable pub command_line : App
+command_line = with_command (with_command (with_command (with_command before_command (codes "check")) (codes "decode")) (codes "dump")) (codes "print")
 
 -- ---- jobs
 
-abbrev pub command_named : Text → Option Command
+unfoldable pub command_named : Text → Option Command
 command_named name =
-    if bytes_eq name (codes "decode") then Some commands.Decode
+    if bytes_eq name (codes "check") then Some commands.Check
+    else (if bytes_eq name (codes "decode") then Some commands.Decode
     else (if bytes_eq name (codes "dump") then Some commands.Dump
-    else (if bytes_eq name (codes "print") then Some commands.Print else None))
+    else (if bytes_eq name (codes "print") then Some commands.Print else None)))
 
 -- the command and its FILE, from what clap finds in the words
 abbrev pub job_found : Option (Text × List Row) → Option (Command × Text)

@@ -7,11 +7,12 @@ use Rattle.clap.specs.declared.parser.matches.ArgMatches.{ArgMatches}
 use Rattle.clap.specs.declared.parser.matches.ArgMatches.TheViews.{out-ArgMatches}
 use Rattle.clap.proofs.WalkLemmas.{first_value-rows}
 use Rattle.clap.proofs.OnLiterals.{clap_on_literals}
-use Rattle.candesk_calls.specs.declared.job.Command.{Command}
-use Rattle.candesk_calls.specs.declared.job.Job.{Job}
-use Rattle.candesk_calls.specs.declared.job.NoJob.{NoJob}
-use Rattle.candesk_calls.specs.declared.job.NoJob.TheVariants as reasons
-use Rattle.candesk_calls.specs.Words.{command_line, command_named, job_found, SaysOf, IsJobOf}
+use Rattle.candesk_words.proofs.OnLiterals.{words_on_literals}
+use Rattle.candesk_words.specs.declared.job.Command.{Command}
+use Rattle.candesk_words.specs.declared.job.Job.{Job}
+use Rattle.candesk_words.specs.declared.job.NoJob.{NoJob}
+use Rattle.candesk_words.specs.declared.job.NoJob.TheVariants as reasons
+use Rattle.candesk_words.specs.Words.{command_line, command_named, job_found, SaysOf, IsJobOf}
 
 pair-of : {X A B : Type 0} (o : Option X) (f : X → A) (g : X → B) (a : A) (b : B) → Some a ≡ option_map f o → Some b ≡ option_map (λ (p : A × B). p.1) (option_map {U = A × B} (λ x. (f x, g x)) o) → option_map {U = A × B} (λ x. (f x, g x)) o ≡ Some (a, b)
 pair-of None f g a b e h = cc
@@ -36,11 +37,11 @@ module _ (m found : ArgMatches) (name : Text) (e : Some name ≡ subcommand_name
 -- ---- the command line
 
 pub simple : is_simple command_line ≡ true
-unfolding clap_on_literals
+unfolding clap_on_literals words_on_literals
 simple = refl
 
 pub free : is_simple_and_free command_line ≡ true
-unfolding clap_on_literals
+unfolding clap_on_literals words_on_literals
 free = refl
 
 -- ---- what is said of the words

@@ -1,7 +1,7 @@
 use Rattle.std.proofs.Common.{◌∙◌, Bor, ℕ, List, map, sym, ap, subst}
 use Rattle.clap.specs.Words.{App, HasKind, Kinds, fault_of, is_simple, is_simple_and_free, subcommand_of}
-use Rattle.candesk_calls.proofs.Commands.{simple, free, IsJobOf-found, IsJobOf-fault}
-use Rattle.candesk_calls.proofs.job.job_of.Goals as goal
+use Rattle.candesk_words.proofs.Commands.{simple, free, IsJobOf-found, IsJobOf-fault}
+use Rattle.candesk_words.proofs.job.job_of.Goals as goal
 
 pub returns-in-Ok : goal.returns-in-Ok
 returns-in-Ok c =

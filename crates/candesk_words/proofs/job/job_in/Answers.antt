@@ -1,8 +1,8 @@
 use Rattle.std.proofs.Common.{◌≡◌, Some, None, codes, refl, inr, rules}
 use Rattle.clap.specs.Words.{first_value, found_of}
-use Rattle.candesk_calls.specs.Words.{command_named}
-use Rattle.candesk_calls.proofs.Commands.{no-file, job-found}
-use Rattle.candesk_calls.proofs.job.job_in.Goals as goal
+use Rattle.candesk_words.specs.Words.{command_named}
+use Rattle.candesk_words.proofs.Commands.{no-file, job-found}
+use Rattle.candesk_words.proofs.job.job_in.Goals as goal
 
 pub returns-in_default-get_str-clause-err : goal.returns-in_default-get_str-clause-err
 returns-in_default-get_str-clause-err c =

@@ -1,0 +1,109 @@
+//! The job that the words name.
+ghost use Rattle.std.specs.Prelude.{◌≡◌, map, Some, None, IfOk, IfErr, ◌⊎◌};
+ghost use Rattle.clap.specs.Words.{kind_of, subcommand_rows_of};
+ghost use Rattle.candesk_words.specs.Words.{command_named, job_found, SaysOf, IsJobOf};
+
+use crate::line::command_line;
+use clap::ArgMatches;
+use clap::error::ErrorKind;
+use std::alloc::{AllocError, Global};
+
+/// What the program can do with a database.
+#[derive(Clone, Copy, Debug, PartialEq, Eq)]
+pub enum Command {
+    /// Says what is doubtful in the database.
+    Check,
+    /// Decodes the log on standard input.
+    Decode,
+    /// Draws the messages of the database.
+    Dump,
+    /// Prints the canonical text of the database.
+    Print,
+}
+
+/// A job: a command, and the path of its database.
+#[derive(Debug, Drop)]
+pub struct Job {
+    /// What is done.
+    pub command: Command,
+    /// The path of the database.
+    pub file: String,
+}
+
+/// Why there is no job.
+#[derive(Debug, Drop)]
+pub enum NoJob {
+    /// The words name no command, not one FILE, or an option that isn't there.
+    Usage,
+    /// They ask for help or for the version, and this is its text.
+    Help(String),
+    /// An allocation was refused.
+    Memory,
+}
+
+impl From<AllocError> for NoJob {
+    ghost use Rattle.candesk_words.specs.declared.job.NoJob.TheVariants.{Memory};
+
+    ghost from_gives = { λ _ e. e ≡ Memory };
+
+    fn from(_error: AllocError) -> NoJob {
+        NoJob::Memory
+    }
+}
+
+// What `clap`'s fault says of the words.
+fn no_job(alloc: Global, fault: &clap::Error) -> NoJob
+    ensures { SaysOf (kind_of fault.now) result }
+{
+    match fault.kind() {
+        ErrorKind::OutOfMemory => NoJob::Memory,
+        ErrorKind::DisplayHelp | ErrorKind::DisplayVersion => match fault.to_string(alloc) {
+            Ok(text) => NoJob::Help(text),
+            Err(_) => NoJob::Memory,
+        },
+        _ => NoJob::Usage,
+    }
+}
+
+#[tactic(auto, unfolding(crate::specs::Words::command_named))]
+fn command_named(name: &str) -> Option<Command>
+    ensures { result ≡ command_named name.now }
+{
+    match name {
+        "check" => Some(Command::Check),
+        "decode" => Some(Command::Decode),
+        "dump" => Some(Command::Dump),
+        "print" => Some(Command::Print),
+        _ => None,
+    }
+}
+
+// The job that the matches name.
+fn job_in(alloc: Global, matches: &ArgMatches<'_>) -> Result<Job, NoJob>
+    ensures ok { IfOk result (λ job. job_found (subcommand_rows_of matches.now) ≡ Some (job.command, job.file.bytes.items)) }
+    ensures err { IfErr result (λ why. (why ≡ NoJob.Memory) ⊎ ((why ≡ NoJob.Usage) × (job_found (subcommand_rows_of matches.now) ≡ None))) }
+{
+    let Some((name, found)) = matches.subcommand() else {
+        return Err(NoJob::Usage);
+    };
+    let Some(command) = command_named(name) else {
+        return Err(NoJob::Usage);
+    };
+    let Some(file) = found.get_str("FILE") else {
+        return Err(NoJob::Usage);
+    };
+    let file = String::from_str(alloc, file)?;
+    Ok(Job { command, file })
+}
+
+/// Reads the words after the program's name. Options stand before or behind FILE, `--` ends them, `help` is the
+/// word for `--help`, and `--version` and `-V` stand before a command alone.
+pub fn job_of<'a>(alloc: Global, words: &'a [&'a str]) -> Result<Job, NoJob>
+    ensures { IsJobOf (map (λ word. word.now) words.now) result }
+{
+    let command = command_line(alloc)?;
+    match command.try_get_matches_from(words) {
+        Ok(matches) => job_in(alloc, &matches),
+        Err(fault) => Err(no_job(alloc, &fault)),
+    }
+}

@@ -1,0 +1,13 @@
+//! The words of the program's command line.
+//!
+//! [`job_of`] reads them: a command and the path of its database, or why there is no job. How words are read at all,
+//! with options, `--` and `help`, is clap's.
+#![tactic(auto)]
+
+mod job;
+mod line;
+mod notes;
+#[cfg(test)]
+mod tests;
+
+pub use job::{Command, Job, NoJob, job_of};

@@ -1,0 +1,101 @@
+//! The command line, as clap is told of it.
+ghost use Rattle.std.specs.Prelude.{◌≡◌, false, codes, IfOk};
+ghost use Rattle.clap.specs.Words.{app_of};
+ghost use Rattle.clap.specs.declared.builder.command.Command.TheViews.{out-Command};
+ghost use Rattle.candesk_words.specs.Words.{before_command, on_file, with_command, command_line};
+
+use crate::notes;
+use clap::{Arg, Command};
+use std::alloc::{AllocError, Global};
+
+// What `--version` says behind the program's name.
+const VERSION: &str = "0.1.0";
+
+// The words before a command.
+#[tactic(auto, unfolding(crate::specs::Words::before_command))]
+fn before_command<'a>(alloc: Global) -> Result<Command<'a>, AllocError>
+    ensures { IfOk result (λ line. app_of line ≡ before_command) }
+{
+    let line = Command::new(alloc, "candesk")
+        .about("Checks, prints and draws CAN databases and decodes logs, with proved answers")
+        .version(VERSION)
+        .no_binary_name(true)
+        .bin_name("candesk")?
+        .subcommand_required(true);
+    Ok(line)
+}
+
+// A command that takes a FILE.
+#[tactic(auto, unfolding(crate::specs::Words::on_file))]
+fn on_file<'a>(
+    alloc: Global,
+    name: &'a str,
+    about: &'a str,
+    notes: &'a str,
+) -> Result<Command<'a>, AllocError>
+    ensures app { IfOk result (λ command. app_of command ≡ on_file name.entry.now) }
+    ensures local { IfOk result (λ command. (out-Command command).has_globals ≡ false) }
+{
+    let file = Arg::new(alloc, "FILE")
+        .required(true)
+        .help("The path of a DBC database");
+    Command::new(alloc, name)
+        .about(about)
+        .after_help(notes)
+        .arg(file)
+}
+
+// The command line with one command more.
+#[tactic(auto, unfolding(crate::specs::Words::with_command))]
+fn with_command<'a>(
+    alloc: Global,
+    line: Command<'a>,
+    name: &'a str,
+    about: &'a str,
+    notes: &'a str,
+) -> Result<Command<'a>, AllocError>
+    ensures { IfOk result (λ longer. app_of longer ≡ with_command (app_of line.entry) name.entry.now) }
+{
+    let command = on_file(alloc, name, about, notes)?;
+    line.subcommand(command)
+}
+
+fn with_check<'a>(alloc: Global, line: Command<'a>) -> Result<Command<'a>, AllocError>
+    ensures { IfOk result (λ longer. app_of longer ≡ with_command (app_of line.entry) (codes "check")) }
+{
+    let about = "Says what is doubtful in a database on standard output";
+    with_command(alloc, line, "check", about, notes::CHECK)
+}
+
+fn with_decode<'a>(alloc: Global, line: Command<'a>) -> Result<Command<'a>, AllocError>
+    ensures { IfOk result (λ longer. app_of longer ≡ with_command (app_of line.entry) (codes "decode")) }
+{
+    let about = "Decodes a log of `candump -L` on standard input";
+    with_command(alloc, line, "decode", about, notes::DECODE)
+}
+
+fn with_dump<'a>(alloc: Global, line: Command<'a>) -> Result<Command<'a>, AllocError>
+    ensures { IfOk result (λ longer. app_of longer ≡ with_command (app_of line.entry) (codes "dump")) }
+{
+    let about = "Draws the messages of a database, bit by bit, on standard output";
+    with_command(alloc, line, "dump", about, notes::DUMP)
+}
+
+fn with_print<'a>(alloc: Global, line: Command<'a>) -> Result<Command<'a>, AllocError>
+    ensures { IfOk result (λ longer. app_of longer ≡ with_command (app_of line.entry) (codes "print")) }
+{
+    let about = "Prints a database as its canonical text on standard output";
+    with_command(alloc, line, "print", about, notes::PRINT)
+}
+
+/// The command line: `candesk check FILE`, `candesk decode FILE`, `candesk dump FILE`, `candesk print FILE`.
+#[tactic(auto, unfolding(crate::specs::Words::command_line))]
+pub fn command_line<'a>(alloc: Global) -> Result<Command<'a>, AllocError>
+    ensures { IfOk result (λ line. app_of line ≡ command_line) }
+{
+    let line = before_command(alloc)?;
+    let line = with_check(alloc, line)?;
+    let line = with_decode(alloc, line)?;
+    let line = with_dump(alloc, line)?;
+    with_print(alloc, line)
+}

@@ -1,0 +1,45 @@
+//! What the help of each command says below its options.
+
+/// Of `check`.
+pub const CHECK: &str = "\
+Standard input is not read. Standard output has a line for each thing that is doubtful in the database: its number and
+word, and where it is. The status is 1 where there is one.
+
+Example, of a message whose sender is no node:
+  $ printf 'BU_: Ecu\\nBO_ 1 A: 0 N\\n' > doubtful.dbc
+  $ candesk check doubtful.dbc
+  13 UnknownNode 1 A N";
+
+/// Of `decode`.
+pub const DECODE: &str = "\
+Standard input is a log as `candump -L` writes it. Standard output has each of its lines, and behind a line with a data
+frame what the frame says by the database.
+
+Example:
+  $ candesk decode examples/wheel.dbc < examples/wheel.log
+  (1.5) can0 123#0A01 :: Wheel(Speed: 537 rpm)";
+
+/// Of `dump`.
+pub const DUMP: &str = "\
+Standard input is not read. Standard output is a picture of each message: its name, number and size, then a line for
+each byte with a cell for each bit, then a line for each signal, by whose number the cells name it.
+
+Example:
+  $ candesk dump examples/wheel.dbc
+  Message Wheel 291 2
+     0:   0   0   0   0   0   0   0   0
+     1:   0   0   0   0   0   0   0   0
+     0 Speed 0|16@1+";
+
+/// Of `print`.
+pub const PRINT: &str = "\
+Standard input is not read. Standard output is the database in its one canonical form.
+
+Example:
+  $ candesk print examples/wheel.dbc
+  VERSION \"\"
+  NS_ :
+  BS_:
+  BU_: Ecu
+  BO_ 291 Wheel: 2 Ecu
+   SG_ Speed : 0|16@1+ (2,5) [0|0] \"rpm\" Ecu";

@@ -1,0 +1,15 @@
+//! What no contract says: that words are read where memory is there, and what `--version` answers.
+
+use crate::{Command, Job, NoJob, job_of};
+use std::test::Fail;
+
+#[test]
+fn words(rt: HostRuntime) -> Result<(), Fail> {
+    let job = job_of(rt.alloc(), ["print", "--", "--f"].as_slice());
+    assert!(rt;
+        matches!(&job, Ok(Job { command: Command::Print, file }) if file.as_str() == "--f")
+    );
+    let version = job_of(rt.alloc(), ["--version"].as_slice());
+    assert!(rt; matches!(&version, Err(NoJob::Help(text)) if text.as_str() == "candesk 0.1.0\n"));
+    Ok(())
+}
