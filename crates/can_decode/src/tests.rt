@@ -1,0 +1,180 @@
+//! What no contract says: that lines are decoded, in whatever pieces they come, and what is written where a device fails.
+
+use crate::{StreamFault, decode_stream};
+use byte_devices::limp::Limp;
+use can_layout::{Meter, make_plans};
+use dbc_records::{Database, Head, Message, Signal, Tag};
+use dbc_values::{Decimal, List, Name, Text};
+use std::alloc::Global;
+use std::test::Fail;
+
+fn there<T: Drop>(made: Option<T>) -> Result<T, Fail> {
+    match made {
+        Some(made) => Ok(made),
+        None => Err(Fail::from("not there")),
+    }
+}
+
+fn name(alloc: Global, bytes: &[u8]) -> Result<Name, Fail> {
+    there(Name::new(alloc, bytes)?)
+}
+
+fn no_text(alloc: Global) -> Result<Text, Fail> {
+    there(Text::new(alloc, b"")?)
+}
+
+// A signal of eight bits, from a start bit on.
+fn signal(alloc: Global, bytes: &[u8], start: u16) -> Result<Signal, Fail> {
+    let zero = there(Decimal::read(b"0"))?;
+    let one = there(Decimal::read(b"1"))?;
+    let named = name(alloc, bytes)?;
+    let unit = no_text(alloc)?;
+    there(Signal::new(
+        named,
+        Tag::Plain,
+        start,
+        8,
+        true,
+        false,
+        one,
+        zero,
+        zero,
+        zero,
+        unit,
+        List::new(alloc),
+    ))
+}
+
+fn head(alloc: Global) -> Result<Head, Fail> {
+    let named = name(alloc, b"A")?;
+    there(Head::new(291, named, 2, name(alloc, b"N")?))
+}
+
+fn signals(alloc: Global) -> Result<List<Signal>, Fail> {
+    let mut signals = List::new(alloc);
+    signals.push(signal(alloc, b"S", 0)?)?;
+    signals.push(signal(alloc, b"T", 8)?)?;
+    Ok(signals)
+}
+
+fn messages(alloc: Global) -> Result<List<Message>, Fail> {
+    let head = head(alloc)?;
+    let mut messages = List::new(alloc);
+    messages.push(there(Message::new(head, signals(alloc)?))?)?;
+    Ok(messages)
+}
+
+// A database of messages alone.
+fn database_of(alloc: Global, version: Text, messages: List<Message>) -> Option<Database> {
+    Database::new(
+        version,
+        List::new(alloc),
+        None,
+        List::new(alloc),
+        List::new(alloc),
+        messages,
+        List::new(alloc),
+        List::new(alloc),
+        List::new(alloc),
+        List::new(alloc),
+        List::new(alloc),
+        List::new(alloc),
+        List::new(alloc),
+        List::new(alloc),
+    )
+}
+
+fn database(alloc: Global) -> Result<Database, Fail> {
+    let version = no_text(alloc)?;
+    there(database_of(alloc, version, messages(alloc)?))
+}
+
+const LOG: &[u8] = b"(1.0) c 123#R8\r\n(1.0) c 123##1aabb\r\nhello\r\n\r\n(1.0)  c  123#0102 R";
+
+const DECODED: &[u8] = b"\
+(1.0) c 123#R8 :: Remote frame
+(1.0) c 123##1aabb :: A(S: 170, T: 187)
+hello
+
+(1.0)  c  123#0102 R :: A(S: 1, T: 2)
+";
+
+// Whether the log, read in pieces of at most so many bytes, ends so, with these bytes of it read and written.
+fn ends(
+    alloc: Global,
+    database: &Database,
+    most: usize,
+    read: usize,
+    written: usize,
+    wanted: Result<u64, StreamFault>,
+    output: &[u8],
+) -> Result<bool, Fail> {
+    let mut meter = Meter::new();
+    let plans = make_plans(alloc, database, &mut meter)?;
+    let mut source = Limp::new(LOG.to_vec(alloc)?, most.max(1), u64::MAX, read);
+    let mut sink = Limp::new(Vec::new(alloc), 1000, u64::MAX, written);
+    let ended = decode_stream(
+        alloc,
+        database,
+        plans.as_slice(),
+        &mut meter,
+        &mut source,
+        &mut sink,
+    );
+    Ok(ended == wanted && sink.bytes() == output)
+}
+
+#[test]
+fn pieces(rt: HostRuntime) -> Result<(), Fail> {
+    let alloc = rt.alloc();
+    let database = database(alloc)?;
+    assert!(rt; ends(alloc, &database, 1, usize::MAX, usize::MAX, Ok(5), DECODED)?);
+    assert!(rt; ends(alloc, &database, 2, usize::MAX, usize::MAX, Ok(5), DECODED)?);
+    assert!(rt; ends(alloc, &database, 7, usize::MAX, usize::MAX, Ok(5), DECODED)?);
+    assert!(rt;
+        ends(
+            alloc,
+            &database,
+            4096,
+            usize::MAX,
+            usize::MAX,
+            Ok(5),
+            DECODED
+        )?
+    );
+    Ok(())
+}
+
+#[test]
+fn failing_devices(rt: HostRuntime) -> Result<(), Fail> {
+    let alloc = rt.alloc();
+    let database = database(alloc)?;
+    // a read that fails within the second line
+    assert!(rt;
+        ends(
+            alloc,
+            &database,
+            9,
+            25,
+            usize::MAX,
+            Err(StreamFault::Read),
+            &DECODED[..31]
+        )?
+    );
+    // a write that fails behind each byte
+    for written in 0..DECODED.len() {
+        let beginning = &DECODED[..written];
+        assert!(rt;
+            ends(
+                alloc,
+                &database,
+                4096,
+                usize::MAX,
+                written,
+                Err(StreamFault::Write),
+                beginning
+            )?
+        );
+    }
+    Ok(())
+}
