@@ -74,7 +74,7 @@ fn push_where<R: Row>(
     ensures { OnOk result (found.new.items ≡ found.old.items ++ where_true test (of_row code (R.key_of row.now))) }
 {
     if test {
-        found.push(Diagnostic::of_row(code, row.owned_key()?)?)?;
+        found.push(Diagnostic::of_row(code, row.owned_key()?))?;
     }
     Ok(())
 }

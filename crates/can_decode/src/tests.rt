@@ -4,7 +4,7 @@ use crate::{StreamFault, decode_stream};
 use byte_devices::limp::Limp;
 use can_layout::{Meter, make_plans};
 use dbc_records::{Database, Head, Message, Signal, Tag};
-use dbc_values::{Decimal, List, Name, Text};
+use dbc_values::{Decimal, List, Memory, Name, Text};
 use std::alloc::Global;
 use std::test::Fail;
 
@@ -99,49 +99,79 @@ hello
 (1.0)  c  123#0102 R :: A(S: 1, T: 2)
 ";
 
-// Whether the log, read in pieces of at most so many bytes, ends so, with these bytes of it read and written.
+// Decodes what the source has left, by the database.
+fn decode(
+    alloc: Global,
+    database: &Database,
+    source: &mut Limp,
+    sink: &mut Limp,
+) -> Result<Result<u64, StreamFault>, Memory> {
+    let mut meter = Meter::new();
+    let plans = make_plans(alloc, database, &mut meter)?;
+    Ok(decode_stream(alloc, database, plans.as_slice(), &mut meter, source, sink))
+}
+
+// The log, in pieces of at most so many bytes, of which so many can be read.
+fn log(alloc: Global, most: usize, read: usize) -> Result<Limp, Memory> {
+    Ok(Limp::new(LOG.to_vec(alloc)?, most.max(1), u64::MAX, read))
+}
+
+// Whether the log ends so, and with this output, where so many bytes of it can be written.
 fn ends(
     alloc: Global,
     database: &Database,
-    most: usize,
-    read: usize,
+    mut source: Limp,
     written: usize,
     wanted: Result<u64, StreamFault>,
     output: &[u8],
-) -> Result<bool, Fail> {
-    let mut meter = Meter::new();
-    let plans = make_plans(alloc, database, &mut meter)?;
-    let mut source = Limp::new(LOG.to_vec(alloc)?, most.max(1), u64::MAX, read);
+) -> Result<bool, Memory> {
     let mut sink = Limp::new(Vec::new(alloc), 1000, u64::MAX, written);
-    let ended = decode_stream(
+    let ended = decode(alloc, database, &mut source, &mut sink)?;
+    Ok(ended == wanted && sink.bytes() == output)
+}
+
+// Whether all is decoded from pieces of at most so many bytes.
+fn is_decoded(alloc: Global, database: &Database, most: usize) -> Result<bool, Memory> {
+    let source = log(alloc, most, usize::MAX)?;
+    ends(alloc, database, source, usize::MAX, Ok(5), DECODED)
+}
+
+// Whether a sink that takes so many bytes has these, of which the first were written.
+fn breaks_behind(alloc: Global, database: &Database, written: usize) -> Result<bool, Memory> {
+    let source = log(alloc, 4096, usize::MAX)?;
+    let beginning = DECODED.get(..written).unwrap_or(DECODED);
+    ends(
         alloc,
         database,
-        plans.as_slice(),
-        &mut meter,
-        &mut source,
-        &mut sink,
-    );
-    Ok(ended == wanted && sink.bytes() == output)
+        source,
+        written,
+        Err(StreamFault::Write),
+        beginning,
+    )
+}
+
+// Whether a read that fails within the second line leaves the first one.
+fn keeps_whole_lines(alloc: Global, database: &Database) -> Result<bool, Memory> {
+    let source = log(alloc, 9, 25)?;
+    let first = DECODED.get(..31).unwrap_or(DECODED);
+    ends(
+        alloc,
+        database,
+        source,
+        usize::MAX,
+        Err(StreamFault::Read),
+        first,
+    )
 }
 
 #[test]
 fn pieces(rt: HostRuntime) -> Result<(), Fail> {
     let alloc = rt.alloc();
     let database = database(alloc)?;
-    assert!(rt; ends(alloc, &database, 1, usize::MAX, usize::MAX, Ok(5), DECODED)?);
-    assert!(rt; ends(alloc, &database, 2, usize::MAX, usize::MAX, Ok(5), DECODED)?);
-    assert!(rt; ends(alloc, &database, 7, usize::MAX, usize::MAX, Ok(5), DECODED)?);
-    assert!(rt;
-        ends(
-            alloc,
-            &database,
-            4096,
-            usize::MAX,
-            usize::MAX,
-            Ok(5),
-            DECODED
-        )?
-    );
+    assert!(rt; is_decoded(alloc, &database, 1)?);
+    assert!(rt; is_decoded(alloc, &database, 2)?);
+    assert!(rt; is_decoded(alloc, &database, 7)?);
+    assert!(rt; is_decoded(alloc, &database, 4096)?);
     Ok(())
 }
 
@@ -149,32 +179,9 @@ fn pieces(rt: HostRuntime) -> Result<(), Fail> {
 fn failing_devices(rt: HostRuntime) -> Result<(), Fail> {
     let alloc = rt.alloc();
     let database = database(alloc)?;
-    // a read that fails within the second line
-    assert!(rt;
-        ends(
-            alloc,
-            &database,
-            9,
-            25,
-            usize::MAX,
-            Err(StreamFault::Read),
-            &DECODED[..31]
-        )?
-    );
-    // a write that fails behind each byte
+    assert!(rt; keeps_whole_lines(alloc, &database)?);
     for written in 0..DECODED.len() {
-        let beginning = &DECODED[..written];
-        assert!(rt;
-            ends(
-                alloc,
-                &database,
-                4096,
-                usize::MAX,
-                written,
-                Err(StreamFault::Write),
-                beginning
-            )?
-        );
+        assert!(rt; breaks_behind(alloc, &database, written)?);
     }
     Ok(())
 }

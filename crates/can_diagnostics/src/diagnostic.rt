@@ -88,12 +88,14 @@ impl Diagnostic {
         Ok(Diagnostic { code, subject })
     }
 
-    /// That of a row. It takes no memory.
-    pub fn of_row(code: Code, key: RowKey) -> Result<Diagnostic, Memory>
-        ensures { IfOk result (λ made. made ≡ of_row code key) }
+    /// That of a row.
+    pub fn of_row(code: Code, key: RowKey) -> Diagnostic
+        ensures { result ≡ of_row code key }
     {
-        let subject = Subject::Row(key);
-        Ok(Diagnostic { code, subject })
+        Diagnostic {
+            code,
+            subject: Subject::Row(key),
+        }
     }
 }
 

@@ -192,7 +192,7 @@ fn made_of_rows(rt: HostRuntime) -> Result<(), Fail> {
         return Err(Fail::from("no table"));
     };
     let key = RowKey::of_table(&table)?;
-    let found = Diagnostic::of_row(Code::RepeatedRow, key.copy()?)?;
+    let found = Diagnostic::of_row(Code::RepeatedRow, key.copy()?);
     assert!(rt; is_written(alloc, &found, b"17 RepeatedRow VAL_TABLE_ T"));
     Ok(())
 }
