@@ -15,8 +15,6 @@ mod message;
 mod remembered;
 mod stream;
 mod target;
-#[cfg(test)]
-mod tests;
 mod value;
 
 pub use can_rows::group_number;
