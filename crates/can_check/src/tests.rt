@@ -1,6 +1,6 @@
 //! What no contract says: that a database is checked.
 
-use crate::{Code, Diagnostic, all_faults};
+use crate::{Code, Diagnostic, all_faults, message_faults};
 use dbc_records::{Database, Head, Message};
 use dbc_values::{List, Name, Text};
 use std::alloc::Global;
@@ -62,6 +62,14 @@ fn database(alloc: Global) -> Result<Database, Fail> {
     there(database_of(alloc, version, messages(alloc)?))
 }
 
+// How much is found of the first message.
+fn found_of_first(alloc: Global, database: &Database) -> Result<usize, Fail> {
+    if database.messages.as_slice().is_empty() {
+        return Err(Fail::from("no message"));
+    }
+    Ok(message_faults(alloc, database, 0)?.len())
+}
+
 // Whether the diagnostic at a place has the code.
 fn has_code(found: &[Diagnostic], place: usize, code: Code) -> bool {
     match found.get(place) {
@@ -77,5 +85,13 @@ fn a_number_and_a_sender(rt: HostRuntime) -> Result<(), Fail> {
     let found = all_faults(alloc, &database)?;
     assert!(rt; has_code(found.as_slice(), 0, Code::BadIdentifier));
     assert!(rt; has_code(found.as_slice(), 1, Code::UnknownNode));
+    Ok(())
+}
+
+#[test]
+fn one_message(rt: HostRuntime) -> Result<(), Fail> {
+    let alloc = rt.alloc();
+    let database = database(alloc)?;
+    assert_eq!(rt; found_of_first(alloc, &database)?, 2);
     Ok(())
 }

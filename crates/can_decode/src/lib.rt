@@ -15,6 +15,8 @@ mod message;
 mod remembered;
 mod stream;
 mod target;
+#[cfg(test)]
+mod tests;
 mod value;
 
 pub use can_rows::group_number;

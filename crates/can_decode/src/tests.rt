@@ -1,0 +1,147 @@
+//! What no contract says: that lines are decoded, in whatever pieces they come, and what is written where a device fails.
+
+use crate::{StreamFault, decode_stream};
+use byte_devices::limp::Limp;
+use can_layout::{Meter, make_plans};
+use dbc_records::{Database, Head, Message, Signal, Tag};
+use dbc_values::{Decimal, List, Memory, Name, Text};
+use std::alloc::Global;
+use std::test::Fail;
+
+fn there<T: Drop>(made: Option<T>) -> Result<T, Fail> {
+    match made {
+        Some(made) => Ok(made),
+        None => Err(Fail::from("not there")),
+    }
+}
+
+fn name(alloc: Global, bytes: &[u8]) -> Result<Name, Fail> {
+    there(Name::new(alloc, bytes)?)
+}
+
+fn no_text(alloc: Global) -> Result<Text, Fail> {
+    there(Text::new(alloc, b"")?)
+}
+
+// A signal of eight bits, from a start bit on.
+fn signal(alloc: Global, bytes: &[u8], start: u16) -> Result<Signal, Fail> {
+    let zero = there(Decimal::read(b"0"))?;
+    let one = there(Decimal::read(b"1"))?;
+    let named = name(alloc, bytes)?;
+    let unit = no_text(alloc)?;
+    there(Signal::new(
+        named,
+        Tag::Plain,
+        start,
+        8,
+        true,
+        false,
+        one,
+        zero,
+        zero,
+        zero,
+        unit,
+        List::new(alloc),
+    ))
+}
+
+fn head(alloc: Global) -> Result<Head, Fail> {
+    let named = name(alloc, b"A")?;
+    there(Head::new(291, named, 2, name(alloc, b"N")?))
+}
+
+fn signals(alloc: Global) -> Result<List<Signal>, Fail> {
+    let mut signals = List::new(alloc);
+    signals.push(signal(alloc, b"S", 0)?)?;
+    signals.push(signal(alloc, b"T", 8)?)?;
+    Ok(signals)
+}
+
+fn messages(alloc: Global) -> Result<List<Message>, Fail> {
+    let head = head(alloc)?;
+    let mut messages = List::new(alloc);
+    messages.push(there(Message::new(head, signals(alloc)?))?)?;
+    Ok(messages)
+}
+
+// A database of messages alone.
+fn database_of(alloc: Global, version: Text, messages: List<Message>) -> Option<Database> {
+    Database::new(
+        version,
+        List::new(alloc),
+        None,
+        List::new(alloc),
+        List::new(alloc),
+        messages,
+        List::new(alloc),
+        List::new(alloc),
+        List::new(alloc),
+        List::new(alloc),
+        List::new(alloc),
+        List::new(alloc),
+        List::new(alloc),
+        List::new(alloc),
+    )
+}
+
+fn database(alloc: Global) -> Result<Database, Fail> {
+    let version = no_text(alloc)?;
+    there(database_of(alloc, version, messages(alloc)?))
+}
+
+const LOG: &[u8] = b"(1.0) c 123#R8\r\n(1.0) c 123##1aabb\r\nhello\r\n\r\n(1.0)  c  123#0102 R";
+
+const DECODED: &[u8] = b"\
+(1.0) c 123#R8 :: Remote frame
+(1.0) c 123##1aabb :: A(S: 170, T: 187)
+hello
+
+(1.0)  c  123#0102 R :: A(S: 1, T: 2)
+";
+
+// Decodes what the source has left, by the database.
+fn decode(
+    alloc: Global,
+    database: &Database,
+    source: &mut Limp,
+    sink: &mut Limp,
+) -> Result<Result<u64, StreamFault>, Memory> {
+    let mut meter = Meter::new();
+    let plans = make_plans(alloc, database, &mut meter)?;
+    Ok(decode_stream(alloc, database, plans.as_slice(), &mut meter, source, sink))
+}
+
+// The log, in pieces of at most so many bytes, of which so many can be read.
+fn log(alloc: Global, most: usize, read: usize) -> Result<Limp, Memory> {
+    Ok(Limp::new(LOG.to_vec(alloc)?, most.max(1), u64::MAX, read))
+}
+
+// Whether the log ends so, and with this output, where so many bytes of it can be written.
+fn ends(
+    alloc: Global,
+    database: &Database,
+    mut source: Limp,
+    written: usize,
+    wanted: Result<u64, StreamFault>,
+    output: &[u8],
+) -> Result<bool, Memory> {
+    let mut sink = Limp::new(Vec::new(alloc), 1000, u64::MAX, written);
+    let ended = decode(alloc, database, &mut source, &mut sink)?;
+    Ok(ended == wanted && sink.bytes() == output)
+}
+
+// Whether all is decoded from pieces of at most so many bytes.
+fn is_decoded(alloc: Global, database: &Database, most: usize) -> Result<bool, Memory> {
+    let source = log(alloc, most, usize::MAX)?;
+    ends(alloc, database, source, usize::MAX, Ok(5), DECODED)
+}
+
+#[test]
+fn pieces(rt: HostRuntime) -> Result<(), Fail> {
+    let alloc = rt.alloc();
+    let database = database(alloc)?;
+    for most in [1, 2, 7, 4096] {
+        assert!(rt; is_decoded(alloc, &database, most)?);
+    }
+    Ok(())
+}
