@@ -40,7 +40,10 @@ fn lines_byte_by_byte(rt: HostRuntime) -> Result<(), Fail> {
     let alloc = rt.alloc();
     let mut source = Limp::new(b"one\n\nhalf".to_vec(alloc)?, 1, u64::MAX, usize::MAX);
     let mut sink = Limp::new(Vec::new(alloc), 2, u64::MAX, usize::MAX);
-    let mut texts = Marked { mark: b"> ", lines: 0 };
+    let mut texts = Marked {
+        mark: b"> ",
+        lines: 0,
+    };
     let result = stream_texts(alloc, &mut texts, &mut source, &mut sink);
     assert_eq!(rt; result, Ok(3));
     assert_eq!(rt; sink.bytes(), b"> one\n> \n> half\n".as_slice());
@@ -53,7 +56,10 @@ fn a_line_and_a_half(rt: HostRuntime) -> Result<(), Fail> {
     let alloc = rt.alloc();
     let mut source = Limp::new(b"one\ntwo\n".to_vec(alloc)?, 3, u64::MAX, 6);
     let mut sink = Limp::new(Vec::new(alloc), 9, u64::MAX, usize::MAX);
-    let mut texts = Marked { mark: b"> ", lines: 0 };
+    let mut texts = Marked {
+        mark: b"> ",
+        lines: 0,
+    };
     let result = stream_texts(alloc, &mut texts, &mut source, &mut sink);
     assert_eq!(rt; result, Err(StreamFault::Read));
     assert_eq!(rt; sink.bytes(), b"> one\n".as_slice());
