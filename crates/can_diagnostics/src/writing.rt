@@ -1,5 +1,5 @@
 //! Lines of diagnostics.
-ghost use Rattle.std.specs.Prelude.{◌≡◌, ◌++◌, codes};
+ghost use Rattle.std.specs.Prelude.{◌≡◌, ◌++◌, codes, decimal};
 ghost use Rattle.std.specs.List.{flat_map};
 ghost use Rattle.byte_devices.specs.Device.{Prints, Sends};
 ghost use Rattle.can_diagnostics.specs.Lines.{subject_text, code_text, line_text};
@@ -25,74 +25,59 @@ fn hold_code<W: Sink>(sink: &mut W, held: &mut Held, code: Code) -> Result<(), W
     hold_pieces(sink, held, &pieces)
 }
 
+// The number of a message, and pieces behind it.
+#[tactic(auto, using(byte_devices::proofs::Writes::sends))]
+fn hold_behind<W: Sink>(
+    sink: &mut W,
+    held: &mut Held,
+    number: u32,
+    pieces: &[&[u8]],
+) -> Result<(), WriteFault>
+    ensures { Sends (W.written sink.old) (W.written sink.new) held.old.items result (decimal number ++ flat_map (λ piece. piece.now) pieces.now) held.new.items }
+{
+    let mut buffer = Buffer::new();
+    hold(sink, held, buffer.format(number).as_bytes())?;
+    hold_pieces(sink, held, pieces)
+}
+
 #[tactic(auto, unfolding(crate::specs::Lines::subject_text))]
 fn hold_subject<W: Sink>(sink: &mut W, held: &mut Held, subject: &Subject) -> Result<(), WriteFault>
     ensures { Sends (W.written sink.old) (W.written sink.new) held.old.items result (subject_text subject.now) held.new.items }
 {
-    let mut buffer = Buffer::new();
+    let (blank, point) = (b" ".as_slice(), b".".as_slice());
     let mut decimal = Buffer::new();
     match subject {
         Subject::Message(number, message) => {
-            let pieces: [&[u8]; 3] = [buffer.format(*number).as_bytes(), b" ", message.as_bytes()];
-            hold_pieces(sink, held, &pieces)
+            hold_behind(sink, held, *number, &[blank, message.as_bytes()])
         }
         Subject::Sender(number, message, node) => {
-            let pieces: [&[u8]; 5] = [
-                buffer.format(*number).as_bytes(),
-                b" ",
-                message.as_bytes(),
-                b" ",
-                node.as_bytes(),
-            ];
-            hold_pieces(sink, held, &pieces)
+            let pieces = [blank, message.as_bytes(), blank, node.as_bytes()];
+            hold_behind(sink, held, *number, &pieces)
         }
         Subject::Signal(number, message, signal) => {
-            let pieces: [&[u8]; 5] = [
-                buffer.format(*number).as_bytes(),
-                b" ",
-                message.as_bytes(),
-                b".",
-                signal.as_bytes(),
-            ];
-            hold_pieces(sink, held, &pieces)
+            let pieces = [blank, message.as_bytes(), point, signal.as_bytes()];
+            hold_behind(sink, held, *number, &pieces)
         }
         Subject::Pair(number, message, first, second) => {
-            let pieces: [&[u8]; 9] = [
-                buffer.format(*number).as_bytes(),
-                b" ",
-                message.as_bytes(),
-                b".",
-                first.as_bytes(),
-                b" ",
-                message.as_bytes(),
-                b".",
-                second.as_bytes(),
-            ];
-            hold_pieces(sink, held, &pieces)
+            let name = message.as_bytes();
+            let (first, second) = (first.as_bytes(), second.as_bytes());
+            let pieces = [blank, name, point, first, blank, name, point, second];
+            hold_behind(sink, held, *number, &pieces)
         }
         Subject::Receiver(number, message, signal, node) => {
-            let pieces: [&[u8]; 7] = [
-                buffer.format(*number).as_bytes(),
-                b" ",
-                message.as_bytes(),
-                b".",
-                signal.as_bytes(),
-                b" ",
-                node.as_bytes(),
-            ];
-            hold_pieces(sink, held, &pieces)
+            let (name, signal) = (message.as_bytes(), signal.as_bytes());
+            let pieces = [blank, name, point, signal, blank, node.as_bytes()];
+            hold_behind(sink, held, *number, &pieces)
         }
         Subject::Value(number, message, signal, value) => {
-            let pieces: [&[u8]; 7] = [
-                buffer.format(*number).as_bytes(),
-                b" ",
-                message.as_bytes(),
-                b".",
-                signal.as_bytes(),
-                b" ",
-                decimal.format(*value).as_bytes(),
-            ];
-            hold_pieces(sink, held, &pieces)
+            let (name, signal) = (message.as_bytes(), signal.as_bytes());
+            let value = decimal.format(*value).as_bytes();
+            hold_behind(
+                sink,
+                held,
+                *number,
+                &[blank, name, point, signal, blank, value],
+            )
         }
         Subject::Row(key) => hold_row(sink, held, key),
     }
