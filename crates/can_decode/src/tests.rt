@@ -145,3 +145,43 @@ fn pieces(rt: HostRuntime) -> Result<(), Fail> {
     }
     Ok(())
 }
+
+// Whether the log ends so with a beginning of its output, where so many bytes of both can be moved.
+fn breaks_off(
+    alloc: Global,
+    database: &Database,
+    mut source: Limp,
+    written: usize,
+    wanted: StreamFault,
+) -> Result<usize, Memory> {
+    let mut sink = Limp::new(Vec::new(alloc), 1000, u64::MAX, written);
+    let ended = decode(alloc, database, &mut source, &mut sink)?;
+    if ended == Err(wanted) && DECODED.starts_with(sink.bytes()) {
+        Ok(sink.bytes().len())
+    } else {
+        Ok(usize::MAX)
+    }
+}
+
+// How much is written where a read fails within the second line.
+fn unread(alloc: Global, database: &Database) -> Result<usize, Memory> {
+    let source = log(alloc, 9, 25)?;
+    breaks_off(alloc, database, source, usize::MAX, StreamFault::Read)
+}
+
+// How much is written where so much can be.
+fn unwritten(alloc: Global, database: &Database, written: usize) -> Result<usize, Memory> {
+    let source = log(alloc, 4096, usize::MAX)?;
+    breaks_off(alloc, database, source, written, StreamFault::Write)
+}
+
+#[test]
+fn failing_devices(rt: HostRuntime) -> Result<(), Fail> {
+    let alloc = rt.alloc();
+    let database = database(alloc)?;
+    assert_eq!(rt; unread(alloc, &database)?, 31);
+    for written in 0..DECODED.len() {
+        assert_eq!(rt; unwritten(alloc, &database, written)?, written);
+    }
+    Ok(())
+}
