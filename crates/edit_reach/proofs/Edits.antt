@@ -1,0 +1,363 @@
+-- Each edit leaves messages and rows of other numbers as they were.
+use Rattle.std.proofs.Common.{◌≡◌, ℕ, Bool, true, false, List, [], ◌∷◌, refl, sym, ap, subst, ◌∙◌, inl, inr}
+use Rattle.std.specs.Prelude.{not, ◌==◌, Option, Some, None, Result, Ok, filter, remove, slice_get}
+use Rattle.std.proofs.lemmas.Bool.{cases_Bool, both_ways, and_parts, eqb-true, eq-eqb, or_parts, or_right}
+use Rattle.dbc_records.specs.Records.{Message, Head, Signal, ValueRow, FloatRow, MuxRow, TableRow}
+use Rattle.dbc_records.specs.Attributes.{AttrRow}
+use Rattle.dbc_records.specs.Databases.{Database}
+use Rattle.dbc_records.specs.declared.target.Target.{Target}
+use Rattle.dbc_records.specs.declared.target.Target.TheVariants as targets
+use Rattle.dbc_records.specs.declared.attribute.AttrValue.{AttrValue}
+use Rattle.dbc_edits.specs.declared.edit.Edit.{Edit}
+use Rattle.dbc_edits.specs.declared.edit.Edit.TheVariants as edits
+use Rattle.dbc_edits.specs.declared.refusal.Refusal.{Refusal}
+use Rattle.dbc_edits.specs.Changes.{Change}
+use Rattle.dbc_edits.specs.Rows.{without, with_item, is_of_number, is_of_signal, is_of_message, values_target, float_target, mux_target, without_rows, renumbered, target_renumbered, attribute_renumbered, values_renumbered, float_renumbered, mux_renumbered, rows_renumbered, is_values_of, is_mux_of, is_attribute_of}
+use Rattle.dbc_edits.specs.Edits.{at_message, refused_if, message_added, has_number, cleared_of_number, message_removed, with_message, message_changed, message_renumbered, signal_added, has_signal, cleared_of_signal, signal_removed, signal_changed, mux_set, values_set, mux_dropped, values_dropped, table_set, table_dropped, attribute_set, attribute_dropped, edited}
+use Rattle.can_rows.specs.Rows.{rows_of}
+use Rattle.can_rows.specs.Groups.{is_for_message, gives_format, format_row}
+use Rattle.edit_reach.specs.Touched.{is_among, number_at, edit_numbers}
+use Rattle.edit_reach.specs.Elsewhere.{is_elsewhere, SameElsewhere}
+use Rattle.edit_reach.proofs.ListFacts.{find-by_filter, filter-without, filter-with_item, filter-insert, filter-remove, filter-set, filter-map}
+
+-- ---- what an accepted edit did
+
+abbrev accepted : Database → Result Database Refusal
+accepted d = Ok d
+
+Ok-same : (x y : Database) → accepted x ≡ accepted y → x ≡ y
+Ok-same x y e = cc
+
+passed : (test : Bool) (refusal : Refusal) (otherwise : Result Database Refusal) (e : Database) → refused_if test refusal otherwise ≡ Ok e → otherwise ≡ Ok e
+unfolding refused_if
+passed true refusal otherwise e ok = absurd (cc)
+passed false refusal otherwise e ok = ok
+
+record Found (place : Option Message) (change : Message → Result Database Refusal) (e : Database) : Type 0 where
+  message : Message
+  stands : place ≡ Some message
+  done : change message ≡ Ok e
+
+found_at : (place : Option Message) (change : Message → Result Database Refusal) (e : Database) → at_message place change ≡ Ok e → Found place change e
+unfolding at_message
+found_at None change e ok = absurd (cc)
+found_at (Some message) change e ok = record { message = message; stands = refl; done = ok }
+
+-- ---- rows, as far as decoding reads them
+
+abbrev OfNumber : (X : Type 0) → (X → ℕ) → ℕ → List X → List X → Type 0
+OfNumber X number_of n after before = filter (λ (row : X). number_of row == n) after ≡ filter (λ (row : X). number_of row == n) before
+
+rows-same : (d e : Database) (n : ℕ)
+    → OfNumber ValueRow (λ row. row.number) n e.values d.values → OfNumber FloatRow (λ row. row.number) n e.floats d.floats → OfNumber MuxRow (λ row. row.number) n e.muxes d.muxes
+    → rows_of n e ≡ rows_of n d
+unfolding rows_of
+rows-same d e n values floats muxes = rw (values, floats, muxes) refl
+
+abbrev AttributesOf : ℕ → List AttrRow → List AttrRow → Type 0
+AttributesOf n after before = filter (λ (row : AttrRow). is_for_message n row.target) after ≡ filter (λ (row : AttrRow). is_for_message n row.target) before
+
+formats-same : (d e : Database) (n : ℕ) → AttributesOf n e.attributes d.attributes → format_row n e ≡ format_row n d
+unfolding format_row
+formats-same d e n same = find-by_filter (gives_format n) (λ row. is_for_message n row.target) (λ row t. (and_parts _ _ t).1) d.attributes e.attributes same
+
+-- ---- numbers
+
+itself : (n : ℕ) → not (is_among (n ∷ []) n) ≡ false
+itself n = rw (eq-eqb n n refl) refl
+
+-- no other number is this one
+other : (k n m : ℕ) → is_among (k ∷ []) n ≡ false → (m == k) ≡ true → (m == n) ≡ false
+other k n m out is = let same = eqb-true m k is in rw same (or_parts (k == n) false out).0
+
+other_target : (k n : ℕ) (target : Target) → is_among (k ∷ []) n ≡ false → is_of_number k target ≡ true → is_for_message n target ≡ false
+other_target k n targets.Whole out is = refl
+other_target k n (targets.Node name) out is = refl
+other_target k n (targets.Message m) out is = other k n m out is
+other_target k n (targets.Signal m name) out is = refl
+
+of_signal : (k : ℕ) (name : List ℕ) (target : Target) → is_of_signal k name target ≡ true → is_of_number k target ≡ true
+of_signal k name targets.Whole is = absurd (cc)
+of_signal k name (targets.Node other) is = absurd (cc)
+of_signal k name (targets.Message m) is = absurd (cc)
+of_signal k name (targets.Signal m signal) is = (and_parts _ _ is).0
+
+of_message : (k : ℕ) (target : Target) → is_of_message k target ≡ true → is_of_number k target ≡ true
+of_message k targets.Whole is = absurd (cc)
+of_message k (targets.Node other) is = absurd (cc)
+of_message k (targets.Message m) is = is
+of_message k (targets.Signal m signal) is = absurd (cc)
+
+-- ---- messages alone
+
+same_rows : (numbers : List ℕ) (d e : Database) → filter (is_elsewhere numbers) e.messages ≡ filter (is_elsewhere numbers) d.messages
+    → e.values ≡ d.values → e.floats ≡ d.floats → e.muxes ≡ d.muxes → e.attributes ≡ d.attributes → e.defaults ≡ d.defaults → e.definitions ≡ d.definitions
+    → SameElsewhere numbers d e
+same_rows numbers d e messages values floats muxes attributes defaults definitions = record {
+  messages = messages;
+  rows = λ n out. rows-same d e n (rw values refl) (rw floats refl) (rw muxes refl);
+  formats = λ n out. formats-same d e n (rw attributes refl);
+  defaults = defaults;
+  definitions = definitions;
+}
+
+with_messages : (numbers : List ℕ) (d : Database) (messages : List Message) → filter (is_elsewhere numbers) messages ≡ filter (is_elsewhere numbers) d.messages
+    → SameElsewhere numbers d (record d { messages = messages })
+with_messages numbers d messages same = same_rows numbers d (record d { messages = messages }) same refl refl refl refl refl refl
+
+unchanged : (numbers : List ℕ) (d : Database) → SameElsewhere numbers d d
+unchanged numbers d = same_rows numbers d d refl refl refl refl refl refl refl
+
+one_then : (numbers : List ℕ) (d e f : Database) → SameElsewhere numbers d e → SameElsewhere numbers e f → SameElsewhere numbers d f
+one_then numbers d e f s t = record {
+  messages = t.messages ∙ s.messages;
+  rows = λ n out. t.rows n out ∙ s.rows n out;
+  formats = λ n out. t.formats n out ∙ s.formats n out;
+  defaults = t.defaults ∙ s.defaults;
+  definitions = t.definitions ∙ s.definitions;
+}
+
+-- a message in the place of another of the same number
+in_place : (place : ℕ) (old new : Message) (d : Database) → slice_get d.messages place ≡ Some old → new.head.number ≡ old.head.number
+    → SameElsewhere (old.head.number ∷ []) d (with_message place new d)
+in_place place old new d stands same =
+    with_messages (old.head.number ∷ []) d _ (filter-set _ d.messages place old new stands (itself old.head.number) (rw same (itself old.head.number)))
+
+added : (place : ℕ) (head : Head) (d e : Database) → message_added place head d ≡ Ok e → SameElsewhere (head.number ∷ []) d e
+unfolding message_added
+added place head d e ok =
+    subst (SameElsewhere (head.number ∷ []) d) (Ok-same _ e (passed _ _ _ e (passed _ _ _ e ok)))
+    (with_messages (head.number ∷ []) d _ (filter-insert _ d.messages place _ (itself head.number)))
+
+changed_at : (place : ℕ) (change : Change) (d e : Database) → message_changed place change d ≡ Ok e → SameElsewhere (number_at place d) d e
+unfolding message_changed
+changed_at place change d e ok =
+    let found = found_at _ _ e ok in
+    rw found.stands (subst (SameElsewhere (found.message.head.number ∷ []) d) (Ok-same _ e found.done) (in_place place found.message _ d found.stands refl))
+
+signal_added_at : (place at : ℕ) (signal : Signal) (d e : Database) → signal_added place at signal d ≡ Ok e → SameElsewhere (number_at place d) d e
+unfolding signal_added
+signal_added_at place at signal d e ok =
+    let found = found_at _ _ e ok in
+    rw found.stands (subst (SameElsewhere (found.message.head.number ∷ []) d) (Ok-same _ e (passed _ _ _ e (passed _ _ _ e (passed _ _ _ e found.done)))) (in_place place found.message _ d found.stands refl))
+
+signal_changed_at : (place : ℕ) (signal : Signal) (d e : Database) → signal_changed place signal d ≡ Ok e → SameElsewhere (number_at place d) d e
+unfolding signal_changed
+signal_changed_at place signal d e ok =
+    let found = found_at _ _ e ok in
+    rw found.stands (subst (SameElsewhere (found.message.head.number ∷ []) d) (Ok-same _ e (passed _ _ _ e found.done)) (in_place place found.message _ d found.stands refl))
+
+-- ---- rows that go
+
+rows_gone : (k : ℕ) (test : Target → Bool) (d : Database) → ((target : Target) → test target ≡ true → is_of_number k target ≡ true) → SameElsewhere (k ∷ []) d (without_rows test d)
+unfolding without_rows
+rows_gone k test d own = record {
+  messages = refl;
+  rows = λ n out. rows-same d _ n
+      (filter-without _ _ (λ row is. other k n row.number out (own (values_target row) is)) d.values)
+      (filter-without _ _ (λ row is. other k n row.number out (own (float_target row) is)) d.floats)
+      (filter-without _ _ (λ row is. other k n row.number out (own (mux_target row) is)) d.muxes);
+  formats = λ n out. formats-same d _ n (filter-without _ _ (λ row is. other_target k n row.target out (own row.target is)) d.attributes);
+  defaults = refl;
+  definitions = refl;
+}
+
+cleared_number : (k : ℕ) (d : Database) → SameElsewhere (k ∷ []) d (cleared_of_number k d)
+cleared_number k d =
+    elim (cases_Bool (has_number k d.messages)) [
+      | inl shared ↦ rw shared (unchanged (k ∷ []) d)
+      | inr alone ↦ rw alone (rows_gone k (is_of_number k) d (λ target is. is))
+    ]
+
+cleared_signal : (k : ℕ) (name : List ℕ) (d : Database) → SameElsewhere (k ∷ []) d (cleared_of_signal k name d)
+cleared_signal k name d =
+    elim (cases_Bool (has_signal k name d.messages)) [
+      | inl shared ↦ rw shared (unchanged (k ∷ []) d)
+      | inr alone ↦ rw alone (rows_gone k (is_of_signal k name) d (of_signal k name))
+    ]
+
+removed_at : (place : ℕ) (d e : Database) → message_removed place d ≡ Ok e → SameElsewhere (number_at place d) d e
+unfolding message_removed
+removed_at place d e ok =
+    let found = found_at _ _ e ok in
+    let number : ℕ = found.message.head.number in
+    let taken : Database = record d { messages = remove d.messages place } in
+    rw found.stands
+    (subst (SameElsewhere (number ∷ []) d) (Ok-same _ e found.done)
+    (one_then (number ∷ []) d taken (cleared_of_number number taken)
+    (with_messages (number ∷ []) d _ (filter-remove _ d.messages place found.message found.stands (itself number)))
+    (cleared_number number taken)))
+
+signal_removed_at : (place : ℕ) (name : List ℕ) (d e : Database) → signal_removed place name d ≡ Ok e → SameElsewhere (number_at place d) d e
+unfolding signal_removed
+signal_removed_at place name d e ok =
+    let found = found_at _ _ e ok in
+    let number : ℕ = found.message.head.number in
+    rw found.stands
+    (subst (SameElsewhere (number ∷ []) d) (Ok-same _ e (passed _ _ _ e found.done))
+    (one_then (number ∷ []) d _ _
+    (in_place place found.message _ d found.stands refl)
+    (cleared_signal number name _)))
+
+-- ---- renumbering
+
+both_out : (new old n : ℕ) → is_among (new ∷ old ∷ []) n ≡ false → ((new == n) ≡ false) × ((old == n) ≡ false)
+both_out new old n out = let parts = or_parts (new == n) _ out in (parts.0, (or_parts (old == n) false parts.1).0)
+
+number_keeps : (old new n m : ℕ) → is_among (new ∷ old ∷ []) n ≡ false → (m == n) ≡ true → renumbered old new m ≡ m
+number_keeps old new n m out is =
+    elim (cases_Bool (m == old)) [
+      | inl t ↦ (let same = eqb-true m old t in let here = eqb-true m n is in
+          absurd (both_ways (old == n) (both_out new old n out).1 (eq-eqb old n (sym same ∙ here))))
+      | inr f ↦ rw f refl
+    ]
+
+number_stays : (old new n m : ℕ) → is_among (new ∷ old ∷ []) n ≡ false → (m == n) ≡ false → (renumbered old new m == n) ≡ false
+number_stays old new n m out isnt =
+    elim (cases_Bool (m == old)) [ inl t ↦ rw t (both_out new old n out).0 | inr f ↦ rw f isnt ]
+
+target_keeps : (old new n : ℕ) (target : Target) → is_among (new ∷ old ∷ []) n ≡ false → is_for_message n target ≡ true → target_renumbered old new target ≡ target
+target_keeps old new n targets.Whole out is = refl
+target_keeps old new n (targets.Node name) out is = refl
+target_keeps old new n (targets.Message m) out is = ap targets.Message (number_keeps old new n m out is)
+target_keeps old new n (targets.Signal m name) out is = absurd (cc)
+
+target_stays : (old new n : ℕ) (target : Target) → is_among (new ∷ old ∷ []) n ≡ false → is_for_message n target ≡ false → is_for_message n (target_renumbered old new target) ≡ false
+target_stays old new n targets.Whole out isnt = refl
+target_stays old new n (targets.Node name) out isnt = refl
+target_stays old new n (targets.Message m) out isnt = number_stays old new n m out isnt
+target_stays old new n (targets.Signal m name) out isnt = refl
+
+rows_moved : (old new : ℕ) (d : Database) → SameElsewhere (new ∷ old ∷ []) d (rows_renumbered old new d)
+unfolding rows_renumbered
+rows_moved old new d = record {
+  messages = refl;
+  rows = λ n out. rows-same d _ n
+      (filter-map _ (values_renumbered old new) (λ row is. rw (number_keeps old new n row.number out is) refl) (λ row isnt. number_stays old new n row.number out isnt) d.values)
+      (filter-map _ (float_renumbered old new) (λ row is. rw (number_keeps old new n row.number out is) refl) (λ row isnt. number_stays old new n row.number out isnt) d.floats)
+      (filter-map _ (mux_renumbered old new) (λ row is. rw (number_keeps old new n row.number out is) refl) (λ row isnt. number_stays old new n row.number out isnt) d.muxes);
+  formats = λ n out. formats-same d _ n
+      (filter-map _ (attribute_renumbered old new) (λ row is. rw (target_keeps old new n row.target out is) refl) (λ row isnt. target_stays old new n row.target out isnt) d.attributes);
+  defaults = refl;
+  definitions = refl;
+}
+
+renumbered_at : (place new : ℕ) (d e : Database) → message_renumbered place new d ≡ Ok e → SameElsewhere (new ∷ number_at place d) d e
+unfolding message_renumbered
+renumbered_at place new d e ok =
+    let found = found_at _ _ e ok in
+    let old : ℕ = found.message.head.number in
+    rw found.stands
+    (subst (SameElsewhere (new ∷ old ∷ []) d) (Ok-same _ e (passed _ _ _ e (passed _ _ _ e found.done)))
+    (one_then (new ∷ old ∷ []) d _ _
+    (with_messages (new ∷ old ∷ []) d _ (filter-set _ d.messages place found.message _ found.stands (rw (eq-eqb old old refl, or_right (new == old) true refl) refl) (rw (eq-eqb new new refl) refl)))
+    (rows_moved old new _)))
+
+-- ---- rows that are set and dropped
+
+values_put : (row : ValueRow) (d : Database) → SameElsewhere (row.number ∷ []) d (record d { values = with_item (is_values_of row.number row.signal) row d.values })
+values_put row d = record {
+  messages = refl;
+  rows = λ n out. rows-same d _ n (filter-with_item _ (is_values_of row.number row.signal) row (λ old is. other row.number n old.number out (and_parts _ _ is).0) (or_parts _ false out).0 d.values) refl refl;
+  formats = λ n out. formats-same d _ n refl;
+  defaults = refl;
+  definitions = refl;
+}
+
+mux_put : (row : MuxRow) (d : Database) → SameElsewhere (row.number ∷ []) d (record d { muxes = with_item (is_mux_of row.number row.signal) row d.muxes })
+mux_put row d = record {
+  messages = refl;
+  rows = λ n out. rows-same d _ n refl refl (filter-with_item _ (is_mux_of row.number row.signal) row (λ old is. other row.number n old.number out (and_parts _ _ is).0) (or_parts _ false out).0 d.muxes);
+  formats = λ n out. formats-same d _ n refl;
+  defaults = refl;
+  definitions = refl;
+}
+
+values_gone : (k : ℕ) (name : List ℕ) (d : Database) → SameElsewhere (k ∷ []) d (record d { values = without (is_values_of k name) d.values })
+values_gone k name d = record {
+  messages = refl;
+  rows = λ n out. rows-same d _ n (filter-without _ _ (λ old is. other k n old.number out (and_parts _ _ is).0) d.values) refl refl;
+  formats = λ n out. formats-same d _ n refl;
+  defaults = refl;
+  definitions = refl;
+}
+
+mux_gone : (k : ℕ) (name : List ℕ) (d : Database) → SameElsewhere (k ∷ []) d (record d { muxes = without (is_mux_of k name) d.muxes })
+mux_gone k name d = record {
+  messages = refl;
+  rows = λ n out. rows-same d _ n refl refl (filter-without _ _ (λ old is. other k n old.number out (and_parts _ _ is).0) d.muxes);
+  formats = λ n out. formats-same d _ n refl;
+  defaults = refl;
+  definitions = refl;
+}
+
+attribute_put : (name : List ℕ) (k : ℕ) (row : AttrRow) (d : Database) → row.target ≡ targets.Message k → SameElsewhere (k ∷ []) d (record d { attributes = with_item (is_attribute_of name k) row d.attributes })
+attribute_put name k row d target = record {
+  messages = refl;
+  rows = λ n out. rows-same d _ n refl refl refl;
+  formats = λ n out. formats-same d _ n (filter-with_item _ (is_attribute_of name k) row (λ old is. other_target k n old.target out (of_message k old.target (and_parts _ _ is).0)) (rw target (or_parts _ false out).0) d.attributes);
+  defaults = refl;
+  definitions = refl;
+}
+
+attribute_gone : (name : List ℕ) (k : ℕ) (d : Database) → SameElsewhere (k ∷ []) d (record d { attributes = without (is_attribute_of name k) d.attributes })
+attribute_gone name k d = record {
+  messages = refl;
+  rows = λ n out. rows-same d _ n refl refl refl;
+  formats = λ n out. formats-same d _ n (filter-without _ _ (λ old is. other_target k n old.target out (of_message k old.target (and_parts _ _ is).0)) d.attributes);
+  defaults = refl;
+  definitions = refl;
+}
+
+module _ (d e : Database) where
+  values_set_at : (row : ValueRow) → values_set row d ≡ Ok e → SameElsewhere (row.number ∷ []) d e
+  unfolding values_set
+  values_set_at row ok = subst (SameElsewhere (row.number ∷ []) d) (Ok-same _ e (passed _ _ _ e (passed _ _ _ e ok))) (values_put row d)
+
+  mux_set_at : (row : MuxRow) → mux_set row d ≡ Ok e → SameElsewhere (row.number ∷ []) d e
+  unfolding mux_set
+  mux_set_at row ok = subst (SameElsewhere (row.number ∷ []) d) (Ok-same _ e (passed _ _ _ e (passed _ _ _ e ok))) (mux_put row d)
+
+  values_dropped_at : (k : ℕ) (name : List ℕ) → values_dropped k name d ≡ Ok e → SameElsewhere (k ∷ []) d e
+  unfolding values_dropped
+  values_dropped_at k name ok = subst (SameElsewhere (k ∷ []) d) (Ok-same _ e (passed _ _ _ e ok)) (values_gone k name d)
+
+  mux_dropped_at : (k : ℕ) (name : List ℕ) → mux_dropped k name d ≡ Ok e → SameElsewhere (k ∷ []) d e
+  unfolding mux_dropped
+  mux_dropped_at k name ok = subst (SameElsewhere (k ∷ []) d) (Ok-same _ e (passed _ _ _ e ok)) (mux_gone k name d)
+
+  table_set_at : (row : TableRow) → table_set row d ≡ Ok e → SameElsewhere [] d e
+  unfolding table_set
+  table_set_at row ok = subst (SameElsewhere [] d) (Ok-same _ e ok) (same_rows [] d _ refl refl refl refl refl refl refl)
+
+  table_dropped_at : (name : List ℕ) → table_dropped name d ≡ Ok e → SameElsewhere [] d e
+  unfolding table_dropped
+  table_dropped_at name ok = subst (SameElsewhere [] d) (Ok-same _ e (passed _ _ _ e ok)) (same_rows [] d _ refl refl refl refl refl refl refl)
+
+  attribute_set_at : (name : List ℕ) (k : ℕ) (value : AttrValue) → attribute_set name k value d ≡ Ok e → SameElsewhere (k ∷ []) d e
+  unfolding attribute_set
+  attribute_set_at name k value ok = subst (SameElsewhere (k ∷ []) d) (Ok-same _ e (passed _ _ _ e (passed _ _ _ e ok))) (attribute_put name k _ d refl)
+
+  attribute_dropped_at : (name : List ℕ) (k : ℕ) → attribute_dropped name k d ≡ Ok e → SameElsewhere (k ∷ []) d e
+  unfolding attribute_dropped
+  attribute_dropped_at name k ok = subst (SameElsewhere (k ∷ []) d) (Ok-same _ e (passed _ _ _ e ok)) (attribute_gone name k d)
+
+-- ---- all edits
+
+-- an accepted edit leaves messages and rows of other numbers as they were
+pub others : (d e : Database) (edit : Edit) → edited d edit ≡ Ok e → SameElsewhere (edit_numbers d edit) d e
+others d e (edits.AddMessage place head) ok = added place head d e ok
+others d e (edits.RemoveMessage place) ok = removed_at place d e ok
+others d e (edits.ChangeMessage place change) ok = changed_at place change d e ok
+others d e (edits.Renumber place number) ok = renumbered_at place number d e ok
+others d e (edits.AddSignal place at signal) ok = signal_added_at place at signal d e ok
+others d e (edits.RemoveSignal place name) ok = signal_removed_at place name d e ok
+others d e (edits.ChangeSignal place signal) ok = signal_changed_at place signal d e ok
+others d e (edits.SetMux row) ok = mux_set_at d e row ok
+others d e (edits.SetValues row) ok = values_set_at d e row ok
+others d e (edits.DropMux k signal) ok = mux_dropped_at d e k signal ok
+others d e (edits.DropValues k signal) ok = values_dropped_at d e k signal ok
+others d e (edits.DropTable name) ok = table_dropped_at d e name ok
+others d e (edits.SetTable row) ok = table_set_at d e row ok
+others d e (edits.SetAttribute name k value) ok = attribute_set_at d e name k value ok
+others d e (edits.DropAttribute name k) ok = attribute_dropped_at d e name k ok

@@ -1,0 +1,3 @@
+pub mod ListFacts
+pub mod Edits
+pub mod Frames
