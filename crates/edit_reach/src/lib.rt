@@ -5,3 +5,6 @@
 #![tactic(auto)]
 
 pub mod laws;
+mod numbers;
+
+pub use numbers::{Numbers, edit_numbers, is_among};
