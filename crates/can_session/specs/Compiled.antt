@@ -1,0 +1,30 @@
+-- What a session shows of each message: what compiling it anew defines.
+use Rattle.std.specs.Prelude.{◌≡◌, ℕ, Bool, List, count_by, ◌+◌, ◌≤◌}
+use Rattle.dbc_records.specs.Records.{Message}
+use Rattle.dbc_records.specs.Databases.{Database}
+use Rattle.can_layout.specs.Plans.{Plan, plan_of}
+use Rattle.can_layout.specs.Pictures.{picture_of}
+use Rattle.can_layout.specs.Meters.{Meter}
+use Rattle.edit_reach.specs.Touched.{is_among}
+
+-- the plan and the picture of a message
+pub record Compiled : Type 0 where
+  pub plan : Plan
+  pub picture : List ℕ
+
+abbrev pub compiled_of : Database → Message → Compiled
+compiled_of database message = record { plan = plan_of database message; picture = picture_of database message }
+
+-- the message has one of the numbers
+abbrev pub is_here : List ℕ → Message → Bool
+is_here numbers message = is_among numbers message.head.number
+
+-- how many messages of a database have one of an edit's numbers, as they are before the edit
+abbrev pub count_here : List ℕ → Database → ℕ
+count_here numbers database = count_by (is_here numbers) database.messages
+
+-- at most so many plans and pictures were made meanwhile, and no line was decoded
+pub record Made (most : ℕ) (before after : Meter) : Type 0 where
+  pub plans : after.plans ≤ before.plans + most
+  pub pictures : after.pictures ≤ before.pictures + most
+  pub lines : after.lines ≡ before.lines
