@@ -1,1 +1,4 @@
 pub mod Kept
+pub mod Exchanges
+pub mod Chosen
+pub mod Places

@@ -3,3 +3,5 @@ pub use Rattle.dbc_edits.specs.Refusals
 pub use Rattle.edit_reach.specs.Touched
 pub mod States
 pub mod Compiled
+pub mod Logs
+pub mod Sessions

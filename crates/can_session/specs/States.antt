@@ -1,17 +1,21 @@
 -- What a session is to its callers, and one step of it.
-use Rattle.std.specs.Prelude.{◌≡◌, ◌⊎◌, ℕ, List, Result, Ok, Err, MatchResult}
+use Rattle.std.specs.Prelude.{◌≡◌, ℕ, nat_le, nat_lt, List, [], ◌∷◌, ◌++◌, length, count_by, Result, Ok, Err, MatchResult, if◌then◌else◌}
 use Rattle.dbc_records.specs.Databases.{Database}
 use Rattle.dbc_tokens.specs.declared.fault.ReadFault.{ReadFault}
 use Rattle.dbc_reader.specs.Texts.{HasDatabase, IsRead}
 use Rattle.can_layout.specs.Meters.{Meter}
 use Rattle.dbc_edits.specs.declared.edit.Edit.{Edit}
 use Rattle.dbc_edits.specs.declared.refusal.Refusal.{Refusal}
+use Rattle.dbc_edits.specs.declared.refusal.Refusal.TheVariants as refusals
 use Rattle.dbc_edits.specs.Refusals.{IsRefusal}
 use Rattle.dbc_edits.specs.Edits.{edited}
+use Rattle.edit_reach.specs.Touched.{line_touched}
+use Rattle.can_session.specs.Compiled.{count_here, Raised}
 
--- what commands change
+-- what commands change: the database, and the retained lines in order of arrival
 pub record State : Type 0 where
   pub database : Database
+  pub lines : List (List ℕ)
 
 -- what contracts see of a session
 pub record Open : Type 0 where
@@ -20,17 +24,49 @@ pub record Open : Type 0 where
 
 -- ---- the first state
 
--- the state of a text's database, or the first fault of the text, or memory ran out
+-- the state of a text's database without lines, or the first fault of the text, or memory ran out
 abbrev pub Opens : List ℕ → Result Open ReadFault → Type 0
-Opens text (Ok session) = HasDatabase text session.state.database
+Opens text (Ok session) = HasDatabase text session.state.database × (session.state.lines ≡ [])
 Opens text (Err fault) = IsRead text (Err fault)
 
--- ---- steps
+-- ---- edits
 
 -- An accepted edit gives the defined database. A refused one is refused for the defined cause, or for want of memory where the
 -- definition accepts it, and the state is as it was.
 abbrev pub Applies : Edit → State → Result (Unit {0}) Refusal → State → Type 0
 Applies edit before answer after =
     MatchResult answer
-    (λ _. edited before.database edit ≡ Ok after.database)
+    (λ _. (edited before.database edit ≡ Ok after.database) × (after.lines ≡ before.lines))
     (λ refusal. IsRefusal (edited before.database edit) refusal × (after ≡ before))
+
+-- An accepted edit raises the counts of plans and pictures at most by the messages of the edited database that have one of its
+-- numbers, and that of lines at most by the lines that it touches, also where memory runs out. A refused one raises none.
+abbrev pub RaisedBy : Result Database Refusal → List ℕ → List (List ℕ) → Meter → Meter → Type 0
+RaisedBy defined numbers lines before after =
+    MatchResult defined
+    (λ database. Raised (count_here numbers database) (count_by (line_touched numbers) lines) before after)
+    (λ _. after ≡ before)
+
+-- ---- lines
+
+-- the most lines that are retained
+abbrev pub most_lines : ℕ
+most_lines = 1048576
+
+-- the most bytes of one
+abbrev pub longest_line : ℕ
+longest_line = 4096
+
+-- the retained lines with one more, or why it is refused
+abbrev pub with_line : List (List ℕ) → List ℕ → Result (List (List ℕ)) Refusal
+with_line lines line =
+    if nat_le most_lines (length lines) then Err refusals.LogFull
+    else (if nat_lt longest_line (length line) then Err refusals.LongLine
+    else Ok (lines ++ line ∷ []))
+
+-- so for a line
+abbrev pub Adds : List ℕ → State → Result (Unit {0}) Refusal → State → Type 0
+Adds line before answer after =
+    MatchResult answer
+    (λ _. (with_line before.lines line ≡ Ok after.lines) × (after.database ≡ before.database))
+    (λ refusal. IsRefusal (with_line before.lines line) refusal × (after ≡ before))

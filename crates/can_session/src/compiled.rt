@@ -1,9 +1,10 @@
 //! What a session shows of its messages.
-ghost use Rattle.std.specs.Prelude.{◌≡◌, IfOk, map, length};
-ghost use Rattle.can_session.specs.Compiled.{compiled_of, Made};
+ghost use Rattle.std.specs.Prelude.{◌≡◌, ◌<◌, IfOk, Some, map, length, slice_get};
+ghost use Rattle.std.specs.Option.{option_map};
+ghost use Rattle.can_session.specs.Compiled.{compiled_of, Raised};
 
 use can_layout::{Lookup, Meter, Plan, picture_with, plan_with};
-use dbc_records::Message;
+use dbc_records::{Database, Message};
 use dbc_values::Memory;
 use std::alloc::Global;
 use std::marker::Model;
@@ -34,7 +35,7 @@ pub(crate) fn compiled_with<L: Lookup>(
     meter: &mut Meter,
 ) -> Result<Rc<Compiled>, Memory>
     ensures compiled { IfOk result (λ compiled. compiled.value ≡ compiled_of (L.whole lookup.now) message.now) }
-    ensures made { Made 1 meter.old meter.new }
+    ensures made { Raised 1 0 meter.old meter.new }
 {
     let plan = plan_with(alloc, lookup, message, meter)?;
     let picture = picture_with(alloc, lookup, message, meter)?;
@@ -50,11 +51,20 @@ pub(crate) fn compiled_all<L: Lookup>(
     meter: &mut Meter,
 ) -> Result<Vec<Rc<Compiled>>, Memory>
     ensures compiled { IfOk result (λ all. map (λ one. one.value) all.items ≡ map (compiled_of (L.whole lookup.now)) messages.now) }
-    ensures made { Made (length messages.now) meter.old meter.new }
+    ensures made { Raised (length messages.now) 0 meter.old meter.new }
 {
     let mut all = Vec::new(alloc);
     for message in messages {
         all.push(compiled_with(alloc, lookup, message, meter)?)?;
     }
     Ok(all)
+}
+
+/// What is compiled of the message at a place.
+pub(crate) fn compiled_at<'a>(compiled: &'a [Rc<Compiled>], database: &Database, place: usize) -> &'a Compiled
+    requires compiled { map (λ one. one.value) compiled.now ≡ map (compiled_of database.now) database.now.messages }
+    requires place { place < length database.now.messages }
+    ensures { Some result.now ≡ option_map (compiled_of database.now) (slice_get database.now.messages place) }
+{
+    &compiled[place]
 }

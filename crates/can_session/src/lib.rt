@@ -5,9 +5,12 @@
 #![tactic(auto)]
 
 mod compiled;
+mod decoding;
+mod line;
 mod recompiling;
 mod session;
 mod stub;
+mod touching;
 
 pub use can_check::Diagnostic;
 pub use can_layout::{Meter, Plan};

@@ -3,7 +3,7 @@ ghost use Rattle.std.specs.Prelude.{◌≡◌, IfOk, Ok, map, filter, length, co
 ghost use Rattle.dbc_edits.specs.Edits.{edited};
 ghost use Rattle.edit_reach.specs.Touched.{edit_numbers};
 ghost use Rattle.edit_reach.specs.Elsewhere.{is_elsewhere};
-ghost use Rattle.can_session.specs.Compiled.{compiled_of, count_here, is_here, Made};
+ghost use Rattle.can_session.specs.Compiled.{compiled_of, count_here, is_here, Raised};
 
 use crate::compiled::{Compiled, compiled_with};
 use can_layout::{Indexed, Lookup, Meter};
@@ -63,7 +63,7 @@ fn merged<L: Lookup>(
 ) -> Result<Vec<Rc<Compiled>>, Memory>
     requires { map (λ one. one.value) kept.now ≡ map (compiled_of (L.whole lookup.now)) (filter (is_elsewhere numbers.now) messages.now) }
     ensures compiled { IfOk result (λ all. map (λ one. one.value) all.items ≡ map (compiled_of (L.whole lookup.now)) messages.now) }
-    ensures made { Made (count_by (is_here numbers.now) messages.now) meter.old meter.new }
+    ensures made { Raised (count_by (is_here numbers.now) messages.now) 0 meter.old meter.new }
 {
     let mut all = Vec::new(alloc);
     let mut rest = kept;
@@ -93,7 +93,7 @@ pub(crate) fn recompiled(
     requires numbers { numbers.now ≡ edit_numbers before.now edit.now }
     requires compiled { map (λ one. one.value) compiled.now ≡ map (compiled_of before.now) before.now.messages }
     ensures compiled { IfOk result (λ all. map (λ one. one.value) all.items ≡ map (compiled_of after.now) after.now.messages) }
-    ensures made { Made (count_here numbers.now after.now) meter.old meter.new }
+    ensures made { Raised (count_here numbers.now after.now) 0 meter.old meter.new }
 {
     others_stay();
     untouched_messages_stay();

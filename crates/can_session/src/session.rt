@@ -1,17 +1,22 @@
 //! The open session.
-ghost use Rattle.std.specs.Prelude.{◌≡◌, ◌<◌, Ok, IfOk, map, OnOk, OnErr, Some, length, slice_get};
+ghost use Rattle.std.specs.Prelude.{◌≡◌, ◌<◌, Ok, IfOk, OnOk, OnErr, Some, [], All, count_by, map, length, slice_get};
 ghost use Rattle.std.specs.Option.{option_map};
 ghost use Rattle.can_layout.specs.Plans.{plan_of};
 ghost use Rattle.can_layout.specs.Pictures.{picture_of};
 ghost use Rattle.can_check.specs.RowFaults.{all_faults};
+ghost use Rattle.can_decode.specs.DecodedLines.{decoded_line};
 ghost use Rattle.dbc_edits.specs.Edits.{edited};
-ghost use Rattle.edit_reach.specs.Touched.{edit_numbers};
-ghost use Rattle.can_session.specs.Compiled.{compiled_of, count_here, Made};
-ghost use Rattle.can_session.specs.States.{Applies, Opens};
+ghost use Rattle.edit_reach.specs.Touched.{edit_numbers, line_touched};
+ghost use Rattle.can_session.specs.Compiled.{compiled_of, count_here, Raised};
+ghost use Rattle.can_session.specs.Logs.{touches, IsDecoded, Completes};
+ghost use Rattle.can_session.specs.States.{Applies, Adds, RaisedBy, Opens};
 
-use crate::compiled::{Compiled, compiled_all};
+use crate::compiled::{Compiled, compiled_all, compiled_at};
+use crate::decoding::new_line;
+use crate::line::{Fresh, Line, exchange};
 use crate::recompiling::{messages_of, recompiled};
 use crate::stub::edited;
+use crate::touching::decode_touched;
 use can_check::{Diagnostic, all_faults};
 use can_layout::{Indexed, Meter, Plan};
 use dbc_edits::{Edit, Refusal};
@@ -24,30 +29,36 @@ use std::alloc::Global;
 use std::marker::Model;
 use std::rc::Rc;
 
-/// A database that is edited, with all that is shown of it.
+// The most lines that are retained, and the most bytes of one.
+const MOST_LINES: usize = 1_048_576;
+
+const LONGEST_LINE: usize = 4_096;
+
+/// A database that is edited and a log that is retained, with all that is shown of both.
 ///
-/// What the readers lend is at every moment what making it from the database alone gives. They take no memory, and raise no
-/// count of the meter.
+/// What the readers lend is at every moment what making it from the database and the lines alone gives. They take no memory, and
+/// raise no count of the meter.
 #[derive(Drop)]
 pub struct Session {
     alloc: Global,
     database: Database,
     diagnostics: Vec<Diagnostic>,
     compiled: Vec<Rc<Compiled>>,
+    lines: Vec<Line>,
     meter: Meter,
 }
 
 impl Model for Session {
-    ghost use Rattle.std.specs.Prelude.{◌≡◌, map};
-    ghost use Rattle.can_check.specs.RowFaults.{all_faults};
+    ghost use Rattle.std.specs.Prelude.{map};
     ghost use Rattle.can_session.specs.States.{Open};
-    ghost use Rattle.can_session.specs.Compiled.{compiled_of};
+    ghost use Rattle.can_session.specs.Logs.{bytes_of};
+    ghost use Rattle.can_session.specs.Sessions.{IsSession};
 
     ghost Value = { Open };
 
-    ghost view = { λ a. record { state = record { database = a.database }; meter = a.meter } };
+    ghost view = { λ a. record { state = record { database = a.database; lines = map bytes_of a.lines.items }; meter = a.meter } };
 
-    ghost invariant = { λ a. (a.diagnostics.items ≡ all_faults a.database) × (map (λ one. one.value) a.compiled.items ≡ map (compiled_of a.database) a.database.messages) };
+    ghost invariant = { λ a. IsSession a.database a.diagnostics.items (map (λ one. one.value) a.compiled.items) a.lines.items };
 }
 
 // What is compiled of a whole database.
@@ -57,33 +68,37 @@ fn compiled_database(
     meter: &mut Meter,
 ) -> Result<Vec<Rc<Compiled>>, Memory>
     ensures compiled { IfOk result (λ all. map (λ one. one.value) all.items ≡ map (compiled_of database.now) database.now.messages) }
-    ensures made { Made (length database.now.messages) meter.old meter.new }
+    ensures made { Raised (length database.now.messages) 0 meter.old meter.new }
 {
     let indexed = Indexed::of(alloc, database)?;
     compiled_all(alloc, &indexed, messages_of(database), meter)
 }
 
-// What is shown of a database.
+// What is shown of an edited database, and the texts of the lines that the edit touches.
 #[derive(Drop)]
 struct Shown {
     diagnostics: Vec<Diagnostic>,
     compiled: Vec<Rc<Compiled>>,
+    fresh: Vec<Fresh>,
 }
 
-// What is shown of an edited database. What was compiled before is kept where the edit doesn't touch it.
+// That, by what was shown of the database before.
 fn shown_after(
     alloc: Global,
     before: &Database,
     compiled: &[Rc<Compiled>],
+    lines: &[Line],
     edit: &Edit,
     after: &Database,
     meter: &mut Meter,
 ) -> Result<Shown, Memory>
     requires edited { edited before.now edit.now ≡ Ok after.now }
     requires compiled { map (λ one. one.value) compiled.now ≡ map (compiled_of before.now) before.now.messages }
+    requires decoded { All (IsDecoded before.now) lines.now }
     ensures diagnostics { IfOk result (λ shown. shown.diagnostics.items ≡ all_faults after.now) }
     ensures compiled { IfOk result (λ shown. map (λ one. one.value) shown.compiled.items ≡ map (compiled_of after.now) after.now.messages) }
-    ensures made { Made (count_here (edit_numbers before.now edit.now) after.now) meter.old meter.new }
+    ensures fresh { IfOk result (λ shown. Completes after.now lines.now shown.fresh.items) }
+    ensures made { Raised (count_here (edit_numbers before.now edit.now) after.now) (count_by (touches (edit_numbers before.now edit.now)) lines.now) meter.old meter.new }
 {
     let numbers = edit_numbers(before, edit);
     let diagnostics = all_faults(alloc, after)?;
@@ -96,25 +111,28 @@ fn shown_after(
         after,
         meter,
     )?;
+    let fresh = decode_touched(
+        alloc,
+        before,
+        edit,
+        numbers.as_slice(),
+        after,
+        compiled.as_slice(),
+        lines,
+        meter,
+    )?;
     Ok(Shown {
         diagnostics,
         compiled,
+        fresh,
     })
-}
-
-// What is compiled of the message at a place.
-fn compiled_at<'a>(compiled: &'a [Rc<Compiled>], database: &Database, place: usize) -> &'a Compiled
-    requires compiled { map (λ one. one.value) compiled.now ≡ map (compiled_of database.now) database.now.messages }
-    requires place { place < length database.now.messages }
-    ensures { Some result.now ≡ option_map (compiled_of database.now) (slice_get database.now.messages place) }
-{
-    &compiled[place]
 }
 
 // The session of a database.
 fn session_of(alloc: Global, database: Database) -> Result<Session, Memory>
     ensures database { IfOk result (λ session. session.state.database ≡ database) }
-    ensures made { IfOk result (λ session. Made (length database.messages) (record { plans = 0; pictures = 0; lines = 0 }) session.meter) }
+    ensures lines { IfOk result (λ session. session.state.lines ≡ []) }
+    ensures made { IfOk result (λ session. Raised (length database.messages) 0 (record { plans = 0; pictures = 0; lines = 0 }) session.meter) }
 {
     let mut meter = Meter::new();
     let diagnostics = all_faults(alloc, &database)?;
@@ -124,6 +142,7 @@ fn session_of(alloc: Global, database: Database) -> Result<Session, Memory>
         database,
         diagnostics,
         compiled,
+        lines: Vec::new(alloc),
         meter,
     })
 }
@@ -149,18 +168,21 @@ impl Session {
     // Takes an edited database, once all that is shown of it is made.
     fn take_edited(&mut self, edit: &Edit, after: Database) -> Result<(), Memory>
         requires { edited self.old.state.database edit.now ≡ Ok after }
-        ensures ok { OnOk result (self.new.state.database ≡ after) }
+        ensures database { OnOk result (self.new.state.database ≡ after) }
+        ensures lines { OnOk result (self.new.state.lines ≡ self.old.state.lines) }
         ensures err { OnErr result (self.new.state ≡ self.old.state) }
-        ensures made { Made (count_here (edit_numbers self.old.state.database edit.now) after) self.old.meter self.new.meter }
+        ensures made { Raised (count_here (edit_numbers self.old.state.database edit.now) after) (count_by (line_touched (edit_numbers self.old.state.database edit.now)) self.old.state.lines) self.old.meter self.new.meter }
     {
         // All growths come first.
         let Shown {
             diagnostics,
             compiled,
+            fresh,
         } = shown_after(
             self.alloc,
             &self.database,
             self.compiled.as_slice(),
+            self.lines.as_slice(),
             edit,
             &after,
             &mut self.meter,
@@ -169,17 +191,45 @@ impl Session {
         self.database = after;
         self.diagnostics = diagnostics;
         self.compiled = compiled;
+        exchange(self.lines.as_mut_slice(), fresh);
         Ok(())
     }
 
     /// Does an edit. A refused one changes nothing but the meter; want of memory comes after all other refusals. Plans and
-    /// pictures are made only of messages that have one of the edit's numbers.
+    /// pictures are made only of messages that have one of the edit's numbers, and only lines whose frames these concern are
+    /// decoded again.
     pub fn apply(&mut self, edit: &Edit) -> Result<(), Refusal>
         ensures step { Applies edit.now self.old.state result self.new.state }
+        ensures meter { RaisedBy (edited self.old.state.database edit.now) (edit_numbers self.old.state.database edit.now) self.old.state.lines self.old.meter self.new.meter }
     {
         let after = edited(self.alloc, &self.database, edit)?;
         self.take_edited(edit, after)?;
         Ok(())
+    }
+
+    /// Retains a line, which holds no LF. A refused one changes nothing but the meter: there is room for 1,048,576 lines, of at
+    /// most 4,096 bytes each. Want of memory comes after both.
+    pub fn add_line(&mut self, line: &[u8]) -> Result<(), Refusal>
+        ensures step { Adds line.now self.old.state result self.new.state }
+        ensures meter { Raised 0 1 self.old.meter self.new.meter }
+    {
+        if self.lines.len() >= MOST_LINES {
+            return Err(Refusal::LogFull);
+        }
+        if line.len() > LONGEST_LINE {
+            return Err(Refusal::LongLine);
+        }
+        let made = new_line(
+            self.alloc,
+            &self.database,
+            self.compiled.as_slice(),
+            line,
+            &mut self.meter,
+        )?;
+        match self.lines.push(made) {
+            Ok(()) => Ok(()),
+            Err(_) => Err(Refusal::Memory),
+        }
     }
 
     /// The database.
@@ -214,6 +264,29 @@ impl Session {
         compiled_at(self.compiled.as_slice(), &self.database, place)
             .picture
             .as_slice()
+    }
+
+    /// How many lines are retained.
+    pub fn line_count(&self) -> usize
+        ensures { result ≡ length self.now.state.lines }
+    {
+        self.lines.len()
+    }
+
+    /// The line at a place, in order of arrival.
+    pub fn line(&self, n: usize) -> &[u8]
+        requires { n < length self.now.state.lines }
+        ensures { Some result.now ≡ slice_get self.now.state.lines n }
+    {
+        self.lines[n].bytes.as_slice()
+    }
+
+    /// The decoded text of the line at a place: what decoding it by itself, with the database as it is, gives.
+    pub fn decoded(&self, n: usize) -> &[u8]
+        requires { n < length self.now.state.lines }
+        ensures { Some result.now ≡ option_map (decoded_line self.now.state.database) (slice_get self.now.state.lines n) }
+    {
+        self.lines[n].decoded.as_slice()
     }
 
     /// How often plans and pictures were made, and lines decoded.

@@ -6,5 +6,7 @@
 
 pub mod laws;
 mod numbers;
+mod touching;
 
 pub use numbers::{Numbers, edit_numbers, is_among};
+pub use touching::line_touched;

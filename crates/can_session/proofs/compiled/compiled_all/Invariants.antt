@@ -1,5 +1,5 @@
 use Rattle.std.proofs.Common.{◌≡◌, ◌++◌, map, drop}
-use Rattle.can_session.specs.Compiled.{compiled_of, Made}
+use Rattle.can_session.specs.Compiled.{compiled_of, Raised}
 use Rattle.can_session.proofs.compiled.compiled_all.Given as goal
 
 -- those of the messages so far are there
@@ -8,5 +8,5 @@ invariant-loop-message g l =
     let database = g.L.Lookup.whole l.lookup in
     record {
       compiled : map (λ one. one.value) l.all.items ++ map (compiled_of database) (drop l.message-index l.messages) ≡ map (compiled_of database) l.messages;
-      made : Made l.message-index l.initial.meter l.meter;
+      made : Raised l.message-index 0 l.initial.meter l.meter;
     }

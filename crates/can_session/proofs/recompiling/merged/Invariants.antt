@@ -1,6 +1,6 @@
 use Rattle.std.proofs.Common.{◌≡◌, ◌++◌, map, filter, take, drop, count_by}
 use Rattle.edit_reach.specs.Elsewhere.{is_elsewhere}
-use Rattle.can_session.specs.Compiled.{compiled_of, is_here, Made}
+use Rattle.can_session.specs.Compiled.{compiled_of, is_here, Raised}
 use Rattle.can_session.proofs.recompiling.merged.Given as goal
 
 -- those of the messages so far are there, and the kept ones of the messages to come are left
@@ -10,5 +10,5 @@ invariant-loop-message g l =
     record {
       compiled : map (λ one. one.value) l.all.items ++ map (compiled_of database) (drop l.message-index l.messages) ≡ map (compiled_of database) l.messages;
       rest : map (λ one. one.value) l.rest ≡ map (compiled_of database) (filter (is_elsewhere l.numbers) (drop l.message-index l.messages));
-      made : Made (count_by (is_here l.numbers) (take l.message-index l.messages)) l.initial.meter l.meter;
+      made : Raised (count_by (is_here l.numbers) (take l.message-index l.messages)) 0 l.initial.meter l.meter;
     }

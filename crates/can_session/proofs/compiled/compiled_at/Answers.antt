@@ -5,7 +5,7 @@ use Rattle.std.proofs.lemmas.List.{length-map}
 use Rattle.std.proofs.lemmas.Option.{slice_get_read}
 use Rattle.can_session.specs.Compiled.{compiled_of}
 use Rattle.can_session.proofs.Kept.{at_place}
-use Rattle.can_session.proofs.session.compiled_at.Goals as goal
+use Rattle.can_session.proofs.compiled.compiled_at.Goals as goal
 
 pub returns : goal.returns
 returns c =

@@ -1,0 +1,16 @@
+-- What a session keeps beside its database and its lines: what making it anew defines.
+use Rattle.std.specs.Prelude.{◌≡◌, ◌≤◌, List, All, length, map}
+use Rattle.dbc_records.specs.Databases.{Database}
+use Rattle.can_diagnostics.specs.declared.diagnostic.Diagnostic.{Diagnostic}
+use Rattle.can_check.specs.RowFaults.{all_faults}
+use Rattle.can_session.specs.Compiled.{Compiled, compiled_of}
+use Rattle.can_session.specs.declared.line.Line.{Line}
+use Rattle.can_session.specs.Logs.{IsDecoded}
+use Rattle.can_session.specs.States.{most_lines}
+
+-- these are the diagnostics of the database, the plans and pictures of its messages, and the decoded texts of the lines
+pub record IsSession (database : Database) (diagnostics : List Diagnostic) (compiled : List Compiled) (lines : List Line) : Type 0 where
+  pub diagnosed : diagnostics ≡ all_faults database
+  pub planned : compiled ≡ map (compiled_of database) database.messages
+  pub decoded : All (IsDecoded database) lines
+  pub few : length lines ≤ most_lines

@@ -1,0 +1,33 @@
+//! Retained lines, and texts that take the place of older ones.
+ghost use Rattle.std.specs.Prelude.{◌≡◌, ◌<◌, All, map, length};
+ghost use Rattle.dbc_records.specs.Databases.{Database};
+ghost use Rattle.can_session.specs.Logs.{bytes_of, IsDecoded, Completes};
+
+/// A retained line and its decoded text.
+#[derive(Drop)]
+pub(crate) struct Line {
+    /// The line.
+    pub bytes: Vec<u8>,
+    /// Its decoded text.
+    pub decoded: Vec<u8>,
+}
+
+/// A text for the line at a place.
+#[derive(Drop)]
+pub(crate) struct Fresh {
+    /// The line's place.
+    pub place: usize,
+    /// Its decoded text.
+    pub text: Vec<u8>,
+}
+
+/// Gives each text to the line at its place. It takes no memory.
+pub(crate) fn exchange(lines: &mut [Line], mut fresh: Vec<Fresh>)
+    requires { All (λ text. text.place < length lines.old) fresh.items }
+    ensures lines { map bytes_of lines.new ≡ map bytes_of lines.old }
+    ensures decoded { (database : Database) → Completes database lines.old fresh.items → All (IsDecoded database) lines.new }
+{
+    while let Some(Fresh { place, text }) = fresh.pop() {
+        lines[place].decoded = text;
+    }
+}

@@ -1,0 +1,62 @@
+//! The lines of a log that an edit touches.
+ghost use Rattle.std.specs.Prelude.{◌≡◌};
+ghost use Rattle.std.specs.List.{list_any};
+ghost use Rattle.can_rows.specs.Groups.{is_extended};
+ghost use Rattle.edit_reach.specs.Touched.{may_have_group, shares_group, concerns, is_touched, line_touched};
+
+use can_rows::{group_number, is_bad_number};
+use log_frames::{Frame, read_frame};
+
+fn is_extended(number: u32) -> bool
+    ensures { result ≡ is_extended number }
+{
+    number >> 31 & 1 == 1
+}
+
+// Whether a message of this number may be a group message.
+#[tactic(auto, unfolding(crate::specs::Touched::may_have_group))]
+fn may_have_group(number: u32) -> bool
+    ensures { result ≡ may_have_group number }
+{
+    is_extended(number) && !is_bad_number(number)
+}
+
+fn shares_group(frame_number: u32, number: u32) -> bool
+    ensures { result ≡ shares_group frame_number number }
+{
+    is_extended(frame_number)
+        && may_have_group(number)
+        && group_number(number) == group_number(frame_number)
+}
+
+// Whether a frame of the first number may go to a message of the second.
+#[tactic(auto, unfolding(crate::specs::Touched::concerns))]
+fn concerns(frame_number: u32, number: u32) -> bool
+    ensures { result ≡ concerns frame_number number }
+{
+    number == frame_number || shares_group(frame_number, number)
+}
+
+fn any_concerns(frame_number: u32, numbers: &[u32]) -> bool
+    ensures { result ≡ list_any (concerns frame_number) numbers.now }
+{
+    numbers.iter().any(|number| concerns(frame_number, *number))
+}
+
+#[tactic(auto, unfolding(crate::specs::Touched::is_touched))]
+fn is_touched(numbers: &[u32], frame: &Frame) -> bool
+    ensures { result ≡ is_touched numbers.now frame.now }
+{
+    frame.is_data() && any_concerns(frame.number(), numbers)
+}
+
+/// Whether one of the numbers concerns the frame of a line, so that its text may change with the messages and rows of that number.
+#[tactic(auto, unfolding(crate::specs::Touched::line_touched))]
+pub fn line_touched(numbers: &[u32], line: &[u8]) -> bool
+    ensures { result ≡ line_touched numbers.now line.now }
+{
+    match read_frame(line) {
+        Some(frame) => is_touched(numbers, &frame),
+        None => false,
+    }
+}
