@@ -4,9 +4,19 @@
 //! is said over whole lists in `specs/Edits.antt`.
 #![tactic(auto)]
 
+mod attributes;
 mod change;
+mod databases;
 mod edit;
+mod key;
+mod lists;
+mod messages;
 mod refusal;
+mod renumbering;
+mod rows;
+mod signal_rows;
+mod signals;
+mod tables;
 
 pub use change::Change;
 pub use edit::Edit;
