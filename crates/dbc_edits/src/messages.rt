@@ -1,12 +1,18 @@
 //! Edits of messages.
-ghost use Rattle.std.specs.Prelude.{◌≡◌, ◌<◌, [], IfOk, length, remove};
+ghost use Rattle.std.specs.Prelude.{◌≡◌, ◌<◌, [], IfOk, IsTrue, length, nat_le, remove};
+ghost use Rattle.dbc_records.specs.Databases.{most_messages};
+ghost use Rattle.dbc_edits.specs.Rows.{rows_renumbered};
 ghost use Rattle.dbc_edits.specs.Changes.{changed};
 ghost use Rattle.dbc_edits.specs.Refusals.{IsAnswer};
-ghost use Rattle.dbc_edits.specs.Edits.{has_number, cleared_of_number, message_added, message_removed, message_changed, message_renumbered};
+ghost use Rattle.dbc_edits.specs.Edits.{has_number, cleared_of_number, with_message, message_added, message_removed, message_changed, message_renumbered};
 
 use crate::change::Change;
-use crate::databases::{with_message, with_messages};
-use crate::lists::inserted;
+use crate::databases::{
+    has_row, messages_without, number_of, rows_renumbered, with_message, with_messages,
+    without_rows,
+};
+use crate::key::OfNumber;
+use crate::lists::{inserted, replaced};
 use crate::refusal::Refusal;
 use dbc_records::{Database, Head, Message};
 use dbc_values::{Copied, List, Memory};
@@ -55,6 +61,54 @@ pub(crate) fn add_message(
     let message = bare(alloc, head.copy()?);
     let messages = inserted(alloc, messages, place, message)?;
     let edited = with_messages(database, messages)?;
+    Ok(edited)
+}
+
+// The database with these messages, and without the rows of the number where no message has it.
+fn cleared_of_number(
+    alloc: Global,
+    database: &Database,
+    messages: List<Message>,
+    number: u32,
+) -> Result<Database, Memory>
+    requires { IsTrue (nat_le (length messages) most_messages) }
+    ensures { IfOk result (λ cleared. cleared ≡ cleared_of_number number (record database.now { messages = messages })) }
+{
+    if has_number(messages.as_slice(), number) {
+        return with_messages(database, messages);
+    }
+    without_rows(alloc, database, messages, &OfNumber { number })
+}
+
+// The database without the message at the place, and without the rows of this one's number where no other has it.
+fn removed_at(
+    alloc: Global,
+    database: &Database,
+    place: usize,
+    message: &Message,
+) -> Result<Database, Memory>
+    requires { place < length database.now.messages }
+    ensures { IfOk result (λ edited. edited ≡ cleared_of_number message.now.head.number (record database.now { messages = remove database.now.messages place })) }
+{
+    let number = number_of(message);
+    let messages = messages_without(alloc, database, place)?;
+    let edited = cleared_of_number(alloc, database, messages, number)?;
+    Ok(edited)
+}
+
+/// The database without the message at the place, and without the rows of its number where no other has it.
+#[tactic(auto, unfolding(crate::specs::Edits::message_removed, crate::specs::Edits::at_message))]
+pub(crate) fn remove_message(
+    alloc: Global,
+    database: &Database,
+    place: usize,
+) -> Result<Database, Refusal>
+    ensures { IsAnswer (message_removed place database.now) result }
+{
+    let Some(message) = database.messages.as_slice().get(place) else {
+        return Err(Refusal::NoMessage);
+    };
+    let edited = removed_at(alloc, database, place, message)?;
     Ok(edited)
 }
 
@@ -117,4 +171,47 @@ fn renumbered_head(head: &Head, number: u32) -> Result<Head, Memory>
     let mut other = head.copy()?;
     other.number = number;
     Ok(other)
+}
+
+// The database with another number of this message, which comes to stand at the place, and of all rows of its number.
+fn renumbered_at(
+    alloc: Global,
+    database: &Database,
+    place: usize,
+    message: &Message,
+    number: u32,
+) -> Result<Database, Memory>
+    requires { place < length database.now.messages }
+    ensures { IfOk result (λ edited. edited ≡ rows_renumbered message.now.head.number number (with_message place (record message.now { head = record message.now.head { number = number } }) database.now)) }
+{
+    let old = message.head.number;
+    let head = renumbered_head(&message.head, number)?;
+    let message = with_head(message, head)?;
+    let messages = replaced(alloc, database.messages.as_slice(), place, message)?;
+    rows_renumbered(alloc, database, messages, old, number)
+}
+
+/// The database with another number of the message at the place and of all rows of its number.
+#[tactic(auto, unfolding(crate::specs::Edits::message_renumbered, crate::specs::Edits::at_message, crate::specs::Edits::refused_if))]
+pub(crate) fn renumber(
+    alloc: Global,
+    database: &Database,
+    place: usize,
+    number: u32,
+) -> Result<Database, Refusal>
+    ensures { IsAnswer (message_renumbered place number database.now) result }
+{
+    let messages = database.messages.as_slice();
+    let Some(message) = messages.get(place) else {
+        return Err(Refusal::NoMessage);
+    };
+    if has_number(messages, number) || has_row(database, &OfNumber { number }) {
+        return Err(Refusal::IdTaken);
+    }
+    let old = message.head.number;
+    if another_has_number(messages, place, old) {
+        return Err(Refusal::IdShared);
+    }
+    let edited = renumbered_at(alloc, database, place, message, number)?;
+    Ok(edited)
 }

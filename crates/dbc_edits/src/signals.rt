@@ -1,12 +1,13 @@
 //! Edits of the signals of a message.
-ghost use Rattle.std.specs.Prelude.{◌≡◌, IfOk, IsTrue, map, not, ◌==◌, true, false, ◌≤◌, ◌<◌, length, insert};
+ghost use Rattle.std.specs.Prelude.{◌≡◌, IfOk, IsTrue, nat_le, map, not, ◌==◌, true, false, ◌≤◌, ◌<◌, length, insert};
 ghost use Rattle.dbc_records.specs.Records.{signals_fit, most_signals};
+ghost use Rattle.dbc_records.specs.Databases.{most_messages};
 ghost use Rattle.dbc_edits.specs.Rows.{without};
 ghost use Rattle.dbc_edits.specs.Refusals.{IsAnswer};
-ghost use Rattle.dbc_edits.specs.Edits.{is_named, has_named, has_signal, cleared_of_signal, replaced_by, signal_added, signal_removed, signal_changed};
+ghost use Rattle.dbc_edits.specs.Edits.{is_named, has_named, has_signal, with_message, cleared_of_signal, replaced_by, signal_added, signal_removed, signal_changed};
 
-use crate::databases::with_message;
-use crate::key::OfName;
+use crate::databases::{messages_with, number_of, with_message, with_messages, without_rows};
+use crate::key::{OfName, OfSignal};
 use crate::lists::inserted;
 use crate::refusal::Refusal;
 use crate::rows::{has_any, without};
@@ -95,6 +96,63 @@ fn without_signal(alloc: Global, message: &Message, name: &[u8]) -> Result<Messa
 {
     let signals = without(alloc, message.signals.as_slice(), &OfName { name })?;
     with_signals(message, signals)
+}
+
+// The database with these messages, and without the rows of the signal where no message of the number has it.
+fn cleared_of_signal(
+    alloc: Global,
+    database: &Database,
+    messages: List<Message>,
+    number: u32,
+    name: &[u8],
+) -> Result<Database, Memory>
+    requires { IsTrue (nat_le (length messages) most_messages) }
+    ensures { IfOk result (λ cleared. cleared ≡ cleared_of_signal number name.now (record database.now { messages = messages })) }
+{
+    if has_signal(messages.as_slice(), number, name) {
+        return with_messages(database, messages);
+    }
+    without_rows(alloc, database, messages, &OfSignal { number, name })
+}
+
+// The database with this message, which comes to stand at the place, without the signal of the name, and without its
+// rows where no other message of the number has such a signal.
+fn removed_at(
+    alloc: Global,
+    database: &Database,
+    place: usize,
+    message: &Message,
+    name: &[u8],
+) -> Result<Database, Memory>
+    requires { place < length database.now.messages }
+    ensures { IfOk result (λ edited. edited ≡ cleared_of_signal message.now.head.number name.now (with_message place (record message.now { signals = without (is_named name.now) message.now.signals }) database.now)) }
+{
+    let number = number_of(message);
+    let other = without_signal(alloc, message, name)?;
+    let messages = messages_with(alloc, database, place, other)?;
+    let edited = cleared_of_signal(alloc, database, messages, number, name)?;
+    Ok(edited)
+}
+
+/// The database without the signal of the name in the message at the place, and without its rows where no other message
+/// of the number has such a signal.
+#[tactic(auto, unfolding(crate::specs::Edits::signal_removed, crate::specs::Edits::at_message, crate::specs::Edits::refused_if))]
+pub(crate) fn remove_signal(
+    alloc: Global,
+    database: &Database,
+    place: usize,
+    name: &[u8],
+) -> Result<Database, Refusal>
+    ensures { IsAnswer (signal_removed place name.now database.now) result }
+{
+    let Some(message) = database.messages.as_slice().get(place) else {
+        return Err(Refusal::NoMessage);
+    };
+    if !has_named(message.signals.as_slice(), name) {
+        return Err(Refusal::NoSignal);
+    }
+    let edited = removed_at(alloc, database, place, message, name)?;
+    Ok(edited)
 }
 
 // The signals with this one in place of those of its name.
