@@ -1,0 +1,4 @@
+pub mod Fitting
+pub mod Parts
+pub mod Adding
+pub mod Clearing

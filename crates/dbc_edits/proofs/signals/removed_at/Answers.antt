@@ -1,0 +1,7 @@
+use Rattle.dbc_edits.proofs.Clearing.{signal_cleared}
+use Rattle.dbc_edits.proofs.signals.removed_at.Goals as goal
+
+pub returns : goal.returns
+returns c =
+    signal_cleared c.args.database.now c.args.place _ c.args.name.now c.args.message.now c.in_ok-other.other c.in_ok-messages.messages _
+    c.in_ok-edited.ensures c.number_of-number.ensures c.in_ok-messages.ensures.list c.in_ok-other.ensures

@@ -1,0 +1,201 @@
+//! Edits of the signals of a message.
+ghost use Rattle.std.specs.Prelude.{◌≡◌, IfOk, IsTrue, nat_le, map, not, ◌==◌, true, false, ◌≤◌, ◌<◌, length, insert};
+ghost use Rattle.dbc_records.specs.Records.{signals_fit, most_signals};
+ghost use Rattle.dbc_records.specs.Databases.{most_messages};
+ghost use Rattle.dbc_edits.specs.Rows.{without};
+ghost use Rattle.dbc_edits.specs.Refusals.{IsAnswer};
+ghost use Rattle.dbc_edits.specs.Edits.{is_named, has_named, has_signal, with_message, cleared_of_signal, replaced_by, signal_added, signal_removed, signal_changed};
+
+use crate::databases::{messages_with, number_of, with_message, with_messages, without_rows};
+use crate::key::{OfName, OfSignal};
+use crate::lists::inserted;
+use crate::refusal::Refusal;
+use crate::rows::{has_any, without};
+use dbc_records::{Database, Message, Signal};
+use dbc_values::{Copied, List, Memory, same};
+use std::alloc::Global;
+
+// Whether a signal has the name.
+fn has_named(signals: &[Signal], name: &[u8]) -> bool
+    ensures { result ≡ has_named name.now signals.now }
+{
+    has_any(signals, &OfName { name })
+}
+
+/// Whether a message of the number has a signal of the name.
+pub(crate) fn has_signal(messages: &[Message], number: u32, name: &[u8]) -> bool
+    ensures { result ≡ has_signal number name.now messages.now }
+{
+    for message in messages {
+        if message.head.number == number && has_named(message.signals.as_slice(), name) {
+            return true;
+        }
+    }
+    false
+}
+
+// The message with these signals.
+fn with_signals(message: &Message, signals: List<Signal>) -> Result<Message, Memory>
+    requires { IsTrue (signals_fit signals) }
+    ensures { IfOk result (λ other. other ≡ record message.now { signals = signals }) }
+{
+    let head = message.head.copy()?;
+    Ok(Message { head, signals })
+}
+
+// The message with one more signal, before that at the place.
+#[tactic(auto, using(crate::proofs::Fitting::fits_inserted))]
+fn with_signal(
+    alloc: Global,
+    message: &Message,
+    at: usize,
+    signal: &Signal,
+) -> Result<Message, Memory>
+    requires place { at ≤ length message.now.signals }
+    requires room { length message.now.signals < most_signals }
+    requires new { has_named signal.now.name message.now.signals ≡ false }
+    ensures { IfOk result (λ other. other ≡ record message.now { signals = insert message.now.signals at signal.now }) }
+{
+    let signals = inserted(alloc, message.signals.as_slice(), at, signal.copy()?)?;
+    with_signals(message, signals)
+}
+
+/// The database with one more signal of the message at the first place.
+#[tactic(auto, unfolding(crate::specs::Edits::signal_added, crate::specs::Edits::at_message, crate::specs::Edits::refused_if))]
+pub(crate) fn add_signal(
+    alloc: Global,
+    database: &Database,
+    place: usize,
+    at: usize,
+    signal: &Signal,
+) -> Result<Database, Refusal>
+    ensures { IsAnswer (signal_added place at signal.now database.now) result }
+{
+    let Some(message) = database.messages.as_slice().get(place) else {
+        return Err(Refusal::NoMessage);
+    };
+    let signals = message.signals.as_slice();
+    if at > signals.len() {
+        return Err(Refusal::BadPlace);
+    }
+    if has_named(signals, signal.name.as_bytes()) {
+        return Err(Refusal::SignalExists);
+    }
+    if signals.len() >= Message::MAX_SIGNALS {
+        return Err(Refusal::SignalsFull);
+    }
+    let message = with_signal(alloc, message, at, signal)?;
+    let edited = with_message(alloc, database, place, message)?;
+    Ok(edited)
+}
+
+// The message without the signals of the name.
+#[tactic(auto, using(crate::proofs::Fitting::fits_without))]
+fn without_signal(alloc: Global, message: &Message, name: &[u8]) -> Result<Message, Memory>
+    ensures { IfOk result (λ other. other ≡ record message.now { signals = without (is_named name.now) message.now.signals }) }
+{
+    let signals = without(alloc, message.signals.as_slice(), &OfName { name })?;
+    with_signals(message, signals)
+}
+
+// The database with these messages, and without the rows of the signal where no message of the number has it.
+fn cleared_of_signal(
+    alloc: Global,
+    database: &Database,
+    messages: List<Message>,
+    number: u32,
+    name: &[u8],
+) -> Result<Database, Memory>
+    requires { IsTrue (nat_le (length messages) most_messages) }
+    ensures { IfOk result (λ cleared. cleared ≡ cleared_of_signal number name.now (record database.now { messages = messages })) }
+{
+    if has_signal(messages.as_slice(), number, name) {
+        return with_messages(database, messages);
+    }
+    without_rows(alloc, database, messages, &OfSignal { number, name })
+}
+
+// The database with this message, which comes to stand at the place, without the signal of the name, and without its
+// rows where no other message of the number has such a signal.
+fn removed_at(
+    alloc: Global,
+    database: &Database,
+    place: usize,
+    message: &Message,
+    name: &[u8],
+) -> Result<Database, Memory>
+    requires { place < length database.now.messages }
+    ensures { IfOk result (λ edited. edited ≡ cleared_of_signal message.now.head.number name.now (with_message place (record message.now { signals = without (is_named name.now) message.now.signals }) database.now)) }
+{
+    let number = number_of(message);
+    let other = without_signal(alloc, message, name)?;
+    let messages = messages_with(alloc, database, place, other)?;
+    let edited = cleared_of_signal(alloc, database, messages, number, name)?;
+    Ok(edited)
+}
+
+/// The database without the signal of the name in the message at the place, and without its rows where no other message
+/// of the number has such a signal.
+#[tactic(auto, unfolding(crate::specs::Edits::signal_removed, crate::specs::Edits::at_message, crate::specs::Edits::refused_if))]
+pub(crate) fn remove_signal(
+    alloc: Global,
+    database: &Database,
+    place: usize,
+    name: &[u8],
+) -> Result<Database, Refusal>
+    ensures { IsAnswer (signal_removed place name.now database.now) result }
+{
+    let Some(message) = database.messages.as_slice().get(place) else {
+        return Err(Refusal::NoMessage);
+    };
+    if !has_named(message.signals.as_slice(), name) {
+        return Err(Refusal::NoSignal);
+    }
+    let edited = removed_at(alloc, database, place, message, name)?;
+    Ok(edited)
+}
+
+// The signals with this one in place of those of its name.
+fn all_replaced(alloc: Global, signals: &[Signal], signal: &Signal) -> Result<List<Signal>, Memory>
+    ensures { IfOk result (λ list. list ≡ map (replaced_by signal.now) signals.now) }
+{
+    let mut list = List::new(alloc);
+    for old in signals {
+        if same(old.name.as_bytes(), signal.name.as_bytes()) {
+            list.push(signal.copy()?)?;
+        } else {
+            list.push(old.copy()?)?;
+        }
+    }
+    Ok(list)
+}
+
+// The message with this signal in place of that of its name.
+#[tactic(auto, using(crate::proofs::Fitting::fits_replaced))]
+fn with_replaced(alloc: Global, message: &Message, signal: &Signal) -> Result<Message, Memory>
+    ensures { IfOk result (λ other. other ≡ record message.now { signals = map (replaced_by signal.now) message.now.signals }) }
+{
+    let signals = all_replaced(alloc, message.signals.as_slice(), signal)?;
+    with_signals(message, signals)
+}
+
+/// The database with this signal in place of that of its name in the message at the place.
+#[tactic(auto, unfolding(crate::specs::Edits::signal_changed, crate::specs::Edits::at_message, crate::specs::Edits::refused_if))]
+pub(crate) fn change_signal(
+    alloc: Global,
+    database: &Database,
+    place: usize,
+    signal: &Signal,
+) -> Result<Database, Refusal>
+    ensures { IsAnswer (signal_changed place signal.now database.now) result }
+{
+    let Some(message) = database.messages.as_slice().get(place) else {
+        return Err(Refusal::NoMessage);
+    };
+    if !has_named(message.signals.as_slice(), signal.name.as_bytes()) {
+        return Err(Refusal::NoSignal);
+    }
+    let message = with_replaced(alloc, message, signal)?;
+    let edited = with_message(alloc, database, place, message)?;
+    Ok(edited)
+}
