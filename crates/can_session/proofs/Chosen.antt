@@ -1,5 +1,5 @@
 -- A chosen place is that of a message.
-use Rattle.std.proofs.Common.{◌≡◌, ◌<◌, ℕ, Bool, true, false, List, length, ap, cond, inl, inr, arith}
+use Rattle.std.proofs.Common.{◌<◌, ℕ, Bool, true, false, List, length, inl, inr}
 use Rattle.std.specs.Prelude.{Option, Some, None, IfSome, position, nat_lt, if◌then◌else◌}
 use Rattle.std.specs.List.{position_or_len}
 use Rattle.std.specs.Option.{option_or, option_and_then}

@@ -1,6 +1,6 @@
 -- The places of the items that pass: how many there are, and that none is missing.
 use Rattle.std.proofs.Common.{◌≡◌, ◌<◌, ◌+◌, ℕ, zero, suc, Bool, true, false, cond, List, [], ◌∷◌, ◌++◌, length, get_or, refl, sym, ap, ◌∙◌, inl, inr, arith}
-use Rattle.std.specs.Prelude.{All, Ok, ◌==◌, ◌||◌, map, count_by, if◌then◌else◌}
+use Rattle.std.specs.Prelude.{All, ◌==◌, ◌||◌, map, count_by, if◌then◌else◌}
 use Rattle.std.specs.List.{list_any, sum_by}
 use Rattle.std.proofs.lemmas.Bool.{cases_Bool, both_ways, eq-eqb, or_left, or_right}
 use Rattle.std.proofs.lemmas.List.Elements.{All-cons, All-nil}

@@ -1,5 +1,5 @@
 -- What a session shows of each message: what compiling it anew defines.
-use Rattle.std.specs.Prelude.{◌≡◌, ℕ, Bool, List, count_by, ◌+◌, ◌≤◌}
+use Rattle.std.specs.Prelude.{ℕ, Bool, List, count_by, ◌+◌, ◌≤◌}
 use Rattle.dbc_records.specs.Records.{Message}
 use Rattle.dbc_records.specs.Databases.{Database}
 use Rattle.can_layout.specs.Plans.{Plan, plan_of}

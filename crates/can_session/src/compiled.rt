@@ -61,7 +61,11 @@ pub(crate) fn compiled_all<L: Lookup>(
 }
 
 /// What is compiled of the message at a place.
-pub(crate) fn compiled_at<'a>(compiled: &'a [Rc<Compiled>], database: &Database, place: usize) -> &'a Compiled
+pub(crate) fn compiled_at<'a>(
+    compiled: &'a [Rc<Compiled>],
+    database: &Database,
+    place: usize,
+) -> &'a Compiled
     requires compiled { map (λ one. one.value) compiled.now ≡ map (compiled_of database.now) database.now.messages }
     requires place { place < length database.now.messages }
     ensures { Some result.now ≡ option_map (compiled_of database.now) (slice_get database.now.messages place) }

@@ -9,7 +9,6 @@ mod decoding;
 mod line;
 mod recompiling;
 mod session;
-mod stub;
 mod touching;
 
 pub use can_check::Diagnostic;

@@ -1,4 +1,4 @@
-use Rattle.std.proofs.Common.{◌≡◌, sym, ap, ◌∙◌}
+use Rattle.std.proofs.Common.{◌∙◌}
 use Rattle.can_session.proofs.Kept.{kept_after}
 use Rattle.can_session.proofs.recompiling.recompiled.Goals as goal
 

@@ -1,5 +1,4 @@
-use Rattle.std.proofs.Common.{◌≡◌, length, count_by, ◌∙◌, ap, List, ℕ}
-use Rattle.can_session.specs.Compiled.{Raised}
+use Rattle.std.proofs.Common.{◌≡◌, length, count_by, ◌∙◌, ap}
 use Rattle.can_session.specs.Logs.{touches, places_from}
 use Rattle.can_session.proofs.Places.{length-places, within-all, all_done}
 use Rattle.can_session.proofs.touching.decode_touched.Goals as goal
@@ -11,13 +10,13 @@ decode_places-requires-clause-places c =
 pub returns-in_err-fresh-clause-lines : goal.returns-in_err-fresh-clause-lines
 returns-in_err-fresh-clause-lines c =
     let count : length c.as_slice.result.now ≡ count_by (touches c.args.numbers.now) c.args.lines.now =
-        ap length (c.as_slice.ensures.value ∙ c.in_ok-places.ensures) ∙ length-places (touches c.args.numbers.now) 0 c.args.lines.now in
+    ap length (c.as_slice.ensures.value ∙ c.in_ok-places.ensures) ∙ length-places (touches c.args.numbers.now) 0 c.args.lines.now in
     rw (← count) c.decode_places.ensures.lines
 
 pub returns-clause-lines : goal.returns-clause-lines
 returns-clause-lines c =
     let count : length c.as_slice.result.now ≡ count_by (touches c.args.numbers.now) c.args.lines.now =
-        ap length (c.as_slice.ensures.value ∙ c.in_ok-places.ensures) ∙ length-places (touches c.args.numbers.now) 0 c.args.lines.now in
+    ap length (c.as_slice.ensures.value ∙ c.in_ok-places.ensures) ∙ length-places (touches c.args.numbers.now) 0 c.args.lines.now in
     rw (← count) c.decode_places.ensures.lines
 
 pub returns-clause-completes : goal.returns-clause-completes

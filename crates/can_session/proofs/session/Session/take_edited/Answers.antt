@@ -1,8 +1,7 @@
-use Rattle.std.proofs.Common.{◌≡◌, ℕ, length, count_by, ap, subst, arith, drop}
+use Rattle.std.proofs.Common.{◌≡◌, ℕ, length, ap, subst, arith, drop}
 use Rattle.std.proofs.lemmas.List.{take_at}
 use Rattle.edit_reach.specs.Touched.{edit_numbers, line_touched}
 use Rattle.can_session.specs.Compiled.{count_here, Raised}
-use Rattle.can_session.specs.Logs.{touches}
 use Rattle.can_session.proofs.Places.{count-bytes}
 use Rattle.can_session.proofs.session.Session.take_edited.Goals as goal
 
