@@ -1,0 +1,9 @@
+//! The script of an open session: a command a line, and a reply to each.
+//!
+//! [`serve`] runs a script. What a line asks for stands in `specs/Commands.antt`, what is done and replied in `specs/Replies.antt`.
+#![tactic(auto)]
+
+mod command;
+mod statement;
+mod verb;
+mod words;
