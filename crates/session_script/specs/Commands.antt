@@ -12,6 +12,7 @@ use Rattle.dbc_reader.specs.declared.statement.Statement.{Statement}
 use Rattle.dbc_reader.specs.declared.statement.Statement.TheVariants as statements
 use Rattle.dbc_reader.specs.Grammar as grammar
 use Rattle.dbc_reader.specs.Texts.{HasStatement, HasFirstFault}
+use Rattle.dbc_edits.specs.Changes.{Change as NewLine}
 use Rattle.dbc_edits.specs.declared.edit.Edit.{Edit}
 use Rattle.dbc_edits.specs.declared.edit.Edit.TheVariants as edits
 use Rattle.log_frames.specs.LogLines.{body_of}
@@ -35,6 +36,10 @@ pub data Command : Type 0 where
 abbrev pub Says : List ℕ → Option Statement → Type 0
 Says text (Some statement) = HasStatement text statement
 Says text None = (fault : ReadFault) × HasFirstFault grammar.one_statement text fault
+
+-- what a text says as a statement of a kind
+abbrev pub SaysKind : {X : Type 0} → (Statement → Option X) → List ℕ → Option X → Type 0
+SaysKind kind text found = (said : Option Statement) × Says text said × (found ≡ option_and_then kind said)
 
 -- What the words behind a verb ask for: a command or none, as they stand, or a command by the statement that a text is.
 pub data Sense : Type 0 where
@@ -111,9 +116,11 @@ abbrev pub by_string : (List ℕ → Edit) → List ℕ → Sense
 by_string edit text = Plain (if is_string text then Some (Change (edit (inside text))) else None)
 
 -- a message's new first line: its name, its size and its sender
+abbrev pub change_of : List ℕ → ℕ → List ℕ → Option NewLine
+change_of name size sender = if is_name name && is_name sender && head_fits size then Some (record { name = name; size = size; sender = sender }) else None
+
 abbrev pub change_to : ℕ → List ℕ → ℕ → List ℕ → Option Command
-change_to place name size sender =
-    if is_name name && is_name sender && head_fits size then Some (Change (edits.ChangeMessage place (record { name = name; size = size; sender = sender }))) else None
+change_to place name size sender = option_map (λ change. Change (edits.ChangeMessage place change)) (change_of name size sender)
 
 abbrev pub by_size : ℕ → List ℕ → Option (ℕ × List ℕ) → Option Command
 by_size place name None = None

@@ -4,6 +4,8 @@
 #![tactic(auto)]
 
 mod command;
+mod commands;
+mod edits;
 mod statement;
 mod verb;
 mod words;
