@@ -2,3 +2,4 @@ pub use Rattle.can_session.specs.States
 pub mod Words
 pub mod Commands
 pub mod Replies
+pub mod Serving

@@ -1,8 +1,7 @@
 -- What is done and replied for a line of a script.
-use Rattle.std.specs.Prelude.{◌≡◌, ◌⊎◌, ℕ, Bool, true, false, List, [], ◌++◌, Option, Some, None, Result, Ok, Err, slice_get, codes, decimal, IsTrue}
+use Rattle.std.specs.Prelude.{◌≡◌, ◌⊎◌, ℕ, Bool, true, false, List, [], ◌∷◌, ◌++◌, map, Option, Some, None, Result, Ok, Err, slice_get, codes, decimal, IsTrue}
 use Rattle.std.specs.List.{flat_map}
 use Rattle.std.specs.Option.{option_map_or}
-use Rattle.dbc_values.specs.Lexical.{line_feed}
 use Rattle.dbc_records.specs.Databases.{Database}
 use Rattle.dbc_records.specs.CanonicalText.{canonical_text}
 use Rattle.can_layout.specs.Pictures.{picture_of}
@@ -29,7 +28,7 @@ bad_text = codes "bad command\n"
 
 -- `refused 22 NoSignal`
 unfoldable pub refused_text : Refusal → List ℕ
-refused_text refusal = codes "refused " ++ (decimal (refusal_number refusal) ++ (codes " " ++ (refusal_word refusal ++ codes "\n")))
+refused_text refusal = flat_map (λ piece. piece) (codes "refused " ∷ decimal (refusal_number refusal) ∷ codes " " ∷ refusal_word refusal ∷ codes "\n" ∷ [])
 
 abbrev pub answer_text : Result (Unit {0}) Refusal → List ℕ
 answer_text (Ok done) = ok_text
@@ -43,9 +42,13 @@ diagnostics_text database = flat_map (λ diagnostic. line_text diagnostic ++ cod
 unfoldable pub layout_text : Database → ℕ → List ℕ
 layout_text database place = option_map_or (λ message. picture_of database message ++ ok_text) (slice_get database.messages place) (refused_text refusals.NoMessage)
 
--- a decoded line for each line, and `ok`
+-- the decoded text of each line
+abbrev pub decoded_texts : State → List (List ℕ)
+decoded_texts state = map (decoded_line state.database) state.lines
+
+-- each of them on a line, and `ok`
 unfoldable pub lines_text : State → List ℕ
-lines_text state = flat_map (λ line. decoded_line state.database line ++ codes "\n") state.lines ++ ok_text
+lines_text state = flat_map (λ text. text ++ codes "\n") (decoded_texts state) ++ ok_text
 
 unfoldable pub print_text : Database → List ℕ
 print_text database = canonical_text database ++ ok_text

@@ -100,12 +100,7 @@ pub(crate) fn remove_message(_alloc: Global, text: &[u8]) -> Result<Option<Edit>
 }
 
 // What a message's first line is changed to, by its words.
-fn change_to(
-    alloc: Global,
-    name: &[u8],
-    size: u32,
-    sender: &[u8],
-) -> Result<Option<Change>, Memory>
+fn change_to(alloc: Global, name: &[u8], size: u32, sender: &[u8]) -> Result<Option<Change>, Memory>
     ensures { IfOk result (λ change. change ≡ change_of name.now size sender.now) }
 {
     let Ok(size) = u16::try_from(size) else {

@@ -6,6 +6,13 @@
 mod command;
 mod commands;
 mod edits;
+mod performing;
+mod replies;
+mod serving;
 mod statement;
 mod verb;
 mod words;
+
+pub use can_session::{Edit, Refusal, Session};
+pub use serving::serve;
+pub use verb::Verb;

@@ -15,10 +15,12 @@ pub(crate) fn statement_of(alloc: Global, text: &[u8]) -> Result<Option<Statemen
 {
     match read_one(alloc, text) {
         Ok(statement) => Ok(Some(statement)),
-        Err(ReadFault {
-            cause: Cause::Memory,
-            ..
-        }) => Err(Memory),
+        Err(
+            ReadFault {
+                cause: Cause::Memory,
+                ..
+            },
+        ) => Err(Memory),
         Err(_) => Ok(None),
     }
 }

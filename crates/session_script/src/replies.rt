@@ -1,0 +1,143 @@
+//! Replies.
+ghost use Rattle.std.specs.Prelude.{◌≡◌, ◌++◌, codes, option_map, slice_get};
+ghost use Rattle.can_layout.specs.Pictures.{picture_of};
+ghost use Rattle.std.specs.List.{flat_map};
+ghost use Rattle.byte_devices.specs.Device.{Prints, Sends};
+ghost use Rattle.session_script.specs.Replies.{ok_text, bad_text, refused_text, answer_text, diagnostics_text, layout_text, decoded_texts, lines_text, print_text};
+
+use byte_devices::{Held, Sink, WriteFault, flush, hold_pieces, put_all};
+use can_check::write_lines;
+use can_session::{Refusal, Session};
+use dbc_model::print;
+use itoa::Buffer;
+
+/// `ok`, behind what was asked for.
+pub(crate) fn put_ok<W: Sink>(sink: &mut W) -> Result<(), WriteFault>
+    ensures { Prints (W.written sink.old) (W.written sink.new) result ok_text }
+{
+    put_all(sink, b"ok\n")
+}
+
+/// The reply to a line that asks for nothing.
+pub(crate) fn put_bad<W: Sink>(sink: &mut W) -> Result<(), WriteFault>
+    ensures { Prints (W.written sink.old) (W.written sink.new) result bad_text }
+{
+    put_all(sink, b"bad command\n")
+}
+
+/// Why a command is refused.
+#[tactic(auto, using(crate::proofs::Printing::flushes), unfolding(crate::specs::Replies::refused_text))]
+pub(crate) fn put_refusal<W: Sink>(sink: &mut W, refusal: Refusal) -> Result<(), WriteFault>
+    ensures { Prints (W.written sink.old) (W.written sink.new) result (refused_text refusal) }
+{
+    let mut held = Held::new();
+    let mut number = Buffer::new();
+    let pieces: [&[u8]; 5] = [
+        b"refused ",
+        number.format(refusal.number()).as_bytes(),
+        b" ",
+        refusal.word(),
+        b"\n",
+    ];
+    hold_pieces(sink, &mut held, &pieces)?;
+    flush(sink, &mut held)
+}
+
+/// What is answered to a command.
+pub(crate) fn put_answer<W: Sink>(
+    sink: &mut W,
+    answer: Result<(), Refusal>,
+) -> Result<(), WriteFault>
+    ensures { Prints (W.written sink.old) (W.written sink.new) result (answer_text answer) }
+{
+    match answer {
+        Ok(()) => put_ok(sink),
+        Err(refusal) => put_refusal(sink, refusal),
+    }
+}
+
+/// The diagnostics.
+#[tactic(auto, using(crate::proofs::Printing::prints), unfolding(crate::specs::Replies::diagnostics_text))]
+pub(crate) fn show_diagnostics<W: Sink>(sink: &mut W, session: &Session) -> Result<(), WriteFault>
+    ensures { Prints (W.written sink.old) (W.written sink.new) result (diagnostics_text session.now.state.database) }
+{
+    write_lines(session.diagnostics(), sink)?;
+    put_ok(sink)
+}
+
+#[tactic(auto, using(crate::proofs::Printing::prints))]
+fn put_picture<W: Sink>(sink: &mut W, picture: &[u8]) -> Result<(), WriteFault>
+    ensures { Prints (W.written sink.old) (W.written sink.new) result (picture.now ++ ok_text) }
+{
+    put_all(sink, picture)?;
+    put_ok(sink)
+}
+
+// The picture of the message at a place, where there is one.
+fn picture_at(session: &Session, place: usize) -> Option<&[u8]>
+    ensures { option_map (λ picture. picture.now) result ≡ option_map (picture_of session.now.state.database) (slice_get session.now.state.database.messages place) }
+{
+    if place < session.database().messages.len() {
+        Some(session.picture(place))
+    } else {
+        None
+    }
+}
+
+/// The picture of the message at a place.
+#[tactic(auto, using(crate::proofs::Layouts::by_picture), unfolding(crate::specs::Replies::layout_text))]
+pub(crate) fn show_layout<W: Sink>(
+    sink: &mut W,
+    session: &Session,
+    place: usize,
+) -> Result<(), WriteFault>
+    ensures { Prints (W.written sink.old) (W.written sink.new) result (layout_text session.now.state.database place) }
+{
+    match picture_at(session, place) {
+        Some(picture) => put_picture(sink, picture),
+        None => put_refusal(sink, Refusal::NoMessage),
+    }
+}
+
+fn hold_line<W: Sink>(sink: &mut W, held: &mut Held, text: &[u8]) -> Result<(), WriteFault>
+    ensures { Sends (W.written sink.old) (W.written sink.new) held.old.items result (text.now ++ codes "\n") held.new.items }
+{
+    let pieces: [&[u8]; 2] = [text, b"\n"];
+    hold_pieces(sink, held, &pieces)
+}
+
+fn hold_lines<W: Sink>(sink: &mut W, held: &mut Held, session: &Session) -> Result<(), WriteFault>
+    ensures { Sends (W.written sink.old) (W.written sink.new) held.old.items result (flat_map (λ text. text ++ codes "\n") (decoded_texts session.now.state)) held.new.items }
+{
+    for n in 0..session.line_count() {
+        hold_line(sink, held, session.decoded(n))?;
+    }
+    Ok(())
+}
+
+#[tactic(auto, using(crate::proofs::Printing::flushes))]
+fn put_lines<W: Sink>(sink: &mut W, session: &Session) -> Result<(), WriteFault>
+    ensures { Prints (W.written sink.old) (W.written sink.new) result (flat_map (λ text. text ++ codes "\n") (decoded_texts session.now.state)) }
+{
+    let mut held = Held::new();
+    hold_lines(sink, &mut held, session)?;
+    flush(sink, &mut held)
+}
+
+/// The decoded lines.
+#[tactic(auto, using(crate::proofs::Printing::prints), unfolding(crate::specs::Replies::lines_text))]
+pub(crate) fn show_lines<W: Sink>(sink: &mut W, session: &Session) -> Result<(), WriteFault>
+    ensures { Prints (W.written sink.old) (W.written sink.new) result (lines_text session.now.state) }
+{
+    put_lines(sink, session)?;
+    put_ok(sink)
+}
+
+/// The canonical text of the database.
+#[tactic(auto, using(crate::proofs::Printing::prints), unfolding(crate::specs::Replies::print_text))]
+pub(crate) fn show_print<W: Sink>(sink: &mut W, session: &Session) -> Result<(), WriteFault>
+    ensures { Prints (W.written sink.old) (W.written sink.new) result (print_text session.now.state.database) }
+{
+    print(session.database(), sink)?;
+    put_ok(sink)
+}

@@ -1,0 +1,73 @@
+//! The script as a stream of lines.
+ghost use Rattle.session_script.specs.Serving.{Serves};
+
+use crate::performing::reply;
+use arrayvec::ArrayVec;
+use byte_devices::{Held, Sink, Source, WriteFault};
+use can_session::Session;
+use line_stream::{Handler, Stop, StreamFault, stream_lines};
+use std::alloc::Global;
+
+// The most bytes of a line of a script.
+const LONGEST: usize = 65_536;
+
+// Lines are handled as commands.
+#[derive(Drop)]
+struct Script {
+    alloc: Global,
+}
+
+impl Handler for Script {
+    ghost use Rattle.std.specs.Prelude.{refl};
+    ghost use Rattle.can_session.specs.States.{State as SessionState};
+    ghost use Rattle.session_script.specs.Replies.{Replies};
+    ghost use Rattle.session_script.specs.Serving.{NeverStops, NothingWaits};
+
+    type State = Session;
+
+    ghost View = { SessionState };
+
+    ghost view = { λ session. session.state };
+
+    ghost Step = { λ _. Replies };
+
+    ghost Stops = { λ _. NeverStops };
+
+    ghost Waits = { NothingWaits };
+
+    fn handle<W: Sink>(
+        &self,
+        session: &mut Session,
+        _room: &mut Vec<u8>,
+        sink: &mut W,
+        _held: &mut Held,
+        line: &[u8],
+    ) -> Result<(), Stop> {
+        match reply(self.alloc, session, line, sink) {
+            Ok(()) => Ok(()),
+            Err(WriteFault) => Err(Stop::Write),
+        }
+    }
+
+    ghost nothing_waits = { refl };
+}
+
+/// Runs a script to its end: each line is a command, and its reply is written before the next is done. It answers how many commands
+/// there are, up to `u64::MAX`. A line has at most 65,536 bytes.
+///
+/// Where the script ends earlier, the session stands behind the commands whose replies were written, or, where a write failed,
+/// behind the one whose reply could not be written whole.
+pub fn serve<R: Source, W: Sink>(
+    alloc: Global,
+    session: &mut Session,
+    source: &mut R,
+    sink: &mut W,
+) -> Result<u64, StreamFault>
+    ensures { Serves session.old.state (W.written sink.old) (R.unread source.old) (R.unread source.new) session.new.state (W.written sink.new) result }
+{
+    let Ok(mut line) = Box::new(alloc, ArrayVec::<u8, LONGEST>::new()) else {
+        return Err(StreamFault::Memory);
+    };
+    let script = Script { alloc };
+    stream_lines(alloc, &script, session, source, sink, &mut *line)
+}
