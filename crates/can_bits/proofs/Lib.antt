@@ -6,3 +6,4 @@ pub mod Runs
 pub mod SignedValues
 pub mod Signs
 pub mod Tables
+pub mod Words

@@ -12,8 +12,10 @@ mod steps;
 mod table;
 #[cfg(test)]
 mod tests;
+mod window;
 
 pub use field::Field;
 pub use grid::{push_grid, push_right};
 pub use step::{Shift, Step};
 pub use steps::Steps;
+pub use window::Window;

@@ -6,6 +6,7 @@ ghost use Rattle.can_bits.specs.Steps.{part_of, IsStep, IsRun};
 
 use crate::field::Field;
 use crate::step::Step;
+use crate::window::Window;
 use smallvec::SmallVec;
 use std::alloc::Global;
 use std::marker::Model;
@@ -14,19 +15,21 @@ use std::marker::Model;
 #[derive(Drop)]
 pub struct Steps {
     field: Field,
+    window: Option<Window>,
     steps: SmallVec<Step, 9>,
 }
 
 impl Model for Steps {
-    ghost use Rattle.std.specs.Prelude.{List};
+    ghost use Rattle.std.specs.Prelude.{List, IfSome};
     ghost use Rattle.can_bits.specs.Bits.{Bit, bits_of};
     ghost use Rattle.can_bits.specs.Steps.{AreSteps};
+    ghost use Rattle.can_bits.specs.Windows.{IsWindow};
 
     ghost Value = { List Bit };
 
     ghost view = { λ a. bits_of a.field };
 
-    ghost invariant = { λ a. AreSteps a.field a.steps.items };
+    ghost invariant = { λ a. AreSteps a.field a.steps.items × IfSome a.window (λ window. IsWindow a.field window) };
 }
 
 // The step for the bits from a place on that lie in the same byte as its bit, and how many bits those are.
@@ -61,7 +64,12 @@ impl Steps {
             steps.push_reserved(step);
             place += run;
         }
-        Steps { field, steps }
+        let window = Window::of(field);
+        Steps {
+            field,
+            window,
+            steps,
+        }
     }
 
     /// The steps, in the order of the bytes.
@@ -71,6 +79,16 @@ impl Steps {
 
     /// The raw value in data, read without sign. Bits behind the end of the data are read as 0.
     pub fn raw(&self, bytes: &[u8]) -> u64
+        ensures { result ≡ unsigned_raw bytes.now self.now }
+    {
+        match (self.window, bytes.first_chunk::<8>()) {
+            (Some(window), Some(first)) => window.bits_in(first),
+            _ => self.raw_by_steps(bytes),
+        }
+    }
+
+    // The raw value, byte by byte.
+    fn raw_by_steps(&self, bytes: &[u8]) -> u64
         ensures { result ≡ unsigned_raw bytes.now self.now }
     {
         let mut raw = 0;

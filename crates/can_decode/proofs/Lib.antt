@@ -2,4 +2,5 @@ pub mod Pushing
 pub mod Signals
 pub mod Targets
 pub mod Indexes
-pub mod Shown
+pub mod Named
+pub mod Labels

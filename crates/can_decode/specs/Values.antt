@@ -2,10 +2,7 @@
 -- Source: cantools, the single-line form of `decode` (a value and its unit, or the text of a named value); the DBC file
 -- format, "Signal Definitions" (physical value) and "Signal Value Descriptions". That values are written exactly is the
 -- profile of candesk.
-use Rattle.std.specs.Prelude.{ℕ, ℤ, zero, suc, ◌+ℤ◌, ◌*ℤ◌, ◌/◌, ◌%◌, ◌==◌, ◌||◌, int_lt, pos, unsigned_abs, Bool, List, [], ◌∷◌, ◌++◌, map, Option, Some, None, codes, decimal, if◌then◌else◌}
-use Rattle.std.specs.List.{find}
-use Rattle.std.specs.Ordering.{int_eq}
-use Rattle.dbc_values.specs.Lexical.{space, line_feed, carriage_return}
+use Rattle.std.specs.Prelude.{ℕ, ℤ, zero, suc, ◌+ℤ◌, ◌*ℤ◌, ◌/◌, ◌%◌, ◌==◌, int_lt, pos, unsigned_abs, List, [], ◌++◌, Option, Some, None, codes, decimal, if◌then◌else◌}
 use Rattle.dbc_values.specs.Scales.{Scale}
 use Rattle.dbc_records.specs.Layout.{point_before_last, filled}
 use Rattle.dbc_records.specs.Records.{Entry}
@@ -13,7 +10,8 @@ use Rattle.can_bits.specs.Bits.{raw_value}
 use Rattle.can_layout.specs.Pictures.{cause_word}
 use Rattle.can_layout.specs.declared.row.Reading.{Reading}
 use Rattle.can_layout.specs.declared.row.Reading.TheVariants.{Refused, Read}
-use Rattle.can_layout.specs.Decoders.{Decoder}
+use Rattle.can_layout.specs.Decoders.{Decoder, unit_text, first_entry}
+use Rattle.ready_texts.specs.Shown.{shown}
 
 -- ---- exact decimals
 
@@ -43,25 +41,6 @@ scaled_text value places = sign_of value ++ fixed_text (fewest_places (unsigned_
 -- factor times raw plus offset
 abbrev pub scaled : Scale → ℤ → ℤ
 scaled scale raw = (scale.factor *ℤ raw) +ℤ scale.offset
-
--- CR and LF are shown as a blank, so that a line stays one
-abbrev pub breaks_line : ℕ → Bool
-breaks_line b = b == carriage_return || b == line_feed
-
-abbrev pub shown_byte : ℕ → ℕ
-shown_byte b = if breaks_line b then space else b
-
-abbrev pub shown : List ℕ → List ℕ
-shown text = map shown_byte text
-
--- a blank and the unit, where there is one
-abbrev pub unit_text : List ℕ → List ℕ
-unit_text [] = []
-unit_text (b ∷ unit) = codes " " ++ shown (b ∷ unit)
-
--- the first name of a raw value
-abbrev pub first_entry : ℤ → List Entry → Option Entry
-first_entry raw entries = find (λ entry. int_eq entry.number raw) entries
 
 abbrev pub number_text : Decoder → ℤ → List ℕ
 number_text decoder raw = scaled_text (scaled decoder.scale raw) decoder.scale.places ++ unit_text decoder.unit

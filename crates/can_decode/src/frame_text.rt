@@ -5,10 +5,10 @@ ghost use Rattle.can_decode.specs.DecodedLines.{wrong_size_text, unknown_text, d
 
 use crate::message::push_message;
 use crate::target::Target;
-use crate::value::push_bytes;
 use dbc_values::Memory;
 use itoa::Buffer;
 use log_frames::{Frame, Kind};
+use ready_texts::push_bytes;
 use std::alloc::Global;
 
 // Pieces, one after another.

@@ -8,11 +8,11 @@ ghost use Rattle.can_decode.specs.DecodedLines.{target_of, decoded_line};
 use crate::choosing::{is_group, message_at, number_of};
 use crate::line::push_known;
 use crate::target::Target;
-use crate::value::push_bytes;
 use can_layout::{Meter, Plan};
 use dbc_records::Database;
 use dbc_values::Memory;
 use log_frames::{body_of, read_frame};
+use ready_texts::push_bytes;
 use std::alloc::Global;
 
 // What the message at a place is to a frame: that message, with its plan.

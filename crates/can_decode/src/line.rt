@@ -8,11 +8,11 @@ ghost use Rattle.can_decode.specs.DecodedLines.{target_of, chosen_target, text_o
 use crate::choosing::{Choice, Choose, Walking, message_at};
 use crate::frame_text::push_frame;
 use crate::target::Target;
-use crate::value::push_bytes;
 use can_layout::{Meter, Plan};
 use dbc_records::Database;
 use dbc_values::Memory;
 use log_frames::{Frame, body_of, read_frame};
+use ready_texts::push_bytes;
 use std::alloc::Global;
 
 fn plan_at(plans: &[Plan], place: usize) -> Option<&Plan>

@@ -1,14 +1,16 @@
 //! What a frame says by its message, as text.
 ghost use Rattle.std.specs.Prelude.{◌≡◌, ◌++◌, OnOk, decimal, if◌then◌else◌};
+ghost use Rattle.can_layout.specs.Plans.{label_of};
 ghost use Rattle.can_decode.specs.DecodedLines.{signal_text, further_signal, present_rows, signals_text, destination_text, group_text, bracket_text, message_text};
 
 use crate::j1939::J1939;
 use crate::target::Target;
-use crate::value::{push_bytes, push_reading};
+use crate::value::push_reading;
 use can_layout::{Plan, Row};
 use dbc_values::Memory;
 use itoa::Buffer;
 use log_frames::Frame;
+use ready_texts::{ReadyText, push_bytes};
 
 /// A whole number.
 pub(crate) fn push_number(text: &mut Vec<u8>, number: u64) -> Result<(), Memory>
@@ -18,23 +20,30 @@ pub(crate) fn push_number(text: &mut Vec<u8>, number: u64) -> Result<(), Memory>
     push_bytes(text, room.format(number).as_bytes())
 }
 
-#[tactic(auto, using(crate::proofs::Pushing::pushed_then), unfolding(crate::specs::DecodedLines::signal_text))]
-fn push_signal(text: &mut Vec<u8>, row: &Row, bytes: &[u8]) -> Result<(), Memory>
+#[tactic(auto, using(crate::proofs::Labels::labelled_then), unfolding(crate::specs::DecodedLines::signal_text))]
+fn push_signal(text: &mut Vec<u8>, label: &ReadyText, row: &Row, bytes: &[u8]) -> Result<(), Memory>
+    requires { label.now ≡ label_of row.now }
     ensures { OnOk result (text.new.items ≡ text.old.items ++ signal_text bytes.now row.now) }
 {
-    push_bytes(text, row.name.as_bytes())?;
-    push_bytes(text, b": ")?;
+    label.push_to(text)?;
     push_reading(text, &row.reading, bytes)
 }
 
 // A signal, behind others where `some` says so.
-fn push_next(text: &mut Vec<u8>, some: bool, row: &Row, bytes: &[u8]) -> Result<(), Memory>
+fn push_next(
+    text: &mut Vec<u8>,
+    some: bool,
+    label: &ReadyText,
+    row: &Row,
+    bytes: &[u8],
+) -> Result<(), Memory>
+    requires { label.now ≡ label_of row.now }
     ensures { OnOk result (text.new.items ≡ text.old.items ++ (if some then further_signal bytes.now row.now else signal_text bytes.now row.now)) }
 {
     if some {
         push_bytes(text, b", ")?;
     }
-    push_signal(text, row, bytes)
+    push_signal(text, label, row, bytes)
 }
 
 // The signals that are there, a comma and a blank between them.
@@ -44,7 +53,8 @@ fn push_signals(text: &mut Vec<u8>, plan: &Plan, bytes: &[u8]) -> Result<(), Mem
     let mut some = false;
     for signal in 0..plan.signals() {
         if plan.present(signal, bytes) {
-            push_next(text, some, plan.row(signal), bytes)?;
+            let (label, row) = plan.labelled(signal);
+            push_next(text, some, label, row, bytes)?;
             some = true;
         }
     }

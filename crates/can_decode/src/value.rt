@@ -1,91 +1,14 @@
 //! The values of signals, as text.
-ghost use Rattle.std.specs.Prelude.{◌≡◌, ◌==◌, ◌<◌, ◌≤◌, ◌++◌, ◌^◌, OnOk, decimal, unsigned_abs, option_map, if◌then◌else◌};
-ghost use Rattle.std.specs.List.{list_any};
+ghost use Rattle.std.specs.Prelude.{◌≡◌, ◌<◌, ◌≤◌, ◌++◌, ◌^◌, OnOk, length, unsigned_abs};
 ghost use Rattle.dbc_records.specs.Layout.{point_before_last, filled, zeros};
-ghost use Rattle.can_decode.specs.Values.{fewest_places, fixed_text, sign_of, scaled_text, shown_byte, breaks_line, shown, unit_text, first_entry, number_text, decoder_text, reading_text};
+ghost use Rattle.can_decode.specs.Values.{fewest_places, fixed_text, sign_of, scaled_text, number_text, decoder_text, reading_text};
 
-use can_layout::{Decoder, Reading};
-use dbc_records::Entry;
+use can_layout::{Decoder, Reading, first_entry};
 use dbc_values::Memory;
 use itoa::Buffer;
+use ready_texts::{Digits, push_bytes, push_shown};
 
-/// Bytes, as they are.
-pub(crate) fn push_bytes(text: &mut Vec<u8>, bytes: &[u8]) -> Result<(), Memory>
-    ensures { OnOk result (text.new.items ≡ text.old.items ++ bytes.now) }
-{
-    text.extend_from_slice(bytes)?;
-    Ok(())
-}
-
-fn breaks_line(b: u8) -> bool
-    ensures { result ≡ breaks_line b }
-{
-    b == b'\r' || b == b'\n'
-}
-
-fn shown_byte(b: u8) -> u8
-    ensures { result ≡ shown_byte b }
-{
-    if breaks_line(b) { b' ' } else { b }
-}
-
-// A text, byte by byte on one line.
-fn push_each_shown(text: &mut Vec<u8>, bytes: &[u8]) -> Result<(), Memory>
-    ensures { OnOk result (text.new.items ≡ text.old.items ++ shown bytes.now) }
-{
-    for b in bytes {
-        text.push(shown_byte(*b))?;
-    }
-    Ok(())
-}
-
-fn has_break(bytes: &[u8]) -> bool
-    ensures { result ≡ list_any breaks_line bytes.now }
-{
-    bytes.iter().any(|b| breaks_line(*b))
-}
-
-// A text, on one line. Most texts are on one line.
-#[tactic(auto, using(crate::proofs::Shown::shown_whole))]
-fn push_shown(text: &mut Vec<u8>, bytes: &[u8]) -> Result<(), Memory>
-    ensures { OnOk result (text.new.items ≡ text.old.items ++ shown bytes.now) }
-{
-    if has_break(bytes) {
-        push_each_shown(text, bytes)
-    } else {
-        push_bytes(text, bytes)
-    }
-}
-
-// A blank and a unit, where there is one.
-#[tactic(auto, using(crate::proofs::Pushing::pushed_then))]
-fn push_unit(text: &mut Vec<u8>, unit: &[u8]) -> Result<(), Memory>
-    ensures { OnOk result (text.new.items ≡ text.old.items ++ unit_text unit.now) }
-{
-    match unit {
-        [] => Ok(()),
-        [..] => {
-            push_bytes(text, b" ")?;
-            push_shown(text, unit)
-        }
-    }
-}
-
-// The same number with the fewest places behind its point.
-fn fewest_places(digits: u128, places: u8) -> (u128, u8)
-    ensures digits { result.0 ≡ (fewest_places digits places).digits }
-    ensures places { result.1 ≡ (fewest_places digits places).places }
-{
-    match u64::try_from(digits) {
-        Ok(small) => {
-            let (number, behind) = fewest_places_of_word(small, places);
-            (u128::from(number), behind)
-        }
-        Err(_) => fewest_places_of_any(digits, places),
-    }
-}
-
-// That of a number of one word, as most are.
+// The same number with the fewest places behind its point, where it is one of a word, as most are.
 fn fewest_places_of_word(digits: u64, places: u8) -> (u64, u8)
     ensures digits { result.0 ≡ (fewest_places digits places).digits }
     ensures places { result.1 ≡ (fewest_places digits places).places }
@@ -99,6 +22,7 @@ fn fewest_places_of_word(digits: u64, places: u8) -> (u64, u8)
     (number, behind)
 }
 
+// The same of any number.
 fn fewest_places_of_any(digits: u128, places: u8) -> (u128, u8)
     ensures digits { result.0 ≡ (fewest_places digits places).digits }
     ensures places { result.1 ≡ (fewest_places digits places).places }
@@ -138,20 +62,45 @@ fn push_pointed(text: &mut Vec<u8>, digits: &[u8], places: usize) -> Result<(), 
     }
 }
 
-// A whole number with the point that many places from the right.
+// The same where there are more digits than places.
+#[tactic(auto, using(crate::proofs::Pushing::pushed_then))]
+fn push_parted(text: &mut Vec<u8>, digits: &Digits, places: usize) -> Result<(), Memory>
+    requires { places < length digits.now }
+    ensures { OnOk result (text.new.items ≡ text.old.items ++ point_before_last places (filled places digits.now)) }
+{
+    let whole = digits.len() - places;
+    digits.push_first(text, whole)?;
+    push_bytes(text, b".")?;
+    digits.push_behind(text, whole)
+}
+
+// A whole number of one word with the point that many places from the right.
 #[tactic(auto, unfolding(crate::specs::Values::fixed_text))]
-fn push_fixed(text: &mut Vec<u8>, digits: u128, places: u8) -> Result<(), Memory>
+fn push_fixed_word(text: &mut Vec<u8>, number: u64, places: u8) -> Result<(), Memory>
+    ensures { OnOk result (text.new.items ≡ text.old.items ++ fixed_text (record { digits = number; places = places })) }
+{
+    let digits = Digits::of(number);
+    let behind = places as usize;
+    if places == 0 {
+        digits.push_first(text, digits.len())
+    } else if digits.len() > behind {
+        push_parted(text, &digits, behind)
+    } else {
+        push_pointed(text, digits.as_slice(), behind)
+    }
+}
+
+// Any whole number with the point that many places from the right.
+#[tactic(auto, unfolding(crate::specs::Values::fixed_text))]
+fn push_fixed_any(text: &mut Vec<u8>, digits: u128, places: u8) -> Result<(), Memory>
     ensures { OnOk result (text.new.items ≡ text.old.items ++ fixed_text (record { digits = digits; places = places })) }
 {
     let mut room = Buffer::new();
-    let number = match u64::try_from(digits) {
-        Ok(small) => room.format(small),
-        Err(_) => room.format(digits),
-    };
+    let number = room.format(digits).as_bytes();
     if places == 0 {
-        push_bytes(text, number.as_bytes())
+        push_bytes(text, number)
     } else {
-        push_pointed(text, number.as_bytes(), places as usize)
+        push_pointed(text, number, places as usize)
     }
 }
 
@@ -165,26 +114,29 @@ fn push_sign(text: &mut Vec<u8>, value: i128) -> Result<(), Memory>
     }
 }
 
+// A number over ten to the number of places.
+fn push_shortest(text: &mut Vec<u8>, number: u128, places: u8) -> Result<(), Memory>
+    ensures { OnOk result (text.new.items ≡ text.old.items ++ fixed_text (fewest_places number places)) }
+{
+    match u64::try_from(number) {
+        Ok(word) => {
+            let (digits, behind) = fewest_places_of_word(word, places);
+            push_fixed_word(text, digits, behind)
+        }
+        Err(_) => {
+            let (digits, behind) = fewest_places_of_any(number, places);
+            push_fixed_any(text, digits, behind)
+        }
+    }
+}
+
 // A value over ten to the number of places.
 #[tactic(auto, using(crate::proofs::Pushing::pushed_then), unfolding(crate::specs::Values::scaled_text))]
 fn push_scaled(text: &mut Vec<u8>, value: i128, places: u8) -> Result<(), Memory>
     ensures { OnOk result (text.new.items ≡ text.old.items ++ scaled_text value places) }
 {
-    let (digits, behind) = fewest_places(value.unsigned_abs(), places);
     push_sign(text, value)?;
-    push_fixed(text, digits, behind)
-}
-
-// The first entry for a raw value.
-fn first_entry(entries: &[Entry], raw: i128) -> Option<&Entry>
-    ensures { option_map (λ entry. entry.now) result ≡ first_entry raw entries.now }
-{
-    for entry in entries {
-        if entry.number == raw {
-            return Some(entry);
-        }
-    }
-    None
+    push_shortest(text, value.unsigned_abs(), places)
 }
 
 // A value as a number with its unit.
@@ -194,17 +146,30 @@ fn push_number(text: &mut Vec<u8>, decoder: &Decoder, raw: i128) -> Result<(), M
     ensures { OnOk result (text.new.items ≡ text.old.items ++ number_text decoder.now raw) }
 {
     push_scaled(text, decoder.value(raw), decoder.scale.places())?;
-    push_unit(text, decoder.unit.as_bytes())
+    decoder.unit_text().push_to(text)
 }
 
-// A value by its name, or as a number.
-fn push_value(text: &mut Vec<u8>, decoder: &Decoder, raw: i128) -> Result<(), Memory>
+// A value by its name, which is looked for among the entries, or as a number.
+fn push_searched(text: &mut Vec<u8>, decoder: &Decoder, raw: i128) -> Result<(), Memory>
     requires { unsigned_abs raw ≤ 2 ^ decoder.now.scale.length }
     ensures { OnOk result (text.new.items ≡ text.old.items ++ decoder_text decoder.now raw) }
 {
     match first_entry(decoder.entries.as_slice(), raw) {
         Some(entry) => push_shown(text, entry.text.as_bytes()),
         None => push_number(text, decoder, raw),
+    }
+}
+
+// A value by its name, or as a number. Most names are kept ready.
+#[tactic(auto, using(crate::proofs::Named::with_name, crate::proofs::Named::without_name))]
+fn push_value(text: &mut Vec<u8>, decoder: &Decoder, raw: i128) -> Result<(), Memory>
+    requires { unsigned_abs raw ≤ 2 ^ decoder.now.scale.length }
+    ensures { OnOk result (text.new.items ≡ text.old.items ++ decoder_text decoder.now raw) }
+{
+    match decoder.kept_name(raw) {
+        Some(Some(name)) => name.push_to(text),
+        Some(None) => push_number(text, decoder, raw),
+        None => push_searched(text, decoder, raw),
     }
 }
 

@@ -1,5 +1,7 @@
-pub mod Walks
-pub mod WalkLaws
-pub mod Placed
-pub mod Meters
 pub mod Decoders
+pub mod Meters
+pub mod Names
+pub mod Placed
+pub mod Pushing
+pub mod WalkLaws
+pub mod Walks

@@ -1,6 +1,10 @@
 -- What turns the bits of a signal into its values.
 -- Source: the DBC file format, "Signal Definitions" and "Signal Value Descriptions".
-use Rattle.std.specs.Prelude.{◌≡◌, ℕ, Bool, List, length}
+use Rattle.std.specs.Prelude.{◌≡◌, ℕ, ℤ, pos, Bool, List, [], ◌∷◌, ◌++◌, length, map, codes, Option}
+use Rattle.std.specs.List.{find, range_with_len}
+use Rattle.std.specs.Option.{option_map}
+use Rattle.std.specs.Ordering.{int_eq}
+use Rattle.ready_texts.specs.Shown.{shown}
 use Rattle.dbc_values.specs.Scales.{Scale}
 use Rattle.dbc_records.specs.Records.{Entry}
 use Rattle.can_bits.specs.Bits.{Bit}
@@ -16,3 +20,22 @@ pub record Decoder : Type 0 where
 -- the scale is for as many bits as there are
 pub record IsDecoder (decoder : Decoder) : Type 0 where
   pub fits : decoder.scale.length ≡ length decoder.bits
+
+-- ---- what is written of values
+
+-- a blank and the unit, where there is one
+abbrev pub unit_text : List ℕ → List ℕ
+unit_text [] = []
+unit_text (b ∷ unit) = codes " " ++ shown (b ∷ unit)
+
+-- the first entry of a raw value
+abbrev pub first_entry : ℤ → List Entry → Option Entry
+first_entry raw entries = find (λ entry. int_eq entry.number raw) entries
+
+-- the name of a raw value
+abbrev pub name_of : ℤ → List Entry → Option (List ℕ)
+name_of raw entries = option_map (λ entry. shown entry.text) (first_entry raw entries)
+
+-- the names of the raw values from 0 on, or that they have none
+abbrev pub AreNames : List Entry → List (Option (List ℕ)) → Type 0
+AreNames entries names = names ≡ map (λ raw. name_of (pos raw) entries) (range_with_len 0 (length names))

@@ -3,7 +3,7 @@
 -- Source: the DBC file format, "Signal Definitions", "Signal Extended Value Type Definitions", "Signal Value Descriptions",
 -- "Extended Multiplexing"; that a signal is read once its switches have their numbers is the decoding of cantools. Which
 -- signals are refused is the profile of candesk.
-use Rattle.std.specs.Prelude.{ℕ, ℤ, pos, nat_le, nat_lt, Bool, false, not, ◌==◌, ◌&&◌, List, [], map, Option, Some, None, slice_get, if◌then◌else◌}
+use Rattle.std.specs.Prelude.{ℕ, ℤ, pos, nat_le, nat_lt, Bool, false, not, ◌==◌, ◌&&◌, List, [], ◌++◌, codes, map, Option, Some, None, slice_get, if◌then◌else◌}
 use Rattle.std.specs.List.{list_any, list_all, enumerate_from}
 use Rattle.std.specs.Option.{option_map, option_and_then}
 use Rattle.dbc_values.specs.Scales.{scale_fits, scale_of, most_raw_bits}
@@ -77,6 +77,10 @@ plan_rows rows aboves size signals = map (λ placed. row_of rows aboves size pla
 pub record Plan : Type 0 where
   pub size : ℕ
   pub rows : List Row
+
+-- what stands before the value of a signal
+abbrev pub label_of : Row → List ℕ
+label_of row = row.name ++ codes ": "
 
 unfoldable pub plan_in : SignalRows → Message → Plan
 plan_in rows message = record { size = message.head.size; rows = plan_rows rows (aboves_of rows message.signals) message.head.size message.signals }

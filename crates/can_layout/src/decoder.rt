@@ -1,10 +1,14 @@
 //! How the values of a signal are read.
-ghost use Rattle.std.specs.Prelude.{◌≡◌, ◌≤◌, ◌^◌, ◌+ℤ◌, ◌*ℤ◌, unsigned_abs};
+ghost use Rattle.std.specs.Prelude.{◌≡◌, ◌≤◌, ◌^◌, ◌+ℤ◌, ◌*ℤ◌, unsigned_abs, length, IfOk, IfSome, option_map};
 ghost use Rattle.can_bits.specs.Bits.{raw_value};
+ghost use Rattle.can_layout.specs.Decoders.{unit_text, name_of};
 
+use crate::naming::{ready_names, ready_unit};
 use can_bits::Steps;
 use dbc_records::Entry;
-use dbc_values::{List, Scale, Text};
+use dbc_values::{List, Memory, Scale, Text};
+use ready_texts::ReadyText;
+use std::alloc::Global;
 use std::marker::Model;
 
 /// How the values of a signal are read.
@@ -20,19 +24,68 @@ pub struct Decoder {
     pub unit: Text,
     /// The named values, by their raw value.
     pub entries: List<Entry>,
+    // What is written of the unit.
+    unit_text: ReadyText,
+    // The names of the first raw values.
+    names: Vec<Option<ReadyText>>,
 }
 
 impl Model for Decoder {
+    ghost use Rattle.std.specs.Prelude.{◌≡◌};
     ghost use Rattle.can_layout.specs.Decoders as decoders;
 
     ghost Value = { decoders.Decoder };
 
     ghost view = { λ a. record { bits = a.bits; signed = a.signed; scale = a.scale; unit = a.unit; entries = a.entries } };
 
-    ghost invariant = { λ a. decoders.IsDecoder (record { bits = a.bits; signed = a.signed; scale = a.scale; unit = a.unit; entries = a.entries }) };
+    ghost invariant = { λ a. decoders.IsDecoder (record { bits = a.bits; signed = a.signed; scale = a.scale; unit = a.unit; entries = a.entries })
+        × (a.unit_text ≡ decoders.unit_text a.unit) × decoders.AreNames a.entries a.names.items };
 }
 
 impl Decoder {
+    /// How the values of a signal are read that has these bits and entries. The scale is one for as many bits.
+    pub(crate) fn new(
+        alloc: Global,
+        bits: Steps,
+        signed: bool,
+        scale: Scale,
+        unit: Text,
+        entries: List<Entry>,
+    ) -> Result<Decoder, Memory>
+        requires { scale.length ≡ length bits }
+        ensures { IfOk result (λ decoder. decoder ≡ record { bits = bits; signed = signed; scale = scale; unit = unit; entries = entries }) }
+    {
+        let unit_text = ready_unit(alloc, unit.as_bytes())?;
+        let names = ready_names(alloc, entries.as_slice())?;
+        Ok(Decoder {
+            bits,
+            signed,
+            scale,
+            unit,
+            entries,
+            unit_text,
+            names,
+        })
+    }
+
+    /// What is written behind a number: a blank and the unit, where there is one.
+    pub fn unit_text(&self) -> &ReadyText
+        ensures { result.now ≡ unit_text self.now.unit }
+    {
+        &self.unit_text
+    }
+
+    /// The name of a raw value, or that it has none, if that is kept ready. Else it has to be looked for among the entries.
+    pub fn kept_name(&self, raw: i128) -> Option<Option<&ReadyText>>
+        ensures { IfSome result (λ name. option_map (λ ready. ready.now) name ≡ name_of raw self.now.entries) }
+    {
+        let Ok(place) = usize::try_from(raw) else {
+            return None;
+        };
+        let name = self.names.as_slice().get(place)?;
+        Some(name.as_ref())
+    }
+
     /// The raw value in data: in two's complement where the signal is signed. Bits behind the end of the data are 0.
     pub fn raw_value(&self, bytes: &[u8]) -> i128
         ensures value { result ≡ raw_value bytes.now self.now.signed self.now.bits }

@@ -1,7 +1,7 @@
 //! Decode plans.
-ghost use Rattle.std.specs.Prelude.{◌≡◌, ◌<◌, IfOk, Some, length, slice_get};
+ghost use Rattle.std.specs.Prelude.{◌≡◌, ◌<◌, IfOk, Some, length, map, slice_get};
 ghost use Rattle.std.specs.List.{list_any, list_all};
-ghost use Rattle.can_layout.specs.Plans.{entries_of, reading_of, chain_of, row_of, plan_rows, plan_in, raw_at, raw_value_at, is_met, is_present, in_range};
+ghost use Rattle.can_layout.specs.Plans.{entries_of, reading_of, chain_of, row_of, plan_rows, label_of, plan_in, raw_at, raw_value_at, is_met, is_present, in_range};
 ghost use Rattle.can_rows.specs.Rows.{first_values};
 ghost use Rattle.can_layout.specs.Switches.{aboves_of};
 
@@ -17,6 +17,7 @@ use can_bits::{Field, Steps};
 use can_rows::Lookup;
 use dbc_records::{Entry, Message, Range, Signal};
 use dbc_values::{Copied, List, Memory, Scale};
+use ready_texts::{ReadyText, push_bytes};
 use std::alloc::Global;
 use std::marker::Model;
 
@@ -25,14 +26,19 @@ use std::marker::Model;
 pub struct Plan {
     size: u16,
     rows: List<Row>,
+    // What stands before the value of each signal.
+    labels: Vec<ReadyText>,
 }
 
 impl Model for Plan {
+    ghost use Rattle.std.specs.Prelude.{◌≡◌, map};
     ghost use Rattle.can_layout.specs.Plans as plans;
 
     ghost Value = { plans.Plan };
 
     ghost view = { λ a. record { size = a.size; rows = a.rows } };
+
+    ghost invariant = { λ a. a.labels.items ≡ map plans.label_of a.rows };
 }
 
 fn entries_of<L: Lookup>(
@@ -65,13 +71,9 @@ fn reading_of<L: Lookup>(
     };
     let unit = signal.unit.copy()?;
     let entries = entries_of(alloc, rows, signal)?;
-    Ok(Reading::Read(Decoder {
-        bits: Steps::of(alloc, Field::of(signal)),
-        signed: signal.signed,
-        scale,
-        unit,
-        entries,
-    }))
+    let bits = Steps::of(alloc, Field::of(signal));
+    let decoder = Decoder::new(alloc, bits, signal.signed, scale, unit, entries)?;
+    Ok(Reading::Read(decoder))
 }
 
 fn chain_of(walk: Walk) -> Option<List<Link>>
@@ -120,6 +122,25 @@ fn plan_rows<L: Lookup>(
     Ok(made)
 }
 
+fn label_of(alloc: Global, row: &Row) -> Result<ReadyText, Memory>
+    ensures { IfOk result (λ label. label ≡ label_of row.now) }
+{
+    let mut text = Vec::new(alloc);
+    push_bytes(&mut text, row.name.as_bytes())?;
+    push_bytes(&mut text, b": ")?;
+    ReadyText::of(alloc, text.as_slice())
+}
+
+fn labels_of(alloc: Global, rows: &[Row]) -> Result<Vec<ReadyText>, Memory>
+    ensures { IfOk result (λ labels. labels.items ≡ map label_of rows.now) }
+{
+    let mut labels = Vec::new(alloc);
+    for row in rows {
+        labels.push(label_of(alloc, row)?)?;
+    }
+    Ok(labels)
+}
+
 /// The plan of a message, by the rows of its number.
 #[tactic(auto, unfolding(crate::specs::Plans::plan_in))]
 pub(crate) fn plan_in<L: Lookup>(
@@ -133,7 +154,12 @@ pub(crate) fn plan_in<L: Lookup>(
     let signals = message.signals.as_slice();
     let aboves = aboves_of(alloc, rows, signals)?;
     let made = plan_rows(alloc, rows, aboves.as_slice(), size, signals)?;
-    Ok(Plan { size, rows: made })
+    let labels = labels_of(alloc, made.as_slice())?;
+    Ok(Plan {
+        size,
+        rows: made,
+        labels,
+    })
 }
 
 fn in_range(range: Range, raw: u64) -> bool
@@ -188,6 +214,15 @@ impl Plan {
         ensures { Some result.now ≡ slice_get self.now.rows signal }
     {
         &self.rows.as_slice()[signal]
+    }
+
+    /// What the plan says of the signal at a place, and what is written before its value.
+    pub fn labelled(&self, signal: usize) -> (&ReadyText, &Row)
+        requires { signal < length self.now.rows }
+        ensures row { Some result.1.now ≡ slice_get self.now.rows signal }
+        ensures label { result.0.now ≡ label_of result.1.now }
+    {
+        (&self.labels[signal], &self.rows.as_slice()[signal])
     }
 
     /// Whether the signal at a place is there in data: each switch above it has one of the numbers that stand beside it. A

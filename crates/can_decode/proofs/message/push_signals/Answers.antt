@@ -6,7 +6,7 @@ use Rattle.can_decode.proofs.message.push_signals.Goals.{then-present+in_ok-push
 pub loop-signal-preserved : goal.loop-signal-preserved
 loop-signal-preserved c = elim c.if-present.branch [
   | then-present+in_ok-push_next w ↦
-      let both = with_row c.args.bytes.now c.args.plan.now.rows c.loop-signal.signal w.row.result.now w.row.ensures w.if-present.ensures c.args.text.now.items c.loop-signal.text.items w.push_next.new.text.items c.loop-signal.some c.loop-signal.invariant.some c.loop-signal.invariant.text w.in_ok-push_next.ensures in
+      let both = with_row c.args.bytes.now c.args.plan.now.rows c.loop-signal.signal w.labelled.result.1.now w.labelled.ensures.row w.if-present.ensures c.args.text.now.items c.loop-signal.text.items w.push_next.new.text.items c.loop-signal.some c.loop-signal.invariant.some c.loop-signal.invariant.text w.in_ok-push_next.ensures in
       record { text = rw w.text-is both.0; some = rw w.some-is both.1 }
   | else-present w ↦
       let within : c.loop-signal.signal < length c.args.plan.now.rows = rw c.signals-signal-end.ensures at c.loop-signal-test.true in

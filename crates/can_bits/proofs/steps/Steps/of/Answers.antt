@@ -27,9 +27,11 @@ loop-place-preserved c =
 pub invariant_of-result : goal.invariant_of-result
 unfolding bits_of
 invariant_of-result c =
-    let done : c.loop-place.place ≡ c.args.field.length = omega (arith, c.loop-place.invariant.within, c.loop-place-test.false) in
-    record {
-      length = c.requires;
-      valid = c.loop-place.invariant.valid;
-      same = λ bytes. c.loop-place.invariant.same bytes ∙ ap (λ (n : ℕ). unsigned_raw bytes (bits_from c.args.field 0 n)) done;
-    }
+    let done : c.loop-place.place ≡ c.args.field.length = omega (arith, c.loop-place.invariant.within, c.loop-place-test.false) in (
+      record {
+        length = c.requires;
+        valid = c.loop-place.invariant.valid;
+        same = λ bytes. c.loop-place.invariant.same bytes ∙ ap (λ (n : ℕ). unsigned_raw bytes (bits_from c.args.field 0 n)) done;
+      },
+      c.of-window.ensures,
+    )

@@ -25,8 +25,8 @@ returns-then-raw-half-clause-value c =
     let seen : bits_of field ≡ c.args.self.now = c.self.view_is in
     let raw : c.raw-raw.result ≡ unsigned_raw bytes (bits_of field) = c.raw-raw.ensures ∙ ap (unsigned_raw bytes) (sym seen) in
     let some : 0 < field.length = omega (arith, c.if-length-eq0.false) in
-    let sign : is_negative bytes (bits_of field) ≡ true = from_half bytes field c.raw-raw.result some c.self.invariant.length raw c.if-raw-half.true in
-    negative_value bytes field c.args.signed c.raw-raw.result c.from-then-raw-half.result c.from-then-raw-half-2.result some c.self.invariant.length c.raw-raw.type_inv raw c.from-then-raw-half.ensures c.from-then-raw-half-2.ensures c.if-not-signed.false sign
+    let sign : is_negative bytes (bits_of field) ≡ true = from_half bytes field c.raw-raw.result some c.self.invariant.0.length raw c.if-raw-half.true in
+    negative_value bytes field c.args.signed c.raw-raw.result c.from-then-raw-half.result c.from-then-raw-half-2.result some c.self.invariant.0.length c.raw-raw.type_inv raw c.from-then-raw-half.ensures c.from-then-raw-half-2.ensures c.if-not-signed.false sign
     ∙ ap (raw_value bytes c.args.signed) seen
 
 pub returns-else-raw-half-clause-value : goal.returns-else-raw-half-clause-value
@@ -37,7 +37,7 @@ returns-else-raw-half-clause-value c =
     let raw : c.raw-raw.result ≡ unsigned_raw bytes (bits_of field) = c.raw-raw.ensures ∙ ap (unsigned_raw bytes) (sym seen) in
     let some : 0 < field.length = omega (arith, c.if-length-eq0.false) in
     let sign : (c.args.signed && is_negative bytes (bits_of field)) ≡ false =
-    ap (λ (signed : Bool). signed && is_negative bytes (bits_of field)) c.if-not-signed.false ∙ below_half bytes field c.raw-raw.result some c.self.invariant.length raw c.if-raw-half.false in
+    ap (λ (signed : Bool). signed && is_negative bytes (bits_of field)) c.if-not-signed.false ∙ below_half bytes field c.raw-raw.result some c.self.invariant.0.length raw c.if-raw-half.false in
     positive_value bytes c.args.signed (bits_of field) c.raw-raw.result c.from-else-raw-half.result c.raw-raw.type_inv raw c.from-else-raw-half.ensures sign ∙ ap (raw_value bytes c.args.signed) seen
 
 pub returns-then-not-signed-clause-in_range : goal.returns-then-not-signed-clause-in_range

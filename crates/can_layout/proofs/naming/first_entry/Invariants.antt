@@ -1,6 +1,6 @@
 use Rattle.std.proofs.Common.{◌≡◌, drop}
-use Rattle.can_decode.specs.Values.{first_entry}
-use Rattle.can_decode.proofs.value.first_entry.Given as goal
+use Rattle.can_layout.specs.Decoders.{first_entry}
+use Rattle.can_layout.proofs.naming.first_entry.Given as goal
 
 -- none of the entries so far is one for the raw value
 abbrev pub invariant-loop-entry : goal.invariant-loop-entry

@@ -1,7 +1,7 @@
 -- Texts without an end of a line are shown as they are.
 use Rattle.std.proofs.Common.{◌≡◌, ℕ, false, List, [], ◌∷◌, refl, arith}
 use Rattle.std.specs.List.{list_any}
-use Rattle.can_decode.specs.Values.{breaks_line, shown}
+use Rattle.ready_texts.specs.Shown.{breaks_line, shown}
 
 pub shown_whole : (text : List ℕ) → list_any breaks_line text ≡ false → shown text ≡ text
 shown_whole [] whole = refl

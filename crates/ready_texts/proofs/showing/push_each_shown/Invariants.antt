@@ -1,6 +1,6 @@
 use Rattle.std.proofs.Common.{◌≡◌, ◌++◌, take}
-use Rattle.can_decode.specs.Values.{shown}
-use Rattle.can_decode.proofs.value.push_each_shown.Given as goal
+use Rattle.ready_texts.specs.Shown.{shown}
+use Rattle.ready_texts.proofs.showing.push_each_shown.Given as goal
 
 -- the bytes so far are pushed
 abbrev pub invariant-loop-b : goal.invariant-loop-b

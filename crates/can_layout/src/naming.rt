@@ -1,0 +1,74 @@
+//! What is written beside numbers, or in their place: units and the names of raw values.
+ghost use Rattle.std.specs.Prelude.{◌≡◌, ◌++◌, OnOk, IfOk, option_map};
+ghost use Rattle.can_layout.specs.Decoders.{unit_text, first_entry, name_of, AreNames};
+
+use dbc_records::Entry;
+use dbc_values::Memory;
+use ready_texts::{ReadyText, push_bytes, push_shown};
+use std::alloc::Global;
+
+// At most so many raw values have their names kept ready.
+const MOST: usize = 64;
+
+// A blank and a unit, where there is one.
+#[tactic(auto, using(crate::proofs::Pushing::pushed_then))]
+fn push_unit(text: &mut Vec<u8>, unit: &[u8]) -> Result<(), Memory>
+    ensures { OnOk result (text.new.items ≡ text.old.items ++ unit_text unit.now) }
+{
+    match unit {
+        [] => Ok(()),
+        [..] => {
+            push_bytes(text, b" ")?;
+            push_shown(text, unit)
+        }
+    }
+}
+
+/// What is written of a unit, kept ready.
+pub(crate) fn ready_unit(alloc: Global, unit: &[u8]) -> Result<ReadyText, Memory>
+    ensures { IfOk result (λ ready. ready ≡ unit_text unit.now) }
+{
+    let mut text = Vec::new(alloc);
+    push_unit(&mut text, unit)?;
+    ReadyText::of(alloc, text.as_slice())
+}
+
+/// The first entry for a raw value.
+pub fn first_entry(entries: &[Entry], raw: i128) -> Option<&Entry>
+    ensures { option_map (λ entry. entry.now) result ≡ first_entry raw entries.now }
+{
+    for entry in entries {
+        if entry.number == raw {
+            return Some(entry);
+        }
+    }
+    None
+}
+
+// The name of a raw value, kept ready.
+fn ready_name(alloc: Global, entries: &[Entry], raw: i128) -> Result<Option<ReadyText>, Memory>
+    ensures { IfOk result (λ name. name ≡ name_of raw entries.now) }
+{
+    let Some(entry) = first_entry(entries, raw) else {
+        return Ok(None);
+    };
+    let mut text = Vec::new(alloc);
+    push_shown(&mut text, entry.text.as_bytes())?;
+    let ready = ReadyText::of(alloc, text.as_slice())?;
+    Ok(Some(ready))
+}
+
+/// The names of the first raw values, kept ready. There are as many of them as entries, but not more than a few.
+pub(crate) fn ready_names(
+    alloc: Global,
+    entries: &[Entry],
+) -> Result<Vec<Option<ReadyText>>, Memory>
+    ensures { IfOk result (λ names. AreNames entries.now names.items) }
+{
+    let count = entries.len().min(MOST) as u8;
+    let mut names = Vec::new(alloc);
+    for raw in 0..count {
+        names.push(ready_name(alloc, entries, i128::from(raw))?)?;
+    }
+    Ok(names)
+}

@@ -1,0 +1,82 @@
+//! The digits of numbers of one word.
+ghost use Rattle.std.specs.Prelude.{◌≡◌, ◌+◌, ◌≤◌, ◌++◌, OnOk, length, take, drop, decimal};
+
+use crate::ready::push_front;
+use dbc_values::Memory;
+use itoa::write_digits;
+use std::marker::Model;
+
+// The digits end before this place, as many as there can be.
+const END: usize = 20;
+
+/// The decimal digits of a number, from which parts are appended.
+#[derive(Drop)]
+pub struct Digits {
+    // The digits, with room behind them for a front of 32 bytes.
+    room: [u8; 52],
+    // Where they begin.
+    start: usize,
+}
+
+impl Model for Digits {
+    ghost use Rattle.std.specs.Prelude.{List, ℕ, ◌-◌, ◌≤◌, take, drop};
+
+    ghost Value = { List ℕ };
+
+    ghost view = { λ a. take (20 - a.start) (drop a.start a.room) };
+
+    ghost invariant = { λ a. a.start ≤ 20 };
+}
+
+impl Digits {
+    /// The digits of a number.
+    #[tactic(auto, using(crate::proofs::Parts::digits_in_room))]
+    pub fn of(number: u64) -> Digits
+        ensures { result ≡ decimal number }
+    {
+        let mut room = [0; 52];
+        let start = write_digits(number, &mut room, END);
+        Digits { room, start }
+    }
+
+    /// How many digits there are.
+    pub fn len(&self) -> usize
+        ensures { result ≡ length self.now }
+    {
+        END - self.start
+    }
+
+    /// The digits.
+    pub fn as_slice(&self) -> &[u8]
+        ensures { result.now ≡ self.now }
+    {
+        &self.room[self.start..END]
+    }
+
+    // Appends some of the digits, from one on.
+    fn push_part(&self, text: &mut Vec<u8>, from: usize, count: usize) -> Result<(), Memory>
+        requires { from + count ≤ length self.now }
+        ensures { OnOk result (text.new.items ≡ text.old.items ++ take count (drop from self.now)) }
+    {
+        match self.room[self.start + from..].first_chunk::<32>() {
+            Some(front) => push_front(text, front, count),
+            None => unreachable!(),
+        }
+    }
+
+    /// Appends the first digits.
+    pub fn push_first(&self, text: &mut Vec<u8>, count: usize) -> Result<(), Memory>
+        requires { count ≤ length self.now }
+        ensures { OnOk result (text.new.items ≡ text.old.items ++ take count self.now) }
+    {
+        self.push_part(text, 0, count)
+    }
+
+    /// Appends the digits behind the first.
+    pub fn push_behind(&self, text: &mut Vec<u8>, count: usize) -> Result<(), Memory>
+        requires { count ≤ length self.now }
+        ensures { OnOk result (text.new.items ≡ text.old.items ++ drop count self.now) }
+    {
+        self.push_part(text, count, self.len() - count)
+    }
+}

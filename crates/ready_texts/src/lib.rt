@@ -1,0 +1,12 @@
+//! Texts that are written often: on one line whatever they hold, and kept ready, so that it costs little to append one.
+#![tactic(auto)]
+
+mod digits;
+mod ready;
+mod showing;
+#[cfg(test)]
+mod tests;
+
+pub use digits::Digits;
+pub use ready::ReadyText;
+pub use showing::{push_bytes, push_shown};
