@@ -13,6 +13,7 @@ use Rattle.line_stream.specs.declared.fault.StreamFault.TheVariants as streams
 use Rattle.candesk_calls.specs.Checking.{CheckingEndsWith}
 use Rattle.candesk_calls.specs.Dumping.{DumpingEndsWith}
 use Rattle.candesk_calls.specs.Printing.{status_of_cause, PrintingEndsWith}
+use Rattle.candesk_calls.specs.Scripting.{SessionEndsWith}
 use Rattle.candesk_calls.specs.Statuses.{done, device, memory}
 
 -- nothing was read and nothing was written
@@ -43,9 +44,10 @@ abbrev pub DecodingEndsWith : List ℕ → Unread → Unread → Written → Wri
 DecodingEndsWith text before after old new status =
     (outcome : Result ℕ RunFault) × Runs text before after old new outcome × (status ≡ status_of outcome)
 
--- the command ended so; all but `decode` read nothing from the source
+-- the command ended so; all but `decode` and `session` read nothing from the source
 abbrev pub EndsWith : Command → List ℕ → Unread → Unread → Written → Written → ℕ → Type 0
 EndsWith commands.Check text before after old new status = (after ≡ before) × CheckingEndsWith text old new status
 EndsWith commands.Decode text before after old new status = DecodingEndsWith text before after old new status
 EndsWith commands.Dump text before after old new status = (after ≡ before) × DumpingEndsWith text old new status
 EndsWith commands.Print text before after old new status = (after ≡ before) × PrintingEndsWith text old new status
+EndsWith commands.Session text before after old new status = SessionEndsWith text before after old new status

@@ -3,6 +3,7 @@ ghost use Rattle.std.specs.Prelude.{◌≡◌, Err};
 ghost use Rattle.candesk_calls.specs.Printing.{status_of_cause, print_status_of, PrintingEndsWith};
 ghost use Rattle.candesk_calls.specs.Dumping.{dump_status_of, DumpingEndsWith};
 ghost use Rattle.candesk_calls.specs.Checking.{check_status_of, CheckingEndsWith};
+ghost use Rattle.candesk_calls.specs.Scripting.{session_status_of, SessionEndsWith};
 ghost use Rattle.candesk_calls.specs.Run.{DecodingEndsWith, EndsWith, status_of};
 
 use crate::checking::{Verdict, check_run};
@@ -15,6 +16,7 @@ use candesk_words::{Command, Job};
 use dbc_model::{Sink, Source, put_all};
 use dbc_tokens::Cause;
 use line_stream::StreamFault;
+use session_script::{SessionFault, session_run};
 use std::alloc::Global;
 use std::fmt::{Display, Write};
 
@@ -158,8 +160,40 @@ fn dump<W: Sink, E: Sink>(alloc: Global, text: &[u8], sink: &mut W, errors: &mut
     }
 }
 
+// The status of a fault of `session`.
+fn session_status_of(fault: SessionFault) -> u8
+    ensures { result ≡ session_status_of (Err fault) }
+{
+    match fault {
+        SessionFault::Read(fault) => status_of_cause(fault.cause),
+        SessionFault::Stream(StreamFault::Memory) => status::MEMORY,
+        SessionFault::Stream(StreamFault::LongLine | StreamFault::Read | StreamFault::Write) => {
+            status::DEVICE
+        }
+    }
+}
+
+// Keeps a session, and says the fault.
+fn session<R: Source, W: Sink, E: Sink>(
+    alloc: Global,
+    text: &[u8],
+    source: &mut R,
+    sink: &mut W,
+    errors: &mut E,
+) -> u8
+    ensures { SessionEndsWith text.now (R.unread source.old) (R.unread source.new) (W.written sink.old) (W.written sink.new) result }
+{
+    match session_run(alloc, text, source, sink) {
+        Ok(_) => status::DONE,
+        Err(fault) => {
+            report(errors, fault);
+            session_status_of(fault)
+        }
+    }
+}
+
 /// Does the job on the bytes of its file: writes the output to `sink` and a fault's line to `errors`, and answers the
-/// exit status. `source` is standard input, which only `decode` reads. That `errors` fails doesn't change the status.
+/// exit status. `source` is standard input, which only `decode` and `session` read. That `errors` fails doesn't change the status.
 pub fn run<R: Source, W: Sink, E: Sink>(
     alloc: Global,
     job: &Job,
@@ -175,5 +209,6 @@ pub fn run<R: Source, W: Sink, E: Sink>(
         Command::Decode => decode(alloc, text, source, sink, errors),
         Command::Dump => dump(alloc, text, sink, errors),
         Command::Print => print(alloc, text, sink, errors),
+        Command::Session => session(alloc, text, source, sink, errors),
     }
 }

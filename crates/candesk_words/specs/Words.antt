@@ -31,7 +31,8 @@ unfoldable pub with_command : App → Text → App
 with_command line name = with_subcommand line (on_file name).top
 
 unfoldable pub command_line : App
-command_line = with_command (with_command (with_command (with_command before_command (codes "check")) (codes "decode")) (codes "dump")) (codes "print")
+command_line =
+    with_command (with_command (with_command (with_command (with_command before_command (codes "check")) (codes "decode")) (codes "dump")) (codes "print")) (codes "session")
 
 -- ---- jobs
 
@@ -40,7 +41,8 @@ command_named name =
     if bytes_eq name (codes "check") then Some commands.Check
     else (if bytes_eq name (codes "decode") then Some commands.Decode
     else (if bytes_eq name (codes "dump") then Some commands.Dump
-    else (if bytes_eq name (codes "print") then Some commands.Print else None)))
+    else (if bytes_eq name (codes "print") then Some commands.Print
+    else (if bytes_eq name (codes "session") then Some commands.Session else None))))
 
 -- the command and its FILE, from what clap finds in the words
 abbrev pub job_found : Option (Text × List Row) → Option (Command × Text)

@@ -19,6 +19,8 @@ pub enum Command {
     Dump,
     /// Prints the canonical text of the database.
     Print,
+    /// Keeps a session open for the script on standard input.
+    Session,
 }
 
 /// A job: a command, and the path of its database.
@@ -74,6 +76,7 @@ fn command_named(name: &str) -> Option<Command>
         "decode" => Some(Command::Decode),
         "dump" => Some(Command::Dump),
         "print" => Some(Command::Print),
+        "session" => Some(Command::Session),
         _ => None,
     }
 }

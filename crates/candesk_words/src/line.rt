@@ -88,7 +88,14 @@ fn with_print<'a>(alloc: Global, line: Command<'a>) -> Result<Command<'a>, Alloc
     with_command(alloc, line, "print", about, notes::PRINT)
 }
 
-/// The command line: `candesk check FILE`, `candesk decode FILE`, `candesk dump FILE`, `candesk print FILE`.
+fn with_session<'a>(alloc: Global, line: Command<'a>) -> Result<Command<'a>, AllocError>
+    ensures { IfOk result (λ longer. app_of longer ≡ with_command (app_of line.entry) (codes "session")) }
+{
+    let about = "Edits a database and retains a log by a script on standard input";
+    with_command(alloc, line, "session", about, notes::SESSION)
+}
+
+/// The command line: `candesk check FILE`, and so with `decode`, `dump`, `print` and `session`.
 #[tactic(auto, unfolding(crate::specs::Words::command_line))]
 pub fn command_line<'a>(alloc: Global) -> Result<Command<'a>, AllocError>
     ensures { IfOk result (λ line. app_of line ≡ command_line) }
@@ -97,5 +104,6 @@ pub fn command_line<'a>(alloc: Global) -> Result<Command<'a>, AllocError>
     let line = with_check(alloc, line)?;
     let line = with_decode(alloc, line)?;
     let line = with_dump(alloc, line)?;
-    with_print(alloc, line)
+    let line = with_print(alloc, line)?;
+    with_session(alloc, line)
 }

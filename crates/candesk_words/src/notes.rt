@@ -43,3 +43,17 @@ Example:
   BU_: Ecu
   BO_ 291 Wheel: 2 Ecu
    SG_ Speed : 0|16@1+ (2,5) [0|0] \"rpm\" Ecu";
+
+/// Of `session`.
+pub const SESSION: &str = "\
+Standard input is a script, a command a line: edits of the database, lines of a log that are retained, and what to show.
+Standard output has a reply to each: what was asked for and `ok`, or why the command is refused. After each edit all is
+shown as it is by the database as it is then.
+
+Example:
+  $ printf 'log (1.5) can0 123#0A01\\nremove-signal 0 Speed\\nshow lines\\n' > wheel.script
+  $ candesk session examples/wheel.dbc < wheel.script
+  ok
+  ok
+  (1.5) can0 123#0A01 :: Wheel()
+  ok";

@@ -3,3 +3,4 @@ pub mod Words
 pub mod Commands
 pub mod Replies
 pub mod Serving
+pub mod Running

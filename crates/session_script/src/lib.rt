@@ -6,13 +6,17 @@
 mod command;
 mod commands;
 mod edits;
+mod fault;
 mod performing;
 mod replies;
+mod running;
 mod serving;
 mod statement;
 mod verb;
 mod words;
 
 pub use can_session::{Edit, Refusal, Session};
+pub use fault::SessionFault;
+pub use running::session_run;
 pub use serving::serve;
 pub use verb::Verb;
