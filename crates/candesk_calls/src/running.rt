@@ -184,7 +184,7 @@ fn session<R: Source, W: Sink, E: Sink>(
     ensures { SessionEndsWith text.now (R.unread source.old) (R.unread source.new) (W.written sink.old) (W.written sink.new) result }
 {
     match session_run(alloc, text, source, sink) {
-        Ok(_) => status::DONE,
+        Ok(_commands) => status::DONE,
         Err(fault) => {
             report(errors, fault);
             session_status_of(fault)
