@@ -9,6 +9,8 @@ mod decoding;
 mod line;
 mod recompiling;
 mod session;
+#[cfg(test)]
+mod tests;
 mod touching;
 
 pub use can_check::Diagnostic;
