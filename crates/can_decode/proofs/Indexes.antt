@@ -10,7 +10,7 @@ use Rattle.std.proofs.lemmas.List.Folds.{position_or_len_push}
 use Rattle.dbc_records.specs.Records.{Message}
 use Rattle.dbc_records.specs.Databases.{Database}
 use Rattle.can_rows.specs.Groups.{group_of}
-use Rattle.can_decode.specs.Choices.{has_number, in_group, is_group, choice_at}
+use Rattle.can_decode.specs.Choices.{has_number, in_group, is_group, choice_at, choice_of, place_of_number}
 use Rattle.can_decode.specs.Remembering.{AreChoices}
 use Rattle.can_decode.specs.declared.choosing.Choice.{Choice}
 use Rattle.can_decode.proofs.Targets.{has_group}
@@ -35,6 +35,15 @@ position-push p xs x =
 pub either : {X Y : Type 0} (f : X → Y) (a b : Option X) → option_map f (option_or a b) ≡ option_or (option_map f a) (option_map f b)
 either f None b = refl
 either f (Some x) b = refl
+
+-- the place in a choice
+of_choice : (database : Database) (place : Option ℕ) → option_map (λ (choice : Choice). choice.place) (option_map (choice_at database) place) ≡ place
+of_choice database None = refl
+of_choice database (Some at) = refl
+
+pub place_chosen : (database : Database) (number : ℕ) → option_map (λ (choice : Choice). choice.place) (choice_of database number) ≡ place_of_number database number
+unfolding choice_of
+place_chosen database number = of_choice database (place_of_number database number)
 
 -- the choice of one more message, if it passes
 one_more : (database : Database) (test : Message → Bool) (messages : List Message) (message : Message) (place : ℕ) → length messages ≡ place

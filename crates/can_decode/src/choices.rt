@@ -1,27 +1,21 @@
 //! The messages of a database, found by their numbers and by their groups.
-ghost use Rattle.std.specs.Prelude.{◌≡◌, ◌==◌, ℕ, IfOk, OnOk, Some, None, if◌then◌else◌};
-ghost use Rattle.std.specs.Option.{option_or, is_some};
-ghost use Rattle.std.specs.Ordering.{nat_cmp};
-ghost use Rattle.std.specs.BTreeMap.{get};
+ghost use Rattle.std.specs.Prelude.{◌≡◌, Some, None, if◌then◌else◌};
 ghost use Rattle.can_rows.specs.Groups.{is_extended, group_number_of};
-ghost use Rattle.can_decode.specs.Choices.{is_group, choice_of};
-ghost use Rattle.can_decode.specs.Remembering.{first_of_group};
+ghost use Rattle.can_decode.specs.Choices.{choice_of, place_of_number, chosen_place};
+ghost use Rattle.can_decode.specs.Remembering.{AreChoices, first_of_group};
 
-use crate::choosing::{Choice, Choose, messages_of, number_of};
-use can_rows::{Indexed, Lookup, group_in, group_number};
+use crate::choosing::{Choice, Choose};
+use crate::message_index::MessageIndex;
+use can_rows::group_number;
 use dbc_records::Database;
-use dbc_values::Memory;
-use std::alloc::Global;
-use std::collections::BTreeMap;
+use log_frames::Frame;
 use std::marker::Model;
 
-/// What each number goes to in a database. Numbers are compared, not hashed, so no database, however it is chosen, makes
-/// it slow.
+/// What each number goes to in a database, by an index of its messages.
 #[derive(Drop)]
 pub struct Choices<'a> {
     database: &'a Database,
-    exact: BTreeMap<u32, Choice>,
-    grouped: BTreeMap<u32, Choice>,
+    index: &'a MessageIndex,
 }
 
 impl<'a> Model for Choices<'a> {
@@ -32,76 +26,20 @@ impl<'a> Model for Choices<'a> {
 
     ghost view = { λ a. a.database.now };
 
-    ghost invariant = { λ a. AreChoices a.database.now a.database.now.messages a.exact a.grouped };
-}
-
-// Puts a choice at a key, unless one is there.
-fn keep_first(by_key: &mut BTreeMap<u32, Choice>, key: u32, choice: Choice) -> Result<(), Memory>
-    ensures { OnOk result ((other : ℕ) → get nat_cmp by_key.new other ≡ option_or (get nat_cmp by_key.old other) (if key == other then Some choice else None)) }
-{
-    by_key.entry(key)?.or_insert(choice);
-    Ok(())
-}
-
-// Puts a choice at a group, if there is one, unless one is there.
-fn keep_first_of_group(
-    by_group: &mut BTreeMap<u32, Choice>,
-    group: Option<u32>,
-    choice: Choice,
-) -> Result<(), Memory>
-    ensures { OnOk result ((other : ℕ) → get nat_cmp by_group.new other ≡ option_or (get nat_cmp by_group.old other) (if is_group other group then Some choice else None)) }
-{
-    match group {
-        Some(group) => keep_first(by_group, group, choice),
-        None => Ok(()),
-    }
-}
-
-fn choice_of_group(place: usize, group: Option<u32>) -> Choice
-    ensures { result ≡ record { place = place; group = is_some group } }
-{
-    Choice {
-        place,
-        group: group.is_some(),
-    }
-}
-
-// The choices of a database, whose rows are found by `lookup`.
-fn choices_in<'a, L: Lookup>(
-    alloc: Global,
-    lookup: &L,
-    database: &'a Database,
-) -> Result<Choices<'a>, Memory>
-    requires { L.whole lookup.now ≡ database.now }
-    ensures { IfOk result (λ choices. choices ≡ database.now) }
-{
-    let mut exact: BTreeMap<u32, Choice> = BTreeMap::new(alloc);
-    let mut grouped: BTreeMap<u32, Choice> = BTreeMap::new(alloc);
-    for (place, message) in messages_of(database).iter().enumerate() {
-        let number = number_of(message);
-        let group = group_in(lookup, number);
-        let choice = choice_of_group(place, group);
-        keep_first(&mut exact, number, choice)?;
-        keep_first_of_group(&mut grouped, group, choice)?;
-    }
-    Ok(Choices {
-        database,
-        exact,
-        grouped,
-    })
+    ghost invariant = { λ a. AreChoices a.database.now a.database.now.messages a.index.now.exact a.index.now.grouped };
 }
 
 impl<'a> Choices<'a> {
-    /// Those of a database.
-    pub fn of(alloc: Global, database: &'a Database) -> Result<Choices<'a>, Memory>
-        ensures { IfOk result (λ choices. choices ≡ database.now) }
+    /// Those of a database and the index of its messages.
+    pub fn by(database: &'a Database, index: &'a MessageIndex) -> Choices<'a>
+        requires { AreChoices database.now database.now.messages index.now.exact index.now.grouped }
+        ensures { result ≡ database.now }
     {
-        let indexed = Indexed::of(alloc, database)?;
-        choices_in(alloc, &indexed, database)
+        Choices { database, index }
     }
 
     /// The database.
-    pub(crate) fn database(&self) -> &'a Database
+    pub fn database(&self) -> &'a Database
         ensures { result.now ≡ self.now }
     {
         self.database
@@ -112,7 +50,7 @@ impl<'a> Choices<'a> {
         ensures { result ≡ (if is_extended number then first_of_group self.now self.now.messages (group_number_of number) else None) }
     {
         if number >> 31 & 1 == 1 {
-            self.grouped.get(&group_number(number)).copied()
+            self.index.grouped.get(&group_number(number)).copied()
         } else {
             None
         }
@@ -123,9 +61,30 @@ impl<'a> Choices<'a> {
     fn find(&self, number: u32) -> Option<Choice>
         ensures { result ≡ choice_of self.now number }
     {
-        match self.exact.get(&number) {
+        match self.index.exact.get(&number) {
             Some(choice) => Some(*choice),
             None => self.of_group(number),
+        }
+    }
+
+    // The place of the message that a number goes to.
+    #[tactic(auto, using(crate::proofs::Indexes::place_chosen))]
+    fn place_of_number(&self, number: u32) -> Option<usize>
+        ensures { result ≡ place_of_number self.now number }
+    {
+        let choice = self.find(number)?;
+        Some(choice.place)
+    }
+
+    /// The place of the message that a frame goes to, as [`choose`](crate::choose) finds it. It takes no memory.
+    #[tactic(auto, unfolding(crate::specs::Choices::chosen_place))]
+    pub fn choose(&self, frame: &Frame) -> Option<usize>
+        ensures { result ≡ chosen_place self.now frame.now }
+    {
+        if frame.is_data() {
+            self.place_of_number(frame.number())
+        } else {
+            None
         }
     }
 }

@@ -2,3 +2,6 @@ pub mod Kept
 pub mod Exchanges
 pub mod Chosen
 pub mod Places
+pub mod Reached
+pub mod Covered
+pub mod Indexed

@@ -1,16 +1,23 @@
 -- The places of the items that pass: how many there are, and that none is missing.
-use Rattle.std.proofs.Common.{◌≡◌, ◌<◌, ◌+◌, ℕ, zero, suc, Bool, true, false, cond, List, [], ◌∷◌, ◌++◌, length, get_or, refl, sym, ap, ◌∙◌, inl, inr, arith}
+use Rattle.std.proofs.Common.{◌≡◌, ◌<◌, ◌+◌, ℕ, zero, suc, Bool, true, false, cond, List, [], ◌∷◌, ◌++◌, length, get_or, refl, sym, ap, ◌∙◌, inl, inr, arith, length-append}
 use Rattle.std.specs.Prelude.{All, ◌==◌, ◌||◌, map, count_by, if◌then◌else◌}
 use Rattle.std.specs.List.{list_any, sum_by}
 use Rattle.std.proofs.lemmas.Bool.{cases_Bool, both_ways, eq-eqb, or_left, or_right}
 use Rattle.std.proofs.lemmas.List.Elements.{All-cons, All-nil}
 use Rattle.std.proofs.lemmas.List.Sums.{sum_by-cons}
+use Rattle.std.proofs.lemmas.List.{length-map, get_or-map, append_assoc, length_push}
+use Rattle.std.proofs.lemmas.Option.{slice_get-map, slice_get_read}
+use Rattle.std.proofs.Math.Seq.{get_or-append_seam}
+use Rattle.std.specs.Prelude.{Option, Some, option_map, slice_get, filter, ◌&&◌}
+use Rattle.std.specs.Option.{option_map_or}
+use Rattle.can_session.specs.Places.{places_from}
+use Rattle.can_session.specs.Indexes.{Covers}
 use Rattle.dbc_records.specs.Databases.{Database}
 use Rattle.can_decode.specs.DecodedLines.{decoded_line}
 use Rattle.edit_reach.specs.Touched.{line_touched}
 use Rattle.can_session.specs.declared.line.Line.{Line}
 use Rattle.can_session.specs.declared.line.Fresh.{Fresh}
-use Rattle.can_session.specs.Logs.{bytes_of, IsDecoded, place_of, is_for, places_from, touches, TextsAt, Completes}
+use Rattle.can_session.specs.Logs.{bytes_of, IsDecoded, place_of, is_for, TextsAt, Completes}
 
 pub length-places : {X : Type 0} (test : X → Bool) (at : ℕ) (items : List X) → length (places_from test at items) ≡ count_by test items
 length-places test at [] = refl
@@ -20,14 +27,6 @@ length-places test at (item ∷ items) =
       | inl t ↦ rw t (omega (arith, rest))
       | inr f ↦ rw f (omega (arith, rest))
     ]) ∙ sym (sum_by-cons (λ x. cond (test x) 1 0) item items)
-
--- counted by their bytes
-pub count-bytes : (test : List ℕ → Bool) (lines : List Line) → count_by (λ line. test (bytes_of line)) lines ≡ count_by test (map bytes_of lines)
-count-bytes test [] = refl
-count-bytes test (line ∷ lines) =
-    sum_by-cons (λ line. cond (test (bytes_of line)) 1 0) line lines
-    ∙ ap (λ n. cond (test (bytes_of line)) 1 0 + n) (count-bytes test lines)
-    ∙ sym (sum_by-cons (λ bytes. cond (test bytes) 1 0) (bytes_of line) (map bytes_of lines))
 
 within-places : {X : Type 0} (test : X → Bool) (at : ℕ) (items : List X) → All (λ place. place < at + length items) (places_from test at items)
 within-places test at [] = All-nil _
@@ -42,7 +41,7 @@ pub within-all : {X : Type 0} (test : X → Bool) (items : List X) → All (λ p
 within-all test items = λ k d within. omega (arith, within-places test 0 items k d within)
 
 -- an item that passes has its place among them
-found-place : {X : Type 0} (test : X → Bool) (at : ℕ) (items : List X) (k n : ℕ) (d : X) → k < length items → at + k ≡ n → test (get_or items k d) ≡ true → list_any (λ place. place == n) (places_from test at items) ≡ true
+pub found-place : {X : Type 0} (test : X → Bool) (at : ℕ) (items : List X) (k n : ℕ) (d : X) → k < length items → at + k ≡ n → test (get_or items k d) ≡ true → list_any (λ place. place == n) (places_from test at items) ≡ true
 found-place test at [] k n d within sum passes = absurd (omega arith)
 found-place test at (item ∷ items) zero n d within sum passes = rw passes (or_left _ _ (eq-eqb at n (omega arith)))
 found-place test at (item ∷ items) (suc k) n d within sum passes =
@@ -57,14 +56,15 @@ is_for-places k [] = refl
 is_for-places k (text ∷ texts) = ap (λ rest. text.place == k || rest) (is_for-places k texts)
 
 -- with a text for each touched line nothing is left: an untouched line keeps its text
-pub all_done : (before after : Database) (numbers : List ℕ) (lines : List Line) (fresh : List Fresh)
+pub all_done : (before after : Database) (numbers : List ℕ) (lines : List Line) (places : List ℕ) (fresh : List Fresh)
     → ((line : List ℕ) → line_touched numbers line ≡ false → decoded_line after line ≡ decoded_line before line)
-    → All (IsDecoded before) lines → TextsAt after lines (places_from (touches numbers) 0 lines) fresh → Completes after lines fresh
-all_done before after numbers lines fresh stays decoded h = record {
+    → All (IsDecoded before) lines → Covers numbers (map bytes_of lines) places → TextsAt after lines places fresh → Completes after lines fresh
+all_done before after numbers lines places fresh stays decoded covers h = record {
   texts = h.texts;
   others = λ k d within out.
-      elim (cases_Bool (touches numbers (get_or lines k d))) [
-        | inl touched ↦ absurd (both_ways _ out (is_for-places k fresh ∙ rw h.order (found-place (touches numbers) 0 lines k k d within (omega arith) touched)))
+      let there : get_or (map bytes_of lines) k (bytes_of d) ≡ bytes_of (get_or lines k d) = get_or-map bytes_of lines k d (bytes_of d) within in
+      elim (cases_Bool (line_touched numbers (bytes_of (get_or lines k d)))) [
+        | inl touched ↦ absurd (both_ways _ out (is_for-places k fresh ∙ rw h.order (covers.touched k (bytes_of d) (omega (arith, length-map lines bytes_of, within)) (ap (line_touched numbers) there ∙ touched))))
         | inr untouched ↦ decoded k d within ∙ sym (stays (bytes_of (get_or lines k d)) untouched)
       ];
 }
@@ -81,3 +81,45 @@ places-push test at (first ∷ items) item =
       | inl t ↦ rw t (ap (λ places. at ∷ places) later)
       | inr f ↦ rw f later
     ]
+
+-- tests that agree pass the same places
+pub places_same : {X : Type 0} (t u : X → Bool) → ((x : X) → t x ≡ u x) → (at : ℕ) (items : List X) → places_from t at items ≡ places_from u at items
+places_same t u same at [] = refl
+places_same t u same at (item ∷ items) =
+    let rest = places_same t u same (at + 1) items in
+    elim (cases_Bool (u item)) [
+      | inl yes ↦ (let also = same item ∙ yes in rw (also, yes) (ap (λ places. at ∷ places) rest))
+      | inr no ↦ (let also = same item ∙ no in rw (also, no) rest)
+    ]
+
+pub line_there : (lines : List Line) (place : ℕ) → slice_get (map bytes_of lines) place ≡ option_map bytes_of (slice_get lines place)
+line_there lines place = slice_get-map bytes_of lines place
+
+-- ---- of the places of the items that pass one test those whose items pass another
+
+one_place : (test : ℕ → Bool) (at : ℕ) (places : List ℕ) (passes : Bool) → test at ≡ passes → filter test (at ∷ places) ≡ (if passes then at ∷ filter test places else filter test places)
+one_place test at places passes is = rw is refl
+
+places_of_both : {X : Type 0} (t g : X → Bool) (front items : List X) (at : ℕ) → length front ≡ at
+    → filter (λ place. option_map_or g (slice_get (front ++ items) place) false) (places_from t at items) ≡ places_from (λ x. t x && g x) at items
+places_of_both t g front [] at long = refl
+places_of_both {X} t g front (x ∷ items) at long =
+    let whole = front ++ x ∷ items in
+    let passes : List X → ℕ → Bool = λ xs place. option_map_or g (slice_get xs place) false in
+    let within : at < length whole = omega (arith, long, length-append front (x ∷ items)) in
+    let seam : x ≡ get_or whole at x = rw (← long) (sym (get_or-append_seam front x items x)) in
+    let there : slice_get whole at ≡ Some x = slice_get_read whole (length whole) at x refl within seam in
+    let here : passes whole at ≡ g x = ap (λ (o : Option X). option_map_or g o false) there in
+    let next : length (front ++ x ∷ []) ≡ at + 1 = length_push front x ∙ ap (λ n. n + 1) long in
+    let rest : filter (passes whole) (places_from t (at + 1) items) ≡ places_from (λ x. t x && g x) (at + 1) items =
+    ap (λ xs. filter (passes xs) (places_from t (at + 1) items)) (sym (append_assoc front (x ∷ []) items)) ∙ places_of_both t g (front ++ x ∷ []) items (at + 1) next in
+    elim (cases_Bool (t x)) [
+      | inl yes ↦ elim (cases_Bool (g x)) [
+        | inl also ↦ rw (yes, also) (one_place (passes whole) at (places_from t (at + 1) items) true (here ∙ also) ∙ ap (λ places. at ∷ places) rest)
+        | inr fails ↦ rw (yes, fails) (one_place (passes whole) at (places_from t (at + 1) items) false (here ∙ fails) ∙ rest)
+      ]
+      | inr no ↦ rw no rest
+    ]
+
+pub places_of_all : {X : Type 0} (t g : X → Bool) (items : List X) → filter (λ place. option_map_or g (slice_get items place) false) (places_from t 0 items) ≡ places_from (λ x. t x && g x) 0 items
+places_of_all t g items = places_of_both t g [] items 0 refl

@@ -3,5 +3,7 @@ pub use Rattle.dbc_edits.specs.Refusals
 pub use Rattle.edit_reach.specs.Touched
 pub mod States
 pub mod Compiled
+pub mod Places
+pub mod Indexes
 pub mod Logs
 pub mod Sessions

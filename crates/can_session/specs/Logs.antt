@@ -1,9 +1,8 @@
 -- The retained lines of a session with their decoded texts, and texts that are made anew.
-use Rattle.std.specs.Prelude.{◌≡◌, ◌==◌, ℕ, ◌+◌, ◌<◌, Bool, false, List, [], ◌∷◌, All, length, map, if◌then◌else◌}
+use Rattle.std.specs.Prelude.{◌≡◌, ◌==◌, ℕ, ◌<◌, Bool, false, List, All, length, map}
 use Rattle.std.specs.List.{list_any, slice_index_or}
 use Rattle.dbc_records.specs.Databases.{Database}
 use Rattle.can_decode.specs.DecodedLines.{decoded_line}
-use Rattle.edit_reach.specs.Touched.{line_touched}
 use Rattle.can_session.specs.declared.line.Line.{Line}
 use Rattle.can_session.specs.declared.line.Fresh.{Fresh}
 
@@ -28,16 +27,6 @@ IsTextOf database lines fresh = (fresh.place < length lines) × ((d : Line) → 
 pub record Completes (database : Database) (lines : List Line) (fresh : List Fresh) : Type 0 where
   pub texts : All (IsTextOf database lines) fresh
   pub others : (k : ℕ) (d : Line) → k < length lines → is_for k fresh ≡ false → IsDecoded database (slice_index_or lines k d)
-
--- ---- the lines that an edit touches
-
--- the places from `at` on of the items that pass, in order
-abbrev pub places_from : {X : Type 0} → (X → Bool) → ℕ → List X → List ℕ
-places_from test at [] = []
-places_from test at (item ∷ items) = if test item then at ∷ places_from test (at + 1) items else places_from test (at + 1) items
-
-abbrev pub touches : List ℕ → Line → Bool
-touches numbers line = line_touched numbers (bytes_of line)
 
 abbrev pub place_of : Fresh → ℕ
 place_of fresh = fresh.place

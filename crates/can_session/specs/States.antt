@@ -10,7 +10,7 @@ use Rattle.dbc_edits.specs.declared.refusal.Refusal.TheVariants as refusals
 use Rattle.dbc_edits.specs.Refusals.{IsRefusal}
 use Rattle.dbc_edits.specs.Edits.{edited}
 use Rattle.edit_reach.specs.Touched.{line_touched}
-use Rattle.can_session.specs.Compiled.{count_here, Raised}
+use Rattle.can_session.specs.Compiled.{count_here, Raised, nothing_made}
 
 -- what commands change: the database, and the retained lines in order of arrival
 pub record State : Type 0 where
@@ -24,9 +24,11 @@ pub record Open : Type 0 where
 
 -- ---- the first state
 
--- the state of a text's database without lines, or the first fault of the text, or memory ran out
+-- The state of a text's database without lines, for which at most a plan and a picture were made of each message. Or the first
+-- fault of the text, or memory ran out.
 abbrev pub Opens : List ℕ → Result Open ReadFault → Type 0
-Opens text (Ok session) = HasDatabase text session.state.database × (session.state.lines ≡ [])
+Opens text (Ok session) =
+    HasDatabase text session.state.database × (session.state.lines ≡ []) × Raised (length session.state.database.messages) 0 nothing_made session.meter
 Opens text (Err fault) = IsRead text (Err fault)
 
 -- ---- edits

@@ -10,7 +10,7 @@ ghost use Rattle.can_session.specs.Logs.{bytes_of, IsDecoded};
 
 use crate::compiled::{Compiled, compiled_at};
 use crate::line::Line;
-use can_decode::{choose, decode_at, read_frame};
+use can_decode::{Choices, decode_at, read_frame};
 use can_layout::{Meter, Plan};
 use dbc_records::Database;
 use dbc_values::Memory;
@@ -18,11 +18,11 @@ use std::alloc::Global;
 use std::rc::Rc;
 
 // The place of the message that the frame of a line goes to.
-fn place_of_line(database: &Database, line: &[u8]) -> Option<usize>
-    ensures { result ≡ line_place database.now line.now }
+fn place_of_line<'c>(choices: &Choices<'c>, line: &[u8]) -> Option<usize>
+    ensures { result ≡ line_place choices.now line.now }
 {
     let frame = read_frame(line)?;
-    choose(database, &frame)
+    choices.choose(&frame)
 }
 
 // That place, with the plan of the message.
@@ -44,36 +44,37 @@ fn with_plan<'a>(
 
 /// The decoded text of a line. The meter counts it, also where memory is refused.
 #[tactic(auto, using(crate::proofs::Chosen::within))]
-pub(crate) fn decode(
+pub(crate) fn decode<'c>(
     alloc: Global,
-    database: &Database,
+    choices: &Choices<'c>,
     compiled: &[Rc<Compiled>],
     line: &[u8],
     meter: &mut Meter,
 ) -> Result<Vec<u8>, Memory>
-    requires compiled { map (λ one. one.value) compiled.now ≡ map (compiled_of database.now) database.now.messages }
-    ensures text { IfOk result (λ text. text.items ≡ decoded_line database.now line.now) }
+    requires compiled { map (λ one. one.value) compiled.now ≡ map (compiled_of choices.now) choices.now.messages }
+    ensures text { IfOk result (λ text. text.items ≡ decoded_line choices.now line.now) }
     ensures counted { meter.new ≡ with_line meter.old }
 {
-    let place = place_of_line(database, line);
+    let place = place_of_line(choices, line);
+    let database = choices.database();
     let chosen = with_plan(database, compiled, place);
     decode_at(alloc, database, chosen, line, meter)
 }
 
 /// A line with its decoded text.
-pub(crate) fn new_line(
+pub(crate) fn new_line<'c>(
     alloc: Global,
-    database: &Database,
+    choices: &Choices<'c>,
     compiled: &[Rc<Compiled>],
     line: &[u8],
     meter: &mut Meter,
 ) -> Result<Line, Memory>
-    requires compiled { map (λ one. one.value) compiled.now ≡ map (compiled_of database.now) database.now.messages }
+    requires compiled { map (λ one. one.value) compiled.now ≡ map (compiled_of choices.now) choices.now.messages }
     ensures bytes { IfOk result (λ made. bytes_of made ≡ line.now) }
-    ensures decoded { IfOk result (λ made. IsDecoded database.now made) }
+    ensures decoded { IfOk result (λ made. IsDecoded choices.now made) }
     ensures lines { Raised 0 1 meter.old meter.new }
 {
     let bytes = line.to_vec(alloc)?;
-    let decoded = decode(alloc, database, compiled, line, meter)?;
+    let decoded = decode(alloc, choices, compiled, line, meter)?;
     Ok(Line { bytes, decoded })
 }

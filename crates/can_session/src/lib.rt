@@ -1,12 +1,15 @@
-//! The open session: a database that is edited, and what is shown of it at every moment.
+//! The open session: a database that is edited, a log that is retained, and what is shown of both at every moment.
 //!
-//! After each edit a [`Session`] shows what compiling its database from scratch would show: the diagnostics, the decode plans and
-//! the pictures. A refused edit leaves all of it as it was.
+//! After each edit and each line a [`Session`] shows what compiling its database from scratch, and decoding each line with it, would
+//! show: the diagnostics, the decode plans, the pictures and the decoded texts. What is refused leaves all of it as it was. An edit
+//! makes anew only what it can change.
 #![tactic(auto)]
 
 mod compiled;
 mod decoding;
+mod keyed_places;
 mod line;
+mod log_index;
 mod recompiling;
 mod session;
 #[cfg(test)]

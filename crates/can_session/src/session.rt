@@ -7,16 +7,20 @@ ghost use Rattle.can_check.specs.RowFaults.{all_faults};
 ghost use Rattle.can_decode.specs.DecodedLines.{decoded_line};
 ghost use Rattle.dbc_edits.specs.Edits.{edited};
 ghost use Rattle.edit_reach.specs.Touched.{edit_numbers, line_touched};
-ghost use Rattle.can_session.specs.Compiled.{compiled_of, count_here, Raised};
-ghost use Rattle.can_session.specs.Logs.{touches, IsDecoded, Completes};
+ghost use Rattle.can_decode.specs.Remembering.{AreChoices};
+ghost use Rattle.can_session.specs.Compiled.{compiled_of, count_here, Raised, nothing_made};
+ghost use Rattle.can_session.specs.Logs.{bytes_of, IsDecoded, Completes};
+ghost use Rattle.can_session.specs.Indexes.{IsIndexed};
 ghost use Rattle.can_session.specs.States.{Applies, Adds, RaisedBy, Opens};
 
 use crate::compiled::{Compiled, compiled_all, compiled_at};
 use crate::decoding::new_line;
 use crate::line::{Fresh, Line, exchange};
+use crate::log_index::{LogIndex, retain};
 use crate::recompiling::{messages_of, recompiled};
 use crate::touching::decode_touched;
 use can_check::{Diagnostic, all_faults};
+use can_decode::{Choices, MessageIndex};
 use can_layout::{Indexed, Meter, Plan};
 use dbc_edits::{Edit, Refusal, edited};
 use dbc_reader::read;
@@ -43,7 +47,9 @@ pub struct Session {
     database: Database,
     diagnostics: Vec<Diagnostic>,
     compiled: Vec<Rc<Compiled>>,
+    messages: MessageIndex,
     lines: Vec<Line>,
+    log: LogIndex,
     meter: Meter,
 }
 
@@ -57,7 +63,7 @@ impl Model for Session {
 
     ghost view = { λ a. record { state = record { database = a.database; lines = map bytes_of a.lines.items }; meter = a.meter } };
 
-    ghost invariant = { λ a. IsSession a.database a.diagnostics.items (map (λ one. one.value) a.compiled.items) a.lines.items };
+    ghost invariant = { λ a. IsSession a.database a.diagnostics.items (map (λ one. one.value) a.compiled.items) a.messages a.lines.items a.log };
 }
 
 // What is compiled of a whole database.
@@ -78,6 +84,7 @@ fn compiled_database(
 struct Shown {
     diagnostics: Vec<Diagnostic>,
     compiled: Vec<Rc<Compiled>>,
+    messages: MessageIndex,
     fresh: Vec<Fresh>,
 }
 
@@ -87,6 +94,7 @@ fn shown_after(
     before: &Database,
     compiled: &[Rc<Compiled>],
     lines: &[Line],
+    log: &LogIndex,
     edit: &Edit,
     after: &Database,
     meter: &mut Meter,
@@ -94,10 +102,12 @@ fn shown_after(
     requires edited { edited before.now edit.now ≡ Ok after.now }
     requires compiled { map (λ one. one.value) compiled.now ≡ map (compiled_of before.now) before.now.messages }
     requires decoded { All (IsDecoded before.now) lines.now }
+    requires indexed { IsIndexed (map bytes_of lines.now) log.now }
     ensures diagnostics { IfOk result (λ shown. shown.diagnostics.items ≡ all_faults after.now) }
     ensures compiled { IfOk result (λ shown. map (λ one. one.value) shown.compiled.items ≡ map (compiled_of after.now) after.now.messages) }
+    ensures found { IfOk result (λ shown. AreChoices after.now after.now.messages shown.messages.exact shown.messages.grouped) }
     ensures fresh { IfOk result (λ shown. Completes after.now lines.now shown.fresh.items) }
-    ensures made { Raised (count_here (edit_numbers before.now edit.now) after.now) (count_by (touches (edit_numbers before.now edit.now)) lines.now) meter.old meter.new }
+    ensures made { Raised (count_here (edit_numbers before.now edit.now) after.now) (count_by (line_touched (edit_numbers before.now edit.now)) (map bytes_of lines.now)) meter.old meter.new }
 {
     let numbers = edit_numbers(before, edit);
     let diagnostics = all_faults(alloc, after)?;
@@ -110,19 +120,23 @@ fn shown_after(
         after,
         meter,
     )?;
+    let messages = MessageIndex::of(alloc, after)?;
     let fresh = decode_touched(
         alloc,
         before,
         edit,
         numbers.as_slice(),
         after,
+        &messages,
         compiled.as_slice(),
         lines,
+        log,
         meter,
     )?;
     Ok(Shown {
         diagnostics,
         compiled,
+        messages,
         fresh,
     })
 }
@@ -131,17 +145,20 @@ fn shown_after(
 fn session_of(alloc: Global, database: Database) -> Result<Session, Memory>
     ensures database { IfOk result (λ session. session.state.database ≡ database) }
     ensures lines { IfOk result (λ session. session.state.lines ≡ []) }
-    ensures made { IfOk result (λ session. Raised (length database.messages) 0 (record { plans = 0; pictures = 0; lines = 0 }) session.meter) }
+    ensures made { IfOk result (λ session. Raised (length database.messages) 0 nothing_made session.meter) }
 {
     let mut meter = Meter::new();
     let diagnostics = all_faults(alloc, &database)?;
     let compiled = compiled_database(alloc, &database, &mut meter)?;
+    let messages = MessageIndex::of(alloc, &database)?;
     Ok(Session {
         alloc,
         database,
         diagnostics,
         compiled,
+        messages,
         lines: Vec::new(alloc),
+        log: LogIndex::new(alloc),
         meter,
     })
 }
@@ -176,12 +193,14 @@ impl Session {
         let Shown {
             diagnostics,
             compiled,
+            messages,
             fresh,
         } = shown_after(
             self.alloc,
             &self.database,
             self.compiled.as_slice(),
             self.lines.as_slice(),
+            &self.log,
             edit,
             &after,
             &mut self.meter,
@@ -190,6 +209,7 @@ impl Session {
         self.database = after;
         self.diagnostics = diagnostics;
         self.compiled = compiled;
+        self.messages = messages;
         exchange(self.lines.as_mut_slice(), fresh);
         Ok(())
     }
@@ -218,17 +238,16 @@ impl Session {
         if line.len() > LONGEST_LINE {
             return Err(Refusal::LongLine);
         }
+        let choices = Choices::by(&self.database, &self.messages);
         let made = new_line(
             self.alloc,
-            &self.database,
+            &choices,
             self.compiled.as_slice(),
             line,
             &mut self.meter,
         )?;
-        match self.lines.push(made) {
-            Ok(()) => Ok(()),
-            Err(_) => Err(Refusal::Memory),
-        }
+        retain(self.alloc, &mut self.lines, &mut self.log, made)?;
+        Ok(())
     }
 
     /// The database.

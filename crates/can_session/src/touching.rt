@@ -1,13 +1,17 @@
 //! The lines that an edit touches, and their new texts.
-ghost use Rattle.std.specs.Prelude.{◌≡◌, ◌<◌, All, IfOk, Ok, length, count_by, map};
+ghost use Rattle.std.specs.Prelude.{◌≡◌, ◌<◌, ◌++◌, All, IfOk, OnOk, Ok, length, count_by, map, filter};
 ghost use Rattle.dbc_edits.specs.Edits.{edited};
-ghost use Rattle.edit_reach.specs.Touched.{edit_numbers};
+ghost use Rattle.can_decode.specs.Remembering.{AreChoices};
+ghost use Rattle.edit_reach.specs.Touched.{edit_numbers, line_touched};
 ghost use Rattle.can_session.specs.Compiled.{compiled_of, Raised};
-ghost use Rattle.can_session.specs.Logs.{touches, places_from, TextsAt, IsTextOf, IsDecoded, Completes};
+ghost use Rattle.can_session.specs.Logs.{bytes_of, TextsAt, IsTextOf, IsDecoded, Completes};
+ghost use Rattle.can_session.specs.Indexes.{IsIndexed, is_untouched_at, Covers};
 
 use crate::compiled::Compiled;
 use crate::decoding::decode;
 use crate::line::{Fresh, Line};
+use crate::log_index::LogIndex;
+use can_decode::{Choices, MessageIndex};
 use can_layout::Meter;
 use dbc_edits::Edit;
 use dbc_records::Database;
@@ -17,62 +21,88 @@ use edit_reach::line_touched;
 use std::alloc::Global;
 use std::rc::Rc;
 
-fn touches(numbers: &[u32], line: &Line) -> bool
-    ensures { result ≡ touches numbers.now line.now }
+// Whether the line at a place is touched by none of the numbers.
+#[tactic(auto, using(crate::proofs::Places::line_there))]
+fn is_untouched_at(numbers: &[u32], lines: &[Line], place: usize) -> bool
+    ensures { result ≡ is_untouched_at numbers.now (map bytes_of lines.now) place }
 {
-    line_touched(numbers, line.bytes.as_slice())
+    match lines.get(place) {
+        Some(line) => !line_touched(numbers, line.bytes.as_slice()),
+        None => false,
+    }
 }
 
-// The places of the lines that the numbers touch, in order.
-fn touched_places(alloc: Global, lines: &[Line], numbers: &[u32]) -> Result<Vec<usize>, Memory>
-    ensures { IfOk result (λ places. places.items ≡ places_from (touches numbers.now) 0 lines.now) }
+// Adds the places of lines that none of the earlier numbers touches.
+fn add_places(
+    places: &mut Vec<usize>,
+    found: &[usize],
+    earlier: &[u32],
+    lines: &[Line],
+) -> Result<(), Memory>
+    ensures { OnOk result (places.new.items ≡ places.old.items ++ filter (is_untouched_at earlier.now (map bytes_of lines.now)) found.now) }
+{
+    for place in found {
+        if is_untouched_at(earlier, lines, *place) {
+            places.push(*place)?;
+        }
+    }
+    Ok(())
+}
+
+// The places of the lines that the numbers touch, each once.
+fn touched_places(
+    alloc: Global,
+    log: &LogIndex,
+    lines: &[Line],
+    numbers: &[u32],
+) -> Result<Vec<usize>, Memory>
+    requires { IsIndexed (map bytes_of lines.now) log.now }
+    ensures { IfOk result (λ places. Covers numbers.now (map bytes_of lines.now) places.items) }
 {
     let mut places = Vec::new(alloc);
-    for (place, line) in lines.iter().enumerate() {
-        if touches(numbers, line) {
-            places.push(place)?;
-        }
+    for (at, number) in numbers.iter().enumerate() {
+        add_places(&mut places, log.places_of(*number), &numbers[..at], lines)?;
     }
     Ok(places)
 }
 
 // The text of the line at a place.
-fn fresh_at(
+fn fresh_at<'c>(
     alloc: Global,
-    database: &Database,
+    choices: &Choices<'c>,
     compiled: &[Rc<Compiled>],
     lines: &[Line],
     place: usize,
     meter: &mut Meter,
 ) -> Result<Fresh, Memory>
-    requires compiled { map (λ one. one.value) compiled.now ≡ map (compiled_of database.now) database.now.messages }
+    requires compiled { map (λ one. one.value) compiled.now ≡ map (compiled_of choices.now) choices.now.messages }
     requires place { place < length lines.now }
     ensures place { IfOk result (λ fresh. fresh.place ≡ place) }
-    ensures text { IfOk result (λ fresh. IsTextOf database.now lines.now fresh) }
+    ensures text { IfOk result (λ fresh. IsTextOf choices.now lines.now fresh) }
     ensures lines { Raised 0 1 meter.old meter.new }
 {
     let line = lines[place].bytes.as_slice();
-    let text = decode(alloc, database, compiled, line, meter)?;
+    let text = decode(alloc, choices, compiled, line, meter)?;
     Ok(Fresh { place, text })
 }
 
 // The texts of the lines at the places.
-fn decode_places(
+fn decode_places<'c>(
     alloc: Global,
-    database: &Database,
+    choices: &Choices<'c>,
     compiled: &[Rc<Compiled>],
     lines: &[Line],
     places: &[usize],
     meter: &mut Meter,
 ) -> Result<Vec<Fresh>, Memory>
-    requires compiled { map (λ one. one.value) compiled.now ≡ map (compiled_of database.now) database.now.messages }
+    requires compiled { map (λ one. one.value) compiled.now ≡ map (compiled_of choices.now) choices.now.messages }
     requires places { All (λ place. place < length lines.now) places.now }
-    ensures texts { IfOk result (λ fresh. TextsAt database.now lines.now places.now fresh.items) }
+    ensures texts { IfOk result (λ fresh. TextsAt choices.now lines.now places.now fresh.items) }
     ensures lines { Raised 0 (length places.now) meter.old meter.new }
 {
     let mut fresh = Vec::new(alloc);
     for place in places {
-        fresh.push(fresh_at(alloc, database, compiled, lines, *place, meter)?)?;
+        fresh.push(fresh_at(alloc, choices, compiled, lines, *place, meter)?)?;
     }
     Ok(fresh)
 }
@@ -84,19 +114,24 @@ pub(crate) fn decode_touched(
     edit: &Edit,
     numbers: &[u32],
     after: &Database,
+    index: &MessageIndex,
     compiled: &[Rc<Compiled>],
     lines: &[Line],
+    log: &LogIndex,
     meter: &mut Meter,
 ) -> Result<Vec<Fresh>, Memory>
     requires edited { edited before.now edit.now ≡ Ok after.now }
     requires numbers { numbers.now ≡ edit_numbers before.now edit.now }
+    requires found { AreChoices after.now after.now.messages index.now.exact index.now.grouped }
     requires compiled { map (λ one. one.value) compiled.now ≡ map (compiled_of after.now) after.now.messages }
     requires decoded { All (IsDecoded before.now) lines.now }
+    requires indexed { IsIndexed (map bytes_of lines.now) log.now }
     ensures completes { IfOk result (λ fresh. Completes after.now lines.now fresh.items) }
-    ensures lines { Raised 0 (count_by (touches numbers.now) lines.now) meter.old meter.new }
+    ensures lines { Raised 0 (count_by (line_touched numbers.now) (map bytes_of lines.now)) meter.old meter.new }
 {
     untouched_lines_stay();
-    let places = touched_places(alloc, lines, numbers)?;
-    let fresh = decode_places(alloc, after, compiled, lines, places.as_slice(), meter)?;
+    let places = touched_places(alloc, log, lines, numbers)?;
+    let choices = Choices::by(after, index);
+    let fresh = decode_places(alloc, &choices, compiled, lines, places.as_slice(), meter)?;
     Ok(fresh)
 }

@@ -2,7 +2,7 @@
 ghost use Rattle.candesk_calls.specs.Run.{Runs};
 
 use crate::fault::RunFault;
-use can_decode::{Choices, decode_stream_by};
+use can_decode::{Choices, MessageIndex, decode_stream_by};
 use can_layout::{Meter, make_plans};
 use dbc_model::{Sink, Source};
 use dbc_reader::read;
@@ -26,9 +26,10 @@ pub fn decode_run<R: Source, W: Sink>(
     let Ok(plans) = make_plans(alloc, &database, &mut meter) else {
         return Err(RunFault::Memory);
     };
-    let Ok(choices) = Choices::of(alloc, &database) else {
+    let Ok(index) = MessageIndex::of(alloc, &database) else {
         return Err(RunFault::Memory);
     };
+    let choices = Choices::by(&database, &index);
     match decode_stream_by(alloc, &choices, plans.as_slice(), &mut meter, source, sink) {
         Ok(count) => Ok(count),
         Err(fault) => Err(RunFault::Stream(fault)),

@@ -7,15 +7,16 @@ ghost use Rattle.edit_reach.specs.Touched.{may_have_group, shares_group, concern
 use can_rows::{group_number, is_bad_number};
 use log_frames::{Frame, read_frame};
 
-fn is_extended(number: u32) -> bool
+/// Whether the number is that of an identifier of 29 bits.
+pub fn is_extended(number: u32) -> bool
     ensures { result ≡ is_extended number }
 {
     number >> 31 & 1 == 1
 }
 
-// Whether a message of this number may be a group message.
+/// Whether a message of this number may be a group message.
 #[tactic(auto, unfolding(crate::specs::Touched::may_have_group))]
-fn may_have_group(number: u32) -> bool
+pub fn may_have_group(number: u32) -> bool
     ensures { result ≡ may_have_group number }
 {
     is_extended(number) && !is_bad_number(number)

@@ -8,7 +8,7 @@ use Rattle.can_decode.specs.declared.choosing.Choice.{Choice}
 use Rattle.std.proofs.Math.Seq.{take-length}
 use Rattle.can_decode.specs.Remembering.{AreChoices}
 use Rattle.can_decode.proofs.Indexes.{more}
-use Rattle.can_decode.proofs.choices.choices_in.Goals as goal
+use Rattle.can_decode.proofs.message_index.index_in.Goals as goal
 
 pub loop-place-init : goal.loop-place-init
 loop-place-init g c = search rules
@@ -26,8 +26,8 @@ loop-place-preserved g c =
     (λ other. c.in_ok-keep_first_of_group.ensures other
     ∙ ap (λ (choice : Choice). option_or (get nat_cmp c.loop-place.grouped other) (if is_group other c.group_in-group.result then Some choice else None)) c.choice_of_group-choice.ensures)
 
-pub invariant_of-result : goal.invariant_of-result
-invariant_of-result g c =
+pub returns : goal.returns
+returns g c =
     let end : c.loop-place.place ≡ length c.messages_of-message-items.result.now = omega (arith, c.loop-place-test.false, c.loop-place.auto.place-end) in
     let whole : take c.loop-place.place c.messages_of-message-items.result.now ≡ c.args.database.now.messages = ap (λ n. take n c.messages_of-message-items.result.now) end ∙ take-length c.messages_of-message-items.result.now ∙ c.messages_of-message-items.ensures in
     subst (λ ms. AreChoices c.args.database.now ms c.loop-place.exact c.loop-place.grouped) whole c.loop-place.invariant

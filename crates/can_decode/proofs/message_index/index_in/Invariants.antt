@@ -1,6 +1,6 @@
 use Rattle.std.proofs.Common.{take}
 use Rattle.can_decode.specs.Remembering.{AreChoices}
-use Rattle.can_decode.proofs.choices.choices_in.Given as goal
+use Rattle.can_decode.proofs.message_index.index_in.Given as goal
 
 -- the first of the messages so far
 abbrev pub invariant-loop-place : goal.invariant-loop-place

@@ -1,0 +1,77 @@
+-- The retained lines by the numbers and by the parameter groups of their data frames.
+-- Source: SAE J1939-21, "Parameter Group Numbers", for which frames belong to one group.
+use Rattle.std.specs.Prelude.{◌≡◌, ◌<◌, ◌≤◌, ℕ, Bool, true, false, not, ◌&&◌, ◌==◌, List, [], ◌∷◌, ◌++◌, All, length, count_by, slice_get, Option, Some, None, MatchOption, option_and_then, Vec, vec_len, vec_capacity, nat_eq, if◌then◌else◌}
+use Rattle.std.specs.declared.alloc.Global.{Global}
+use Rattle.std.specs.List.{list_any, slice_index_or}
+use Rattle.std.specs.Option.{option_map_or}
+use Rattle.indexmap.specs.IndexMap.{IndexMap, get}
+use Rattle.can_rows.specs.Groups.{is_extended, group_number_of}
+use Rattle.log_frames.specs.Frames.{Frame, body_of, frame_of, is_data, number_of}
+use Rattle.edit_reach.specs.Touched.{may_have_group, line_touched}
+use Rattle.can_session.specs.declared.log_index.LogIndex.{LogIndex}
+use Rattle.can_session.specs.Places.{places_from}
+
+-- ---- what a line is found by
+
+abbrev pub number_of_data : Frame → Option ℕ
+number_of_data frame = if is_data frame then Some (number_of frame) else None
+
+-- the number of the line's data frame
+unfoldable pub data_number : List ℕ → Option ℕ
+data_number line = option_and_then number_of_data (frame_of (body_of line))
+
+-- the line has a data frame of the number
+abbrev pub has_number : ℕ → List ℕ → Bool
+has_number number line = option_map_or (λ other. number == other) (data_number line) false
+
+-- it has one with an identifier of 29 bits, of the group
+abbrev pub has_group : ℕ → List ℕ → Bool
+has_group group line = option_map_or (λ number. is_extended number && group == group_number_of number) (data_number line) false
+
+-- ---- the index
+
+-- the places under a key
+abbrev pub places_at : {S : Type 0} → ℕ → IndexMap ℕ (Vec ℕ Global) S → List ℕ
+places_at key places = option_map_or (λ list. list.items) (get nat_eq places key) []
+
+-- each number has the places of the lines with data frames of that number, in order of arrival, and each group those of 29 bits
+-- that are of the group
+pub record IsIndexed (lines : List (List ℕ)) (index : LogIndex) : Type 0 where
+  pub by_number : (number : ℕ) → places_at number index.numbers ≡ places_from (has_number number) 0 lines
+  pub by_group : (group : ℕ) → places_at group index.groups ≡ places_from (has_group group) 0 lines
+
+-- the places under the key of a number that an edit has: its group, where a message of it may have one, or else the number
+abbrev pub places_of : ℕ → LogIndex → List ℕ
+places_of number index = if may_have_group number then places_at (group_number_of number) index.groups else places_at number index.numbers
+
+-- ---- one more place
+
+-- there is room for one more place under the key
+abbrev pub HasRoom : {S : Type 0} → ℕ → IndexMap ℕ (Vec ℕ Global) S → Type 0
+HasRoom key places = MatchOption (get nat_eq places key) ⊥ (λ list. vec_len list < vec_capacity list)
+
+-- there is for that of a line with a data frame of the number
+pub record HasRoomFor (number : ℕ) (index : LogIndex) : Type 0 where
+  pub by_number : HasRoom number index.numbers
+  pub by_group : is_extended number ≡ true → HasRoom (group_number_of number) index.groups
+
+pub record SamePlaces (before after : LogIndex) : Type 0 where
+  pub by_number : (number : ℕ) → places_at number after.numbers ≡ places_at number before.numbers
+  pub by_group : (group : ℕ) → places_at group after.groups ≡ places_at group before.groups
+
+-- the place of a line with a data frame of the number is behind the others
+pub record Puts (number place : ℕ) (before after : LogIndex) : Type 0 where
+  pub by_number : (other : ℕ) → places_at other after.numbers ≡ places_at other before.numbers ++ (if other == number then place ∷ [] else [])
+  pub by_group : (group : ℕ) → places_at group after.groups ≡ places_at group before.groups ++ (if is_extended number && group == group_number_of number then place ∷ [] else [])
+
+-- ---- the lines that numbers touch
+
+-- the line at the place is touched by none of the numbers
+abbrev pub is_untouched_at : List ℕ → List (List ℕ) → ℕ → Bool
+is_untouched_at numbers lines place = option_map_or (λ line. not (line_touched numbers line)) (slice_get lines place) false
+
+-- these are places of lines, with those of all lines that the numbers touch, and they are no more than these
+pub record Covers (numbers : List ℕ) (lines : List (List ℕ)) (places : List ℕ) : Type 0 where
+  pub within : All (λ place. place < length lines) places
+  pub touched : (k : ℕ) (d : List ℕ) → k < length lines → line_touched numbers (slice_index_or lines k d) ≡ true → list_any (λ place. place == k) places ≡ true
+  pub few : length places ≤ count_by (line_touched numbers) lines
