@@ -9,6 +9,7 @@ use Rattle.dbc_records.specs.Attributes.{AttrRow}
 use Rattle.dbc_records.specs.Databases.{Database}
 use Rattle.dbc_records.specs.declared.target.Target.{Target}
 use Rattle.dbc_records.specs.declared.target.Target.TheVariants as targets
+use Rattle.can_rows.specs.Groups.{is_for_message}
 
 -- ---- lists of rows
 
@@ -36,13 +37,6 @@ is_of_signal number name targets.Whole = false
 is_of_signal number name (targets.Node other) = false
 is_of_signal number name (targets.Message other) = false
 is_of_signal number name (targets.Signal other signal) = other == number && bytes_eq signal name
-
--- the target is the message of the number, and no signal of it
-abbrev pub is_of_message : ℕ → Target → Bool
-is_of_message number targets.Whole = false
-is_of_message number (targets.Node name) = false
-is_of_message number (targets.Message other) = other == number
-is_of_message number (targets.Signal other name) = false
 
 -- the rows that have no target written as such speak of a signal
 abbrev pub values_target : ValueRow → Target
@@ -124,4 +118,4 @@ is_table_of name row = bytes_eq row.name name
 
 -- an attribute of a message: those of nodes and signals have other keys
 abbrev pub is_attribute_of : List ℕ → ℕ → AttrRow → Bool
-is_attribute_of name number row = is_of_message number row.target && bytes_eq row.name name
+is_attribute_of name number row = is_for_message number row.target && bytes_eq row.name name

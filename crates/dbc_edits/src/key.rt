@@ -1,8 +1,8 @@
 //! The keys by which rows are found.
 ghost use Rattle.std.specs.Prelude.{◌≡◌, Bool};
-ghost use Rattle.dbc_records.specs.declared.target.Target.{Target as Aim};
+ghost use Rattle.dbc_records.specs.declared.target.Target.{Target as TargetSpec};
 ghost use Rattle.dbc_records.specs.declared.target.Target.TheVariants as targets;
-ghost use Rattle.dbc_edits.specs.Rows.{is_of_message};
+ghost use Rattle.can_rows.specs.Groups.{is_for_message};
 
 use dbc_records::{AttrRow, Comment, FloatRow, MuxRow, Signal, TableRow, Target, ValueRow};
 use dbc_values::{Checked, Copied, Name, same};
@@ -19,7 +19,7 @@ pub(crate) trait Key<R: Checked>: Drop {
 /// A test on what rows speak of.
 pub(crate) trait TargetKey: Drop {
     // Whether a target passes.
-    ghost takes: { Self → Aim → Bool };
+    ghost takes: { Self → TargetSpec → Bool };
 
     fn takes(&self, target: &Target) -> bool
         ensures { result ≡ takes self.now target.now };
@@ -29,15 +29,15 @@ pub(crate) trait TargetKey: Drop {
 }
 
 /// A row that speaks of something.
-pub(crate) trait Aimed: Copied {
+pub(crate) trait Targeted: Copied {
     // What it speaks of.
-    ghost target: { Self → Aim };
+    ghost target: { Self → TargetSpec };
 
     fn is_of<K: TargetKey>(&self, key: &K) -> bool
         ensures { result ≡ K.takes key.now (target self.now) };
 }
 
-impl<R: Aimed, K: TargetKey> Key<R> for K {
+impl<R: Targeted, K: TargetKey> Key<R> for K {
     ghost has = { λ key row. K.takes key (R.target row) };
 
     fn has(&self, row: &R) -> bool {
@@ -45,7 +45,7 @@ impl<R: Aimed, K: TargetKey> Key<R> for K {
     }
 }
 
-impl Aimed for Comment {
+impl Targeted for Comment {
     ghost target = { λ row. row.target };
 
     fn is_of<K: TargetKey>(&self, key: &K) -> bool {
@@ -53,7 +53,7 @@ impl Aimed for Comment {
     }
 }
 
-impl Aimed for AttrRow {
+impl Targeted for AttrRow {
     ghost target = { λ row. row.target };
 
     fn is_of<K: TargetKey>(&self, key: &K) -> bool {
@@ -61,7 +61,7 @@ impl Aimed for AttrRow {
     }
 }
 
-impl Aimed for ValueRow {
+impl Targeted for ValueRow {
     ghost use Rattle.dbc_edits.specs.Rows.{values_target};
 
     ghost target = { values_target };
@@ -71,7 +71,7 @@ impl Aimed for ValueRow {
     }
 }
 
-impl Aimed for FloatRow {
+impl Targeted for FloatRow {
     ghost use Rattle.dbc_edits.specs.Rows.{float_target};
 
     ghost target = { float_target };
@@ -81,7 +81,7 @@ impl Aimed for FloatRow {
     }
 }
 
-impl Aimed for MuxRow {
+impl Targeted for MuxRow {
     ghost use Rattle.dbc_edits.specs.Rows.{mux_target};
 
     ghost target = { mux_target };
@@ -163,7 +163,7 @@ pub(crate) struct OfAttribute<'a> {
 }
 
 fn is_of_message(target: &Target, number: u32) -> bool
-    ensures { result ≡ is_of_message number target.now }
+    ensures { result ≡ is_for_message number target.now }
 {
     match target {
         Target::Message(other) => *other == number,

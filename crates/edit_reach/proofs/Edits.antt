@@ -12,7 +12,7 @@ use Rattle.dbc_edits.specs.declared.edit.Edit.{Edit}
 use Rattle.dbc_edits.specs.declared.edit.Edit.TheVariants as edits
 use Rattle.dbc_edits.specs.declared.refusal.Refusal.{Refusal}
 use Rattle.dbc_edits.specs.Changes.{Change}
-use Rattle.dbc_edits.specs.Rows.{without, with_item, is_of_number, is_of_signal, is_of_message, values_target, float_target, mux_target, without_rows, renumbered, target_renumbered, attribute_renumbered, values_renumbered, float_renumbered, mux_renumbered, rows_renumbered, is_values_of, is_mux_of, is_attribute_of}
+use Rattle.dbc_edits.specs.Rows.{without, with_item, is_of_number, is_of_signal, values_target, float_target, mux_target, without_rows, renumbered, target_renumbered, attribute_renumbered, values_renumbered, float_renumbered, mux_renumbered, rows_renumbered, is_values_of, is_mux_of, is_attribute_of}
 use Rattle.dbc_edits.specs.Edits.{at_message, refused_if, message_added, has_number, cleared_of_number, message_removed, with_message, message_changed, message_renumbered, signal_added, has_signal, cleared_of_signal, signal_removed, signal_changed, mux_set, values_set, mux_dropped, values_dropped, table_set, table_dropped, attribute_set, attribute_dropped, edited}
 use Rattle.can_rows.specs.Rows.{rows_of}
 use Rattle.can_rows.specs.Groups.{is_for_message, gives_format, format_row}
@@ -82,7 +82,7 @@ of_signal k name (targets.Node other) is = absurd (cc)
 of_signal k name (targets.Message m) is = absurd (cc)
 of_signal k name (targets.Signal m signal) is = (and_parts _ _ is).0
 
-of_message : (k : ℕ) (target : Target) → is_of_message k target ≡ true → is_of_number k target ≡ true
+of_message : (k : ℕ) (target : Target) → is_for_message k target ≡ true → is_of_number k target ≡ true
 of_message k targets.Whole is = absurd (cc)
 of_message k (targets.Node other) is = absurd (cc)
 of_message k (targets.Message m) is = is
