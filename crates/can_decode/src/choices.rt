@@ -68,7 +68,6 @@ impl<'a> Choices<'a> {
     }
 
     // The place of the message that a number goes to.
-    #[tactic(auto, using(crate::proofs::Indexes::place_chosen))]
     fn place_of_number(&self, number: u32) -> Option<usize>
         ensures { result ≡ place_of_number self.now number }
     {

@@ -5,3 +5,4 @@ pub mod Places
 pub mod Reached
 pub mod Covered
 pub mod Indexed
+pub mod Raising
