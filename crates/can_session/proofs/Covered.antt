@@ -1,7 +1,7 @@
 -- The places of the lines that several numbers touch, each once.
-use Rattle.std.proofs.Common.{◌≡◌, ◌<◌, ◌≤◌, ◌+◌, ℕ, Bool, true, false, not, cond, List, [], ◌∷◌, ◌++◌, length, length-append, get_or, refl, sym, ap, ◌∙◌, inl, inr, arith}
-use Rattle.std.specs.Prelude.{All, ◌==◌, ◌||◌, ◌&&◌, count_by, filter}
-use Rattle.std.specs.List.{list_any, sum_by}
+use Rattle.std.proofs.Common.{◌≡◌, ◌<◌, ◌+◌, ℕ, Bool, true, false, not, cond, List, [], ◌∷◌, ◌++◌, length, length-append, get_or, refl, sym, ap, ◌∙◌, inl, inr, arith}
+use Rattle.std.specs.Prelude.{◌==◌, ◌||◌, ◌&&◌, count_by, filter}
+use Rattle.std.specs.List.{list_any}
 use Rattle.std.proofs.lemmas.Bool.{cases_Bool, both_ways, or_left, or_right}
 use Rattle.std.proofs.lemmas.List.Elements.{All-nil, All-append}
 use Rattle.std.proofs.lemmas.List.Folds.{list_any-append}
@@ -27,8 +27,8 @@ count_both e t u is (x ∷ xs) =
     let rest = count_both e t u is xs in
     let here : cond (e x) 1 0 + cond (t x && not (e x)) 1 0 ≡ cond (u x) 1 0 =
     elim (cases_Bool (e x)) [
-      | inl yes ↦ rw (is x, yes) (elim (cases_Bool (t x)) [ inl t ↦ rw t refl | inr f ↦ rw f refl ])
-      | inr no ↦ rw (is x, no) (elim (cases_Bool (t x)) [ inl t ↦ rw t refl | inr f ↦ rw f refl ])
+      | inl hit ↦ rw (is x, hit) (elim (cases_Bool (t x)) [ inl t ↦ rw t refl | inr f ↦ rw f refl ])
+      | inr miss ↦ rw (is x, miss) (elim (cases_Bool (t x)) [ inl t ↦ rw t refl | inr f ↦ rw f refl ])
     ] in
     omega (arith, rest, here, sum_by-cons (λ x. cond (e x) 1 0) x xs, sum_by-cons (λ x. cond (t x && not (e x)) 1 0) x xs, sum_by-cons (λ x. cond (u x) 1 0) x xs)
 
@@ -52,8 +52,8 @@ covers_more earlier number lines index places indexed h =
           let so = sym (touched_more earlier number line) ∙ touched in
           list_any-append (λ place. place == k) places (places_from both 0 lines)
           ∙ elim (cases_Bool (before line)) [
-            | inl yes ↦ or_left _ _ (h.touched k d within yes)
-            | inr no ↦ or_right (list_any (λ place. place == k) places) _ (found-place both 0 lines k k d within (omega arith) (rw no (passes_one (one line) (rw no at so))))
+            | inl hit ↦ or_left _ _ (h.touched k d within hit)
+            | inr miss ↦ or_right (list_any (λ place. place == k) places) _ (found-place both 0 lines k k d within (omega arith) (rw miss (passes_one (one line) (rw miss at so))))
           ];
       few = omega (arith, h.few, length-append places (places_from both 0 lines), length-places both 0 lines, count_both before one (line_touched (earlier ++ number ∷ [])) (touched_more earlier number) lines);
     })

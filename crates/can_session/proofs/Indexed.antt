@@ -1,11 +1,9 @@
 -- One more line in the index of the retained lines.
-use Rattle.std.proofs.Common.{◌≡◌, ◌+◌, ℕ, List, [], ◌∷◌, ◌++◌, length, refl, sym, ap, ◌∙◌, arith}
-use Rattle.std.specs.Prelude.{◌==◌, ◌&&◌, Option, Some, None, if◌then◌else◌}
+use Rattle.std.proofs.Common.{◌≡◌, ◌+◌, ℕ, List, [], ◌∷◌, ◌++◌, length, refl, sym, ◌∙◌, arith}
+use Rattle.std.specs.Prelude.{Some, None}
 use Rattle.std.proofs.lemmas.List.{append-nil}
-use Rattle.can_rows.specs.Groups.{is_extended, group_number_of}
 use Rattle.can_session.specs.declared.log_index.LogIndex.{LogIndex}
-use Rattle.can_session.specs.Indexes.{data_number, has_number, has_group, places_at, SamePlaces, Puts, IsIndexed}
-use Rattle.can_session.specs.Places.{places_from}
+use Rattle.can_session.specs.Indexes.{data_number, has_number, has_group, SamePlaces, Puts, IsIndexed}
 use Rattle.can_session.proofs.Places.{places-push}
 
 pub same_places : (lines : List (List ℕ)) (before after : LogIndex) → IsIndexed lines before → SamePlaces before after → IsIndexed lines after

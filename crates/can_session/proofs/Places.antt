@@ -88,8 +88,8 @@ places_same t u same at [] = refl
 places_same t u same at (item ∷ items) =
     let rest = places_same t u same (at + 1) items in
     elim (cases_Bool (u item)) [
-      | inl yes ↦ (let also = same item ∙ yes in rw (also, yes) (ap (λ places. at ∷ places) rest))
-      | inr no ↦ (let also = same item ∙ no in rw (also, no) rest)
+      | inl hit ↦ (let also = same item ∙ hit in rw (also, hit) (ap (λ places. at ∷ places) rest))
+      | inr miss ↦ (let also = same item ∙ miss in rw (also, miss) rest)
     ]
 
 pub line_there : (lines : List Line) (place : ℕ) → slice_get (map bytes_of lines) place ≡ option_map bytes_of (slice_get lines place)
@@ -114,11 +114,11 @@ places_of_both {X} t g front (x ∷ items) at long =
     let rest : filter (passes whole) (places_from t (at + 1) items) ≡ places_from (λ x. t x && g x) (at + 1) items =
     ap (λ xs. filter (passes xs) (places_from t (at + 1) items)) (sym (append_assoc front (x ∷ []) items)) ∙ places_of_both t g (front ++ x ∷ []) items (at + 1) next in
     elim (cases_Bool (t x)) [
-      | inl yes ↦ elim (cases_Bool (g x)) [
-        | inl also ↦ rw (yes, also) (one_place (passes whole) at (places_from t (at + 1) items) true (here ∙ also) ∙ ap (λ places. at ∷ places) rest)
-        | inr fails ↦ rw (yes, fails) (one_place (passes whole) at (places_from t (at + 1) items) false (here ∙ fails) ∙ rest)
+      | inl hit ↦ elim (cases_Bool (g x)) [
+        | inl also ↦ rw (hit, also) (one_place (passes whole) at (places_from t (at + 1) items) true (here ∙ also) ∙ ap (λ places. at ∷ places) rest)
+        | inr fails ↦ rw (hit, fails) (one_place (passes whole) at (places_from t (at + 1) items) false (here ∙ fails) ∙ rest)
       ]
-      | inr no ↦ rw no rest
+      | inr miss ↦ rw miss rest
     ]
 
 pub places_of_all : {X : Type 0} (t g : X → Bool) (items : List X) → filter (λ place. option_map_or g (slice_get items place) false) (places_from t 0 items) ≡ places_from (λ x. t x && g x) 0 items

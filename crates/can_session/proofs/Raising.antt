@@ -8,7 +8,4 @@ fewer_decoded few many before after le h = record {
   plans = h.plans;
   pictures = h.pictures;
   lines = omega (arith, le, h.lines);
-  plans_kept = h.plans_kept;
-  pictures_kept = h.pictures_kept;
-  lines_kept = h.lines_kept;
 }

@@ -1,15 +1,15 @@
 -- Which lines numbers touch, by the numbers of the lines' data frames.
-use Rattle.std.proofs.Common.{◌≡◌, ℕ, Bool, true, false, not, List, [], ◌∷◌, ◌++◌, refl, sym, ap, ◌∙◌, inl, inr}
+use Rattle.std.proofs.Common.{◌≡◌, ℕ, Bool, true, false, not, List, [], ◌∷◌, ◌++◌, refl, sym, ◌∙◌, inl, inr}
 use Rattle.std.specs.Prelude.{◌==◌, ◌||◌, ◌&&◌, Option, Some, None, option_and_then, if◌then◌else◌}
 use Rattle.std.specs.List.{list_any}
 use Rattle.std.specs.Option.{option_map_or}
 use Rattle.std.proofs.lemmas.Bool.{cases_Bool, eqb-true, eq-eqb, and_parts}
 use Rattle.std.proofs.lemmas.List.Folds.{list_any-append}
-use Rattle.log_frames.specs.Frames.{Frame, body_of, frame_of, is_data, number_of}
+use Rattle.log_frames.specs.Frames.{Frame, body_of, frame_of, is_data}
 use Rattle.can_rows.specs.Groups.{is_extended, is_bad_number, group_number_of}
 use Rattle.edit_reach.specs.Touched.{may_have_group, concerns, is_touched, line_touched}
 use Rattle.can_session.specs.declared.log_index.LogIndex.{LogIndex}
-use Rattle.can_session.specs.Indexes.{number_of_data, data_number, has_number, has_group, places_at, places_of, IsIndexed}
+use Rattle.can_session.specs.Indexes.{number_of_data, data_number, has_number, has_group, places_of, IsIndexed}
 use Rattle.can_session.specs.Places.{places_from}
 use Rattle.can_session.proofs.Places.{places_same}
 
@@ -23,7 +23,7 @@ by_frame numbers None = refl
 by_frame numbers (Some frame) = elim (cases_Bool (is_data frame)) [ inl t ↦ rw t refl | inr f ↦ rw f refl ]
 
 pub touched_by : (numbers : List ℕ) (line : List ℕ) → line_touched numbers line ≡ any_concerns numbers (data_number line)
-unfolding line_touched, data_number
+unfolding line_touched data_number
 touched_by numbers line = by_frame numbers (frame_of (body_of line))
 
 -- ---- one more number
@@ -57,11 +57,11 @@ wide : (number : ℕ) → may_have_group number ≡ true → is_extended number 
 unfolding may_have_group
 wide number t = (and_parts (is_extended number) (not (is_bad_number number)) t).0
 
-of_itself : (number : ℕ) → true ≡ (if may_have_group number then is_extended number && group_number_of number == group_number_of number else number == number)
+of_itself : (number : ℕ) → true ≡ (if may_have_group number then is_extended number && group_number_of number == group_number_of number else true)
 of_itself number =
     elim (cases_Bool (may_have_group number)) [
       | inl t ↦ (let bits = wide number t in rw (t, bits, eq-eqb (group_number_of number) (group_number_of number) refl) refl)
-      | inr f ↦ rw (f, eq-eqb number number refl) refl
+      | inr f ↦ rw f refl
     ]
 
 -- a number that may have a group concerns the frames of its group, and another those of that number

@@ -23,14 +23,11 @@ is_here numbers message = is_among numbers message.head.number
 abbrev pub count_here : List ℕ → Database → ℕ
 count_here numbers database = count_by (is_here numbers) database.messages
 
--- at most so many plans and as many pictures were made meanwhile, and at most so many lines decoded; no count falls
+-- at most so many plans and as many pictures were made meanwhile, and at most so many lines decoded
 pub record Raised (made decoded : ℕ) (before after : Meter) : Type 0 where
   pub plans : after.plans ≤ before.plans + made
   pub pictures : after.pictures ≤ before.pictures + made
   pub lines : after.lines ≤ before.lines + decoded
-  pub plans_kept : before.plans ≤ after.plans
-  pub pictures_kept : before.pictures ≤ after.pictures
-  pub lines_kept : before.lines ≤ after.lines
 
 -- nothing was made yet
 abbrev pub nothing_made : Meter

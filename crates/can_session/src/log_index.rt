@@ -5,8 +5,8 @@ ghost use Rattle.edit_reach.specs.Touched.{may_have_group};
 ghost use Rattle.can_session.specs.Logs.{bytes_of};
 ghost use Rattle.can_session.specs.Indexes.{data_number, number_of_data, places_at, HasRoom, HasRoomFor, SamePlaces, Puts, places_of, IsIndexed};
 
-use crate::line::Line;
 use crate::keyed_places::{Places, make_room, places_at, push_reserved, put};
+use crate::line::Line;
 use can_decode::group_number;
 use dbc_values::Memory;
 use edit_reach::{is_extended, may_have_group};

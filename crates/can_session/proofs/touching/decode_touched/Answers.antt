@@ -1,10 +1,6 @@
-use Rattle.std.proofs.Common.{◌≡◌, ◌<◌, ◌≤◌, length, map, ◌∙◌, ap, sym, arith}
-use Rattle.std.specs.Prelude.{All, count_by}
+use Rattle.std.proofs.Common.{length, ap, arith}
 use Rattle.std.proofs.lemmas.List.{length-map}
-use Rattle.edit_reach.specs.Touched.{line_touched}
 use Rattle.can_session.specs.Logs.{bytes_of}
-use Rattle.can_session.specs.Indexes.{Covers}
-use Rattle.can_session.specs.Compiled.{Raised}
 use Rattle.can_session.proofs.Places.{all_done}
 use Rattle.can_session.proofs.Raising.{fewer_decoded}
 use Rattle.can_session.proofs.touching.decode_touched.Goals as goal
@@ -32,4 +28,4 @@ returns-clause-completes c =
     (λ line untouched. c.untouched_lines_stay.ensures before after c.args.edit.now line c.requires.edited (rw c.requires.numbers at untouched))
     c.requires.decoded
     c.in_ok-places.ensures
-    (rw (c.as_slice.ensures.value, c.by.ensures) at c.in_ok-fresh.ensures.texts)
+    (rw (c.as_slice.ensures.value, c.by-choices.ensures) at c.in_ok-fresh.ensures.texts)
