@@ -1,7 +1,6 @@
 -- What a run of `session` has read and written when it ends.
 use Rattle.std.specs.Prelude.{◌≡◌, ℕ, List, [], Result, Ok, Err}
 use Rattle.byte_devices.specs.Device.{Unread, Written}
-use Rattle.dbc_records.specs.Databases.{Database}
 use Rattle.dbc_reader.specs.Texts.{HasDatabase, IsRead}
 use Rattle.line_stream.specs.declared.fault.StreamFault.{StreamFault}
 use Rattle.can_session.specs.States.{State}

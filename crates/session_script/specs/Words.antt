@@ -4,6 +4,7 @@ use Rattle.std.specs.List.{prefix_len, find}
 use Rattle.std.specs.Str.{bytes_eq}
 use Rattle.std.specs.Str.Parse.{digits_value}
 use Rattle.dbc_values.specs.Lexical.{space, is_digits}
+use Rattle.log_frames.specs.Frames.{behind_first}
 use Rattle.session_script.specs.declared.verb.Verb.{Verb}
 use Rattle.session_script.specs.declared.verb.Verb.TheVariants as verbs
 
@@ -13,10 +14,6 @@ word_len text = prefix_len (λ b. not (b == space)) text
 
 abbrev pub word_of : List ℕ → List ℕ
 word_of text = take (word_len text) text
-
-abbrev pub behind_first : List ℕ → Option (List ℕ)
-behind_first [] = None
-behind_first (b ∷ rest) = Some rest
 
 -- all that stands behind the first blank, where there is one
 abbrev pub rest_of : List ℕ → Option (List ℕ)

@@ -27,9 +27,9 @@ fn edit_of(alloc: Global, verb: Verb, text: &[u8]) -> Result<Option<Edit>, Memor
 {
     match verb {
         Verb::AddMessage => add_message(alloc, text),
-        Verb::RemoveMessage => remove_message(alloc, text),
+        Verb::RemoveMessage => Ok(remove_message(text)),
         Verb::ChangeMessage => change_message(alloc, text),
-        Verb::Renumber => renumber(alloc, text),
+        Verb::Renumber => Ok(renumber(text)),
         Verb::AddSignal => add_signal(alloc, text),
         Verb::RemoveSignal => remove_signal(alloc, text),
         Verb::ChangeSignal => change_signal(alloc, text),

@@ -16,7 +16,7 @@ use dbc_records::{Head, MuxRow, Signal, TableRow, ValueRow};
 use dbc_values::{Memory, Name, Text, is_string};
 use std::alloc::Global;
 
-// The statement as head, where the text is such a statement.
+// The first line of a message that the text spells, if it spells one.
 fn head_in(alloc: Global, text: &[u8]) -> Result<Option<Head>, Memory>
     ensures { IfOk result (λ found. SaysKind head_of text.now found) }
 {
@@ -26,7 +26,7 @@ fn head_in(alloc: Global, text: &[u8]) -> Result<Option<Head>, Memory>
     }
 }
 
-// The statement as signal, where the text is such a statement.
+// The signal that the text spells, if it spells one.
 fn signal_in(alloc: Global, text: &[u8]) -> Result<Option<Signal>, Memory>
     ensures { IfOk result (λ found. SaysKind signal_of text.now found) }
 {
@@ -36,7 +36,7 @@ fn signal_in(alloc: Global, text: &[u8]) -> Result<Option<Signal>, Memory>
     }
 }
 
-// The statement as mux, where the text is such a statement.
+// The multiplexer row that the text spells, if it spells one.
 fn mux_in(alloc: Global, text: &[u8]) -> Result<Option<MuxRow>, Memory>
     ensures { IfOk result (λ found. SaysKind mux_of text.now found) }
 {
@@ -46,7 +46,7 @@ fn mux_in(alloc: Global, text: &[u8]) -> Result<Option<MuxRow>, Memory>
     }
 }
 
-// The statement as values, where the text is such a statement.
+// The row of named values that the text spells, if it spells one.
 fn values_in(alloc: Global, text: &[u8]) -> Result<Option<ValueRow>, Memory>
     ensures { IfOk result (λ found. SaysKind values_of text.now found) }
 {
@@ -56,7 +56,7 @@ fn values_in(alloc: Global, text: &[u8]) -> Result<Option<ValueRow>, Memory>
     }
 }
 
-// The statement as table, where the text is such a statement.
+// The value table that the text spells, if it spells one.
 fn table_in(alloc: Global, text: &[u8]) -> Result<Option<TableRow>, Memory>
     ensures { IfOk result (λ found. SaysKind table_of text.now found) }
 {
@@ -66,7 +66,7 @@ fn table_in(alloc: Global, text: &[u8]) -> Result<Option<TableRow>, Memory>
     }
 }
 
-// The edit that sets an attribute, where the text is such a statement.
+// The edit that sets the attribute of a message that the text spells, if it spells one.
 fn attribute_in(alloc: Global, text: &[u8]) -> Result<Option<Edit>, Memory>
     ensures { IfOk result (λ found. SaysKind attribute_of text.now found) }
 {
@@ -90,13 +90,11 @@ pub(crate) fn add_message(alloc: Global, text: &[u8]) -> Result<Option<Edit>, Me
 }
 
 /// A message is removed: its place.
-pub(crate) fn remove_message(_alloc: Global, text: &[u8]) -> Result<Option<Edit>, Memory>
-    ensures { IfOk result (λ edit. HasSense (sense_of verbs.RemoveMessage text.now) (changes edit)) }
+pub(crate) fn remove_message(text: &[u8]) -> Option<Edit>
+    ensures { HasSense (sense_of verbs.RemoveMessage text.now) (changes result) }
 {
-    match number_of(text) {
-        Some(place) => Ok(Some(Edit::RemoveMessage(place as usize))),
-        None => Ok(None),
-    }
+    let place = number_of(text)?;
+    Some(Edit::RemoveMessage(place as usize))
 }
 
 // What a message's first line is changed to, by its words.
@@ -135,16 +133,12 @@ pub(crate) fn change_message(alloc: Global, text: &[u8]) -> Result<Option<Edit>,
 }
 
 /// A message takes another number: its place and that number.
-pub(crate) fn renumber(_alloc: Global, text: &[u8]) -> Result<Option<Edit>, Memory>
-    ensures { IfOk result (λ edit. HasSense (sense_of verbs.Renumber text.now) (changes edit)) }
+pub(crate) fn renumber(text: &[u8]) -> Option<Edit>
+    ensures { HasSense (sense_of verbs.Renumber text.now) (changes result) }
 {
-    let Some((place, number)) = number_and_rest(text) else {
-        return Ok(None);
-    };
-    match number_of(number) {
-        Some(number) => Ok(Some(Edit::Renumber(place as usize, number))),
-        None => Ok(None),
-    }
+    let (place, number) = number_and_rest(text)?;
+    let number = number_of(number)?;
+    Some(Edit::Renumber(place as usize, number))
 }
 
 /// A signal is added: the place of its message, its own and a `SG_` statement.

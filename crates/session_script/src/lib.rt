@@ -12,6 +12,8 @@ mod replies;
 mod running;
 mod serving;
 mod statement;
+#[cfg(test)]
+mod tests;
 mod verb;
 mod words;
 

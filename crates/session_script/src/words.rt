@@ -3,8 +3,9 @@ ghost use Rattle.std.specs.Prelude.{◌≡◌, ◌≤◌, ◌^◌, IsTrue, lengt
 ghost use Rattle.std.specs.List.{list_all};
 ghost use Rattle.dbc_values.specs.Lexical.{is_digit, is_digits};
 ghost use Rattle.std.specs.Str.Parse.{digits_value};
+ghost use Rattle.log_frames.specs.Frames.{behind_first};
 ghost use Rattle.session_script.specs.Commands.{number_and_rest};
-ghost use Rattle.session_script.specs.Words.{word_len, word_of, behind_first, rest_of, number_of};
+ghost use Rattle.session_script.specs.Words.{word_len, word_of, rest_of, number_of};
 
 use dbc_values::are_digits;
 
