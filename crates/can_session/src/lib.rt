@@ -12,8 +12,6 @@ mod line;
 mod log_index;
 mod recompiling;
 mod session;
-#[cfg(test)]
-mod tests;
 mod touching;
 
 pub use can_check::Diagnostic;

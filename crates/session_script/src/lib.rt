@@ -12,8 +12,6 @@ mod replies;
 mod running;
 mod serving;
 mod statement;
-#[cfg(test)]
-mod tests;
 mod verb;
 mod words;
 

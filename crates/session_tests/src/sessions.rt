@@ -1,7 +1,7 @@
 //! What no contract says: that edits are accepted where memory is there, for which cause others are refused, what a session
 //! then shows, and that the meter rises as far as it has to.
 
-use crate::{Change, Edit, Session};
+use can_session::{Change, Edit, Session};
 use dbc_reader::{Statement, read_one};
 use dbc_records::{AttrRow, Head, Signal, Target};
 use dbc_values::{Name, Text};

@@ -2,9 +2,9 @@
 //! has failed, are worked out by hand.
 ghost use Rattle.std.specs.Prelude.{◌<◌};
 
-use crate::{Session, serve};
 use byte_devices::limp::Limp;
 use line_stream::StreamFault;
+use session_script::{Session, serve};
 use std::alloc::Global;
 use std::test::Fail;
 

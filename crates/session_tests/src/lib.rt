@@ -1,0 +1,8 @@
+//! Tests of sessions and their scripts: what no contract says of them. They stand apart, as a crate with tests is proved once
+//! more with them.
+#![tactic(auto)]
+
+#[cfg(test)]
+mod scripts;
+#[cfg(test)]
+mod sessions;
