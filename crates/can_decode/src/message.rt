@@ -1,5 +1,5 @@
 //! What a frame says by its message, as text.
-ghost use Rattle.std.specs.Prelude.{◌≡◌, ◌++◌, OnOk, decimal, if◌then◌else◌};
+ghost use Rattle.std.specs.Prelude.{◌≡◌, ◌++◌, OnOk, codes, decimal, if◌then◌else◌};
 ghost use Rattle.can_layout.specs.Plans.{label_of};
 ghost use Rattle.can_decode.specs.DecodedLines.{signal_text, further_signal, present_rows, signals_text, destination_text, group_text, bracket_text, message_text};
 
@@ -20,13 +20,21 @@ pub(crate) fn push_number(text: &mut Vec<u8>, number: u64) -> Result<(), Memory>
     push_bytes(text, room.format(number).as_bytes())
 }
 
-#[tactic(auto, using(crate::proofs::Labels::labelled_then), unfolding(crate::specs::DecodedLines::signal_text))]
-fn push_signal(text: &mut Vec<u8>, label: &ReadyText, row: &Row, bytes: &[u8]) -> Result<(), Memory>
+// What stands before the value of a signal, behind others where `some` says so.
+fn push_label(
+    text: &mut Vec<u8>,
+    some: bool,
+    label: &ReadyText,
+    row: &Row,
+) -> Result<(), Memory>
     requires { label.now ≡ label_of row.now }
-    ensures { OnOk result (text.new.items ≡ text.old.items ++ signal_text bytes.now row.now) }
+    ensures { OnOk result (text.new.items ≡ text.old.items ++ (if some then label_of row.now else row.now.name ++ codes ": ")) }
 {
-    label.push_to(text)?;
-    push_reading(text, &row.reading, bytes)
+    if some {
+        return label.push_to(text);
+    }
+    push_bytes(text, row.name.as_bytes())?;
+    push_bytes(text, b": ")
 }
 
 // A signal, behind others where `some` says so.
@@ -40,10 +48,8 @@ fn push_next(
     requires { label.now ≡ label_of row.now }
     ensures { OnOk result (text.new.items ≡ text.old.items ++ (if some then further_signal bytes.now row.now else signal_text bytes.now row.now)) }
 {
-    if some {
-        push_bytes(text, b", ")?;
-    }
-    push_signal(text, label, row, bytes)
+    push_label(text, some, label, row)?;
+    push_reading(text, &row.reading, bytes)
 }
 
 // The signals that are there, a comma and a blank between them.

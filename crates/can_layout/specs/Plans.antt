@@ -78,9 +78,9 @@ pub record Plan : Type 0 where
   pub size : ℕ
   pub rows : List Row
 
--- what stands before the value of a signal
+-- what stands between the value of a signal and that of the one before
 abbrev pub label_of : Row → List ℕ
-label_of row = row.name ++ codes ": "
+label_of row = codes ", " ++ (row.name ++ codes ": ")
 
 unfoldable pub plan_in : SignalRows → Message → Plan
 plan_in rows message = record { size = message.head.size; rows = plan_rows rows (aboves_of rows message.signals) message.head.size message.signals }

@@ -26,7 +26,7 @@ use std::marker::Model;
 pub struct Plan {
     size: u16,
     rows: List<Row>,
-    // What stands before the value of each signal.
+    // What stands between the value of each signal and that of the one before.
     labels: Vec<ReadyText>,
 }
 
@@ -126,6 +126,7 @@ fn label_of(alloc: Global, row: &Row) -> Result<ReadyText, Memory>
     ensures { IfOk result (λ label. label ≡ label_of row.now) }
 {
     let mut text = Vec::new(alloc);
+    push_bytes(&mut text, b", ")?;
     push_bytes(&mut text, row.name.as_bytes())?;
     push_bytes(&mut text, b": ")?;
     ReadyText::of(alloc, text.as_slice())
@@ -216,7 +217,8 @@ impl Plan {
         &self.rows.as_slice()[signal]
     }
 
-    /// What the plan says of the signal at a place, and what is written before its value.
+    /// What the plan says of the signal at a place, and what is written between its value and that of the signal before:
+    /// a comma, a blank, its name, a colon and a blank.
     pub fn labelled(&self, signal: usize) -> (&ReadyText, &Row)
         requires { signal < length self.now.rows }
         ensures row { Some result.1.now ≡ slice_get self.now.rows signal }

@@ -1,6 +1,6 @@
 //! The words of a log line.
 ghost use Rattle.std.specs.Prelude.{◌≡◌, ◌≤◌, length, option_map, not};
-ghost use Rattle.std.specs.List.{prefix_len};
+ghost use Rattle.std.specs.List.{prefix_len, list_any};
 ghost use Rattle.log_frames.specs.LogLines.{is_log_blank, first_word, behind_first_word, is_stamp, is_seconds_end, is_fraction_end, frame_word, body_of};
 
 use dbc_values::digits_len;
@@ -21,12 +21,38 @@ fn is_log_blank(b: u8) -> bool
     b == b' ' || b == b'\t'
 }
 
+// Whether one of sixteen bytes is a blank. All of them are looked at, which is faster than to stop at the first.
+fn has_blank(bytes: &[u8; 16]) -> bool
+    ensures { result ≡ list_any is_log_blank bytes.now }
+{
+    let mut some = false;
+    for b in bytes {
+        some |= is_log_blank(*b);
+    }
+    some
+}
+
+// How many bytes stand before the first blank, byte by byte.
+fn short_word_len(bytes: &[u8]) -> usize
+    ensures value { result ≡ prefix_len (λ b. not (is_log_blank b)) bytes.now }
+    ensures in_range { result ≤ length bytes.now }
+{
+    bytes.iter().take_while(|b| !is_log_blank(**b)).count()
+}
+
 // How many bytes stand before the first blank.
 fn word_len(bytes: &[u8]) -> usize
     ensures value { result ≡ prefix_len (λ b. not (is_log_blank b)) bytes.now }
     ensures in_range { result ≤ length bytes.now }
 {
-    bytes.iter().take_while(|b| !is_log_blank(**b)).count()
+    let mut from = 0;
+    while let Some(run) = bytes[from..].first_chunk::<16>() {
+        if has_blank(run) {
+            break;
+        }
+        from += 16;
+    }
+    from + short_word_len(&bytes[from..])
 }
 
 // How many blanks stand at the front.

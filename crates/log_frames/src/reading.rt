@@ -21,30 +21,15 @@ fn identifier_len(word: &[u8]) -> usize
     word.iter().take_while(|b| **b != b'#').count()
 }
 
-// The bytes that at most 16 digits spell.
-fn few_bytes(digits: &[u8]) -> Option<ArrayVec<u8, 64>>
-    requires { length digits.now ≤ 16 }
-    ensures { option_map (λ bytes. bytes.items) result ≡ result_ok (decode_of digits.now) }
-{
-    let mut room = [0u8; 8];
-    let bytes = &mut room[..digits.len() / 2];
-    hex::decode_to_slice(digits, bytes).ok()?;
-    let mut data = ArrayVec::new();
-    data.try_extend_from_slice(bytes).ok()?;
-    Some(data)
-}
-
 // The bytes that at most 128 digits spell.
-fn many_bytes(digits: &[u8]) -> Option<ArrayVec<u8, 64>>
+fn bytes_of(digits: &[u8]) -> Option<ArrayVec<u8, 64>>
     requires { length digits.now ≤ 128 }
     ensures { option_map (λ bytes. bytes.items) result ≡ result_ok (decode_of digits.now) }
 {
-    let mut room = [0u8; 64];
-    let bytes = &mut room[..digits.len() / 2];
-    hex::decode_to_slice(digits, bytes).ok()?;
-    let mut data = ArrayVec::new();
-    data.try_extend_from_slice(bytes).ok()?;
-    Some(data)
+    let mut bytes = ArrayVec::from([0; 64]);
+    bytes.truncate(digits.len() / 2);
+    hex::decode_to_slice(digits, bytes.as_mut_slice()).ok()?;
+    Some(bytes)
 }
 
 fn frame_of_parts(identifier: Identifier, form: Form<'_>) -> Option<Frame>
@@ -52,11 +37,7 @@ fn frame_of_parts(identifier: Identifier, form: Form<'_>) -> Option<Frame>
     requires digits { length form.digits.now ≤ 128 }
     ensures { result ≡ frame_of_parts (identifier_view identifier) (form_view form.entry) }
 {
-    let bytes = if form.digits.len() <= 16 {
-        few_bytes(form.digits)?
-    } else {
-        many_bytes(form.digits)?
-    };
+    let bytes = bytes_of(form.digits)?;
     Some(Frame {
         kind: if identifier.marks_error {
             Kind::Error

@@ -54,6 +54,7 @@ impl Digits {
     }
 
     // Appends some of the digits, from one on.
+    #[inline(always)]
     fn push_part(&self, text: &mut Vec<u8>, from: usize, count: usize) -> Result<(), Memory>
         requires { from + count ≤ length self.now }
         ensures { OnOk result (text.new.items ≡ text.old.items ++ take count (drop from self.now)) }

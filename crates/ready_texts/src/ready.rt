@@ -42,6 +42,7 @@ impl ReadyText {
     }
 
     /// Appends the text.
+    #[inline(always)]
     pub fn push_to(&self, text: &mut Vec<u8>) -> Result<(), Memory>
         ensures { OnOk result (text.new.items ≡ text.old.items ++ self.now) }
     {
@@ -54,6 +55,7 @@ impl ReadyText {
 }
 
 /// Appends the first of 32 bytes. They are all copied, which is faster than as many as are wanted.
+#[inline(always)]
 pub(crate) fn push_front(
     text: &mut Vec<u8>,
     front: &[u8; FRONT],
