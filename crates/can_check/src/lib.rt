@@ -12,8 +12,6 @@ mod node_rules;
 mod row;
 mod row_rules;
 mod signal_rules;
-#[cfg(test)]
-mod tests;
 mod value_rules;
 mod walk_rules;
 

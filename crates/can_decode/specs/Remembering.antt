@@ -8,6 +8,7 @@ use Rattle.dbc_records.specs.Databases.{Database}
 use Rattle.can_layout.specs.Plans.{Plan, plan_of}
 use Rattle.can_decode.specs.Choices.{has_number, in_group, choice_at, choice_of}
 use Rattle.can_decode.specs.declared.choosing.Choice.{Choice}
+use Rattle.can_decode.specs.declared.message_index.MessageIndex.{MessageIndex}
 use Rattle.can_decode.specs.declared.remembered.Entry.{Entry}
 
 -- the entry says what its number goes to
@@ -26,6 +27,10 @@ first_of_group database messages group = option_map (choice_at database) (positi
 pub record AreChoices (database : Database) (messages : List Message) (exact grouped : BTreeMap ℕ Choice) : Type 0 where
   pub of_numbers : (number : ℕ) → get nat_cmp exact number ≡ first_numbered database messages number
   pub of_groups : (group : ℕ) → get nat_cmp grouped group ≡ first_of_group database messages group
+
+-- the index has the first message of each number, and of each group
+abbrev pub IsIndexOf : Database → MessageIndex → Type 0
+IsIndexOf database index = AreChoices database database.messages index.exact index.grouped
 
 -- lines are decoded by these plans, and by what finds messages in that database
 pub record DecodesBy (database : Database) (plans : List Plan) (whole : Database) : Type 0 where

@@ -2,7 +2,7 @@
 ghost use Rattle.std.specs.Prelude.{◌≡◌, Some, None, if◌then◌else◌};
 ghost use Rattle.can_rows.specs.Groups.{is_extended, group_number_of};
 ghost use Rattle.can_decode.specs.Choices.{choice_of, place_of_number, chosen_place};
-ghost use Rattle.can_decode.specs.Remembering.{AreChoices, first_of_group};
+ghost use Rattle.can_decode.specs.Remembering.{IsIndexOf, first_of_group};
 
 use crate::choosing::{Choice, Choose};
 use crate::message_index::MessageIndex;
@@ -20,19 +20,19 @@ pub struct Choices<'a> {
 
 impl<'a> Model for Choices<'a> {
     ghost use Rattle.dbc_records.specs.Databases.{Database};
-    ghost use Rattle.can_decode.specs.Remembering.{AreChoices};
+    ghost use Rattle.can_decode.specs.Remembering.{IsIndexOf};
 
     ghost Value = { Database };
 
     ghost view = { λ a. a.database.now };
 
-    ghost invariant = { λ a. AreChoices a.database.now a.database.now.messages a.index.now.exact a.index.now.grouped };
+    ghost invariant = { λ a. IsIndexOf a.database.now a.index.now };
 }
 
 impl<'a> Choices<'a> {
     /// Those of a database and the index of its messages.
     pub fn by(database: &'a Database, index: &'a MessageIndex) -> Choices<'a>
-        requires { AreChoices database.now database.now.messages index.now.exact index.now.grouped }
+        requires { IsIndexOf database.now index.now }
         ensures { result ≡ database.now }
     {
         Choices { database, index }

@@ -16,8 +16,6 @@ mod message_index;
 mod remembered;
 mod stream;
 mod target;
-#[cfg(test)]
-mod tests;
 mod value;
 
 pub use can_rows::group_number;

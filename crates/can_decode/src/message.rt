@@ -21,12 +21,7 @@ pub(crate) fn push_number(text: &mut Vec<u8>, number: u64) -> Result<(), Memory>
 }
 
 // What stands before the value of a signal, behind others where `some` says so.
-fn push_label(
-    text: &mut Vec<u8>,
-    some: bool,
-    label: &ReadyText,
-    row: &Row,
-) -> Result<(), Memory>
+fn push_label(text: &mut Vec<u8>, some: bool, label: &ReadyText, row: &Row) -> Result<(), Memory>
     requires { label.now ≡ label_of row.now }
     ensures { OnOk result (text.new.items ≡ text.old.items ++ (if some then label_of row.now else row.now.name ++ codes ": ")) }
 {

@@ -4,7 +4,7 @@ ghost use Rattle.std.specs.Option.{option_or, is_some};
 ghost use Rattle.std.specs.Ordering.{nat_cmp};
 ghost use Rattle.std.specs.BTreeMap.{get};
 ghost use Rattle.can_decode.specs.Choices.{is_group};
-ghost use Rattle.can_decode.specs.Remembering.{AreChoices};
+ghost use Rattle.can_decode.specs.Remembering.{IsIndexOf};
 
 use crate::choosing::{Choice, messages_of, number_of};
 use can_rows::{Indexed, Lookup, group_in};
@@ -59,7 +59,7 @@ fn index_in<L: Lookup>(
     database: &Database,
 ) -> Result<MessageIndex, Memory>
     requires { L.whole lookup.now ≡ database.now }
-    ensures { IfOk result (λ index. AreChoices database.now database.now.messages index.exact index.grouped) }
+    ensures { IfOk result (λ index. IsIndexOf database.now index) }
 {
     let mut exact: BTreeMap<u32, Choice> = BTreeMap::new(alloc);
     let mut grouped: BTreeMap<u32, Choice> = BTreeMap::new(alloc);
@@ -76,7 +76,7 @@ fn index_in<L: Lookup>(
 impl MessageIndex {
     /// That of a database.
     pub fn of(alloc: Global, database: &Database) -> Result<MessageIndex, Memory>
-        ensures { IfOk result (λ index. AreChoices database.now database.now.messages index.exact index.grouped) }
+        ensures { IfOk result (λ index. IsIndexOf database.now index) }
     {
         let indexed = Indexed::of(alloc, database)?;
         index_in(alloc, &indexed, database)

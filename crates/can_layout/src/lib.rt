@@ -19,8 +19,6 @@ mod refusal;
 mod row;
 mod rows;
 mod switches;
-#[cfg(test)]
-mod tests;
 mod text;
 mod walk;
 

@@ -9,3 +9,11 @@ fewer_decoded few many before after le h = record {
   pictures = h.pictures;
   lines = omega (arith, le, h.lines);
 }
+
+-- what was made, and then what was decoded
+pub made_then_decoded : (made decoded : ℕ) (before mid after : Meter) → Raised made 0 before mid → Raised 0 decoded mid after → Raised made decoded before after
+made_then_decoded made decoded before mid after m d = record {
+  plans = omega (arith, m.plans, d.plans);
+  pictures = omega (arith, m.pictures, d.pictures);
+  lines = omega (arith, m.lines, d.lines);
+}

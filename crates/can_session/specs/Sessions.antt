@@ -6,7 +6,7 @@ use Rattle.can_check.specs.RowFaults.{all_faults}
 use Rattle.can_session.specs.Compiled.{Compiled, compiled_of}
 use Rattle.can_session.specs.declared.line.Line.{Line}
 use Rattle.can_decode.specs.declared.message_index.MessageIndex.{MessageIndex}
-use Rattle.can_decode.specs.Remembering.{AreChoices}
+use Rattle.can_decode.specs.Remembering.{IsIndexOf}
 use Rattle.can_session.specs.declared.log_index.LogIndex.{LogIndex}
 use Rattle.can_session.specs.Logs.{bytes_of, IsDecoded}
 use Rattle.can_session.specs.Indexes.{IsIndexed}
@@ -17,7 +17,7 @@ use Rattle.can_session.specs.States.{most_lines}
 pub record IsSession (database : Database) (diagnostics : List Diagnostic) (compiled : List Compiled) (messages : MessageIndex) (lines : List Line) (log : LogIndex) : Type 0 where
   pub diagnosed : diagnostics ≡ all_faults database
   pub planned : compiled ≡ map (compiled_of database) database.messages
-  pub found : AreChoices database database.messages messages.exact messages.grouped
+  pub found : IsIndexOf database messages
   pub indexed : IsIndexed (map bytes_of lines) log
   pub decoded : All (IsDecoded database) lines
   pub few : length lines ≤ most_lines

@@ -5,6 +5,7 @@
 //! makes anew only what it can change.
 #![tactic(auto)]
 
+mod accepted;
 mod compiled;
 mod decoding;
 mod keyed_places;

@@ -5,9 +5,9 @@ ghost use Rattle.edit_reach.specs.Touched.{edit_numbers};
 ghost use Rattle.edit_reach.specs.Elsewhere.{is_elsewhere};
 ghost use Rattle.can_session.specs.Compiled.{compiled_of, count_here, is_here, Raised};
 
+use crate::accepted::Accepted;
 use crate::compiled::{Compiled, compiled_with};
 use can_layout::{Indexed, Lookup, Meter};
-use dbc_edits::Edit;
 use dbc_records::{Database, Message};
 use dbc_values::Memory;
 use edit_reach::is_among;
@@ -82,29 +82,26 @@ fn merged<L: Lookup>(
 /// the edit's numbers are they made.
 pub(crate) fn recompiled(
     alloc: Global,
-    before: &Database,
+    accepted: &Accepted<'_>,
     compiled: &[Rc<Compiled>],
-    edit: &Edit,
-    numbers: &[u32],
-    after: &Database,
     meter: &mut Meter,
 ) -> Result<Vec<Rc<Compiled>>, Memory>
-    requires edited { edited before.now edit.now ≡ Ok after.now }
-    requires numbers { numbers.now ≡ edit_numbers before.now edit.now }
-    requires compiled { map (λ one. one.value) compiled.now ≡ map (compiled_of before.now) before.now.messages }
-    ensures compiled { IfOk result (λ all. map (λ one. one.value) all.items ≡ map (compiled_of after.now) after.now.messages) }
-    ensures made { Raised (count_here numbers.now after.now) 0 meter.old meter.new }
+    requires done { edited accepted.now.before.now accepted.now.edit.now ≡ Ok accepted.now.after.now }
+    requires numbered { accepted.now.numbers.now ≡ edit_numbers accepted.now.before.now accepted.now.edit.now }
+    requires compiled { map (λ one. one.value) compiled.now ≡ map (compiled_of accepted.now.before.now) accepted.now.before.now.messages }
+    ensures compiled { IfOk result (λ all. map (λ one. one.value) all.items ≡ map (compiled_of accepted.now.after.now) accepted.now.after.now.messages) }
+    ensures made { Raised (count_here accepted.now.numbers.now accepted.now.after.now) 0 meter.old meter.new }
 {
     others_stay();
     untouched_messages_stay();
-    let kept = kept(alloc, numbers, before, compiled)?;
-    let indexed = Indexed::of(alloc, after)?;
+    let kept = kept(alloc, accepted.numbers, accepted.before, compiled)?;
+    let indexed = Indexed::of(alloc, accepted.after)?;
     let all = merged(
         alloc,
-        numbers,
+        accepted.numbers,
         kept.as_slice(),
         &indexed,
-        messages_of(after),
+        messages_of(accepted.after),
         meter,
     )?;
     Ok(all)

@@ -7,12 +7,13 @@ ghost use Rattle.can_check.specs.RowFaults.{all_faults};
 ghost use Rattle.can_decode.specs.DecodedLines.{decoded_line};
 ghost use Rattle.dbc_edits.specs.Edits.{edited};
 ghost use Rattle.edit_reach.specs.Touched.{edit_numbers, line_touched};
-ghost use Rattle.can_decode.specs.Remembering.{AreChoices};
+ghost use Rattle.can_decode.specs.Remembering.{IsIndexOf};
 ghost use Rattle.can_session.specs.Compiled.{compiled_of, count_here, Raised, nothing_made};
 ghost use Rattle.can_session.specs.Logs.{bytes_of, IsDecoded, Completes};
 ghost use Rattle.can_session.specs.Indexes.{IsIndexed};
 ghost use Rattle.can_session.specs.States.{Applies, Adds, RaisedBy, Opens};
 
+use crate::accepted::Accepted;
 use crate::compiled::{Compiled, compiled_all, compiled_at};
 use crate::decoding::new_line;
 use crate::line::{Fresh, Line, exchange};
@@ -105,28 +106,23 @@ fn shown_after(
     requires indexed { IsIndexed (map bytes_of lines.now) log.now }
     ensures diagnostics { IfOk result (λ shown. shown.diagnostics.items ≡ all_faults after.now) }
     ensures compiled { IfOk result (λ shown. map (λ one. one.value) shown.compiled.items ≡ map (compiled_of after.now) after.now.messages) }
-    ensures found { IfOk result (λ shown. AreChoices after.now after.now.messages shown.messages.exact shown.messages.grouped) }
+    ensures found { IfOk result (λ shown. IsIndexOf after.now shown.messages) }
     ensures fresh { IfOk result (λ shown. Completes after.now lines.now shown.fresh.items) }
     ensures made { Raised (count_here (edit_numbers before.now edit.now) after.now) (count_by (line_touched (edit_numbers before.now edit.now)) (map bytes_of lines.now)) meter.old meter.new }
 {
     let numbers = edit_numbers(before, edit);
-    let diagnostics = all_faults(alloc, after)?;
-    let compiled = recompiled(
-        alloc,
+    let accepted = Accepted {
         before,
-        compiled,
         edit,
-        numbers.as_slice(),
         after,
-        meter,
-    )?;
+        numbers: numbers.as_slice(),
+    };
+    let diagnostics = all_faults(alloc, after)?;
+    let compiled = recompiled(alloc, &accepted, compiled, meter)?;
     let messages = MessageIndex::of(alloc, after)?;
     let fresh = decode_touched(
         alloc,
-        before,
-        edit,
-        numbers.as_slice(),
-        after,
+        &accepted,
         &messages,
         compiled.as_slice(),
         lines,

@@ -1,20 +1,19 @@
 //! The lines that an edit touches, and their new texts.
 ghost use Rattle.std.specs.Prelude.{◌≡◌, ◌<◌, ◌++◌, All, IfOk, OnOk, Ok, length, count_by, map, filter};
 ghost use Rattle.dbc_edits.specs.Edits.{edited};
-ghost use Rattle.can_decode.specs.Remembering.{AreChoices};
+ghost use Rattle.can_decode.specs.Remembering.{IsIndexOf};
 ghost use Rattle.edit_reach.specs.Touched.{edit_numbers, line_touched};
 ghost use Rattle.can_session.specs.Compiled.{compiled_of, Raised};
 ghost use Rattle.can_session.specs.Logs.{bytes_of, TextsAt, IsTextOf, IsDecoded, Completes};
 ghost use Rattle.can_session.specs.Indexes.{IsIndexed, is_untouched_at, Covers};
 
+use crate::accepted::Accepted;
 use crate::compiled::Compiled;
 use crate::decoding::decode;
 use crate::line::{Fresh, Line};
 use crate::log_index::LogIndex;
 use can_decode::{Choices, MessageIndex};
 use can_layout::Meter;
-use dbc_edits::Edit;
-use dbc_records::Database;
 use dbc_values::Memory;
 use edit_reach::laws::untouched_lines_stay;
 use edit_reach::line_touched;
@@ -110,28 +109,25 @@ fn decode_places<'c>(
 /// The texts, in an edited database, of the lines that the edit touches: with these in their places every line has its text.
 pub(crate) fn decode_touched(
     alloc: Global,
-    before: &Database,
-    edit: &Edit,
-    numbers: &[u32],
-    after: &Database,
+    accepted: &Accepted<'_>,
     index: &MessageIndex,
     compiled: &[Rc<Compiled>],
     lines: &[Line],
     log: &LogIndex,
     meter: &mut Meter,
 ) -> Result<Vec<Fresh>, Memory>
-    requires edited { edited before.now edit.now ≡ Ok after.now }
-    requires numbers { numbers.now ≡ edit_numbers before.now edit.now }
-    requires found { AreChoices after.now after.now.messages index.now.exact index.now.grouped }
-    requires compiled { map (λ one. one.value) compiled.now ≡ map (compiled_of after.now) after.now.messages }
-    requires decoded { All (IsDecoded before.now) lines.now }
+    requires done { edited accepted.now.before.now accepted.now.edit.now ≡ Ok accepted.now.after.now }
+    requires numbered { accepted.now.numbers.now ≡ edit_numbers accepted.now.before.now accepted.now.edit.now }
+    requires found { IsIndexOf accepted.now.after.now index.now }
+    requires compiled { map (λ one. one.value) compiled.now ≡ map (compiled_of accepted.now.after.now) accepted.now.after.now.messages }
+    requires decoded { All (IsDecoded accepted.now.before.now) lines.now }
     requires indexed { IsIndexed (map bytes_of lines.now) log.now }
-    ensures completes { IfOk result (λ fresh. Completes after.now lines.now fresh.items) }
-    ensures lines { Raised 0 (count_by (line_touched numbers.now) (map bytes_of lines.now)) meter.old meter.new }
+    ensures completes { IfOk result (λ fresh. Completes accepted.now.after.now lines.now fresh.items) }
+    ensures lines { Raised 0 (count_by (line_touched accepted.now.numbers.now) (map bytes_of lines.now)) meter.old meter.new }
 {
     untouched_lines_stay();
-    let places = touched_places(alloc, log, lines, numbers)?;
-    let choices = Choices::by(after, index);
+    let places = touched_places(alloc, log, lines, accepted.numbers)?;
+    let choices = Choices::by(accepted.after, index);
     let fresh = decode_places(alloc, &choices, compiled, lines, places.as_slice(), meter)?;
     Ok(fresh)
 }

@@ -11,8 +11,6 @@ mod fault;
 mod printing;
 mod refusing;
 mod running;
-#[cfg(test)]
-mod tests;
 
 pub use candesk_words::{Command, Job, NoJob, job_of};
 pub use checking::{Verdict, check_run};

@@ -1,5 +1,5 @@
-//! What no contract says: that edits are accepted where memory is there, for which cause others are refused, what a session
-//! then shows, and that the meter rises as far as it has to.
+//! What no contract says: that edits are accepted where memory is there, what a session then shows, and that the meter rises as
+//! far as it has to. `scripts/session_rows` tries the refusals over the built program.
 
 use can_session::{Change, Edit, Session};
 use dbc_reader::{Statement, read_one};
@@ -226,49 +226,6 @@ fn shared_number(rt: HostRuntime) -> Result<(), Fail> {
     Ok(())
 }
 
-// Whether edits of messages are refused for these causes.
-fn refuses_messages(session: &mut Session, alloc: Global) -> bool {
-    renumber(session, 0, 500) == 26
-        && renumber(session, 0, 291) == 26
-        && renumber(session, 0, 501) == 27
-        && renumber(session, 5, 501) == 20
-        && add_message(session, alloc, 9, b"BO_ 5 M: 8 N") == 21
-}
-
-fn refuses_signals(session: &mut Session, alloc: Global) -> bool {
-    add_signal(session, alloc, 0, 2, b"SG_ T : 0|8@1+ (1,0) [0|0] \"\"") == 21
-        && add_signal(session, alloc, 0, 0, b"SG_ S : 0|8@1+ (1,0) [0|0] \"\"") == 23
-}
-
-fn refuses_rows(session: &mut Session, alloc: Global) -> bool {
-    set(session, alloc, b"VAL_ 999 S 0 \"z\" ;") == 20
-        && set(session, alloc, b"VAL_ 291 Q 0 \"z\" ;") == 22
-        && set(session, alloc, b"BA_ \"X\" BO_ 291 1;") == 29
-        && drop_table(session, alloc, b"T") == 28
-}
-
-// the same, and a row of a message that isn't there
-const ROW_ALONE: &[u8] = b"\
-BO_ 291 A: 1 Vector__XXX
- SG_ S : 0|8@1+ (1,0) [0|0] \"\"
-BO_ 291 B: 1 Vector__XXX
- SG_ S : 0|8@1+ (2,0) [0|0] \"\"
-VAL_ 291 S 1 \"one\" ;
-VAL_ 500 X 0 \"z\" ;
-";
-
-#[test]
-fn refusals(rt: HostRuntime) -> Result<(), Fail> {
-    let mut session = open(rt.alloc(), ROW_ALONE)?;
-    assert_eq!(rt; add_line(&mut session, b"(1.0) c 123#2A"), 0);
-    assert!(rt; refuses_messages(&mut session, rt.alloc()));
-    assert!(rt; refuses_signals(&mut session, rt.alloc()));
-    assert!(rt; refuses_rows(&mut session, rt.alloc()));
-    assert!(rt; shows(&session, 0, b"(1.0) c 123#2A :: A(S: 42)"));
-    assert!(rt; tells(&session, 3) && counts(&session, 2, 1));
-    Ok(())
-}
-
 // ---- all edits
 
 // one message, of two signals
@@ -436,24 +393,5 @@ fn exact_before_group(rt: HostRuntime) -> Result<(), Fail> {
             b"(0.0) c 123#00 :: Unknown frame id 291 (0x123)"
         )
     );
-    Ok(())
-}
-
-// ---- long lines
-
-// The answer to a line of so many bytes.
-fn add_bytes(session: &mut Session, alloc: Global, count: usize) -> u8 {
-    match vec![in alloc; b'x'; count] {
-        Ok(line) => add_line(session, line.as_slice()),
-        Err(_) => NO_EDIT,
-    }
-}
-
-#[test]
-fn long_lines(rt: HostRuntime) -> Result<(), Fail> {
-    let mut session = open(rt.alloc(), b"")?;
-    assert_eq!(rt; add_bytes(&mut session, rt.alloc(), 4097), 31);
-    assert_eq!(rt; add_bytes(&mut session, rt.alloc(), 4096), 0);
-    assert_eq!(rt; session.line_count(), 1);
     Ok(())
 }

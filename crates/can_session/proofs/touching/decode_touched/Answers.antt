@@ -22,10 +22,10 @@ returns-clause-lines c =
 
 pub returns-clause-completes : goal.returns-clause-completes
 returns-clause-completes c =
-    let before = c.args.before.now in
-    let after = c.args.after.now in
-    all_done before after c.args.numbers.now c.args.lines.now c.in_ok-places.places.items c.in_ok-fresh.fresh.items
-    (λ line untouched. c.untouched_lines_stay.ensures before after c.args.edit.now line c.requires.edited (rw c.requires.numbers at untouched))
+    let before = c.args.accepted.now.before.now in
+    let after = c.args.accepted.now.after.now in
+    all_done before after c.args.accepted.now.numbers.now c.args.lines.now c.in_ok-places.places.items c.in_ok-fresh.fresh.items
+    (λ line untouched. c.untouched_lines_stay.ensures before after c.args.accepted.now.edit.now line c.requires.done (rw c.requires.numbered at untouched))
     c.requires.decoded
     c.in_ok-places.ensures
     (rw (c.as_slice.ensures.value, c.by-choices.ensures) at c.in_ok-fresh.ensures.texts)

@@ -1,8 +1,8 @@
-//! What no contract says: fault lines, and that calls succeed where memory is there. `scripts/run_rows` tries the built
-//! program on more words, databases and logs.
+//! Fault lines, and that calls succeed where memory is there. `scripts/run_rows` tries the built program on more words,
+//! databases and logs.
 
-use crate::{Command, Job, NoJob, Verdict, check_run, refuse, refuse_file, run, status};
-use dbc_model::limp::Limp;
+use byte_devices::limp::Limp;
+use candesk_calls::{Command, Job, NoJob, Verdict, check_run, refuse, refuse_file, run, status};
 use std::alloc::{AllocError, Global};
 use std::test::Fail;
 

@@ -1,93 +1,16 @@
-//! What no contract says: that lines are decoded, in whatever pieces they come, and what is written where a device fails.
+//! That lines are decoded, in whatever pieces they come, and what is written where a device fails.
 
-use crate::{StreamFault, decode_stream};
+use crate::reading::database;
 use byte_devices::limp::Limp;
+use can_decode::{StreamFault, decode_stream};
 use can_layout::{Meter, make_plans};
-use dbc_records::{Database, Head, Message, Signal, Tag};
-use dbc_values::{Decimal, List, Memory, Name, Text};
+use dbc_records::Database;
+use dbc_values::Memory;
 use std::alloc::Global;
 use std::test::Fail;
 
-fn there<T: Drop>(made: Option<T>) -> Result<T, Fail> {
-    match made {
-        Some(made) => Ok(made),
-        None => Err(Fail::from("not there")),
-    }
-}
-
-fn name(alloc: Global, bytes: &[u8]) -> Result<Name, Fail> {
-    there(Name::new(alloc, bytes)?)
-}
-
-fn no_text(alloc: Global) -> Result<Text, Fail> {
-    there(Text::new(alloc, b"")?)
-}
-
-// A signal of eight bits, from a start bit on.
-fn signal(alloc: Global, bytes: &[u8], start: u16) -> Result<Signal, Fail> {
-    let zero = there(Decimal::read(b"0"))?;
-    let one = there(Decimal::read(b"1"))?;
-    let named = name(alloc, bytes)?;
-    let unit = no_text(alloc)?;
-    there(Signal::new(
-        named,
-        Tag::Plain,
-        start,
-        8,
-        true,
-        false,
-        one,
-        zero,
-        zero,
-        zero,
-        unit,
-        List::new(alloc),
-    ))
-}
-
-fn head(alloc: Global) -> Result<Head, Fail> {
-    let named = name(alloc, b"A")?;
-    there(Head::new(291, named, 2, name(alloc, b"N")?))
-}
-
-fn signals(alloc: Global) -> Result<List<Signal>, Fail> {
-    let mut signals = List::new(alloc);
-    signals.push(signal(alloc, b"S", 0)?)?;
-    signals.push(signal(alloc, b"T", 8)?)?;
-    Ok(signals)
-}
-
-fn messages(alloc: Global) -> Result<List<Message>, Fail> {
-    let head = head(alloc)?;
-    let mut messages = List::new(alloc);
-    messages.push(there(Message::new(head, signals(alloc)?))?)?;
-    Ok(messages)
-}
-
-// A database of messages alone.
-fn database_of(alloc: Global, version: Text, messages: List<Message>) -> Option<Database> {
-    Database::new(
-        version,
-        List::new(alloc),
-        None,
-        List::new(alloc),
-        List::new(alloc),
-        messages,
-        List::new(alloc),
-        List::new(alloc),
-        List::new(alloc),
-        List::new(alloc),
-        List::new(alloc),
-        List::new(alloc),
-        List::new(alloc),
-        List::new(alloc),
-    )
-}
-
-fn database(alloc: Global) -> Result<Database, Fail> {
-    let version = no_text(alloc)?;
-    there(database_of(alloc, version, messages(alloc)?))
-}
+const TWO: &[u8] =
+    b"BO_ 291 A: 2 N\n SG_ S : 0|8@1+ (1,0) [0|0] \"\"\n SG_ T : 8|8@1+ (1,0) [0|0] \"\"\n";
 
 const LOG: &[u8] = b"(1.0) c 123#R8\r\n(1.0) c 123##1aabb\r\nhello\r\n\r\n(1.0)  c  123#0102 R";
 
@@ -139,7 +62,7 @@ fn is_decoded(alloc: Global, database: &Database, most: usize) -> Result<bool, M
 #[test]
 fn pieces(rt: HostRuntime) -> Result<(), Fail> {
     let alloc = rt.alloc();
-    let database = database(alloc)?;
+    let database = database(alloc, TWO)?;
     for most in [1, 2, 7, 4096] {
         assert!(rt; is_decoded(alloc, &database, most)?);
     }
@@ -178,7 +101,7 @@ fn unwritten(alloc: Global, database: &Database, written: usize) -> Result<usize
 #[test]
 fn failing_devices(rt: HostRuntime) -> Result<(), Fail> {
     let alloc = rt.alloc();
-    let database = database(alloc)?;
+    let database = database(alloc, TWO)?;
     assert_eq!(rt; unread(alloc, &database)?, 31);
     for written in 0..DECODED.len() {
         assert_eq!(rt; unwritten(alloc, &database, written)?, written);

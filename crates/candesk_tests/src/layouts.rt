@@ -1,0 +1,48 @@
+//! That plans and pictures are made.
+ghost use Rattle.std.specs.Prelude.{◌<◌, length};
+
+use crate::reading::database;
+use can_layout::{Meter, make_plan, make_plans, picture, pictures};
+use dbc_records::Database;
+use std::alloc::Global;
+use std::test::Fail;
+
+// Eight bits in the second byte.
+const ONE: &[u8] = b"BO_ 5 A: 2 N\n SG_ S : 8|8@1+ (1,0) [0|0] \"\"\n";
+
+// The raw value of the first signal in data, by the plan of the first message.
+fn first_raw(alloc: Global, database: &Database, bytes: &[u8]) -> Result<u64, Fail>
+    requires { 0 < length database.now.messages }
+{
+    let plan = make_plan(alloc, database, 0, &mut Meter::new())?;
+    if plan.signals() == 0 || bytes.len() != plan.size() as usize || !plan.present(0, bytes) {
+        return Err(Fail::from("no signal"));
+    }
+    Ok(plan.raw(0, bytes))
+}
+
+// How many plans and pictures are made of all messages, and counted.
+fn all_made(alloc: Global, database: &Database) -> Result<bool, Fail> {
+    let mut meter = Meter::new();
+    let plans = make_plans(alloc, database, &mut meter)?;
+    let drawn = pictures(alloc, database, &mut meter)?;
+    Ok(plans.len() == 1 && drawn.len() == 1 && meter.plans() == 1 && meter.pictures() == 1)
+}
+
+const PICTURE: &[u8] = b"\
+Message A 5 2
+   0:   .   .   .   .   .   .   .   .
+   1:   0   0   0   0   0   0   0   0
+   0 S 8|8@1+
+";
+
+#[test]
+fn a_plan_and_a_picture(rt: HostRuntime) -> Result<(), Fail> {
+    let alloc = rt.alloc();
+    let database = database(alloc, ONE)?;
+    assert_eq!(rt; first_raw(alloc, &database, &[1, 42])?, 42);
+    let drawn = picture(alloc, &database, 0, &mut Meter::new())?;
+    assert_eq!(rt; drawn.as_slice(), PICTURE);
+    assert!(rt; all_made(alloc, &database)?);
+    Ok(())
+}
