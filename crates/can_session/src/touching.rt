@@ -21,7 +21,6 @@ use std::alloc::Global;
 use std::rc::Rc;
 
 // Whether the line at a place is touched by none of the numbers.
-#[tactic(auto, using(crate::proofs::Places::line_there))]
 fn is_untouched_at(numbers: &[u32], lines: &[Line], place: usize) -> bool
     ensures { result ≡ is_untouched_at numbers.now (map bytes_of lines.now) place }
 {
