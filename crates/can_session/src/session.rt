@@ -92,37 +92,29 @@ struct Shown {
 // That, by what was shown of the database before.
 fn shown_after(
     alloc: Global,
-    before: &Database,
+    accepted: &Accepted<'_>,
     compiled: &[Rc<Compiled>],
     lines: &[Line],
     log: &LogIndex,
-    edit: &Edit,
-    after: &Database,
     meter: &mut Meter,
 ) -> Result<Shown, Memory>
-    requires edited { edited before.now edit.now ≡ Ok after.now }
-    requires compiled { map (λ one. one.value) compiled.now ≡ map (compiled_of before.now) before.now.messages }
-    requires decoded { All (IsDecoded before.now) lines.now }
+    requires done { edited accepted.now.before.now accepted.now.edit.now ≡ Ok accepted.now.after.now }
+    requires numbered { accepted.now.numbers.now ≡ edit_numbers accepted.now.before.now accepted.now.edit.now }
+    requires compiled { map (λ one. one.value) compiled.now ≡ map (compiled_of accepted.now.before.now) accepted.now.before.now.messages }
+    requires decoded { All (IsDecoded accepted.now.before.now) lines.now }
     requires indexed { IsIndexed (map bytes_of lines.now) log.now }
-    ensures diagnostics { IfOk result (λ shown. shown.diagnostics.items ≡ all_faults after.now) }
-    ensures compiled { IfOk result (λ shown. map (λ one. one.value) shown.compiled.items ≡ map (compiled_of after.now) after.now.messages) }
-    ensures found { IfOk result (λ shown. IsIndexOf after.now shown.messages) }
-    ensures fresh { IfOk result (λ shown. Completes after.now lines.now shown.fresh.items) }
-    ensures made { Raised (count_here (edit_numbers before.now edit.now) after.now) (count_by (line_touched (edit_numbers before.now edit.now)) (map bytes_of lines.now)) meter.old meter.new }
+    ensures diagnostics { IfOk result (λ shown. shown.diagnostics.items ≡ all_faults accepted.now.after.now) }
+    ensures compiled { IfOk result (λ shown. map (λ one. one.value) shown.compiled.items ≡ map (compiled_of accepted.now.after.now) accepted.now.after.now.messages) }
+    ensures found { IfOk result (λ shown. IsIndexOf accepted.now.after.now shown.messages) }
+    ensures fresh { IfOk result (λ shown. Completes accepted.now.after.now lines.now shown.fresh.items) }
+    ensures made { Raised (count_here accepted.now.numbers.now accepted.now.after.now) (count_by (line_touched accepted.now.numbers.now) (map bytes_of lines.now)) meter.old meter.new }
 {
-    let numbers = edit_numbers(before, edit);
-    let accepted = Accepted {
-        before,
-        edit,
-        after,
-        numbers: numbers.as_slice(),
-    };
-    let diagnostics = all_faults(alloc, after)?;
-    let compiled = recompiled(alloc, &accepted, compiled, meter)?;
-    let messages = MessageIndex::of(alloc, after)?;
+    let diagnostics = all_faults(alloc, accepted.after)?;
+    let compiled = recompiled(alloc, accepted, compiled, meter)?;
+    let messages = MessageIndex::of(alloc, accepted.after)?;
     let fresh = decode_touched(
         alloc,
-        &accepted,
+        accepted,
         &messages,
         compiled.as_slice(),
         lines,
@@ -185,6 +177,13 @@ impl Session {
         ensures err { OnErr result (self.new.state ≡ self.old.state) }
         ensures made { Raised (count_here (edit_numbers self.old.state.database edit.now) after) (count_by (line_touched (edit_numbers self.old.state.database edit.now)) self.old.state.lines) self.old.meter self.new.meter }
     {
+        let numbers = edit_numbers(&self.database, edit);
+        let accepted = Accepted {
+            before: &self.database,
+            edit,
+            after: &after,
+            numbers: numbers.as_slice(),
+        };
         // All growths come first.
         let Shown {
             diagnostics,
@@ -193,12 +192,10 @@ impl Session {
             fresh,
         } = shown_after(
             self.alloc,
-            &self.database,
+            &accepted,
             self.compiled.as_slice(),
             self.lines.as_slice(),
             &self.log,
-            edit,
-            &after,
             &mut self.meter,
         )?;
         // From here on nothing takes memory.

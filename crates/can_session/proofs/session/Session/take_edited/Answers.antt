@@ -11,16 +11,18 @@ invariant_of-self-2 c =
       planned = c.in_ok-diagnostics.ensures.compiled;
       found = c.in_ok-diagnostics.ensures.found;
       indexed = rw (c.exchange.ensures.lines ∙ ap (map bytes_of) c.as_mut_slice.ensures.value) c.self.invariant.indexed;
-      decoded = c.exchange.ensures.decoded c.args.after (rw c.as_mut_slice.ensures.value (rw c.as_slice-2.ensures.value at c.in_ok-diagnostics.ensures.fresh));
+      decoded = c.exchange.ensures.decoded c.args.after (rw c.as_mut_slice.ensures.value (rw c.as_slice-3.ensures.value at c.in_ok-diagnostics.ensures.fresh));
       few = omega (arith, long, c.self.invariant.few);
     })
 
 pub returns-clause-made : goal.returns-clause-made
 returns-clause-made c =
-    let raised = rw c.as_slice-2.ensures.value at c.shown_after.ensures.made in
+    let numbers = c.as_slice.ensures.value ∙ c.edit_numbers-numbers.ensures in
+    let raised = rw (numbers, c.as_slice-3.ensures.value) at c.shown_after.ensures.made in
     rw (← c.self.view_is) raised
 
 pub returns-in_err-diagnostics-clause-made : goal.returns-in_err-diagnostics-clause-made
 returns-in_err-diagnostics-clause-made c =
-    let raised = rw c.as_slice-2.ensures.value at c.shown_after.ensures.made in
+    let numbers = c.as_slice.ensures.value ∙ c.edit_numbers-numbers.ensures in
+    let raised = rw (numbers, c.as_slice-3.ensures.value) at c.shown_after.ensures.made in
     rw (← c.self.view_is) raised
