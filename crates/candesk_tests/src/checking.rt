@@ -1,7 +1,10 @@
 //! That a database is checked.
+ghost use Rattle.std.specs.Prelude.{◌<◌, length};
 
 use crate::reading::database;
 use can_check::{Code, Diagnostic, all_faults, message_faults};
+use dbc_records::Database;
+use std::alloc::Global;
 use std::test::Fail;
 
 // A number that is no identifier, and a sender that isn't there.
@@ -15,13 +18,27 @@ fn has_code(found: &[Diagnostic], place: usize, code: Code) -> bool {
     }
 }
 
+// Whether both are found, and all of the one message.
+fn both_found(alloc: Global, database: &Database) -> Result<bool, Fail>
+    requires { 0 < length database.now.messages }
+{
+    let found = all_faults(alloc, database)?;
+    let of_message = message_faults(alloc, database, 0)?;
+    Ok(
+        has_code(found.as_slice(), 0, Code::BadIdentifier)
+            && has_code(found.as_slice(), 1, Code::UnknownNode)
+            && found.len() == 2
+            && of_message.len() == 2,
+    )
+}
+
+fn is_doubtful(alloc: Global) -> Result<bool, Fail> {
+    let database = database(alloc, DOUBTFUL)?;
+    both_found(alloc, &database)
+}
+
 #[test]
 fn a_number_and_a_sender(rt: HostRuntime) -> Result<(), Fail> {
-    let database = database(rt.alloc(), DOUBTFUL)?;
-    let found = all_faults(rt.alloc(), &database)?;
-    assert!(rt; has_code(found.as_slice(), 0, Code::BadIdentifier));
-    assert!(rt; has_code(found.as_slice(), 1, Code::UnknownNode));
-    let of_message = message_faults(rt.alloc(), &database, 0)?;
-    assert_eq!(rt; of_message.len(), 2);
+    assert!(rt; is_doubtful(rt.alloc())?);
     Ok(())
 }

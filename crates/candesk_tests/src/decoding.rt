@@ -59,13 +59,24 @@ fn is_decoded(alloc: Global, database: &Database, most: usize) -> Result<bool, M
     ends(alloc, database, source, usize::MAX, Ok(5), DECODED)
 }
 
+// Whether all is decoded from pieces of several sizes.
+fn all_decoded(alloc: Global, database: &Database) -> Result<bool, Fail> {
+    for most in [1, 2, 7, 4096] {
+        if !is_decoded(alloc, database, most)? {
+            return Ok(false);
+        }
+    }
+    Ok(true)
+}
+
+fn is_decoded_in_pieces(alloc: Global) -> Result<bool, Fail> {
+    let database = database(alloc, TWO)?;
+    all_decoded(alloc, &database)
+}
+
 #[test]
 fn pieces(rt: HostRuntime) -> Result<(), Fail> {
-    let alloc = rt.alloc();
-    let database = database(alloc, TWO)?;
-    for most in [1, 2, 7, 4096] {
-        assert!(rt; is_decoded(alloc, &database, most)?);
-    }
+    assert!(rt; is_decoded_in_pieces(rt.alloc())?);
     Ok(())
 }
 
@@ -98,13 +109,30 @@ fn unwritten(alloc: Global, database: &Database, written: usize) -> Result<usize
     breaks_off(alloc, database, source, written, StreamFault::Write)
 }
 
+// Whether as much is written as can be, wherever writing fails.
+fn all_written(alloc: Global, database: &Database) -> Result<bool, Fail> {
+    for most in 0..DECODED.len() {
+        if unwritten(alloc, database, most)? != most {
+            return Ok(false);
+        }
+    }
+    Ok(true)
+}
+
+// How much is written where reading fails, and whether as much is as can be where writing does.
+fn broken_off(alloc: Global) -> Result<(usize, bool), Fail> {
+    let database = database(alloc, TWO)?;
+    both_broken_off(alloc, &database)
+}
+
+fn both_broken_off(alloc: Global, database: &Database) -> Result<(usize, bool), Fail> {
+    Ok((unread(alloc, database)?, all_written(alloc, database)?))
+}
+
 #[test]
 fn failing_devices(rt: HostRuntime) -> Result<(), Fail> {
-    let alloc = rt.alloc();
-    let database = database(alloc, TWO)?;
-    assert_eq!(rt; unread(alloc, &database)?, 31);
-    for written in 0..DECODED.len() {
-        assert_eq!(rt; unwritten(alloc, &database, written)?, written);
-    }
+    let (unread, all_written) = broken_off(rt.alloc())?;
+    assert_eq!(rt; unread, 31);
+    assert!(rt; all_written);
     Ok(())
 }

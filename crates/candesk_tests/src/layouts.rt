@@ -36,13 +36,25 @@ Message A 5 2
    0 S 8|8@1+
 ";
 
+// Whether the plan, the picture and those of all messages are right.
+fn all_right(alloc: Global, database: &Database) -> Result<bool, Fail>
+    requires { 0 < length database.now.messages }
+{
+    let drawn = picture(alloc, database, 0, &mut Meter::new())?;
+    Ok(
+        drawn.as_slice() == PICTURE
+            && first_raw(alloc, database, &[1, 42])? == 42
+            && all_made(alloc, database)?,
+    )
+}
+
+fn is_laid_out(alloc: Global) -> Result<bool, Fail> {
+    let database = database(alloc, ONE)?;
+    all_right(alloc, &database)
+}
+
 #[test]
 fn a_plan_and_a_picture(rt: HostRuntime) -> Result<(), Fail> {
-    let alloc = rt.alloc();
-    let database = database(alloc, ONE)?;
-    assert_eq!(rt; first_raw(alloc, &database, &[1, 42])?, 42);
-    let drawn = picture(alloc, &database, 0, &mut Meter::new())?;
-    assert_eq!(rt; drawn.as_slice(), PICTURE);
-    assert!(rt; all_made(alloc, &database)?);
+    assert!(rt; is_laid_out(rt.alloc())?);
     Ok(())
 }

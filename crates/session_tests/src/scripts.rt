@@ -1,11 +1,8 @@
 //! What no contract says: that commands are done where memory is there. The replies, and where a session stands when a device
 //! has failed, are worked out by hand.
-ghost use Rattle.std.specs.Prelude.{◌<◌};
 
-use byte_devices::limp::Limp;
+use crate::runs::{ALL, Devices, Run, Standing, all_done};
 use line_stream::StreamFault;
-use session_script::{Session, serve};
-use std::alloc::Global;
 use std::test::Fail;
 
 // two messages of one number
@@ -22,60 +19,69 @@ const SCRIPT: &[u8] = b"log (1.5) can0 053#2A\nremove-message 0\nshow lines\n";
 
 const REPLIES: &[u8] = b"ok\nok\n(1.5) can0 053#2A :: B(S: 84)\nok\n";
 
-// How many messages there are, and how the one line is decoded by the first of them.
-type Standing = (usize, &'static [u8]);
+// Behind its first command.
+const BOTH: Standing = Standing {
+    messages: 2,
+    signals: 1,
+    diagnostics: 2,
+    line: b"(1.5) can0 053#2A",
+    decoded: b"(1.5) can0 053#2A :: A(S: 42)",
+};
 
-const BOTH: Standing = (2, b"(1.5) can0 053#2A :: A(S: 42)");
+// Behind its second.
+const SECOND: Standing = Standing {
+    messages: 1,
+    signals: 1,
+    diagnostics: 0,
+    line: b"(1.5) can0 053#2A",
+    decoded: b"(1.5) can0 053#2A :: B(S: 84)",
+};
 
-const SECOND: Standing = (1, b"(1.5) can0 053#2A :: B(S: 84)");
-
-const ALL: usize = usize::MAX;
-
-fn open(alloc: Global, text: &[u8]) -> Result<Session, Fail> {
-    match Session::open(alloc, text) {
-        Ok(session) => Ok(session),
-        Err(_) => Err(Fail::from("no database")),
-    }
-}
-
-// Whether a session stands so.
-fn stands(session: &Session, (messages, line): Standing) -> bool {
-    session.database().messages.len() == messages
-        && session.line_count() == 1
-        && session.decoded(0) == line
-}
-
-// Whether SCRIPT ends so, from a source that gives at most so many bytes in a call, and over devices that fail after so many.
-fn ends_so(
-    alloc: Global,
-    most: usize,
-    limits: (usize, usize),
+// The script, ended so.
+fn ended(
     ended: Result<u64, StreamFault>,
-    replies: &[u8],
+    replies: &'static [u8],
     standing: Standing,
-) -> Result<bool, Fail>
-    requires { 0 < most }
-{
-    let mut session = open(alloc, SHARED)?;
-    let mut source = Limp::new(SCRIPT.to_vec(alloc)?, most, u64::MAX, limits.0);
-    let mut sink = Limp::new(Vec::new(alloc), 2, u64::MAX, limits.1);
-    let result = serve(alloc, &mut session, &mut source, &mut sink);
-    Ok(result == ended && sink.bytes() == replies && stands(&session, standing))
+    made: (u64, u64),
+) -> Run {
+    Run {
+        commands: SCRIPT,
+        replies,
+        ended,
+        standing,
+        made,
+    }
 }
 
 #[test]
 fn scripts(rt: HostRuntime) -> Result<(), Fail> {
-    let table: [((usize, usize), Result<u64, StreamFault>, &[u8], Standing); 4] = [
-        ((ALL, ALL), Ok(3), REPLIES, SECOND),
+    let table: [((usize, usize), Run); 4] = [
+        ((ALL, ALL), ended(Ok(3), REPLIES, SECOND, (3, 2))),
         // the first line was read, and then the second too but for its LF
-        ((22, ALL), Err(StreamFault::Read), b"ok\n", BOTH),
-        ((38, ALL), Err(StreamFault::Read), b"ok\n", BOTH),
+        (
+            (22, ALL),
+            ended(Err(StreamFault::Read), b"ok\n", BOTH, (2, 1)),
+        ),
+        (
+            (38, ALL),
+            ended(Err(StreamFault::Read), b"ok\n", BOTH, (2, 1)),
+        ),
         // the second reply lacks its LF
-        ((ALL, 5), Err(StreamFault::Write), b"ok\nok", SECOND),
+        (
+            (ALL, 5),
+            ended(Err(StreamFault::Write), b"ok\nok", SECOND, (3, 2)),
+        ),
     ];
-    for (limits, ended, replies, standing) in table {
-        assert!(rt; ends_so(rt.alloc(), 1, limits, ended, replies, standing)?);
-        assert!(rt; ends_so(rt.alloc(), ALL, limits, ended, replies, standing)?);
+    for ((read, written), run) in table {
+        let runs = [run];
+        for at_once in [1, ALL] {
+            let devices = Devices {
+                at_once,
+                read,
+                written,
+            };
+            assert!(rt; all_done(rt.alloc(), SHARED, &devices, &runs)?);
+        }
     }
     Ok(())
 }

@@ -1,0 +1,105 @@
+//! Runs of a session: commands, what it replies, and what it shows behind them.
+
+use byte_devices::limp::Limp;
+use line_stream::StreamFault;
+use session_script::{Session, serve};
+use std::alloc::Global;
+use std::test::Fail;
+
+/// More than any run reads or writes.
+pub const ALL: usize = usize::MAX;
+
+/// Where a session stands: how many messages it has, how many signals the plan of the first has, how many diagnostics are told,
+/// and the first line with its text.
+#[derive(Clone, Copy)]
+pub struct Standing {
+    pub messages: usize,
+    pub signals: usize,
+    pub diagnostics: usize,
+    pub line: &'static [u8],
+    pub decoded: &'static [u8],
+}
+
+/// Commands, and what is seen behind them.
+#[derive(Clone, Copy)]
+pub struct Run {
+    pub commands: &'static [u8],
+    pub replies: &'static [u8],
+    pub ended: Result<u64, StreamFault>,
+    pub standing: Standing,
+    /// How many plans and pictures were made since the session was opened, and how many lines decoded.
+    pub made: (u64, u64),
+}
+
+/// How commands are read and replies written: so many bytes at once are read, and so many in all can be read and written.
+#[derive(Clone, Copy)]
+pub struct Devices {
+    pub at_once: usize,
+    pub read: usize,
+    pub written: usize,
+}
+
+// Whether the first message has a plan of so many signals.
+fn plans(session: &Session, signals: usize) -> bool {
+    !session.database().messages.as_slice().is_empty() && session.plan(0).signals() == signals
+}
+
+// Whether the first line is this, and decoded so.
+fn shows(session: &Session, line: &[u8], decoded: &[u8]) -> bool {
+    0 < session.line_count() && session.line(0) == line && session.decoded(0) == decoded
+}
+
+fn stands(session: &Session, standing: &Standing) -> bool {
+    session.database().messages.len() == standing.messages
+        && session.diagnostics().len() == standing.diagnostics
+        && plans(session, standing.signals)
+        && shows(session, standing.line, standing.decoded)
+}
+
+fn counts(session: &Session, (made, decoded): (u64, u64)) -> bool {
+    let meter = session.meter();
+    meter.plans() == made && meter.pictures() == made && meter.lines() == decoded
+}
+
+// Whether the session does the commands so.
+fn does(alloc: Global, session: &mut Session, devices: &Devices, run: &Run) -> Result<bool, Fail> {
+    let commands = run.commands.to_vec(alloc)?;
+    let mut source = Limp::new(commands, devices.at_once.max(1), u64::MAX, devices.read);
+    let mut sink = Limp::new(Vec::new(alloc), 2, u64::MAX, devices.written);
+    let ended = serve(alloc, session, &mut source, &mut sink);
+    Ok(
+        ended == run.ended
+            && sink.bytes() == run.replies
+            && stands(session, &run.standing)
+            && counts(session, run.made),
+    )
+}
+
+// Whether the session does the runs so, one after another.
+fn does_all(
+    alloc: Global,
+    session: &mut Session,
+    devices: &Devices,
+    runs: &[Run],
+) -> Result<bool, Fail> {
+    for run in runs {
+        if !does(alloc, session, devices, run)? {
+            return Ok(false);
+        }
+    }
+    Ok(true)
+}
+
+fn open(alloc: Global, text: &[u8]) -> Result<Session, Fail> {
+    match Session::open(alloc, text) {
+        Ok(session) => Ok(session),
+        Err(_) => Err(Fail::from("no database")),
+    }
+}
+
+/// Whether a session of the text does the runs so. No other function has a session of its own, and this one hands it on at once:
+/// whoever has one and leaves in many ways is long in proving.
+pub fn all_done(alloc: Global, text: &[u8], devices: &Devices, runs: &[Run]) -> Result<bool, Fail> {
+    let mut session = open(alloc, text)?;
+    does_all(alloc, &mut session, devices, runs)
+}
