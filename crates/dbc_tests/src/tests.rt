@@ -25,17 +25,40 @@ fn printed(alloc: Global, database: &Database) -> Result<Vec<u8>, Fail> {
     Ok(sink.into_inner())
 }
 
-#[test]
-fn copies(rt: HostRuntime) -> Result<(), Fail> {
-    let copy = whole(rt.alloc())?.copy()?;
-    assert_eq!(rt; printed(rt.alloc(), &copy)?.as_slice(), TEXT);
-    Ok(())
+fn is_printed(alloc: Global, database: &Database) -> Result<bool, Fail> {
+    Ok(printed(alloc, database)?.as_slice() == TEXT)
+}
+
+fn copied(database: &Database) -> Result<Database, Fail> {
+    Ok(database.copy()?)
+}
+
+// Whoever has a database of its own and leaves in many ways is long in proving, so each is handed on at once.
+fn is_copied(alloc: Global, database: &Database) -> Result<bool, Fail> {
+    let copy = copied(database)?;
+    is_printed(alloc, &copy)
+}
+
+fn is_reread(alloc: Global, database: &Database) -> Result<bool, Fail> {
+    let again = reread(alloc, database)?;
+    is_printed(alloc, &again)
+}
+
+// Whether a copy is printed so, and a database that was printed and read again.
+fn both_printed(alloc: Global, database: &Database) -> Result<(bool, bool), Fail> {
+    Ok((is_copied(alloc, database)?, is_reread(alloc, database)?))
+}
+
+fn copied_and_reread(alloc: Global) -> Result<(bool, bool), Fail> {
+    let database = whole(alloc)?;
+    both_printed(alloc, &database)
 }
 
 #[test]
-fn rereads(rt: HostRuntime) -> Result<(), Fail> {
-    let again = reread(rt.alloc(), &whole(rt.alloc())?)?;
-    assert_eq!(rt; printed(rt.alloc(), &again)?.as_slice(), TEXT);
+fn copies_and_rereads(rt: HostRuntime) -> Result<(), Fail> {
+    let (copied, reread) = copied_and_reread(rt.alloc())?;
+    assert!(rt; copied);
+    assert!(rt; reread);
     Ok(())
 }
 
@@ -48,14 +71,18 @@ fn refuses_a_text(rt: HostRuntime) {
     assert_eq!(rt; read(rt.alloc(), b"BS_:\nBS_:").err(), Some(fault));
 }
 
-#[test]
-fn reads_a_statement(rt: HostRuntime) -> Result<(), Fail> {
-    let text = b" BO_ 291 M: 8 A // the motor";
-    match read_one(rt.alloc(), text).ok().ok_or("a statement")? {
-        Statement::Head(head) => assert_eq!(rt; head.number, 291),
-        _ => return Err("a head".into()),
+// The number of the message of which the text is the first line.
+fn number_of(alloc: Global, text: &[u8]) -> Option<u32> {
+    match read_one(alloc, text) {
+        Ok(Statement::Head(head)) => Some(head.number),
+        _ => None,
     }
-    Ok(())
+}
+
+#[test]
+fn reads_a_statement(rt: HostRuntime) {
+    let number = number_of(rt.alloc(), b" BO_ 291 M: 8 A // the motor");
+    assert_eq!(rt; number, Some(291));
 }
 
 // The cause for which the text is refused as one statement, or nothing where it is one.
@@ -99,15 +126,38 @@ fn breaks_at(alloc: Global, database: &Database, limit: usize) -> bool {
     print(database, &mut sink) == Err(WriteFault) && sink.bytes() == &TEXT[..limit.min(TEXT.len())]
 }
 
-// A sink that takes one byte a call, and one that fails at each byte in turn.
+// Whether all is printed to a sink that takes one byte a call.
+fn is_printed_slowly(alloc: Global, database: &Database) -> bool {
+    let mut slow = Limp::new(Vec::new(alloc), 1, u64::MAX, usize::MAX);
+    print(database, &mut slow) == Ok(()) && slow.bytes() == TEXT
+}
+
+// Where a sink that fails there doesn't end the printing so, if anywhere.
+fn unbroken(alloc: Global, database: &Database) -> Option<usize> {
+    for limit in 0..TEXT.len() {
+        if !breaks_at(alloc, database, limit) {
+            return Some(limit);
+        }
+    }
+    None
+}
+
+fn both_ended(alloc: Global, database: &Database) -> (bool, Option<usize>) {
+    (
+        is_printed_slowly(alloc, database),
+        unbroken(alloc, database),
+    )
+}
+
+fn limped(alloc: Global) -> Result<(bool, Option<usize>), Fail> {
+    let database = whole(alloc)?;
+    Ok(both_ended(alloc, &database))
+}
+
 #[test]
 fn limping_sinks(rt: HostRuntime) -> Result<(), Fail> {
-    let database = whole(rt.alloc())?;
-    let mut slow = Limp::new(Vec::new(rt.alloc()), 1, u64::MAX, usize::MAX);
-    assert_eq!(rt; print(&database, &mut slow), Ok(()));
-    assert_eq!(rt; slow.bytes(), TEXT);
-    for limit in 0..TEXT.len() {
-        assert!(rt; breaks_at(rt.alloc(), &database, limit));
-    }
+    let (is_whole, unbroken) = limped(rt.alloc())?;
+    assert!(rt; is_whole);
+    assert_eq!(rt; unbroken, None);
     Ok(())
 }
