@@ -144,71 +144,131 @@ fn signal(alloc: Global, bytes: &[u8]) -> Result<Signal, Fail> {
     }
 }
 
-#[test]
-fn made_of_pairs(rt: HostRuntime) -> Result<(), Fail> {
-    let alloc = rt.alloc();
-    let head = head(alloc)?;
-    let first = signal(alloc, b"S")?;
-    let second = signal(alloc, b"T")?;
-    let found = Diagnostic::of_pair(Code::Overlap, &head, &first, &second)?;
-    assert!(rt; is_written(alloc, &found, b"6 Overlap 7 M.S M.T"));
-    Ok(())
+// A message's first line and two of its signals.
+#[derive(Drop)]
+struct Parts {
+    head: Head,
+    first: Signal,
+    second: Signal,
+}
+
+fn new_parts(alloc: Global) -> Result<Parts, Fail> {
+    Ok(Parts {
+        head: head(alloc)?,
+        first: signal(alloc, b"S")?,
+        second: signal(alloc, b"T")?,
+    })
+}
+
+fn of_message(alloc: Global, parts: &Parts) -> Result<bool, Fail> {
+    let found = Diagnostic::of_message(Code::SharedName, &parts.head)?;
+    Ok(is_written(alloc, &found, b"3 SharedName 7 M"))
+}
+
+fn of_sender(alloc: Global, parts: &Parts) -> Result<bool, Fail> {
+    let found = Diagnostic::of_sender(Code::UnknownNode, &parts.head)?;
+    Ok(is_written(alloc, &found, b"13 UnknownNode 7 M Gate"))
+}
+
+fn of_signal(alloc: Global, parts: &Parts) -> Result<bool, Fail> {
+    let found = Diagnostic::of_signal(Code::Outside, &parts.head, &parts.first)?;
+    Ok(is_written(alloc, &found, b"5 Outside 7 M.S"))
+}
+
+fn of_pair(alloc: Global, parts: &Parts) -> Result<bool, Fail> {
+    let found = Diagnostic::of_pair(Code::Overlap, &parts.head, &parts.first, &parts.second)?;
+    Ok(is_written(alloc, &found, b"6 Overlap 7 M.S M.T"))
+}
+
+fn of_receiver(alloc: Global, parts: &Parts) -> Result<bool, Fail> {
+    let Parts { head, first, .. } = parts;
+    let found = Diagnostic::of_receiver(Code::UnknownNode, head, first, &head.sender)?;
+    Ok(is_written(alloc, &found, b"13 UnknownNode 7 M.S Gate"))
+}
+
+fn of_value(alloc: Global, parts: &Parts) -> Result<bool, Fail> {
+    let found = Diagnostic::of_value(Code::RepeatedValue, &parts.head, &parts.first, 2)?;
+    Ok(is_written(alloc, &found, b"15 RepeatedValue 7 M.S 2"))
+}
+
+fn all_made(alloc: Global, parts: &Parts) -> Result<[bool; 6], Fail> {
+    Ok([
+        of_message(alloc, parts)?,
+        of_sender(alloc, parts)?,
+        of_signal(alloc, parts)?,
+        of_pair(alloc, parts)?,
+        of_receiver(alloc, parts)?,
+        of_value(alloc, parts)?,
+    ])
+}
+
+// Whoever has such parts of its own and leaves in many ways is long in proving, so they are handed on at once.
+fn made_of_parts(alloc: Global) -> Result<[bool; 6], Fail> {
+    let parts = new_parts(alloc)?;
+    all_made(alloc, &parts)
 }
 
 #[test]
-fn made_of_receivers(rt: HostRuntime) -> Result<(), Fail> {
-    let alloc = rt.alloc();
-    let head = head(alloc)?;
-    let signal = signal(alloc, b"S")?;
-    let found = Diagnostic::of_receiver(Code::UnknownNode, &head, &signal, &head.sender)?;
-    assert!(rt; is_written(alloc, &found, b"13 UnknownNode 7 M.S Gate"));
+fn made_of_messages_and_signals(rt: HostRuntime) -> Result<(), Fail> {
+    assert_eq!(rt; made_of_parts(rt.alloc())?, [true; 6]);
     Ok(())
 }
 
-#[test]
-fn made_of_values(rt: HostRuntime) -> Result<(), Fail> {
-    let alloc = rt.alloc();
-    let head = head(alloc)?;
-    let signal = signal(alloc, b"S")?;
-    let found = Diagnostic::of_value(Code::RepeatedValue, &head, &signal, 2)?;
-    assert!(rt; is_written(alloc, &found, b"15 RepeatedValue 7 M.S 2"));
-    Ok(())
+fn table(alloc: Global) -> Result<TableRow, Fail> {
+    match TableRow::new(name(alloc, b"T")?, List::new(alloc)) {
+        Some(table) => Ok(table),
+        None => Err(Fail::from("no table")),
+    }
 }
 
-#[test]
-fn made_of_signals(rt: HostRuntime) -> Result<(), Fail> {
-    let alloc = rt.alloc();
-    let head = head(alloc)?;
-    let signal = signal(alloc, b"S")?;
-    let found = Diagnostic::of_signal(Code::Outside, &head, &signal)?;
-    assert!(rt; is_written(alloc, &found, b"5 Outside 7 M.S"));
-    Ok(())
+fn key_of_table(alloc: Global) -> Result<RowKey, Fail> {
+    let table = table(alloc)?;
+    Ok(RowKey::of_table(&table)?)
+}
+
+fn of_copied_key(alloc: Global, key: &RowKey) -> Result<bool, Fail> {
+    let found = Diagnostic::of_row(Code::RepeatedRow, key.copy()?);
+    Ok(is_written(alloc, &found, b"17 RepeatedRow VAL_TABLE_ T"))
+}
+
+fn made_of_table(alloc: Global) -> Result<bool, Fail> {
+    let key = key_of_table(alloc)?;
+    of_copied_key(alloc, &key)
 }
 
 #[test]
 fn made_of_rows(rt: HostRuntime) -> Result<(), Fail> {
-    let alloc = rt.alloc();
-    let Some(table) = TableRow::new(name(alloc, b"T")?, List::new(alloc)) else {
-        return Err(Fail::from("no table"));
-    };
-    let key = RowKey::of_table(&table)?;
-    let found = Diagnostic::of_row(Code::RepeatedRow, key.copy()?);
-    assert!(rt; is_written(alloc, &found, b"17 RepeatedRow VAL_TABLE_ T"));
+    assert!(rt; made_of_table(rt.alloc())?);
     Ok(())
+}
+
+fn of_message_and_sender(alloc: Global) -> Result<[Diagnostic; 2], Fail> {
+    let head = head(alloc)?;
+    both_of(&head)
+}
+
+fn both_of(head: &Head) -> Result<[Diagnostic; 2], Fail> {
+    let message = Diagnostic::of_message(Code::SharedName, head)?;
+    Ok([message, Diagnostic::of_sender(Code::UnknownNode, head)?])
+}
+
+fn are_written(alloc: Global, found: &[Diagnostic], wanted: &[u8]) -> bool {
+    let mut sink = Limp::new(Vec::new(alloc), 5, u64::MAX, usize::MAX);
+    write_lines(found, &mut sink).is_ok() && sink.bytes() == wanted
+}
+
+fn both_written(alloc: Global) -> Result<bool, Fail> {
+    let found = of_message_and_sender(alloc)?;
+    Ok(are_written(
+        alloc,
+        &found,
+        b"3 SharedName 7 M\n13 UnknownNode 7 M Gate\n",
+    ))
 }
 
 #[test]
 fn several(rt: HostRuntime) -> Result<(), Fail> {
-    let alloc = rt.alloc();
-    let head = head(alloc)?;
-    let message = Diagnostic::of_message(Code::SharedName, &head)?;
-    let found = [message, Diagnostic::of_sender(Code::UnknownNode, &head)?];
-    let mut sink = Limp::new(Vec::new(alloc), 5, u64::MAX, usize::MAX);
-    assert!(rt; write_lines(&found, &mut sink).is_ok());
-    assert_eq!(rt;
-        sink.bytes(),
-        b"3 SharedName 7 M\n13 UnknownNode 7 M Gate\n".as_slice()
-    );
+    assert!(rt; both_written(rt.alloc())?);
     Ok(())
 }
 
