@@ -38,7 +38,7 @@ const SECOND: Standing = Standing {
 };
 
 // The script, ended so.
-fn ended(
+fn script_ended(
     ended: Result<u64, StreamFault>,
     replies: &'static [u8],
     standing: Standing,
@@ -56,20 +56,20 @@ fn ended(
 #[test]
 fn scripts(rt: HostRuntime) -> Result<(), Fail> {
     let table: [((usize, usize), Run); 4] = [
-        ((ALL, ALL), ended(Ok(3), REPLIES, SECOND, (3, 2))),
+        ((ALL, ALL), script_ended(Ok(3), REPLIES, SECOND, (3, 2))),
         // the first line was read, and then the second too but for its LF
         (
             (22, ALL),
-            ended(Err(StreamFault::Read), b"ok\n", BOTH, (2, 1)),
+            script_ended(Err(StreamFault::Read), b"ok\n", BOTH, (2, 1)),
         ),
         (
             (38, ALL),
-            ended(Err(StreamFault::Read), b"ok\n", BOTH, (2, 1)),
+            script_ended(Err(StreamFault::Read), b"ok\n", BOTH, (2, 1)),
         ),
         // the second reply lacks its LF
         (
             (ALL, 5),
-            ended(Err(StreamFault::Write), b"ok\nok", SECOND, (3, 2)),
+            script_ended(Err(StreamFault::Write), b"ok\nok", SECOND, (3, 2)),
         ),
     ];
     for ((read, written), run) in table {
