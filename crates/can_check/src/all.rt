@@ -88,6 +88,88 @@ fn push_messages<L: Lookup>(
     Ok(())
 }
 
+// Adds all diagnostics of what is known.
+#[tactic(auto, using(crate::proofs::Pushing::pushed_then), unfolding(crate::specs::RowFaults::all_faults))]
+fn push_all<L: Lookup>(
+    found: &mut Vec<Diagnostic>,
+    known: &Known<'_>,
+    lookup: &L,
+) -> Result<(), Memory>
+    requires { L.whole lookup.now ≡ known.now }
+    ensures { OnOk result (found.new.items ≡ found.old.items ++ all_faults known.now) }
+{
+    let messages = known.database().messages.as_slice();
+    push_messages(found, known, lookup, messages)?;
+    push_row_faults(found, known)
+}
+
+// The diagnostics of what is known, by an index of the rows.
+fn faults_by<L: Lookup>(
+    alloc: Global,
+    known: &Known<'_>,
+    lookup: &L,
+) -> Result<Vec<Diagnostic>, Memory>
+    requires { L.whole lookup.now ≡ known.now }
+    ensures { IfOk result (λ found. found.items ≡ all_faults known.now) }
+{
+    let mut found = Vec::new(alloc);
+    match push_all(&mut found, known, lookup) {
+        Ok(()) => Ok(found),
+        Err(Memory) => Err(Memory),
+    }
+}
+
+// The diagnostics of what is known.
+fn faults_of(alloc: Global, known: &Known<'_>) -> Result<Vec<Diagnostic>, Memory>
+    ensures { IfOk result (λ found. found.items ≡ all_faults known.now) }
+{
+    match Indexed::of(alloc, known.database()) {
+        Ok(indexed) => faults_by(alloc, known, &indexed),
+        Err(Memory) => Err(Memory),
+    }
+}
+
+/// All diagnostics of a database: those of each message in order, and then those of the rows. The time grows about as the
+/// database and the list do, whatever numbers, names and keys stand in it.
+pub fn all_faults(alloc: Global, database: &Database) -> Result<Vec<Diagnostic>, Memory>
+    ensures { IfOk result (λ found. found.items ≡ all_faults database.now) }
+{
+    match Known::of(alloc, database) {
+        Ok(known) => faults_of(alloc, &known),
+        Err(Memory) => Err(Memory),
+    }
+}
+
+// The diagnostics of a message, by what is known of its database and an index of the rows.
+fn faults_in<L: Lookup>(
+    alloc: Global,
+    known: &Known<'_>,
+    lookup: &L,
+    message: &Message,
+) -> Result<Vec<Diagnostic>, Memory>
+    requires { L.whole lookup.now ≡ known.now }
+    ensures { IfOk result (λ found. found.items ≡ message_faults known.now message.now) }
+{
+    let mut occupancy = Occupancy::new(alloc);
+    let mut found = Vec::new(alloc);
+    match push_message(&mut found, known, lookup, &mut occupancy, message) {
+        Ok(()) => Ok(found),
+        Err(Memory) => Err(Memory),
+    }
+}
+
+// The diagnostics of the message at a place, by what is known of its database.
+fn faults_at(alloc: Global, known: &Known<'_>, place: usize) -> Result<Vec<Diagnostic>, Memory>
+    requires { place < length known.now.messages }
+    ensures { IfOk result (λ found. Some found.items ≡ option_map (message_faults known.now) (slice_get known.now.messages place)) }
+{
+    let database = known.database();
+    match Indexed::of(alloc, database) {
+        Ok(indexed) => faults_in(alloc, known, &indexed, &database.messages.as_slice()[place]),
+        Err(Memory) => Err(Memory),
+    }
+}
+
 /// The diagnostics of the message at a place: codes 1 to 15. The whole database is indexed for it.
 pub fn message_faults(
     alloc: Global,
@@ -97,25 +179,8 @@ pub fn message_faults(
     requires { place < length database.now.messages }
     ensures { IfOk result (λ found. Some found.items ≡ option_map (message_faults database.now) (slice_get database.now.messages place)) }
 {
-    let known = Known::of(alloc, database)?;
-    let indexed = Indexed::of(alloc, database)?;
-    let mut found = Vec::new(alloc);
-    let mut occupancy = Occupancy::new(alloc);
-    let message = &database.messages.as_slice()[place];
-    push_message(&mut found, &known, &indexed, &mut occupancy, message)?;
-    Ok(found)
-}
-
-/// All diagnostics of a database: those of each message in order, and then those of the rows. The time grows about as the
-/// database and the list do, whatever numbers, names and keys stand in it.
-#[tactic(auto, using(crate::proofs::Pushing::pushed_then), unfolding(crate::specs::RowFaults::all_faults))]
-pub fn all_faults(alloc: Global, database: &Database) -> Result<Vec<Diagnostic>, Memory>
-    ensures { IfOk result (λ found. found.items ≡ all_faults database.now) }
-{
-    let known = Known::of(alloc, database)?;
-    let indexed = Indexed::of(alloc, database)?;
-    let mut found = Vec::new(alloc);
-    push_messages(&mut found, &known, &indexed, database.messages.as_slice())?;
-    push_row_faults(&mut found, &known)?;
-    Ok(found)
+    match Known::of(alloc, database) {
+        Ok(known) => faults_at(alloc, &known, place),
+        Err(Memory) => Err(Memory),
+    }
 }
