@@ -21,11 +21,18 @@ pub record IsUntouched (before after : Unread) (old new : Written) : Type 0 wher
   pub unread : after ≡ before
   pub written : new ≡ old
 
+-- The log is decoded with a database. Or it is untouched, and memory ran out.
+abbrev pub Decodes : Database → Unread → Unread → Written → Written → Result ℕ RunFault → Type 0
+Decodes database before after old new (Ok count) = Streams (decoded_line database) before after old new (Ok count)
+Decodes database before after old new (Err (faults.Stream fault)) = Streams (decoded_line database) before after old new (Err fault)
+Decodes database before after old new (Err (faults.Read fault)) = ⊥
+Decodes database before after old new (Err faults.Memory) = IsUntouched before after old new
+
 -- The text has a database, and the log is decoded with it. Or the log is untouched, and the fault is the first of the text,
 -- or memory ran out.
 abbrev pub Runs : List ℕ → Unread → Unread → Written → Written → Result ℕ RunFault → Type 0
-Runs text before after old new (Ok count) = (database : Database) × HasDatabase text database × Streams (decoded_line database) before after old new (Ok count)
-Runs text before after old new (Err (faults.Stream fault)) = (database : Database) × HasDatabase text database × Streams (decoded_line database) before after old new (Err fault)
+Runs text before after old new (Ok count) = (database : Database) × HasDatabase text database × Decodes database before after old new (Ok count)
+Runs text before after old new (Err (faults.Stream fault)) = (database : Database) × HasDatabase text database × Decodes database before after old new (Err (faults.Stream fault))
 Runs text before after old new (Err (faults.Read fault)) = IsUntouched before after old new × IsRead text (Err fault)
 Runs text before after old new (Err faults.Memory) = IsUntouched before after old new
 
