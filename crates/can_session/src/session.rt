@@ -80,7 +80,7 @@ fn compiled_database(
     compiled_all(alloc, &indexed, messages_of(database), meter)
 }
 
-// What is shown of an edited database, and the texts of the lines that the edit touches.
+// What is shown of a database, and the new texts of lines: at first none, behind an edit those of the lines that it touches.
 #[derive(Drop)]
 struct Shown {
     diagnostics: Vec<Diagnostic>,
@@ -89,7 +89,7 @@ struct Shown {
     fresh: Vec<Fresh>,
 }
 
-// That, by what was shown of the database before.
+// That of an edited database, by what was shown of it before.
 fn shown_after(
     alloc: Global,
     accepted: &Accepted<'_>,
@@ -129,6 +129,24 @@ fn shown_after(
     })
 }
 
+// That of a database without lines.
+fn shown_of(alloc: Global, database: &Database, meter: &mut Meter) -> Result<Shown, Memory>
+    ensures diagnostics { IfOk result (λ shown. shown.diagnostics.items ≡ all_faults database.now) }
+    ensures compiled { IfOk result (λ shown. map (λ one. one.value) shown.compiled.items ≡ map (compiled_of database.now) database.now.messages) }
+    ensures found { IfOk result (λ shown. IsIndexOf database.now shown.messages) }
+    ensures made { OnOk result (Raised (length database.now.messages) 0 meter.old meter.new) }
+{
+    let diagnostics = all_faults(alloc, database)?;
+    let compiled = compiled_database(alloc, database, meter)?;
+    let messages = MessageIndex::of(alloc, database)?;
+    Ok(Shown {
+        diagnostics,
+        compiled,
+        messages,
+        fresh: Vec::new(alloc),
+    })
+}
+
 // The session of a database.
 fn session_of(alloc: Global, database: Database) -> Result<Session, Memory>
     ensures database { IfOk result (λ session. session.state.database ≡ database) }
@@ -136,9 +154,12 @@ fn session_of(alloc: Global, database: Database) -> Result<Session, Memory>
     ensures made { IfOk result (λ session. Raised (length database.messages) 0 nothing_made session.meter) }
 {
     let mut meter = Meter::new();
-    let diagnostics = all_faults(alloc, &database)?;
-    let compiled = compiled_database(alloc, &database, &mut meter)?;
-    let messages = MessageIndex::of(alloc, &database)?;
+    let Shown {
+        diagnostics,
+        compiled,
+        messages,
+        fresh: _none,
+    } = shown_of(alloc, &database, &mut meter)?;
     Ok(Session {
         alloc,
         database,
