@@ -10,12 +10,18 @@ use Rattle.candesk_calls.specs.declared.fault.PrintFault.{PrintFault}
 use Rattle.candesk_calls.specs.declared.fault.PrintFault.TheVariants as faults
 use Rattle.candesk_calls.specs.Statuses.{done, refused, device, memory}
 
--- The text has a database, and its whole canonical text was written, or a beginning of it and then a put failed. Or
--- nothing was written, and the fault is the first of the text, or says that memory ran out.
+-- The whole canonical text of a database was written, or a beginning of it and then a put failed.
+abbrev pub Prints : Database → Written → Written → Result (Unit {0}) PrintFault → Type 0
+Prints database old new (Ok u) = Wrote old new (canonical_text database)
+Prints database old new (Err (faults.Read fault)) = ⊥
+Prints database old new (Err faults.Write) = Broke old new (canonical_text database)
+
+-- The text has a database, which was so printed. Or nothing was written, and the fault is the first of the text, or says that
+-- memory ran out.
 abbrev pub PrintsText : List ℕ → Written → Written → Result (Unit {0}) PrintFault → Type 0
-PrintsText text old new (Ok u) = (database : Database) × HasDatabase text database × Wrote old new (canonical_text database)
+PrintsText text old new (Ok u) = (database : Database) × HasDatabase text database × Prints database old new (Ok u)
 PrintsText text old new (Err (faults.Read fault)) = (new ≡ old) × IsRead text (Err fault)
-PrintsText text old new (Err faults.Write) = (database : Database) × HasDatabase text database × Broke old new (canonical_text database)
+PrintsText text old new (Err faults.Write) = (database : Database) × HasDatabase text database × Prints database old new (Err faults.Write)
 
 -- the exit status of a text that is not read
 abbrev pub status_of_cause : Cause → ℕ
