@@ -1,2 +1,3 @@
+pub mod FromText
 pub mod Printing
 pub mod Layouts

@@ -8,6 +8,12 @@ use Rattle.session_script.specs.declared.fault.SessionFault.{SessionFault}
 use Rattle.session_script.specs.declared.fault.SessionFault.TheVariants as faults
 use Rattle.session_script.specs.Serving.{Serves}
 
+-- the script was run in a session that stood so before, and stands so after
+abbrev pub ServesSession : State → State → Unread → Unread → Written → Written → Result ℕ SessionFault → Type 0
+ServesSession first last unread left old new (Ok count) = Serves first old unread left last new (Ok count)
+ServesSession first last unread left old new (Err (faults.Stream fault)) = Serves first old unread left last new (Err fault)
+ServesSession first last unread left old new (Err (faults.Read fault)) = ⊥
+
 -- the script was run from the text's database without lines
 abbrev pub ServesText : List ℕ → Unread → Unread → Written → Written → Result ℕ StreamFault → Type 0
 ServesText text unread left old new result =

@@ -1,11 +1,26 @@
 //! A database text and a script in, replies out.
-ghost use Rattle.session_script.specs.Running.{RunsScript};
+ghost use Rattle.session_script.specs.Running.{RunsScript, ServesSession};
 
 use crate::fault::SessionFault;
 use crate::serving::serve;
 use byte_devices::{Sink, Source};
 use can_session::Session;
 use std::alloc::Global;
+
+// Runs the script in a session.
+fn run_in<R: Source, W: Sink>(
+    alloc: Global,
+    session: &mut Session,
+    source: &mut R,
+    sink: &mut W,
+) -> Result<u64, SessionFault>
+    ensures { ServesSession session.old.state session.new.state (R.unread source.old) (R.unread source.new) (W.written sink.old) (W.written sink.new) result }
+{
+    match serve(alloc, session, source, sink) {
+        Ok(count) => Ok(count),
+        Err(fault) => Err(SessionFault::Stream(fault)),
+    }
+}
 
 /// Reads the database text, opens a session on it, and runs the script to its end. It answers how many commands there are, up to
 /// `u64::MAX`.
@@ -17,12 +32,8 @@ pub fn session_run<R: Source, W: Sink>(
 ) -> Result<u64, SessionFault>
     ensures { RunsScript text.now (R.unread source.old) (R.unread source.new) (W.written sink.old) (W.written sink.new) result }
 {
-    let mut session = match Session::open(alloc, text) {
-        Ok(session) => session,
-        Err(fault) => return Err(SessionFault::Read(fault)),
-    };
-    match serve(alloc, &mut session, source, sink) {
-        Ok(count) => Ok(count),
-        Err(fault) => Err(SessionFault::Stream(fault)),
+    match Session::open(alloc, text) {
+        Ok(mut session) => run_in(alloc, &mut session, source, sink),
+        Err(fault) => Err(SessionFault::Read(fault)),
     }
 }
