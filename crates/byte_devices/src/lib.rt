@@ -6,8 +6,6 @@ mod device;
 mod from_std;
 mod held;
 pub mod limp;
-#[cfg(test)]
-mod tests;
 
 pub use device::{Broken, Sink, Source, WriteFault, put_all};
 pub use from_std::{FromRead, FromWrite};

@@ -10,8 +10,6 @@ mod row_key;
 mod row_line;
 mod showing;
 mod subject;
-#[cfg(test)]
-mod tests;
 mod writing;
 
 pub use code::Code;

@@ -11,8 +11,6 @@ mod names;
 mod numbers;
 mod row_keys;
 mod signal_names;
-#[cfg(test)]
-mod tests;
 
 pub use integers::Integers;
 pub use key::{Key, Place};

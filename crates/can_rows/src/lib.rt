@@ -12,8 +12,6 @@ mod indexed;
 pub mod laws;
 mod lookup;
 mod row;
-#[cfg(test)]
-mod tests;
 
 pub use group::{group_in, group_number, group_of, groups, is_bad_number};
 pub use indexed::Indexed;

@@ -1,5 +1,5 @@
 //! Tests of checks, plans, pictures, decoding and whole runs: what no contract says of them. They stand apart, as a crate with
-//! tests is proved once more with them.
+//! tests is proved once more with them. So do those of the rows, diagnostics, keys, frames, ready texts and words below.
 #![tactic(auto)]
 
 #[cfg(test)]
@@ -9,6 +9,18 @@ mod checking;
 #[cfg(test)]
 mod decoding;
 #[cfg(test)]
+mod diagnostics;
+#[cfg(test)]
+mod frames;
+#[cfg(test)]
+mod keys;
+#[cfg(test)]
 mod layouts;
 #[cfg(test)]
 mod reading;
+#[cfg(test)]
+mod ready;
+#[cfg(test)]
+mod rows;
+#[cfg(test)]
+mod words;

@@ -7,7 +7,5 @@
 mod job;
 mod line;
 mod notes;
-#[cfg(test)]
-mod tests;
 
 pub use job::{Command, Job, NoJob, job_of};

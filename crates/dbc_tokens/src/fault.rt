@@ -49,32 +49,3 @@ impl fmt::Display for ReadFault {
 }
 
 impl std::error::Error for ReadFault {}
-
-#[cfg(test)]
-mod tests {
-    use super::{Cause, ReadFault};
-    use std::alloc::AllocError;
-
-    #[test]
-    fn shows_faults(rt: HostRuntime) -> Result<(), AllocError> {
-        let cases = [
-            (3, Cause::Token, "line 3: 1 Token"),
-            (3, Cause::Statement, "line 3: 2 Statement"),
-            (1, Cause::RepeatedSignal, "line 1: 3 RepeatedSignal"),
-            (
-                18446744073709551615,
-                Cause::MessagesFull,
-                "line 18446744073709551615: 4 MessagesFull",
-            ),
-            (10, Cause::SignalsFull, "line 10: 5 SignalsFull"),
-            (2, Cause::Limit, "line 2: 6 Limit"),
-            (0, Cause::Memory, "90 Memory"),
-        ];
-        for (line, cause, want) in cases {
-            let fault = ReadFault { line, cause };
-            let shown = format!(in rt.alloc(); "{fault}")?;
-            assert_eq!(rt; shown.as_str(), want);
-        }
-        Ok(())
-    }
-}

@@ -14,8 +14,6 @@ mod number;
 mod piece;
 mod scale;
 mod symbol;
-#[cfg(test)]
-mod tests;
 mod text;
 
 pub use decimal::Decimal;

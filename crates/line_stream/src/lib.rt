@@ -6,8 +6,6 @@
 mod fault;
 mod handler;
 mod streaming;
-#[cfg(test)]
-mod tests;
 mod texts;
 
 pub use fault::{Stop, StreamFault};

@@ -10,8 +10,6 @@ mod frame;
 mod identifier;
 mod line;
 mod reading;
-#[cfg(test)]
-mod tests;
 
 pub use frame::{Frame, Kind};
 pub use line::body_of;

@@ -4,8 +4,6 @@
 mod digits;
 mod ready;
 mod showing;
-#[cfg(test)]
-mod tests;
 
 pub use digits::Digits;
 pub use ready::ReadyText;

@@ -1,5 +1,5 @@
 //! Tests of sessions and their scripts: what no contract says of them. They stand apart, as a crate with tests is proved once
-//! more with them.
+//! more with them. So do those of the streams of lines below.
 #![tactic(auto)]
 
 #[cfg(test)]
@@ -8,3 +8,5 @@ mod runs;
 mod scripts;
 #[cfg(test)]
 mod sessions;
+#[cfg(test)]
+mod streams;

@@ -1,8 +1,8 @@
 //! What no contract says: that calls succeed, and one line of each form.
 
-use crate::{Code, Diagnostic, RowKey, Subject, write_diagnostic, write_lines};
 use byte_devices::WriteFault;
 use byte_devices::limp::Limp;
+use can_diagnostics::{Code, Diagnostic, RowKey, Subject, write_diagnostic, write_lines};
 use dbc_records::{Head, Object, Signal, TableRow, Tag, Target};
 use dbc_values::{Copied, Decimal, List, Name, Text};
 use std::alloc::Global;

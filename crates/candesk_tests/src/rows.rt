@@ -1,6 +1,6 @@
 //! Groups of some identifiers, as J1939 lists them.
 
-use crate::group_number;
+use can_rows::group_number;
 
 #[test]
 fn group_numbers(rt: HostRuntime) {

@@ -1,9 +1,7 @@
 //! What no contract says: that calls succeed, the text of the fault, and names, texts, symbols and tokens at their edges, with
 //! the answers that a reader of the format gives.
 
-mod numbers;
-
-use crate::{Copied, List, Memory, Name, Piece, Symbol, Text};
+use dbc_values::{Copied, List, Memory, Name, Piece, Symbol, Text};
 use std::alloc::Global;
 use std::test::Fail;
 

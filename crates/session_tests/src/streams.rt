@@ -1,10 +1,9 @@
 //! What no contract says: that runs succeed, and the texts of faults.
 ghost use Rattle.std.specs.Prelude.{ℕ, List, ◌++◌};
 
-use crate::fault::StreamFault;
-use crate::texts::{LineText, stream_texts};
 use byte_devices::limp::Limp;
 use dbc_values::Memory;
+use line_stream::{LineText, StreamFault, stream_texts};
 use std::marker::Model;
 use std::test::Fail;
 

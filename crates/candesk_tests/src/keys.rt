@@ -1,6 +1,6 @@
 //! What no contract says: that calls succeed.
 
-use crate::{Key, Names, Numbers, Place, RowKeys, SignalNames};
+use can_keys::{Key, Names, Numbers, Place, RowKeys, SignalNames};
 use dbc_records::{Comment, Object, Target};
 use dbc_values::Text;
 use std::test::Fail;

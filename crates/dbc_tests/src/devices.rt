@@ -1,7 +1,7 @@
 //! What no contract says: that calls succeed, and the text of the fault.
 
-use crate::limp::Limp;
-use crate::{FromRead, FromWrite, Sink, Source, WriteFault, put_all};
+use byte_devices::limp::Limp;
+use byte_devices::{FromRead, FromWrite, Sink, Source, WriteFault, put_all};
 use std::test::Fail;
 
 #[test]

@@ -1,5 +1,5 @@
 //! Texts as long as a front, and longer; and a text of two lines.
-use crate::{ReadyText, push_shown};
+use ready_texts::{ReadyText, push_shown};
 use std::test::Fail;
 
 #[test]

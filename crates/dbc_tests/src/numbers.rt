@@ -1,6 +1,6 @@
 //! Numbers as decimals and as whole numbers, and scales, at their edges.
 
-use crate::{Decimal, Scale, Whole, is_number, whole_of};
+use dbc_values::{Decimal, Scale, Whole, is_number, whole_of};
 use std::test::Fail;
 
 fn decimal(bytes: &[u8]) -> Result<Decimal, Fail> {

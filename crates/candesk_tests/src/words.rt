@@ -1,6 +1,6 @@
 //! What no contract says: that words are read where memory is there, and what `--version` answers.
 
-use crate::{Command, Job, NoJob, job_of};
+use candesk_words::{Command, Job, NoJob, job_of};
 use std::test::Fail;
 
 #[test]
