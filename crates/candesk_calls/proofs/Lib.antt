@@ -1,1 +1,2 @@
+pub mod FromText
 pub mod Drawing

@@ -1,0 +1,23 @@
+-- From what is done with a database to what is done with the text that has it.
+use Rattle.std.proofs.Common.{ℕ, List, Result, Ok, Err}
+use Rattle.byte_devices.specs.Device.{Unread, Written}
+use Rattle.dbc_records.specs.Databases.{Database}
+use Rattle.dbc_reader.specs.Texts.{HasDatabase}
+use Rattle.candesk_calls.specs.declared.fault.RunFault.{RunFault}
+use Rattle.candesk_calls.specs.declared.fault.RunFault.TheVariants as run
+use Rattle.candesk_calls.specs.declared.fault.PrintFault.{PrintFault}
+use Rattle.candesk_calls.specs.declared.fault.PrintFault.TheVariants as print
+use Rattle.candesk_calls.specs.Run.{Decodes, Runs}
+use Rattle.candesk_calls.specs.Printing.{Prints, PrintsText}
+
+module _ (text : List ℕ) (database : Database) (read : HasDatabase text database) where
+  pub decoded : (before after : Unread) (old new : Written) (result : Result ℕ RunFault) → Decodes database before after old new result → Runs text before after old new result
+  decoded before after old new (Ok count) done = (database, read, done)
+  decoded before after old new (Err (run.Stream fault)) done = (database, read, done)
+  decoded before after old new (Err (run.Read fault)) done = absurd done
+  decoded before after old new (Err run.Memory) done = done
+
+  pub printed : (old new : Written) (result : Result (Unit {0}) PrintFault) → Prints database old new result → PrintsText text old new result
+  printed old new (Ok u) done = (database, read, done)
+  printed old new (Err (print.Read fault)) done = absurd done
+  printed old new (Err print.Write) done = (database, read, done)
