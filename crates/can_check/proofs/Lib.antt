@@ -1,4 +1,2 @@
-pub mod Rows
-pub mod Pushing
 pub mod Placed
 pub mod Counts

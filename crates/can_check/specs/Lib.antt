@@ -1,5 +1,3 @@
-pub mod Finding
-pub mod Known
 pub mod SignalRules
 pub mod MessageFaults
-pub mod RowFaults
+pub mod AllFaults

@@ -1,53 +1,24 @@
 -- What is doubtful of a message and its signals, by rising codes; in a code the message itself, then its signals in order.
--- Source: the DBC file format, "Message Definitions", "Signal Definitions", "Node Definitions"; SAE J1939-21, "Parameter Group
--- Numbers". Which of it is told is the profile of candesk.
-use Rattle.std.specs.Prelude.{◌==◌, ◌&&◌, ℕ, ℤ, Bool, false, not, List, [], ◌∷◌, ◌++◌, Option, Some, None, map, slice_get, if◌then◌else◌}
+-- Source: the DBC file format, "Message Definitions", "Signal Definitions". Which of it is told is the profile of candesk.
+use Rattle.std.specs.Prelude.{ℤ, Bool, false, List, [], ◌∷◌, ◌++◌, Option, Some, None, map, slice_get, if◌then◌else◌}
 use Rattle.std.specs.List.{flat_map, enumerate_from}
-use Rattle.std.specs.Str.{bytes_eq}
 use Rattle.std.specs.Ordering.{int_eq}
 use Rattle.dbc_records.specs.Records.{Head, Signal, Message, Entry}
 use Rattle.dbc_records.specs.Databases.{Database}
 use Rattle.can_bits.specs.Bits.{field_of}
 use Rattle.can_rows.specs.Rows.{SignalRows, rows_of, first_values, first_mux}
-use Rattle.can_rows.specs.Groups.{is_bad_number, pseudo_number, group_of}
 use Rattle.can_layout.specs.Plans.{entries_of}
 use Rattle.can_layout.specs.Switches.{walks_of}
 use Rattle.can_layout.specs.declared.walk.Walk.{Walk}
 use Rattle.can_overlap.specs.Overlaps.{overlapping}
 use Rattle.can_overlap.specs.declared.pair.Pair.{Pair}
-use Rattle.can_diagnostics.specs.Diagnostics.{of_message, of_sender, of_signal, of_pair, of_receiver, of_value}
+use Rattle.can_diagnostics.specs.Diagnostics.{of_signal, of_pair, of_value}
 use Rattle.can_diagnostics.specs.declared.code.Code.{Code}
 use Rattle.can_diagnostics.specs.declared.code.Code.TheVariants as codes
 use Rattle.can_diagnostics.specs.declared.diagnostic.Diagnostic.{Diagnostic}
-use Rattle.can_check.specs.Finding.{where_true, is_shared, stands_in, each_after}
-use Rattle.can_check.specs.Known.{numbers_of, names_of, groups_of, is_known_node}
+use Rattle.can_references.specs.Finding.{where_true, stands_in, each_after}
+use Rattle.can_references.specs.HeadFaults.{is_pseudo, head_faults, unknown_nodes}
 use Rattle.can_check.specs.SignalRules.{has_no_switch, is_loop, is_bad_row, lies_outside, is_float, is_long, has_no_scale, is_out_of_range}
-
--- the message that holds signals of no message
-abbrev pub is_pseudo : Head → Bool
-is_pseudo head = head.number == pseudo_number
-
--- ---- the message
-
--- its number is no identifier
-unfoldable pub bad_identifier : Message → List Diagnostic
-bad_identifier m = where_true (is_bad_number m.head.number && not (is_pseudo m.head)) (of_message codes.BadIdentifier m.head)
-
--- another message has its number
-unfoldable pub shared_identifier : Database → Message → List Diagnostic
-shared_identifier database m = where_true (is_shared (λ a b. a == b) m.head.number (numbers_of database)) (of_message codes.SharedIdentifier m.head)
-
--- another message has its name
-unfoldable pub shared_name : Database → Message → List Diagnostic
-shared_name database m = where_true (is_shared bytes_eq m.head.name (names_of database)) (of_message codes.SharedName m.head)
-
-abbrev pub in_shared_group : Database → Head → Option ℕ → List Diagnostic
-in_shared_group database head None = []
-in_shared_group database head (Some group) = where_true (is_shared (λ a b. a == b) group (groups_of database)) (of_message codes.SharedGroup head)
-
--- it and another are group messages of one group
-unfoldable pub shared_group : Database → Message → List Diagnostic
-shared_group database m = in_shared_group database m.head (group_of m.head.number database)
 
 -- ---- its signals
 
@@ -101,21 +72,6 @@ long m = signals_where codes.Long m.head is_long m.signals
 unfoldable pub no_scale : Message → List Diagnostic
 no_scale m = signals_where codes.Scale m.head has_no_scale m.signals
 
--- ---- nodes
-
-abbrev pub unknown_sender : Database → Head → List Diagnostic
-unknown_sender database head = where_true (not (is_known_node database head.sender)) (of_sender codes.UnknownNode head)
-
-abbrev pub unknown_receiver : Database → Head → Signal → List ℕ → List Diagnostic
-unknown_receiver database head signal node = where_true (not (is_known_node database node)) (of_receiver codes.UnknownNode head signal node)
-
-abbrev pub unknown_receivers : Database → Head → Signal → List Diagnostic
-unknown_receivers database head signal = flat_map (unknown_receiver database head signal) signal.receivers
-
--- its sender, or a receiver of a signal, is not in the list of nodes
-unfoldable pub unknown_nodes : Database → Message → List Diagnostic
-unknown_nodes database m = unknown_sender database m.head ++ flat_map (unknown_receivers database m.head) m.signals
-
 -- ---- named values
 
 -- the named values of a signal, by its first row
@@ -143,10 +99,6 @@ unfoldable pub repeated_values : SignalRows → Message → List Diagnostic
 repeated_values rows m = flat_map (repeated_in rows m.head) m.signals
 
 -- ---- all of it
-
--- codes 1 to 4
-unfoldable pub head_faults : Database → Message → List Diagnostic
-head_faults database m = bad_identifier m ++ (shared_identifier database m ++ (shared_name database m ++ shared_group database m))
 
 -- codes 5 to 9
 unfoldable pub layout_faults : SignalRows → Message → List Walk → List Diagnostic

@@ -2,24 +2,21 @@
 ghost use Rattle.std.specs.Prelude.{◌≡◌, ◌++◌, ◌<◌, IfOk, OnOk, Some, length, slice_get, option_map};
 ghost use Rattle.std.specs.List.{flat_map};
 ghost use Rattle.can_check.specs.MessageFaults.{reading_faults, faults_by, message_faults, floats, long, no_scale};
-ghost use Rattle.can_check.specs.RowFaults.{all_faults};
+ghost use Rattle.can_check.specs.AllFaults.{all_faults};
 
-use crate::known::Known;
 use crate::layout_rules::push_layout_faults;
-use crate::message_rules::push_head_faults;
-use crate::node_rules::push_unknown_nodes;
-use crate::row_rules::push_row_faults;
 use crate::signal_rules::{HasNoScale, IsFloat, IsLong, push_where};
 use crate::value_rules::push_value_faults;
 use can_diagnostics::{Code, Diagnostic};
 use can_layout::{Indexed, Lookup, MessageRows, message_walks};
 use can_overlap::Occupancy;
+use can_references::{Known, push_head_faults, push_row_faults, push_unknown_nodes};
 use dbc_records::{Database, Message};
 use dbc_values::Memory;
 use std::alloc::Global;
 
 // Adds the signals that can't be decoded for other causes than where they lie: codes 10 to 12.
-#[tactic(auto, using(crate::proofs::Pushing::pushed_then), unfolding(crate::specs::MessageFaults::reading_faults, crate::specs::MessageFaults::floats, crate::specs::MessageFaults::long, crate::specs::MessageFaults::no_scale))]
+#[tactic(auto, using(can_references::proofs::Pushing::pushed_then), unfolding(crate::specs::MessageFaults::reading_faults, crate::specs::MessageFaults::floats, crate::specs::MessageFaults::long, crate::specs::MessageFaults::no_scale))]
 fn push_reading_faults<L: Lookup>(
     found: &mut Vec<Diagnostic>,
     rows: &MessageRows<'_, L>,
@@ -35,7 +32,7 @@ fn push_reading_faults<L: Lookup>(
 }
 
 // Adds the diagnostics of a message, by the rows of its number.
-#[tactic(auto, using(crate::proofs::Pushing::pushed_then, crate::proofs::Counts::as_many))]
+#[tactic(auto, using(can_references::proofs::Pushing::pushed_then, crate::proofs::Counts::as_many))]
 fn push_by_rows<L: Lookup>(
     found: &mut Vec<Diagnostic>,
     known: &Known<'_>,
@@ -89,7 +86,7 @@ fn push_messages<L: Lookup>(
 }
 
 // Adds all diagnostics of what is known.
-#[tactic(auto, using(crate::proofs::Pushing::pushed_then), unfolding(crate::specs::RowFaults::all_faults))]
+#[tactic(auto, using(can_references::proofs::Pushing::pushed_then), unfolding(crate::specs::AllFaults::all_faults))]
 fn push_all<L: Lookup>(
     found: &mut Vec<Diagnostic>,
     known: &Known<'_>,

@@ -3,27 +3,18 @@ ghost use Rattle.std.specs.Prelude.{◌≡◌, ◌++◌, OnOk, IfOk, length, map
 ghost use Rattle.std.specs.List.{flat_map};
 ghost use Rattle.can_bits.specs.Bits.{field_of};
 ghost use Rattle.can_diagnostics.specs.Diagnostics.{of_signal};
-ghost use Rattle.can_check.specs.Finding.{where_true};
-ghost use Rattle.can_check.specs.MessageFaults.{is_pseudo, walk_passes, walks_where, outside, pair_between, pair_at, overlaps, no_switch, bad_mux_row, switch_loop, layout_faults};
+ghost use Rattle.can_references.specs.Finding.{where_true};
+ghost use Rattle.can_check.specs.MessageFaults.{walk_passes, walks_where, outside, pair_between, pair_at, overlaps, no_switch, bad_mux_row, switch_loop, layout_faults};
 
 use crate::signal_rules::{HasBadRow, LiesOutside, push_where};
 use crate::walk_rules::{HasNoSwitch, IsLoop, WalkTest};
 use can_diagnostics::{Code, Diagnostic};
 use can_layout::{Field, Lookup, MessageRows, Walk};
 use can_overlap::{Occupancy, Pair};
+use can_references::is_pseudo;
 use dbc_records::{Head, Message, Signal};
 use dbc_values::Memory;
 use std::alloc::Global;
-
-// The number of the message that holds signals of no message.
-const PSEUDO_NUMBER: u32 = 0xC000_0000;
-
-/// Whether a message holds signals of no message.
-pub(crate) fn is_pseudo(head: &Head) -> bool
-    ensures { result ≡ is_pseudo head.now }
-{
-    head.number == PSEUDO_NUMBER
-}
 
 #[tactic(auto, unfolding(crate::specs::MessageFaults::outside))]
 fn push_outside(found: &mut Vec<Diagnostic>, message: &Message) -> Result<(), Memory>
@@ -204,7 +195,7 @@ fn push_switch_loop(
 }
 
 /// Adds what is doubtful of the layout of a message: codes 5 to 9.
-#[tactic(auto, using(crate::proofs::Pushing::pushed_then), unfolding(crate::specs::MessageFaults::layout_faults))]
+#[tactic(auto, using(can_references::proofs::Pushing::pushed_then), unfolding(crate::specs::MessageFaults::layout_faults))]
 pub(crate) fn push_layout_faults<L: Lookup>(
     found: &mut Vec<Diagnostic>,
     occupancy: &mut Occupancy,

@@ -5,12 +5,7 @@
 #![tactic(auto)]
 
 mod all;
-mod known;
 mod layout_rules;
-mod message_rules;
-mod node_rules;
-mod row;
-mod row_rules;
 mod signal_rules;
 mod value_rules;
 mod walk_rules;

@@ -158,7 +158,7 @@ fn push_repeated_values<L: Lookup>(
 }
 
 /// Adds what is doubtful of named values: codes 14 and 15.
-#[tactic(auto, using(crate::proofs::Pushing::pushed_then), unfolding(crate::specs::MessageFaults::value_faults))]
+#[tactic(auto, using(can_references::proofs::Pushing::pushed_then), unfolding(crate::specs::MessageFaults::value_faults))]
 pub(crate) fn push_value_faults<L: Lookup>(
     found: &mut Vec<Diagnostic>,
     rows: &MessageRows<'_, L>,

@@ -2,7 +2,7 @@
 use Rattle.std.specs.Prelude.{◌≡◌, ◌≤◌, List, All, length, map}
 use Rattle.dbc_records.specs.Databases.{Database}
 use Rattle.can_diagnostics.specs.declared.diagnostic.Diagnostic.{Diagnostic}
-use Rattle.can_check.specs.RowFaults.{all_faults}
+use Rattle.can_check.specs.AllFaults.{all_faults}
 use Rattle.can_session.specs.Compiled.{Compiled, compiled_of}
 use Rattle.can_session.specs.declared.line.Line.{Line}
 use Rattle.can_decode.specs.declared.message_index.MessageIndex.{MessageIndex}

@@ -3,7 +3,7 @@ ghost use Rattle.std.specs.Prelude.{◌≡◌, ◌<◌, Ok, IfOk, OnOk, OnErr, S
 ghost use Rattle.std.specs.Option.{option_map};
 ghost use Rattle.can_layout.specs.Plans.{plan_of};
 ghost use Rattle.can_layout.specs.Pictures.{picture_of};
-ghost use Rattle.can_check.specs.RowFaults.{all_faults};
+ghost use Rattle.can_check.specs.AllFaults.{all_faults};
 ghost use Rattle.can_decode.specs.DecodedLines.{decoded_line};
 ghost use Rattle.dbc_edits.specs.Edits.{edited};
 ghost use Rattle.edit_reach.specs.Touched.{edit_numbers, line_touched};

@@ -6,7 +6,7 @@ use Rattle.byte_devices.specs.Device.{Written, Wrote, Broke}
 use Rattle.dbc_reader.specs.Texts.{HasDatabase, IsRead}
 use Rattle.can_diagnostics.specs.declared.diagnostic.Diagnostic.{Diagnostic}
 use Rattle.can_diagnostics.specs.Lines.{line_text}
-use Rattle.can_check.specs.RowFaults.{all_faults}
+use Rattle.can_check.specs.AllFaults.{all_faults}
 use Rattle.candesk_calls.specs.declared.checking.Verdict.{Verdict}
 use Rattle.candesk_calls.specs.declared.checking.Verdict.TheVariants as verdicts
 use Rattle.candesk_calls.specs.declared.fault.CheckFault.{CheckFault}

@@ -1,6 +1,6 @@
 //! A database text in, a line for each thing that is doubtful in it out.
 ghost use Rattle.std.specs.Prelude.{◌≡◌};
-ghost use Rattle.can_check.specs.RowFaults.{all_faults};
+ghost use Rattle.can_check.specs.AllFaults.{all_faults};
 ghost use Rattle.candesk_calls.specs.Checking.{verdict_of, Says, ChecksAll};
 
 use crate::fault::CheckFault;

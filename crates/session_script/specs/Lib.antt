@@ -1,6 +1,6 @@
 pub use Rattle.can_session.specs.States
-pub mod Words
-pub mod Commands
+pub use Rattle.script_commands.specs.Words
+pub use Rattle.script_commands.specs.Commands
 pub mod Replies
 pub mod Serving
 pub mod Running

@@ -1,22 +1,20 @@
 -- What is done and replied for a line of a script.
-use Rattle.std.specs.Prelude.{◌≡◌, ◌⊎◌, ℕ, Bool, true, false, List, [], ◌∷◌, ◌++◌, map, Option, Some, None, Result, Ok, Err, slice_get, codes, decimal, IsTrue}
+use Rattle.std.specs.Prelude.{◌≡◌, ◌⊎◌, ℕ, List, [], ◌∷◌, ◌++◌, map, Option, Some, None, Result, Ok, Err, slice_get, codes, decimal, IsTrue}
 use Rattle.std.specs.List.{flat_map}
 use Rattle.std.specs.Option.{option_map_or}
 use Rattle.dbc_records.specs.Databases.{Database}
 use Rattle.dbc_records.specs.CanonicalText.{canonical_text}
 use Rattle.can_layout.specs.Pictures.{picture_of}
 use Rattle.can_diagnostics.specs.Lines.{line_text}
-use Rattle.can_check.specs.RowFaults.{all_faults}
+use Rattle.can_check.specs.AllFaults.{all_faults}
 use Rattle.can_decode.specs.DecodedLines.{decoded_line}
 use Rattle.log_frames.specs.LogLines.{body_of}
 use Rattle.dbc_edits.specs.declared.refusal.Refusal.{Refusal}
 use Rattle.dbc_edits.specs.declared.refusal.Refusal.TheVariants as refusals
 use Rattle.dbc_edits.specs.Refusals.{refusal_number, refusal_word}
 use Rattle.can_session.specs.States.{State, Applies, Adds}
-use Rattle.session_script.specs.declared.verb.Verb.{Verb}
-use Rattle.session_script.specs.declared.verb.Verb.TheVariants as verbs
-use Rattle.session_script.specs.Words.{word_of, verb_of}
-use Rattle.session_script.specs.Commands.{Command, Log, Change, ShowDiagnostics, ShowLayout, ShowLines, Print, Means}
+use Rattle.script_commands.specs.Words.{word_of, verb_of}
+use Rattle.script_commands.specs.Commands.{Command, Log, Change, ShowDiagnostics, ShowLayout, ShowLines, Print, Means, takes_memory}
 
 -- ---- texts
 
@@ -65,13 +63,6 @@ Does (Some ShowLines) before after text = (after ≡ before) × (text ≡ lines_
 Does (Some Print) before after text = (after ≡ before) × (text ≡ print_text before.database)
 
 -- ---- lines
-
--- memory may run out while such a command is read
-abbrev pub takes_memory : Option Verb → Bool
-takes_memory None = false
-takes_memory (Some verbs.Show) = false
-takes_memory (Some verbs.Print) = false
-takes_memory (Some verb) = true
 
 -- memory ran out before it was known what the line asks for
 abbrev pub IsStopped : List ℕ → State → State → List ℕ → Type 0

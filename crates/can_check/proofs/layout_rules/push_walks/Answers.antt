@@ -2,7 +2,7 @@ use Rattle.std.proofs.Common.{◌≡◌, ℕ, List, length, slice_get, sym, arit
 use Rattle.dbc_records.specs.Records.{Signal}
 use Rattle.can_diagnostics.specs.Diagnostics.{of_signal}
 use Rattle.can_diagnostics.specs.declared.diagnostic.Diagnostic.{Diagnostic}
-use Rattle.can_check.specs.Finding.{where_true}
+use Rattle.can_references.specs.Finding.{where_true}
 use Rattle.can_check.specs.MessageFaults.{walk_passes}
 use Rattle.can_check.proofs.Placed.{more_found, all_found}
 use Rattle.can_check.proofs.layout_rules.push_walks.Goals as goal

@@ -1,7 +1,7 @@
 use Rattle.std.proofs.Common.{◌≡◌, ◌++◌, take, slice_get}
 use Rattle.std.specs.List.{flat_map, enumerate_from}
 use Rattle.can_diagnostics.specs.Diagnostics.{of_signal}
-use Rattle.can_check.specs.Finding.{where_true}
+use Rattle.can_references.specs.Finding.{where_true}
 use Rattle.can_check.specs.MessageFaults.{walk_passes}
 use Rattle.can_check.proofs.layout_rules.push_walks.Given as goal
 

@@ -1,7 +1,7 @@
 use Rattle.std.proofs.Common.{[]}
 use Rattle.dbc_records.specs.Records.{Entry}
 use Rattle.can_check.specs.MessageFaults.{repeated_value}
-use Rattle.can_check.proofs.Rows.{more_after}
+use Rattle.can_references.proofs.Rows.{more_after}
 use Rattle.can_check.proofs.value_rules.push_repeated.Goals as goal
 
 pub loop-entry-preserved : goal.loop-entry-preserved

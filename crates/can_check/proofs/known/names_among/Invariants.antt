@@ -1,6 +1,0 @@
-use Rattle.std.proofs.Common.{◌≡◌, take}
-use Rattle.can_check.proofs.known.names_among.Given as goal
-
--- the names so far
-abbrev pub invariant-loop-name : goal.invariant-loop-name
-invariant-loop-name l = l.added ≡ take l.name-index l.names

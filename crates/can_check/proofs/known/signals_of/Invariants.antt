@@ -1,8 +1,0 @@
-use Rattle.std.proofs.Common.{◌≡◌, take}
-use Rattle.std.specs.List.{flat_map}
-use Rattle.can_check.specs.Known.{signals_in}
-use Rattle.can_check.proofs.known.signals_of.Given as goal
-
--- the signals of the messages so far
-abbrev pub invariant-loop-message : goal.invariant-loop-message
-invariant-loop-message l = l.names ≡ flat_map signals_in (take l.message-index l.messages)

@@ -1,8 +1,0 @@
-use Rattle.std.proofs.Common.{◌≡◌, ◌++◌, take}
-use Rattle.std.specs.List.{flat_map}
-use Rattle.can_check.specs.MessageFaults.{unknown_receiver}
-use Rattle.can_check.proofs.node_rules.push_unknown_nodes_of.Given as goal
-
--- the nodes so far
-abbrev pub invariant-loop-node : goal.invariant-loop-node
-invariant-loop-node l = l.found.items ≡ l.initial.found.items ++ flat_map (unknown_receiver l.known l.head l.signal) (take l.node-index l.nodes)

@@ -1,0 +1,4 @@
+pub mod Finding
+pub mod Known
+pub mod HeadFaults
+pub mod RowFaults

@@ -1,0 +1,211 @@
+//! What the whole of a database says of numbers, names and nodes, found by keys.
+ghost use Rattle.std.specs.Prelude.{◌≡◌, ◌==◌, ◌++◌, IfOk, OnOk, map};
+ghost use Rattle.std.specs.List.{flat_map};
+ghost use Rattle.std.specs.Str.{bytes_eq};
+ghost use Rattle.can_keys.specs.SignalNames.{same_signal};
+ghost use Rattle.can_references.specs.Finding.{is_shared, stands_in};
+ghost use Rattle.can_references.specs.Known.{numbers_of, names_of, groups_of, signals_in, signals_of, defined_in, perhaps, is_known_node};
+
+use can_keys::{Names, Numbers, SignalNames};
+use can_rows::groups;
+use dbc_records::{AttrDef, Database, Message, Signal};
+use dbc_values::{Memory, Name, same};
+use std::alloc::Global;
+use std::marker::Model;
+
+// The name that stands for no node.
+const NO_NODE: &[u8] = b"Vector__XXX";
+
+/// The numbers, names, groups and signals of the messages of a database, its nodes and its attribute definitions.
+#[derive(Drop)]
+pub struct Known<'a> {
+    database: &'a Database,
+    numbers: Numbers,
+    names: Names<'a>,
+    groups: Numbers,
+    signals: SignalNames<'a>,
+    nodes: Names<'a>,
+    defined: Names<'a>,
+}
+
+impl<'a> Model for Known<'a> {
+    ghost use Rattle.dbc_records.specs.Databases.{Database};
+    ghost use Rattle.can_references.specs.Known.{IsKnown};
+
+    ghost Value = { Database };
+
+    ghost view = { λ a. a.database.now };
+
+    ghost invariant = { λ a. IsKnown a.database.now a.numbers a.names a.groups a.signals a.nodes a.defined };
+}
+
+fn numbers_of(alloc: Global, messages: &[Message]) -> Result<Numbers, Memory>
+    ensures { IfOk result (λ numbers. numbers ≡ map (λ message. message.head.number) messages.now) }
+{
+    let mut numbers = Numbers::new(alloc);
+    for message in messages {
+        numbers.add(message.head.number)?;
+    }
+    Ok(numbers)
+}
+
+fn names_of<'a>(alloc: Global, messages: &'a [Message]) -> Result<Names<'a>, Memory>
+    ensures { IfOk result (λ names. names ≡ map (λ message. message.head.name) messages.now) }
+{
+    let mut names = Names::new(alloc);
+    for message in messages {
+        names.add(message.head.name.as_bytes())?;
+    }
+    Ok(names)
+}
+
+// The groups that are there.
+fn groups_among(alloc: Global, groups: &[Option<u32>]) -> Result<Numbers, Memory>
+    ensures { IfOk result (λ numbers. numbers ≡ flat_map perhaps groups.now) }
+{
+    let mut numbers = Numbers::new(alloc);
+    for group in groups {
+        if let Some(group) = group {
+            numbers.add(*group)?;
+        }
+    }
+    Ok(numbers)
+}
+
+#[tactic(auto, using(crate::proofs::Lists::flat_map_of_map))]
+fn groups_of(alloc: Global, database: &Database) -> Result<Numbers, Memory>
+    ensures { IfOk result (λ numbers. numbers ≡ groups_of database.now) }
+{
+    let groups = groups(alloc, database)?;
+    groups_among(alloc, groups.as_slice())
+}
+
+// Adds the signals of a message of a number.
+fn add_signals<'a>(
+    names: &mut SignalNames<'a>,
+    number: u32,
+    signals: &'a [Signal],
+) -> Result<(), Memory>
+    ensures { OnOk result (names.new ≡ names.old ++ map (λ signal. (number, signal.name)) signals.now) }
+{
+    for signal in signals {
+        names.add((number, signal.name.as_bytes()))?;
+    }
+    Ok(())
+}
+
+fn add_message<'a>(names: &mut SignalNames<'a>, message: &'a Message) -> Result<(), Memory>
+    ensures { OnOk result (names.new ≡ names.old ++ signals_in message.now) }
+{
+    add_signals(names, message.head.number, message.signals.as_slice())
+}
+
+fn signals_of<'a>(alloc: Global, messages: &'a [Message]) -> Result<SignalNames<'a>, Memory>
+    ensures { IfOk result (λ names. names ≡ flat_map signals_in messages.now) }
+{
+    let mut names = SignalNames::new(alloc);
+    for message in messages {
+        add_message(&mut names, message)?;
+    }
+    Ok(names)
+}
+
+fn names_among<'a>(alloc: Global, names: &'a [Name]) -> Result<Names<'a>, Memory>
+    ensures { IfOk result (λ added. added ≡ names.now) }
+{
+    let mut added = Names::new(alloc);
+    for name in names {
+        added.add(name.as_bytes())?;
+    }
+    Ok(added)
+}
+
+fn defined_in<'a>(alloc: Global, definitions: &'a [AttrDef]) -> Result<Names<'a>, Memory>
+    ensures { IfOk result (λ names. names ≡ map (λ definition. definition.name) definitions.now) }
+{
+    let mut names = Names::new(alloc);
+    for definition in definitions {
+        names.add(definition.name.as_bytes())?;
+    }
+    Ok(names)
+}
+
+impl<'a> Known<'a> {
+    /// What a database says.
+    pub fn of(alloc: Global, database: &'a Database) -> Result<Known<'a>, Memory>
+        ensures { IfOk result (λ known. known ≡ database.now) }
+    {
+        let messages = database.messages.as_slice();
+        let numbers = numbers_of(alloc, messages)?;
+        let names = names_of(alloc, messages)?;
+        let groups = groups_of(alloc, database)?;
+        let signals = signals_of(alloc, messages)?;
+        let nodes = names_among(alloc, database.nodes.as_slice())?;
+        let defined = defined_in(alloc, database.definitions.as_slice())?;
+        Ok(Known {
+            database,
+            numbers,
+            names,
+            groups,
+            signals,
+            nodes,
+            defined,
+        })
+    }
+
+    /// The database.
+    pub fn database(&self) -> &'a Database
+        ensures { result.now ≡ self.now }
+    {
+        self.database
+    }
+
+    /// Whether at least two messages have the number.
+    pub fn is_shared_number(&self, number: u32) -> bool
+        ensures { result ≡ is_shared (λ a b. a == b) number (numbers_of self.now) }
+    {
+        self.numbers.is_shared(number)
+    }
+
+    /// Whether at least two messages have the name.
+    pub fn is_shared_name(&self, name: &Name) -> bool
+        ensures { result ≡ is_shared bytes_eq name.now (names_of self.now) }
+    {
+        self.names.is_shared(name.as_bytes())
+    }
+
+    /// Whether at least two messages are of the group.
+    pub fn is_shared_group(&self, group: u32) -> bool
+        ensures { result ≡ is_shared (λ a b. a == b) group (groups_of self.now) }
+    {
+        self.groups.is_shared(group)
+    }
+
+    /// Whether a message has the number.
+    pub fn has_number(&self, number: u32) -> bool
+        ensures { result ≡ stands_in (λ a b. a == b) number (numbers_of self.now) }
+    {
+        self.numbers.has(number)
+    }
+
+    /// Whether a message of the number has a signal of the name.
+    pub fn has_signal(&self, number: u32, name: &'a [u8]) -> bool
+        ensures { result ≡ stands_in same_signal (number, name.now) (signals_of self.now) }
+    {
+        self.signals.has((number, name))
+    }
+
+    /// Whether the name is that of a node, or stands for none.
+    pub fn is_known_node(&self, name: &[u8]) -> bool
+        ensures { result ≡ is_known_node self.now name.now }
+    {
+        self.nodes.has(name) || same(name, NO_NODE)
+    }
+
+    /// Whether an attribute of the name is defined.
+    pub fn is_defined(&self, name: &[u8]) -> bool
+        ensures { result ≡ stands_in bytes_eq name.now (defined_in self.now) }
+    {
+        self.defined.has(name)
+    }
+}

@@ -1,0 +1,108 @@
+//! What is doubtful of a message by its number and its name.
+ghost use Rattle.std.specs.Prelude.{◌≡◌, ◌++◌, OnOk};
+ghost use Rattle.can_references.specs.HeadFaults.{is_pseudo, bad_identifier, shared_identifier, shared_name, in_shared_group, shared_group, head_faults};
+
+use crate::known::Known;
+use can_diagnostics::{Code, Diagnostic};
+use can_rows::{Lookup, group_in, is_bad_number};
+use dbc_records::{Head, Message};
+use dbc_values::Memory;
+
+// The number of the message that holds signals of no message.
+const PSEUDO_NUMBER: u32 = 0xC000_0000;
+
+/// Whether a message holds signals of no message.
+pub fn is_pseudo(head: &Head) -> bool
+    ensures { result ≡ is_pseudo head.now }
+{
+    head.number == PSEUDO_NUMBER
+}
+
+#[tactic(auto, unfolding(crate::specs::HeadFaults::bad_identifier))]
+fn push_bad_identifier(found: &mut Vec<Diagnostic>, message: &Message) -> Result<(), Memory>
+    ensures { OnOk result (found.new.items ≡ found.old.items ++ bad_identifier message.now) }
+{
+    let head = &message.head;
+    if is_bad_number(head.number) && !is_pseudo(head) {
+        found.push(Diagnostic::of_message(Code::BadIdentifier, head)?)?;
+    }
+    Ok(())
+}
+
+#[tactic(auto, unfolding(crate::specs::HeadFaults::shared_identifier))]
+fn push_shared_identifier(
+    found: &mut Vec<Diagnostic>,
+    known: &Known<'_>,
+    message: &Message,
+) -> Result<(), Memory>
+    ensures { OnOk result (found.new.items ≡ found.old.items ++ shared_identifier known.now message.now) }
+{
+    let head = &message.head;
+    if known.is_shared_number(head.number) {
+        found.push(Diagnostic::of_message(Code::SharedIdentifier, head)?)?;
+    }
+    Ok(())
+}
+
+#[tactic(auto, unfolding(crate::specs::HeadFaults::shared_name))]
+fn push_shared_name(
+    found: &mut Vec<Diagnostic>,
+    known: &Known<'_>,
+    message: &Message,
+) -> Result<(), Memory>
+    ensures { OnOk result (found.new.items ≡ found.old.items ++ shared_name known.now message.now) }
+{
+    let head = &message.head;
+    if known.is_shared_name(&head.name) {
+        found.push(Diagnostic::of_message(Code::SharedName, head)?)?;
+    }
+    Ok(())
+}
+
+// Adds the diagnostic of a message of a group that others are of, too.
+fn push_in_group(
+    found: &mut Vec<Diagnostic>,
+    known: &Known<'_>,
+    head: &Head,
+    group: Option<u32>,
+) -> Result<(), Memory>
+    ensures { OnOk result (found.new.items ≡ found.old.items ++ in_shared_group known.now head.now group) }
+{
+    if let Some(group) = group {
+        if known.is_shared_group(group) {
+            found.push(Diagnostic::of_message(Code::SharedGroup, head)?)?;
+        }
+    }
+    Ok(())
+}
+
+#[tactic(auto, unfolding(crate::specs::HeadFaults::shared_group))]
+fn push_shared_group<L: Lookup>(
+    found: &mut Vec<Diagnostic>,
+    known: &Known<'_>,
+    lookup: &L,
+    message: &Message,
+) -> Result<(), Memory>
+    requires { L.whole lookup.now ≡ known.now }
+    ensures { OnOk result (found.new.items ≡ found.old.items ++ shared_group known.now message.now) }
+{
+    let head = &message.head;
+    push_in_group(found, known, head, group_in(lookup, head.number))
+}
+
+/// Adds what is doubtful of a message's number and name: codes 1 to 4.
+#[tactic(auto, using(crate::proofs::Pushing::pushed_then), unfolding(crate::specs::HeadFaults::head_faults))]
+pub fn push_head_faults<L: Lookup>(
+    found: &mut Vec<Diagnostic>,
+    known: &Known<'_>,
+    lookup: &L,
+    message: &Message,
+) -> Result<(), Memory>
+    requires { L.whole lookup.now ≡ known.now }
+    ensures { OnOk result (found.new.items ≡ found.old.items ++ head_faults known.now message.now) }
+{
+    push_bad_identifier(found, message)?;
+    push_shared_identifier(found, known, message)?;
+    push_shared_name(found, known, message)?;
+    push_shared_group(found, known, lookup, message)
+}

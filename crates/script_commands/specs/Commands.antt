@@ -1,0 +1,198 @@
+-- What a line of a script asks for.
+use Rattle.std.specs.Prelude.{◌≡◌, ℕ, ◌&&◌, Bool, true, false, List, Option, Some, None, codes, option_map, option_and_then, if◌then◌else◌}
+use Rattle.std.specs.Str.{bytes_eq}
+use Rattle.dbc_values.specs.Lexical.{is_name}
+use Rattle.dbc_values.specs.Pieces.{is_string, inside}
+use Rattle.dbc_records.specs.Records.{Head, Signal, ValueRow, MuxRow, TableRow, head_fits}
+use Rattle.dbc_records.specs.Attributes.{AttrRow}
+use Rattle.dbc_records.specs.declared.target.Target.{Target}
+use Rattle.dbc_records.specs.declared.target.Target.TheVariants as targets
+use Rattle.dbc_tokens.specs.declared.fault.ReadFault.{ReadFault}
+use Rattle.dbc_reader.specs.declared.statement.Statement.{Statement}
+use Rattle.dbc_reader.specs.declared.statement.Statement.TheVariants as statements
+use Rattle.dbc_reader.specs.Grammar as grammar
+use Rattle.dbc_reader.specs.Texts.{HasStatement, HasFirstFault}
+use Rattle.dbc_edits.specs.Changes.{Change as NewLine}
+use Rattle.dbc_edits.specs.declared.edit.Edit.{Edit}
+use Rattle.dbc_edits.specs.declared.edit.Edit.TheVariants as edits
+use Rattle.log_frames.specs.LogLines.{body_of}
+use Rattle.script_commands.specs.declared.command.Command.{Command as CodedCommand}
+use Rattle.script_commands.specs.declared.command.Command.TheVariants as coded
+use Rattle.script_commands.specs.declared.verb.Verb.{Verb}
+use Rattle.script_commands.specs.declared.verb.Verb.TheVariants as verbs
+use Rattle.script_commands.specs.Words.{word_of, rest_of, number_of, verb_of}
+
+pub data Command : Type 0 where
+  Log : List ℕ → Command
+  Change : Edit → Command
+  ShowDiagnostics : Command
+  ShowLayout : ℕ → Command
+  ShowLines : Command
+  Print : Command
+
+-- ---- statements
+
+-- the one statement that a text is, or none where it has a first fault
+abbrev pub Says : List ℕ → Option Statement → Type 0
+Says text (Some statement) = HasStatement text statement
+Says text None = (fault : ReadFault) × HasFirstFault grammar.one_statement text fault
+
+-- what a text says as a statement of a kind
+abbrev pub SaysKind : {X : Type 0} → (Statement → Option X) → List ℕ → Option X → Type 0
+SaysKind kind text found = (said : Option Statement) × Says text said × (found ≡ option_and_then kind said)
+
+-- What the words behind a verb ask for: a command or none, as they stand, or a command by the statement that a text is.
+pub data Sense : Type 0 where
+  Plain : Option Command → Sense
+  Reads : List ℕ → (Statement → Option Command) → Sense
+
+abbrev pub HasSense : Sense → Option Command → Type 0
+HasSense (Plain command) meaning = meaning ≡ command
+HasSense (Reads text command) meaning = (said : Option Statement) × Says text said × (meaning ≡ option_and_then command said)
+
+-- what a statement is of each kind
+abbrev pub head_of : Statement → Option Head
+head_of (statements.Head head) = Some head
+head_of statement = None
+
+abbrev pub signal_of : Statement → Option Signal
+signal_of (statements.Signal signal) = Some signal
+signal_of statement = None
+
+abbrev pub mux_of : Statement → Option MuxRow
+mux_of (statements.Mux row) = Some row
+mux_of statement = None
+
+abbrev pub values_of : Statement → Option ValueRow
+values_of (statements.Values row) = Some row
+values_of statement = None
+
+abbrev pub table_of : Statement → Option TableRow
+table_of (statements.Table row) = Some row
+table_of statement = None
+
+-- an attribute of a message, as an edit sets it
+abbrev pub attribute_set : AttrRow → Target → Option Edit
+attribute_set row (targets.Message number) = Some (edits.SetAttribute row.name number row.value)
+attribute_set row target = None
+
+abbrev pub attribute_of : Statement → Option Edit
+attribute_of (statements.Attribute row) = attribute_set row row.target
+attribute_of statement = None
+
+-- by the statement of a kind that a text is
+abbrev pub by_kind : {X : Type 0} → (Statement → Option X) → (X → Edit) → List ℕ → Sense
+by_kind kind edit text = Reads text (λ statement. option_map (λ x. Change (edit x)) (kind statement))
+
+-- ---- words
+
+-- a number, and all that stands behind its blank
+abbrev pub both : Option ℕ → Option (List ℕ) → Option (ℕ × List ℕ)
+both (Some number) (Some rest) = Some (number, rest)
+both (Some number) None = None
+both None rest = None
+
+abbrev pub number_and_rest : List ℕ → Option (ℕ × List ℕ)
+number_and_rest text = both (number_of (word_of text)) (rest_of text)
+
+-- by a number and what stands behind it, or nothing
+abbrev pub by_pair : (ℕ → List ℕ → Sense) → Option (ℕ × List ℕ) → Sense
+by_pair sense None = Plain None
+by_pair sense (Some one) = sense one.0 one.1
+
+abbrev pub with_number : (ℕ → List ℕ → Sense) → List ℕ → Sense
+with_number sense text = by_pair sense (number_and_rest text)
+
+-- by a name, which is all that is left
+abbrev pub by_name : (List ℕ → Edit) → List ℕ → Sense
+by_name edit text = Plain (if is_name text then Some (Change (edit text)) else None)
+
+-- by a number, which is all that is left
+abbrev pub by_number : (ℕ → Edit) → List ℕ → Sense
+by_number edit text = Plain (option_map (λ number. Change (edit number)) (number_of text))
+
+-- by a string, which is all that is left
+abbrev pub by_string : (List ℕ → Edit) → List ℕ → Sense
+by_string edit text = Plain (if is_string text then Some (Change (edit (inside text))) else None)
+
+-- a message's new first line: its name, its size and its sender
+abbrev pub change_of : List ℕ → ℕ → List ℕ → Option NewLine
+change_of name size sender = if is_name name && is_name sender && head_fits size then Some (record { name = name; size = size; sender = sender }) else None
+
+abbrev pub change_to : ℕ → List ℕ → ℕ → List ℕ → Option Command
+change_to place name size sender = option_map (λ change. Change (edits.ChangeMessage place change)) (change_of name size sender)
+
+abbrev pub by_size : ℕ → List ℕ → Option (ℕ × List ℕ) → Option Command
+by_size place name None = None
+by_size place name (Some one) = change_to place name one.0 one.1
+
+abbrev pub change_by : ℕ → List ℕ → Option (List ℕ) → Option Command
+change_by place name None = None
+change_by place name (Some text) = by_size place name (number_and_rest text)
+
+abbrev pub show_layout : Option (List ℕ) → Option Command
+show_layout text = option_map (λ place. ShowLayout place) (option_and_then number_of text)
+
+unfoldable pub show : List ℕ → Option Command
+show text =
+    if bytes_eq text (codes "diagnostics") then Some ShowDiagnostics
+    else (if bytes_eq text (codes "lines") then Some ShowLines
+    else (if bytes_eq (word_of text) (codes "layout") then show_layout (rest_of text) else None))
+
+-- ---- verbs
+
+-- what a verb asks for with the text behind its blank
+abbrev pub sense_of : Verb → List ℕ → Sense
+sense_of verbs.Log text = Plain (Some (Log text))
+sense_of verbs.AddMessage text = with_number (λ place statement. by_kind head_of (λ head. edits.AddMessage place head) statement) text
+sense_of verbs.RemoveMessage text = by_number (λ place. edits.RemoveMessage place) text
+sense_of verbs.ChangeMessage text = with_number (λ place words. Plain (change_by place (word_of words) (rest_of words))) text
+sense_of verbs.Renumber text = with_number (λ place number. by_number (λ n. edits.Renumber place n) number) text
+sense_of verbs.AddSignal text = with_number (λ place words. with_number (λ at statement. by_kind signal_of (λ signal. edits.AddSignal place at signal) statement) words) text
+sense_of verbs.RemoveSignal text = with_number (λ place name. by_name (λ n. edits.RemoveSignal place n) name) text
+sense_of verbs.ChangeSignal text = with_number (λ place statement. by_kind signal_of (λ signal. edits.ChangeSignal place signal) statement) text
+sense_of verbs.SetMux text = by_kind mux_of (λ row. edits.SetMux row) text
+sense_of verbs.SetValues text = by_kind values_of (λ row. edits.SetValues row) text
+sense_of verbs.SetTable text = by_kind table_of (λ row. edits.SetTable row) text
+sense_of verbs.SetAttribute text = by_kind attribute_of (λ edit. edit) text
+sense_of verbs.DropMux text = with_number (λ number name. by_name (λ n. edits.DropMux number n) name) text
+sense_of verbs.DropValues text = with_number (λ number name. by_name (λ n. edits.DropValues number n) name) text
+sense_of verbs.DropTable text = by_name (λ n. edits.DropTable n) text
+sense_of verbs.DropAttribute text = with_number (λ number name. by_string (λ n. edits.DropAttribute n number) name) text
+sense_of verbs.Show text = Plain (show text)
+sense_of verbs.Print text = Plain None
+
+-- the one verb that stands alone is `print`
+abbrev pub sense_alone : Verb → Sense
+sense_alone verbs.Print = Plain (Some Print)
+sense_alone verb = Plain None
+
+abbrev pub line_sense : Option Verb → Option (List ℕ) → Sense
+line_sense None rest = Plain None
+line_sense (Some verb) (Some text) = sense_of verb text
+line_sense (Some verb) None = sense_alone verb
+
+-- what a line asks for; a line that asks for nothing is a bad command
+unfoldable pub Means : List ℕ → Option Command → Type 0
+Means line meaning = HasSense (line_sense (verb_of (word_of (body_of line))) (rest_of (body_of line))) meaning
+
+-- memory may run out while such a command is read
+abbrev pub takes_memory : Option Verb → Bool
+takes_memory None = false
+takes_memory (Some verbs.Show) = false
+takes_memory (Some verbs.Print) = false
+takes_memory (Some verb) = true
+
+-- ---- commands of the code
+
+abbrev pub seen : CodedCommand → Command
+seen (coded.Log line) = Log line.now
+seen (coded.Change edit) = Change edit
+seen coded.ShowDiagnostics = ShowDiagnostics
+seen (coded.ShowLayout place) = ShowLayout place
+seen coded.ShowLines = ShowLines
+seen coded.Print = Print
+
+-- an edit is a command
+abbrev pub changes : Option Edit → Option Command
+changes edit = option_map (λ e. Change e) edit

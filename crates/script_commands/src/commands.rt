@@ -1,0 +1,124 @@
+//! What lines ask for.
+ghost use Rattle.std.specs.Prelude.{◌≡◌, IfOk, OnErr, IsTrue, option_map};
+ghost use Rattle.std.specs.Str.{bytes_eq};
+ghost use Rattle.script_commands.specs.Words.{verb_of, word_of, is_edit};
+ghost use Rattle.std.specs.Prelude.{true, Some};
+ghost use Rattle.script_commands.specs.Commands.{HasSense, sense_of, line_sense, sense_alone, show_layout, show, changes, seen, Means, takes_memory};
+ghost use Rattle.log_frames.specs.LogLines.{body_of};
+
+use crate::command::Command;
+use crate::edits::{
+    add_message, add_signal, change_message, change_signal, drop_attribute, drop_mux, drop_table,
+    drop_values, remove_message, remove_signal, renumber, set_attribute, set_mux, set_table,
+    set_values,
+};
+use crate::verb::Verb;
+use crate::words::{number_of, rest_of, word_of};
+use dbc_edits::Edit;
+use dbc_values::{Memory, same};
+use log_frames::body_of;
+use std::alloc::Global;
+
+// The edit that a verb asks for with the text behind it.
+fn edit_of(alloc: Global, verb: Verb, text: &[u8]) -> Result<Option<Edit>, Memory>
+    requires { is_edit verb ≡ true }
+    ensures { IfOk result (λ edit. HasSense (sense_of verb text.now) (changes edit)) }
+{
+    match verb {
+        Verb::AddMessage => add_message(alloc, text),
+        Verb::RemoveMessage => Ok(remove_message(text)),
+        Verb::ChangeMessage => change_message(alloc, text),
+        Verb::Renumber => Ok(renumber(text)),
+        Verb::AddSignal => add_signal(alloc, text),
+        Verb::RemoveSignal => remove_signal(alloc, text),
+        Verb::ChangeSignal => change_signal(alloc, text),
+        Verb::SetMux => set_mux(alloc, text),
+        Verb::SetValues => set_values(alloc, text),
+        Verb::SetTable => set_table(alloc, text),
+        Verb::SetAttribute => set_attribute(alloc, text),
+        Verb::DropMux => drop_mux(alloc, text),
+        Verb::DropValues => drop_values(alloc, text),
+        Verb::DropTable => drop_table(alloc, text),
+        Verb::DropAttribute => drop_attribute(alloc, text),
+        Verb::Log | Verb::Show | Verb::Print => Ok(None),
+    }
+}
+
+fn changed(edit: Option<Edit>) -> Option<Command<'static>>
+    ensures { option_map seen result ≡ changes edit }
+{
+    match edit {
+        Some(edit) => Some(Command::Change(edit)),
+        None => None,
+    }
+}
+
+fn show_layout(text: Option<&[u8]>) -> Option<Command<'static>>
+    ensures { option_map seen result ≡ show_layout (option_map (λ t. t.now) text.entry) }
+{
+    let place = number_of(text?)?;
+    Some(Command::ShowLayout(place))
+}
+
+#[tactic(auto, unfolding(crate::specs::Commands::show))]
+fn show(text: &[u8]) -> Option<Command<'static>>
+    ensures { option_map seen result ≡ show text.now }
+{
+    if same(text, b"diagnostics") {
+        Some(Command::ShowDiagnostics)
+    } else if same(text, b"lines") {
+        Some(Command::ShowLines)
+    } else if same(word_of(text), b"layout") {
+        show_layout(rest_of(text))
+    } else {
+        None
+    }
+}
+
+// What a verb asks for with the text behind it.
+fn with_text<'a>(alloc: Global, verb: Verb, text: &'a [u8]) -> Result<Option<Command<'a>>, Memory>
+    ensures sense { IfOk result (λ command. HasSense (sense_of verb text.now) (option_map seen command)) }
+    ensures memory { OnErr result (IsTrue (takes_memory (Some verb))) }
+{
+    match verb {
+        Verb::Log => Ok(Some(Command::Log(text))),
+        Verb::Show => Ok(show(text)),
+        Verb::Print => Ok(None),
+        _ => Ok(changed(edit_of(alloc, verb, text)?)),
+    }
+}
+
+fn alone(verb: Verb) -> Option<Command<'static>>
+    ensures { HasSense (sense_alone verb) (option_map seen result) }
+{
+    match verb {
+        Verb::Print => Some(Command::Print),
+        _ => None,
+    }
+}
+
+// What a line asks for by its verb and the text behind that.
+fn by_verb<'a>(
+    alloc: Global,
+    verb: Option<Verb>,
+    rest: Option<&'a [u8]>,
+) -> Result<Option<Command<'a>>, Memory>
+    ensures sense { IfOk result (λ command. HasSense (line_sense verb (option_map (λ t. t.now) rest.entry)) (option_map seen command)) }
+    ensures memory { OnErr result (IsTrue (takes_memory verb)) }
+{
+    match (verb, rest) {
+        (Some(verb), Some(text)) => with_text(alloc, verb, text),
+        (Some(verb), None) => Ok(alone(verb)),
+        (None, _) => Ok(None),
+    }
+}
+
+/// What a line asks for, or `None` where it is a bad command. Only the lines of a log and of edits take memory.
+#[tactic(auto, unfolding(crate::specs::Commands::Means))]
+pub fn command_of(alloc: Global, line: &[u8]) -> Result<Option<Command<'_>>, Memory>
+    ensures means { IfOk result (λ command. Means line.now (option_map seen command)) }
+    ensures memory { OnErr result (IsTrue (takes_memory (verb_of (word_of (body_of line.now))))) }
+{
+    let body = body_of(line);
+    by_verb(alloc, Verb::of(word_of(body)), rest_of(body))
+}
