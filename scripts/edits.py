@@ -59,6 +59,10 @@ class Function:
     first: int
     last: int
 
+    def has_line(self, file, line):
+        """Whether a line of a source file is the function's."""
+        return file == self.file and self.first <= line <= self.last
+
     def has_proof(self, file):
         """Whether a file of proofs is the function's own."""
         folder, own = os.path.dirname(file), self.path.replace("::", "/")
@@ -67,7 +71,8 @@ class Function:
 
 @dataclass
 class Edit:
-    """An edit: its name, its pairs of old and new text by file, and the functions in whose bodies they stand, or none where one doesn't."""
+    """An edit: its name, its pairs of old and new text by file, and the functions in whose bodies they stand, or none where one
+    doesn't."""
 
     name: str
     file: str
@@ -161,7 +166,7 @@ def applied(edit, crate):
 
 
 def joined(edits, crate):
-    """The texts that several edits, each of which can be applied, make of the crate's files. An edit changes lines, and adds none."""
+    """The texts that several edits, each of which can be applied, make of the crate's files: they change lines, and add none."""
     together = {}
     for edit in edits:
         for file, lines in applied(edit, crate).items():
@@ -202,7 +207,7 @@ class Said:
         """What is refused in a function, or anywhere: each with whether it is hollow."""
         for file, line, what in self.placed:
             if file.startswith("src/"):
-                if "it is not proved" in what and (function is None or file == function.file and function.first <= line <= function.last):
+                if "it is not proved" in what and (function is None or function.has_line(file, line)):
                     yield False
             elif what.startswith("error") and (function is None or function.has_proof(file)):
                 yield bool(CITES_NOTHING.search(what))
