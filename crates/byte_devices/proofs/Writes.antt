@@ -1,14 +1,8 @@
 -- One write after another, and a buffer before them.
 use Rattle.std.proofs.Common.{◌≡◌, ℕ, List, [], ◌++◌, take, drop, ◌+◌, ◌<◌, get_or, length, refl, sym, ap, subst, ◌∙◌, append_assoc, append-nil, take-append-drop}
-use Rattle.std.specs.Prelude.{Result, Ok, Err}
-use Rattle.std.specs.List.{flat_map}
-use Rattle.std.specs.Result.{IsErr}
 use Rattle.std.proofs.Math.Seq.{take-add}
 use Rattle.std.proofs.KnownBytes.{Appends-nil, Appends-trans}
-use Rattle.std.proofs.lemmas.List.{take_more}
-use Rattle.std.proofs.lemmas.List.Concat.{flat_map-append}
-use Rattle.std.proofs.lemmas.Result.{MatchResult-from_err}
-use Rattle.byte_devices.specs.Device.{Written, Rises, Wrote, Broke, Prints, Passes, Sends}
+use Rattle.byte_devices.specs.Device.{Written, Rises, Wrote, Broke, Passes}
 
 -- ---- one write after another
 
@@ -85,54 +79,3 @@ Broke-flush a b c before xs held p q = subst (Broke a c) (sym p.parts) (Broke-th
 -- all that is held is written, and more
 pub Passes-all : (a b c : Written) (held xs : List ℕ) → Wrote a b held → Wrote b c xs → Passes a c held xs []
 Passes-all a b c held xs p q = record { out = held ++ xs; parts = sym (append-nil (held ++ xs)); wrote = Wrote-then a b c held xs p q }
-
--- ---- one part of a text after another
-
--- what goes out behind what went through
-pub Sends-after : {X E : Type 0} (a b c : Written) (r : Result X E) (before xs between ys after : List ℕ) → Passes a b before xs between → Sends b c between r ys after → Sends a c before r (xs ++ ys) after
-Sends-after a b c (Ok x) before xs between ys after p q = Passes-then a b c before xs between ys after p q
-Sends-after a b c (Err e) before xs between ys after p q = Broke-behind a b c before xs between ys p q
-
--- a failure, which is handed on
-pub Sends-stop : {X E : Type 0} (a b : Written) (r : Result X E) (before xs ys after : List ℕ) → IsErr r → Broke a b (before ++ xs) → Sends a b before r (xs ++ ys) after
-Sends-stop a b r before xs ys after e p =
-    MatchResult-from_err r _ _ e (λ _. subst (Broke a b) (append_assoc before xs ys) (Broke-more a b (before ++ xs) ys p))
-
-pub ruleset sends = (Sends-after, Sends-stop)
-
--- ---- lists
-
--- the texts of one item more
-flat_map-next : {X : Type 0} (f : X → List ℕ) (xs : List X) (i : ℕ) (d : X) → i < length xs → flat_map f (take (i + 1) xs) ≡ flat_map f (take i xs) ++ f (get_or xs i d)
-flat_map-next f xs i d lt = rw (take_more xs i d lt, flat_map-append) (ap (λ (t : List ℕ). flat_map f (take i xs) ++ t) (append-nil (f (get_or xs i d))))
-
--- the text of a list is that of the items before, of this one and of those behind
-flat_map-parts : {X : Type 0} (f : X → List ℕ) (xs : List X) (i : ℕ) (d : X) → i < length xs → flat_map f xs ≡ flat_map f (take i xs) ++ (f (get_or xs i d) ++ flat_map f (drop (i + 1) xs))
-flat_map-parts f xs i d lt =
-    let behind = flat_map f (drop (i + 1) xs) in
-    ap (flat_map f) (sym (take-append-drop (i + 1) xs)) ∙ flat_map-append f (take (i + 1) xs) (drop (i + 1) xs)
-    ∙ ap (λ (t : List ℕ). t ++ behind) (flat_map-next f xs i d lt) ∙ append_assoc (flat_map f (take i xs)) (f (get_or xs i d)) behind
-
--- the items before went through, and this one
-pub Passes-item : {X : Type 0} (f : X → List ℕ) (xs : List X) (i : ℕ) (x d : X) (a b c : Written) (before between after : List ℕ) → i < length xs → x ≡ get_or xs i d
-    → Passes a b before (flat_map f (take i xs)) between → Passes b c between (f x) after → Passes a c before (flat_map f (take (i + 1) xs)) after
-Passes-item f xs i x d a b c before between after lt is p q =
-    subst (λ (t : List ℕ). Passes a c before t after) (ap (λ y. flat_map f (take i xs) ++ f y) is ∙ sym (flat_map-next f xs i d lt))
-    (Passes-then a b c before (flat_map f (take i xs)) between (f x) after p q)
-
--- the items before went through, and of this one a beginning
-pub Broke-item : {X : Type 0} (f : X → List ℕ) (xs : List X) (i : ℕ) (x d : X) (a b c : Written) (before between : List ℕ) → i < length xs → x ≡ get_or xs i d
-    → Passes a b before (flat_map f (take i xs)) between → Broke b c (between ++ f x) → Broke a c (before ++ flat_map f xs)
-Broke-item f xs i x d a b c before between lt is p q =
-    let here = Broke-behind a b c before (flat_map f (take i xs)) between (f (get_or xs i d)) p (subst (λ y. Broke b c (between ++ f y)) is q) in
-    let more = Broke-more a c (before ++ (flat_map f (take i xs) ++ f (get_or xs i d))) (flat_map f (drop (i + 1) xs)) here in
-    let grouped = append_assoc before (flat_map f (take i xs) ++ f (get_or xs i d)) (flat_map f (drop (i + 1) xs))
-    ∙ ap (λ (t : List ℕ). before ++ t) (append_assoc (flat_map f (take i xs)) (f (get_or xs i d)) (flat_map f (drop (i + 1) xs)) ∙ sym (flat_map-parts f xs i d lt)) in
-    subst (Broke a c) grouped more
-
--- ---- the end of a text
-
--- what is held goes out behind what went through an empty buffer
-pub Prints-flush : {X E : Type 0} (a b c : Written) (r : Result X E) (before text held : List ℕ) → before ≡ [] → Passes a b before text held → Prints b c r held → Prints a c r text
-Prints-flush a b c (Ok x) before text held none p q = subst (λ (t : List ℕ). Wrote a c (t ++ text)) none (Passes-flush a b c before text held p q)
-Prints-flush a b c (Err e) before text held none p q = subst (λ (t : List ℕ). Broke a c (t ++ text)) none (Broke-flush a b c before text held p q)

@@ -37,11 +37,6 @@ pub record Passes (old new : Written) (before bytes held : List ℕ) : Type 0 wh
   pub parts : before ++ bytes ≡ out ++ held
   pub wrote : Wrote old new out
 
--- the text went through a buffer with these bytes before and those afterwards, or a put failed, and a beginning of the
--- bytes held before and the text was written
-abbrev pub Sends : {X E : Type 0} → Written → Written → List ℕ → Result X E → List ℕ → List ℕ → Type 0
-Sends old new before result text held = MatchResult result (λ _. Passes old new before text held) (λ _. Broke old new (before ++ text))
-
 -- ---- sources
 
 -- The bytes left, where they are told; how often a pull has failed; and a number that each pull with bytes lowers.

@@ -4,9 +4,9 @@
 
 mod device;
 mod from_std;
-mod held;
 pub mod limp;
+mod sending;
 
 pub use device::{Broken, Sink, Source, WriteFault, put_all};
 pub use from_std::{FromRead, FromWrite};
-pub use held::{Held, flush, hold, hold_pieces};
+pub use sending::Out;

@@ -35,17 +35,15 @@ fn push_reading_faults<L: Lookup>(
 #[tactic(auto, using(can_references::proofs::Pushing::pushed_then, crate::proofs::Counts::as_many))]
 fn push_by_rows<L: Lookup>(
     found: &mut Vec<Diagnostic>,
-    known: &Known<'_>,
-    lookup: &L,
+    known: &Known<'_, L>,
     occupancy: &mut Occupancy,
     rows: &MessageRows<'_, L>,
     message: &Message,
 ) -> Result<(), Memory>
-    requires { L.whole lookup.now ≡ known.now }
     ensures { OnOk result (found.new.items ≡ found.old.items ++ faults_by known.now rows.now message.now) }
 {
     let walks = message_walks(*found.allocator(), rows, message.signals.as_slice())?;
-    push_head_faults(found, known, lookup, message)?;
+    push_head_faults(found, known, message)?;
     push_layout_faults(found, occupancy, rows, message, walks.as_slice())?;
     push_reading_faults(found, rows, message)?;
     push_unknown_nodes(found, known, message)?;
@@ -56,72 +54,57 @@ fn push_by_rows<L: Lookup>(
 #[tactic(auto, unfolding(crate::specs::MessageFaults::message_faults))]
 fn push_message<L: Lookup>(
     found: &mut Vec<Diagnostic>,
-    known: &Known<'_>,
-    lookup: &L,
+    known: &Known<'_, L>,
     occupancy: &mut Occupancy,
     message: &Message,
 ) -> Result<(), Memory>
-    requires { L.whole lookup.now ≡ known.now }
     ensures { OnOk result (found.new.items ≡ found.old.items ++ message_faults known.now message.now) }
 {
-    let rows = MessageRows::of(lookup, message.head.number);
-    push_by_rows(found, known, lookup, occupancy, &rows, message)
+    let rows = MessageRows::of(known.lookup(), message.head.number);
+    push_by_rows(found, known, occupancy, &rows, message)
 }
 
 // Adds the diagnostics of messages, in order.
 fn push_messages<L: Lookup>(
     found: &mut Vec<Diagnostic>,
-    known: &Known<'_>,
-    lookup: &L,
+    known: &Known<'_, L>,
     messages: &[Message],
 ) -> Result<(), Memory>
-    requires { L.whole lookup.now ≡ known.now }
     ensures { OnOk result (found.new.items ≡ found.old.items ++ flat_map (message_faults known.now) messages.now) }
 {
     let mut occupancy = Occupancy::new(*found.allocator());
     for message in messages {
-        push_message(found, known, lookup, &mut occupancy, message)?;
+        push_message(found, known, &mut occupancy, message)?;
     }
     Ok(())
 }
 
 // Adds all diagnostics of what is known.
 #[tactic(auto, using(can_references::proofs::Pushing::pushed_then), unfolding(crate::specs::AllFaults::all_faults))]
-fn push_all<L: Lookup>(
-    found: &mut Vec<Diagnostic>,
-    known: &Known<'_>,
-    lookup: &L,
-) -> Result<(), Memory>
-    requires { L.whole lookup.now ≡ known.now }
+fn push_all<L: Lookup>(found: &mut Vec<Diagnostic>, known: &Known<'_, L>) -> Result<(), Memory>
     ensures { OnOk result (found.new.items ≡ found.old.items ++ all_faults known.now) }
 {
-    let messages = known.database().messages.as_slice();
-    push_messages(found, known, lookup, messages)?;
+    push_messages(found, known, known.database().messages.as_slice())?;
     push_row_faults(found, known)
 }
 
-// The diagnostics of what is known, by an index of the rows.
-fn faults_by<L: Lookup>(
-    alloc: Global,
-    known: &Known<'_>,
-    lookup: &L,
-) -> Result<Vec<Diagnostic>, Memory>
-    requires { L.whole lookup.now ≡ known.now }
+// The diagnostics of what is known.
+fn faults_of<L: Lookup>(alloc: Global, known: &Known<'_, L>) -> Result<Vec<Diagnostic>, Memory>
     ensures { IfOk result (λ found. found.items ≡ all_faults known.now) }
 {
     let mut found = Vec::new(alloc);
-    match push_all(&mut found, known, lookup) {
+    match push_all(&mut found, known) {
         Ok(()) => Ok(found),
         Err(Memory) => Err(Memory),
     }
 }
 
-// The diagnostics of what is known.
-fn faults_of(alloc: Global, known: &Known<'_>) -> Result<Vec<Diagnostic>, Memory>
-    ensures { IfOk result (λ found. found.items ≡ all_faults known.now) }
+/// All diagnostics of a database, as [`all_faults`] has them, where its rows are already found by `lookup`.
+pub fn all_faults_with<L: Lookup>(alloc: Global, lookup: &L) -> Result<Vec<Diagnostic>, Memory>
+    ensures { IfOk result (λ found. found.items ≡ all_faults (L.whole lookup.now)) }
 {
-    match Indexed::of(alloc, known.database()) {
-        Ok(indexed) => faults_by(alloc, known, &indexed),
+    match Known::of(alloc, lookup) {
+        Ok(known) => faults_of(alloc, &known),
         Err(Memory) => Err(Memory),
     }
 }
@@ -131,38 +114,39 @@ fn faults_of(alloc: Global, known: &Known<'_>) -> Result<Vec<Diagnostic>, Memory
 pub fn all_faults(alloc: Global, database: &Database) -> Result<Vec<Diagnostic>, Memory>
     ensures { IfOk result (λ found. found.items ≡ all_faults database.now) }
 {
-    match Known::of(alloc, database) {
-        Ok(known) => faults_of(alloc, &known),
+    match Indexed::of(alloc, database) {
+        Ok(indexed) => all_faults_with(alloc, &indexed),
         Err(Memory) => Err(Memory),
     }
 }
 
-// The diagnostics of a message, by what is known of its database and an index of the rows.
+// The diagnostics of a message, by what is known of its database.
 fn faults_in<L: Lookup>(
     alloc: Global,
-    known: &Known<'_>,
-    lookup: &L,
+    known: &Known<'_, L>,
     message: &Message,
 ) -> Result<Vec<Diagnostic>, Memory>
-    requires { L.whole lookup.now ≡ known.now }
     ensures { IfOk result (λ found. found.items ≡ message_faults known.now message.now) }
 {
     let mut occupancy = Occupancy::new(alloc);
     let mut found = Vec::new(alloc);
-    match push_message(&mut found, known, lookup, &mut occupancy, message) {
+    match push_message(&mut found, known, &mut occupancy, message) {
         Ok(()) => Ok(found),
         Err(Memory) => Err(Memory),
     }
 }
 
-// The diagnostics of the message at a place, by what is known of its database.
-fn faults_at(alloc: Global, known: &Known<'_>, place: usize) -> Result<Vec<Diagnostic>, Memory>
-    requires { place < length known.now.messages }
-    ensures { IfOk result (λ found. Some found.items ≡ option_map (message_faults known.now) (slice_get known.now.messages place)) }
+// The diagnostics of the message at a place, by what finds the rows of its database.
+fn faults_at(alloc: Global, indexed: &Indexed<'_>, place: usize) -> Result<Vec<Diagnostic>, Memory>
+    requires { place < length indexed.now.messages }
+    ensures { IfOk result (λ found. Some found.items ≡ option_map (message_faults indexed.now) (slice_get indexed.now.messages place)) }
 {
-    let database = known.database();
-    match Indexed::of(alloc, database) {
-        Ok(indexed) => faults_in(alloc, known, &indexed, &database.messages.as_slice()[place]),
+    match Known::of(alloc, indexed) {
+        Ok(known) => faults_in(
+            alloc,
+            &known,
+            &indexed.database().messages.as_slice()[place],
+        ),
         Err(Memory) => Err(Memory),
     }
 }
@@ -176,8 +160,8 @@ pub fn message_faults(
     requires { place < length database.now.messages }
     ensures { IfOk result (λ found. Some found.items ≡ option_map (message_faults database.now) (slice_get database.now.messages place)) }
 {
-    match Known::of(alloc, database) {
-        Ok(known) => faults_at(alloc, &known, place),
+    match Indexed::of(alloc, database) {
+        Ok(indexed) => faults_at(alloc, &indexed, place),
         Err(Memory) => Err(Memory),
     }
 }

@@ -42,6 +42,13 @@ chosen_place database frame = if is_data frame then place_of_number database (nu
 abbrev pub line_place : Database → List ℕ → Option ℕ
 line_place database line = option_and_then (chosen_place database) (frame_of (body_of line))
 
+abbrev pub number_of_data : Frame → Option ℕ
+number_of_data frame = if is_data frame then Some (number_of frame) else None
+
+-- the number of the line's data frame
+unfoldable pub data_number : List ℕ → Option ℕ
+data_number line = option_and_then number_of_data (frame_of (body_of line))
+
 -- ---- choices, as they are remembered
 
 abbrev pub is_group_message : Database → Option Message → Bool

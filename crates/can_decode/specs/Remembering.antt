@@ -32,6 +32,11 @@ pub record AreChoices (database : Database) (messages : List Message) (exact gro
 abbrev pub IsIndexOf : Database → MessageIndex → Type 0
 IsIndexOf database index = AreChoices database database.messages index.exact index.grouped
 
+-- the plans of the messages of a database in order, with the index of its messages
+pub record IsDecoding (database : Database) (plans : List Plan) (index : MessageIndex) : Type 0 where
+  pub all_planned : plans ≡ map (plan_of database) database.messages
+  pub all_found : IsIndexOf database index
+
 -- lines are decoded by these plans, and by what finds messages in that database
 pub record DecodesBy (database : Database) (plans : List Plan) (whole : Database) : Type 0 where
   pub all_planned : plans ≡ map (plan_of database) database.messages

@@ -7,11 +7,12 @@ ghost use Rattle.can_decode.specs.DecodedLines.{target_of, decoded_line};
 
 use crate::choosing::{is_group, message_at, number_of};
 use crate::line::push_known;
+use crate::read_line::ReadLine;
 use crate::target::Target;
 use can_layout::{Meter, Plan};
 use dbc_records::Database;
 use dbc_values::Memory;
-use log_frames::{body_of, read_frame};
+use log_frames::body_of;
 use ready_texts::push_bytes;
 use std::alloc::Global;
 
@@ -31,8 +32,32 @@ fn target_with<'a>(database: &'a Database, chosen: Option<(usize, &'a Plan)>) ->
 }
 
 /// The decoded line, where it is known which message its frame goes to, if it has one that goes to any: `chosen` has the
-/// place of that message and its plan. Nothing is looked for. The meter counts it, also where memory is refused.
+/// place of that message and its plan. Nothing is looked for, and nothing is read again. The meter counts it, also where
+/// memory is refused.
 #[tactic(auto, using(crate::proofs::Pushing::pushed_then), unfolding(crate::specs::DecodedLines::decoded_line, crate::specs::DecodedLines::chosen_target))]
+pub fn decode_frame_at(
+    alloc: Global,
+    database: &Database,
+    chosen: Option<(usize, &Plan)>,
+    line: &ReadLine<'_>,
+    meter: &mut Meter,
+) -> Result<Vec<u8>, Memory>
+    requires place { option_map (λ one. one.0) chosen ≡ line_place database.now line.now }
+    requires plan { IfSome chosen (λ one. Some one.1.now ≡ option_map (plan_of database.now) (slice_get database.now.messages one.0)) }
+    ensures text { IfOk result (λ text. text.items ≡ decoded_line database.now line.now) }
+    ensures counted { meter.new ≡ with_line meter.old }
+{
+    meter.count_line();
+    let mut text = Vec::new(alloc);
+    push_bytes(&mut text, body_of(line.bytes()))?;
+    if let Some(frame) = line.frame() {
+        let target = target_with(database, chosen);
+        push_known(alloc, &mut text, frame, target.as_ref())?;
+    }
+    Ok(text)
+}
+
+/// As [`decode_frame_at`], and reads the line.
 pub fn decode_at(
     alloc: Global,
     database: &Database,
@@ -45,12 +70,5 @@ pub fn decode_at(
     ensures text { IfOk result (λ text. text.items ≡ decoded_line database.now line.now) }
     ensures counted { meter.new ≡ with_line meter.old }
 {
-    meter.count_line();
-    let mut text = Vec::new(alloc);
-    push_bytes(&mut text, body_of(line))?;
-    if let Some(frame) = read_frame(line) {
-        let target = target_with(database, chosen);
-        push_known(alloc, &mut text, &frame, target.as_ref())?;
-    }
-    Ok(text)
+    decode_frame_at(alloc, database, chosen, &ReadLine::of(line), meter)
 }

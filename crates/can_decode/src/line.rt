@@ -14,6 +14,30 @@ use dbc_values::Memory;
 use log_frames::{Frame, body_of, read_frame};
 use ready_texts::push_bytes;
 use std::alloc::Global;
+use std::marker::Model;
+
+/// Where the messages of frames are looked for: a database, the plans of its messages in order, and what finds the message
+/// of a number.
+#[derive(Drop)]
+pub(crate) struct Finder<'a, C: Choose> {
+    /// The database.
+    pub database: &'a Database,
+    /// The plans of its messages.
+    pub plans: &'a [Plan],
+    /// What finds the message of a number.
+    pub chooser: C,
+}
+
+impl<'a, C: Choose> Model for Finder<'a, C> {
+    ghost use Rattle.dbc_records.specs.Databases.{Database};
+    ghost use Rattle.can_decode.specs.Remembering.{DecodesBy};
+
+    ghost Value = { Database };
+
+    ghost view = { λ a. a.database.now };
+
+    ghost invariant = { λ a. DecodesBy a.database.now a.plans.now (C.whole a.chooser) };
+}
 
 fn plan_at(plans: &[Plan], place: usize) -> Option<&Plan>
     ensures { option_map (λ plan. plan.now) result ≡ slice_get plans.now place }
@@ -21,39 +45,33 @@ fn plan_at(plans: &[Plan], place: usize) -> Option<&Plan>
     plans.get(place)
 }
 
-// The message of a choice, with its plan.
-fn target_at<'a>(database: &'a Database, plans: &'a [Plan], choice: Choice) -> Option<Target<'a>>
-    requires plans { plans.now ≡ map (plan_of database.now) database.now.messages }
-    requires choice { choice ≡ choice_at database.now choice.place }
-    ensures { result ≡ option_map (target_of database.now) (slice_get database.now.messages choice.place) }
-{
-    let message = message_at(database, choice.place)?;
-    let plan = plan_at(plans, choice.place)?;
-    Some(Target {
-        message,
-        plan,
-        group: choice.group,
-    })
-}
-
-// What a frame goes to.
-#[tactic(auto, unfolding(crate::specs::DecodedLines::chosen_target, crate::specs::Choices::chosen_place, crate::specs::Choices::choice_of))]
-fn target_of<'a, C: Choose>(
-    chooser: &mut C,
-    database: &'a Database,
-    plans: &'a [Plan],
-    frame: &Frame,
-) -> Option<Target<'a>>
-    requires database { database.now ≡ C.whole chooser.old }
-    requires plans { plans.now ≡ map (plan_of database.now) database.now.messages }
-    ensures target { result ≡ chosen_target database.now frame.now }
-    ensures same { C.whole chooser.new ≡ C.whole chooser.old }
-{
-    if !frame.is_data() {
-        return None;
+impl<'a, C: Choose> Finder<'a, C> {
+    // The message of a choice, with its plan.
+    fn target_at(&self, choice: Choice) -> Option<Target<'a>>
+        requires { choice ≡ choice_at self.now choice.place }
+        ensures { result ≡ option_map (target_of self.now) (slice_get self.now.messages choice.place) }
+    {
+        let message = message_at(self.database, choice.place)?;
+        let plan = plan_at(self.plans, choice.place)?;
+        Some(Target {
+            message,
+            plan,
+            group: choice.group,
+        })
     }
-    let choice = chooser.choice(frame.number())?;
-    target_at(database, plans, choice)
+
+    // What a frame goes to.
+    #[tactic(auto, unfolding(crate::specs::DecodedLines::chosen_target, crate::specs::Choices::chosen_place, crate::specs::Choices::choice_of))]
+    fn target_of(&mut self, frame: &Frame) -> Option<Target<'a>>
+        ensures target { result ≡ chosen_target self.old frame.now }
+        ensures same { self.new ≡ self.old }
+    {
+        if !frame.is_data() {
+            return None;
+        }
+        let choice = self.chooser.choice(frame.number())?;
+        self.target_at(choice)
+    }
 }
 
 /// What the frame of a line says, by what it goes to, and what stands before that.
@@ -69,26 +87,22 @@ pub(crate) fn push_known(
     push_frame(alloc, text, frame, target)
 }
 
-/// A line, and what its frame says. `plans` are those of the messages of the database in order.
+/// A line, and what its frame says.
 #[tactic(auto, using(crate::proofs::Pushing::pushed_then), unfolding(crate::specs::DecodedLines::decoded_line))]
 pub(crate) fn push_line<C: Choose>(
     alloc: Global,
     text: &mut Vec<u8>,
-    chooser: &mut C,
-    database: &Database,
-    plans: &[Plan],
+    finder: &mut Finder<'_, C>,
     line: &[u8],
 ) -> Result<(), Memory>
-    requires database { database.now ≡ C.whole chooser.old }
-    requires plans { plans.now ≡ map (plan_of database.now) database.now.messages }
-    ensures text { OnOk result (text.new.items ≡ text.old.items ++ decoded_line database.now line.now) }
-    ensures same { C.whole chooser.new ≡ C.whole chooser.old }
+    ensures text { OnOk result (text.new.items ≡ text.old.items ++ decoded_line finder.old line.now) }
+    ensures same { finder.new ≡ finder.old }
 {
     push_bytes(text, body_of(line))?;
     match read_frame(line) {
         None => Ok(()),
         Some(frame) => {
-            let target = target_of(chooser, database, plans, &frame);
+            let target = finder.target_of(&frame);
             push_known(alloc, text, &frame, target.as_ref())
         }
     }
@@ -109,7 +123,11 @@ pub fn decode_line(
 {
     meter.count_line();
     let mut text = Vec::new(alloc);
-    let mut chooser = Walking { database };
-    push_line(alloc, &mut text, &mut chooser, database, plans, line)?;
+    let mut finder = Finder {
+        database,
+        plans,
+        chooser: Walking { database },
+    };
+    push_line(alloc, &mut text, &mut finder, line)?;
     Ok(text)
 }

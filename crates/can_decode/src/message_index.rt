@@ -6,9 +6,9 @@ ghost use Rattle.std.specs.BTreeMap.{get};
 ghost use Rattle.can_decode.specs.Choices.{is_group};
 ghost use Rattle.can_decode.specs.Remembering.{IsIndexOf};
 
-use crate::choosing::{Choice, messages_of, number_of};
+use crate::choosing::{Choice, number_of};
 use can_rows::{Indexed, Lookup, group_in};
-use dbc_records::Database;
+use dbc_records::{Database, Message};
 use dbc_values::Memory;
 use std::alloc::Global;
 use std::collections::BTreeMap;
@@ -52,33 +52,34 @@ fn choice_of_group(place: usize, group: Option<u32>) -> Choice
     }
 }
 
-// The index of a database, whose rows are found by `lookup`.
-fn index_in<L: Lookup>(
-    alloc: Global,
-    lookup: &L,
-    database: &Database,
-) -> Result<MessageIndex, Memory>
-    requires { L.whole lookup.now ≡ database.now }
-    ensures { IfOk result (λ index. IsIndexOf database.now index) }
+fn messages_by<L: Lookup>(lookup: &L) -> &[Message]
+    ensures { result.now ≡ (L.whole lookup.now).messages }
 {
-    let mut exact: BTreeMap<u32, Choice> = BTreeMap::new(alloc);
-    let mut grouped: BTreeMap<u32, Choice> = BTreeMap::new(alloc);
-    for (place, message) in messages_of(database).iter().enumerate() {
-        let number = number_of(message);
-        let group = group_in(lookup, number);
-        let choice = choice_of_group(place, group);
-        keep_first(&mut exact, number, choice)?;
-        keep_first_of_group(&mut grouped, group, choice)?;
-    }
-    Ok(MessageIndex { exact, grouped })
+    lookup.database().messages.as_slice()
 }
 
 impl MessageIndex {
+    /// That of a database whose rows are found by `lookup`.
+    pub fn by<L: Lookup>(alloc: Global, lookup: &L) -> Result<MessageIndex, Memory>
+        ensures { IfOk result (λ index. IsIndexOf (L.whole lookup.now) index) }
+    {
+        let mut exact: BTreeMap<u32, Choice> = BTreeMap::new(alloc);
+        let mut grouped: BTreeMap<u32, Choice> = BTreeMap::new(alloc);
+        for (place, message) in messages_by(lookup).iter().enumerate() {
+            let number = number_of(message);
+            let group = group_in(lookup, number);
+            let choice = choice_of_group(place, group);
+            keep_first(&mut exact, number, choice)?;
+            keep_first_of_group(&mut grouped, group, choice)?;
+        }
+        Ok(MessageIndex { exact, grouped })
+    }
+
     /// That of a database.
     pub fn of(alloc: Global, database: &Database) -> Result<MessageIndex, Memory>
         ensures { IfOk result (λ index. IsIndexOf database.now index) }
     {
         let indexed = Indexed::of(alloc, database)?;
-        index_in(alloc, &indexed, database)
+        MessageIndex::by(alloc, &indexed)
     }
 }

@@ -4,9 +4,10 @@ ghost use Rattle.line_stream.specs.LineTexts.{Streams};
 ghost use Rattle.can_layout.specs.Plans.{plan_of};
 ghost use Rattle.can_decode.specs.DecodedLines.{decoded_line};
 
-use crate::choices::{Choices, Finding};
+use crate::choices::Finding;
 use crate::choosing::{Choose, Walking};
-use crate::line::push_line;
+use crate::decoding::Decoding;
+use crate::line::{Finder, push_line};
 use crate::remembered::Remembered;
 use byte_devices::{Sink, Source};
 use can_layout::{Meter, Plan};
@@ -20,23 +21,16 @@ use std::mem::swap;
 // The decoded lines of a database.
 #[derive(Drop)]
 struct Decoded<'a, C: Choose> {
-    database: &'a Database,
-    plans: &'a [Plan],
-    chooser: C,
+    finder: Finder<'a, C>,
     meter: Meter,
 }
 
 impl<'a, C: Choose> Model for Decoded<'a, C> {
-    ghost use Rattle.std.specs.Prelude.{◌≡◌, map};
     ghost use Rattle.dbc_records.specs.Databases.{Database};
-    ghost use Rattle.can_layout.specs.Plans.{plan_of};
-    ghost use Rattle.can_decode.specs.Remembering.{DecodesBy};
 
     ghost Value = { Database };
 
-    ghost view = { λ a. a.database.now };
-
-    ghost invariant = { λ a. DecodesBy a.database.now a.plans.now (C.whole a.chooser) };
+    ghost view = { λ a. a.finder };
 }
 
 impl<'a, C: Choose> LineText for Decoded<'a, C> {
@@ -47,37 +41,35 @@ impl<'a, C: Choose> LineText for Decoded<'a, C> {
     fn renew(&mut self, text: &mut Vec<u8>, line: &[u8]) -> Result<(), Memory> {
         self.meter.count_line();
         text.clear();
-        push_line(
-            *text.allocator(),
-            text,
-            &mut self.chooser,
-            self.database,
-            self.plans,
-            line,
-        )?;
+        push_line(*text.allocator(), text, &mut self.finder, line)?;
         text.push(b'\n')?;
         Ok(())
+    }
+}
+
+// The same, and what numbers went to is remembered.
+fn remembering<'a, C: Choose>(finder: Finder<'a, C>) -> Finder<'a, Remembered<C>>
+    ensures { result ≡ finder.entry }
+{
+    Finder {
+        database: finder.database,
+        plans: finder.plans,
+        chooser: Remembered::new(finder.chooser),
     }
 }
 
 // Decodes by what finds the messages of numbers.
 fn stream_by<'a, C: Choose, R: Source, W: Sink>(
     alloc: Global,
-    chooser: C,
-    database: &'a Database,
-    plans: &'a [Plan],
+    finder: Finder<'a, C>,
     meter: &mut Meter,
     source: &mut R,
     sink: &mut W,
 ) -> Result<u64, StreamFault>
-    requires database { C.whole chooser ≡ database.now }
-    requires plans { plans.now ≡ map (plan_of database.now) database.now.messages }
-    ensures { Streams (decoded_line database.now) (R.unread source.old) (R.unread source.new) (W.written sink.old) (W.written sink.new) result }
+    ensures { Streams (decoded_line finder.entry) (R.unread source.old) (R.unread source.new) (W.written sink.old) (W.written sink.new) result }
 {
     let mut decoded = Decoded {
-        database,
-        plans,
-        chooser: Remembered::new(chooser),
+        finder: remembering(finder),
         meter: Meter::new(),
     };
     swap(&mut decoded.meter, meter);
@@ -102,36 +94,29 @@ pub fn decode_stream<R: Source, W: Sink>(
     requires { plans.now ≡ map (plan_of database.now) database.now.messages }
     ensures { Streams (decoded_line database.now) (R.unread source.old) (R.unread source.new) (W.written sink.old) (W.written sink.new) result }
 {
-    stream_by(
-        alloc,
-        Walking { database },
+    let finder = Finder {
         database,
         plans,
-        meter,
-        source,
-        sink,
-    )
+        chooser: Walking { database },
+    };
+    stream_by(alloc, finder, meter, source, sink)
 }
 
 /// As [`decode_stream`], and finds what a number goes to in an index.
-pub fn decode_stream_by<'a, R: Source, W: Sink>(
+pub fn decode_stream_by<R: Source, W: Sink>(
     alloc: Global,
-    choices: &Choices<'a>,
-    plans: &'a [Plan],
+    decoding: &Decoding,
     meter: &mut Meter,
     source: &mut R,
     sink: &mut W,
 ) -> Result<u64, StreamFault>
-    requires { plans.now ≡ map (plan_of choices.now) choices.now.messages }
-    ensures { Streams (decoded_line choices.now) (R.unread source.old) (R.unread source.new) (W.written sink.old) (W.written sink.new) result }
+    ensures { Streams (decoded_line decoding.now) (R.unread source.old) (R.unread source.new) (W.written sink.old) (W.written sink.new) result }
 {
-    stream_by(
-        alloc,
-        Finding { choices },
-        choices.database(),
-        plans,
-        meter,
-        source,
-        sink,
-    )
+    let choices = decoding.choices();
+    let finder = Finder {
+        database: decoding.database(),
+        plans: decoding.plans(),
+        chooser: Finding { choices: &choices },
+    };
+    stream_by(alloc, finder, meter, source, sink)
 }

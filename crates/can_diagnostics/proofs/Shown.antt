@@ -5,8 +5,10 @@ use Rattle.std.specs.List.{flat_map}
 use Rattle.std.specs.Result.{IsErr}
 use Rattle.std.proofs.lemmas.List.{map-append}
 use Rattle.std.proofs.lemmas.List.Concat.{flat_map-append}
-use Rattle.byte_devices.specs.Device.{Written, Broke, Passes, Sends}
-use Rattle.byte_devices.proofs.Writes.{Passes-nil, Sends-after, Sends-stop, Prints-flush}
+use Rattle.byte_devices.specs.Device.{Written}
+use Rattle.byte_devices.specs.declared.sending.Out.{Out}
+use Rattle.byte_devices.specs.Outs.{Took, Lost, Sends}
+use Rattle.byte_devices.proofs.Outs.{Took-nil, Sends-after, Sends-stop}
 use Rattle.dbc_records.specs.Layout.{Layout, element_text, layout_text}
 use Rattle.can_diagnostics.specs.Lines.{shown_byte, blanked, shown}
 
@@ -27,20 +29,18 @@ shown-nil : shown [] ≡ []
 unfolding shown layout_text blanked
 shown-nil = refl
 
--- a layout goes out behind one that went through
-pub Shown-then : {X E : Type 0} (a b c : Written) (r : Result X E) (before between after : List ℕ) (xs ys : Layout) → Passes a b before (shown xs) between
-    → Sends b c between r (shown ys) after → Sends a c before r (shown (xs ++ ys)) after
-Shown-then a b c r before between after xs ys p q = rw (shown-append xs ys) (Sends-after a b c r before (shown xs) between (shown ys) after p q)
+-- a layout goes out behind one that was sent
+pub Shown-then : {W X E : Type 0} (written : W → Written) (a b c : Out W) (r : Result X E) (xs ys : Layout) → Took written a b (shown xs)
+    → Sends written b c r (shown ys) → Sends written a c r (shown (xs ++ ys))
+Shown-then written a b c r xs ys p q = rw (shown-append xs ys) (Sends-after written a b c r (shown xs) (shown ys) p q)
 
 -- a failure in a layout, before another
-pub Shown-broke : {X E : Type 0} (a b : Written) (r : Result X E) (before after : List ℕ) (xs ys : Layout) → IsErr r → Broke a b (before ++ shown xs)
-    → Sends a b before r (shown (xs ++ ys)) after
-Shown-broke a b r before after xs ys e p = rw (shown-append xs ys) (Sends-stop a b r before (shown xs) (shown ys) after e p)
+pub Shown-broke : {W X E : Type 0} (written : W → Written) (a b : Out W) (r : Result X E) (xs ys : Layout) → IsErr r → Lost written a b (shown xs)
+    → Sends written a b r (shown (xs ++ ys))
+Shown-broke written a b r xs ys e p = rw (shown-append xs ys) (Sends-stop written a b r (shown xs) (shown ys) e p)
 
 -- nothing goes out where there is nothing to print
-pub Passes-none : (a : Written) (held : List ℕ) → Passes a a held (shown []) held
-Passes-none a held = subst (λ (t : List ℕ). Passes a a held t held) (sym shown-nil) (Passes-nil a held)
+pub Took-none : {W : Type 0} (written : W → Written) (a : Out W) → Took written a a (shown [])
+Took-none written a = subst (λ (t : List ℕ). Took written a a t) (sym shown-nil) (Took-nil written a)
 
-pub ruleset layouts = (Shown-then, Shown-broke, Passes-none)
-
-pub ruleset flushes = (Prints-flush)
+pub ruleset layouts = (Shown-then, Shown-broke, Took-none)

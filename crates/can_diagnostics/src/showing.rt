@@ -1,10 +1,10 @@
 //! Bytes that are shown on one line.
 ghost use Rattle.std.specs.Prelude.{◌≡◌, [], ◌∷◌};
 ghost use Rattle.std.specs.List.{flat_map};
-ghost use Rattle.byte_devices.specs.Device.{Sends};
+ghost use Rattle.byte_devices.specs.Outs.{Sends};
 ghost use Rattle.can_diagnostics.specs.Lines.{shown_byte, blanked};
 
-use byte_devices::{Held, Sink, WriteFault, hold};
+use byte_devices::{Out, Sink, WriteFault};
 
 fn shown_byte(b: u8) -> u8
     ensures { result ≡ shown_byte b }
@@ -12,46 +12,42 @@ fn shown_byte(b: u8) -> u8
     if b == b'\r' || b == b'\n' { b' ' } else { b }
 }
 
-fn hold_shown_byte<W: Sink>(sink: &mut W, held: &mut Held, b: u8) -> Result<(), WriteFault>
-    ensures { Sends (W.written sink.old) (W.written sink.new) held.old.items result (shown_byte b ∷ []) held.new.items }
+fn hold_shown_byte<W: Sink>(out: &mut Out<'_, W>, b: u8) -> Result<(), WriteFault>
+    ensures { Sends W.written out.old out.new result (shown_byte b ∷ []) }
 {
-    hold(sink, held, &[shown_byte(b)])
+    out.send(&[shown_byte(b)])
 }
 
-fn hold_bytes<W: Sink>(sink: &mut W, held: &mut Held, text: &[u8]) -> Result<(), WriteFault>
-    ensures { Sends (W.written sink.old) (W.written sink.new) held.old.items result (flat_map (λ b. shown_byte b ∷ []) text.now) held.new.items }
+fn hold_bytes<W: Sink>(out: &mut Out<'_, W>, text: &[u8]) -> Result<(), WriteFault>
+    ensures { Sends W.written out.old out.new result (flat_map (λ b. shown_byte b ∷ []) text.now) }
 {
     for b in text {
-        hold_shown_byte(sink, held, *b)?;
+        hold_shown_byte(out, *b)?;
     }
     Ok(())
 }
 
 // Holds the text with a blank for each CR and each LF.
 #[tactic(auto, using(std::proofs::lemmas::List::Concat::flat_map_single), unfolding(crate::specs::Lines::blanked))]
-fn hold_blanked<W: Sink>(sink: &mut W, held: &mut Held, text: &[u8]) -> Result<(), WriteFault>
-    ensures { Sends (W.written sink.old) (W.written sink.new) held.old.items result (blanked text.now) held.new.items }
+fn hold_blanked<W: Sink>(out: &mut Out<'_, W>, text: &[u8]) -> Result<(), WriteFault>
+    ensures { Sends W.written out.old out.new result (blanked text.now) }
 {
-    hold_bytes(sink, held, text)
+    hold_bytes(out, text)
 }
 
-fn hold_each<W: Sink>(sink: &mut W, held: &mut Held, pieces: &[&[u8]]) -> Result<(), WriteFault>
-    ensures { Sends (W.written sink.old) (W.written sink.new) held.old.items result (flat_map (λ piece. blanked piece.now) pieces.now) held.new.items }
+fn hold_each<W: Sink>(out: &mut Out<'_, W>, pieces: &[&[u8]]) -> Result<(), WriteFault>
+    ensures { Sends W.written out.old out.new result (flat_map (λ piece. blanked piece.now) pieces.now) }
 {
     for piece in pieces {
-        hold_blanked(sink, held, piece)?;
+        hold_blanked(out, piece)?;
     }
     Ok(())
 }
 
 /// Holds the pieces, one after another, with a blank for each CR and each LF.
 #[tactic(auto, using(crate::proofs::Shown::blanked_pieces))]
-pub fn hold_shown<W: Sink>(
-    sink: &mut W,
-    held: &mut Held,
-    pieces: &[&[u8]],
-) -> Result<(), WriteFault>
-    ensures { Sends (W.written sink.old) (W.written sink.new) held.old.items result (blanked (flat_map (λ piece. piece.now) pieces.now)) held.new.items }
+pub fn hold_shown<W: Sink>(out: &mut Out<'_, W>, pieces: &[&[u8]]) -> Result<(), WriteFault>
+    ensures { Sends W.written out.old out.new result (blanked (flat_map (λ piece. piece.now) pieces.now)) }
 {
-    hold_each(sink, held, pieces)
+    hold_each(out, pieces)
 }

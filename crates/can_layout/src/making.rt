@@ -64,6 +64,19 @@ fn plans_of<L: Lookup>(
     Ok(plans)
 }
 
+/// The plans of all messages of a database whose rows are found by `lookup`, in order. The meter counts each.
+pub fn plans_with<L: Lookup>(
+    alloc: Global,
+    lookup: &L,
+    meter: &mut Meter,
+) -> Result<Vec<Plan>, Memory>
+    ensures plans { IfOk result (λ plans. plans.items ≡ map (plan_of (L.whole lookup.now)) (L.whole lookup.now).messages) }
+    ensures counted { OnOk result (meter.new ≡ repeated (length (L.whole lookup.now).messages) with_plan meter.old) }
+    ensures at_most { AtMost (length (L.whole lookup.now).messages) with_plan meter.old meter.new }
+{
+    plans_of(alloc, lookup, lookup.database().messages.as_slice(), meter)
+}
+
 /// The plans of all messages, in order, by an index of the rows. The meter counts each.
 pub fn make_plans(
     alloc: Global,
@@ -75,5 +88,5 @@ pub fn make_plans(
     ensures at_most { AtMost (length database.now.messages) with_plan meter.old meter.new }
 {
     let indexed = Indexed::of(alloc, database)?;
-    plans_of(alloc, &indexed, database.messages.as_slice(), meter)
+    plans_with(alloc, &indexed, meter)
 }

@@ -3,11 +3,12 @@ ghost use Rattle.std.specs.Prelude.{◌≡◌, ◌==◌, ◌++◌, IfOk, OnOk, m
 ghost use Rattle.std.specs.List.{flat_map};
 ghost use Rattle.std.specs.Str.{bytes_eq};
 ghost use Rattle.can_keys.specs.SignalNames.{same_signal};
+ghost use Rattle.can_rows.specs.Groups.{group_of};
 ghost use Rattle.can_references.specs.Finding.{is_shared, stands_in};
 ghost use Rattle.can_references.specs.Known.{numbers_of, names_of, groups_of, signals_in, signals_of, defined_in, perhaps, is_known_node};
 
 use can_keys::{Names, Numbers, SignalNames};
-use can_rows::groups;
+use can_rows::{Lookup, group_in};
 use dbc_records::{AttrDef, Database, Message, Signal};
 use dbc_values::{Memory, Name, same};
 use std::alloc::Global;
@@ -16,10 +17,11 @@ use std::marker::Model;
 // The name that stands for no node.
 const NO_NODE: &[u8] = b"Vector__XXX";
 
-/// The numbers, names, groups and signals of the messages of a database, its nodes and its attribute definitions.
+/// The numbers, names, groups and signals of the messages of a database, its nodes and its attribute definitions, beside
+/// what finds its rows.
 #[derive(Drop)]
-pub struct Known<'a> {
-    database: &'a Database,
+pub struct Known<'a, L: Lookup> {
+    lookup: &'a L,
     numbers: Numbers,
     names: Names<'a>,
     groups: Numbers,
@@ -28,15 +30,15 @@ pub struct Known<'a> {
     defined: Names<'a>,
 }
 
-impl<'a> Model for Known<'a> {
+impl<'a, L: Lookup> Model for Known<'a, L> {
     ghost use Rattle.dbc_records.specs.Databases.{Database};
     ghost use Rattle.can_references.specs.Known.{IsKnown};
 
     ghost Value = { Database };
 
-    ghost view = { λ a. a.database.now };
+    ghost view = { λ a. L.whole a.lookup.now };
 
-    ghost invariant = { λ a. IsKnown a.database.now a.numbers a.names a.groups a.signals a.nodes a.defined };
+    ghost invariant = { λ a. IsKnown (L.whole a.lookup.now) a.numbers a.names a.groups a.signals a.nodes a.defined };
 }
 
 fn numbers_of(alloc: Global, messages: &[Message]) -> Result<Numbers, Memory>
@@ -59,25 +61,17 @@ fn names_of<'a>(alloc: Global, messages: &'a [Message]) -> Result<Names<'a>, Mem
     Ok(names)
 }
 
-// The groups that are there.
-fn groups_among(alloc: Global, groups: &[Option<u32>]) -> Result<Numbers, Memory>
-    ensures { IfOk result (λ numbers. numbers ≡ flat_map perhaps groups.now) }
+// The groups of messages of a database whose rows are found by `lookup`.
+fn groups_of<L: Lookup>(alloc: Global, lookup: &L, messages: &[Message]) -> Result<Numbers, Memory>
+    ensures { IfOk result (λ numbers. numbers ≡ flat_map (λ message. perhaps (group_of message.head.number (L.whole lookup.now))) messages.now) }
 {
     let mut numbers = Numbers::new(alloc);
-    for group in groups {
-        if let Some(group) = group {
-            numbers.add(*group)?;
+    for message in messages {
+        if let Some(group) = group_in(lookup, message.head.number) {
+            numbers.add(group)?;
         }
     }
     Ok(numbers)
-}
-
-#[tactic(auto, using(crate::proofs::Lists::flat_map_of_map))]
-fn groups_of(alloc: Global, database: &Database) -> Result<Numbers, Memory>
-    ensures { IfOk result (λ numbers. numbers ≡ groups_of database.now) }
-{
-    let groups = groups(alloc, database)?;
-    groups_among(alloc, groups.as_slice())
 }
 
 // Adds the signals of a message of a number.
@@ -130,20 +124,21 @@ fn defined_in<'a>(alloc: Global, definitions: &'a [AttrDef]) -> Result<Names<'a>
     Ok(names)
 }
 
-impl<'a> Known<'a> {
-    /// What a database says.
-    pub fn of(alloc: Global, database: &'a Database) -> Result<Known<'a>, Memory>
-        ensures { IfOk result (λ known. known ≡ database.now) }
+impl<'a, L: Lookup> Known<'a, L> {
+    /// What a database says whose rows are found by `lookup`.
+    pub fn of(alloc: Global, lookup: &'a L) -> Result<Known<'a, L>, Memory>
+        ensures { IfOk result (λ known. known ≡ L.whole lookup.now) }
     {
+        let database = lookup.database();
         let messages = database.messages.as_slice();
         let numbers = numbers_of(alloc, messages)?;
         let names = names_of(alloc, messages)?;
-        let groups = groups_of(alloc, database)?;
+        let groups = groups_of(alloc, lookup, messages)?;
         let signals = signals_of(alloc, messages)?;
         let nodes = names_among(alloc, database.nodes.as_slice())?;
         let defined = defined_in(alloc, database.definitions.as_slice())?;
         Ok(Known {
-            database,
+            lookup,
             numbers,
             names,
             groups,
@@ -157,7 +152,21 @@ impl<'a> Known<'a> {
     pub fn database(&self) -> &'a Database
         ensures { result.now ≡ self.now }
     {
-        self.database
+        self.lookup.database()
+    }
+
+    /// What finds the rows of the database.
+    pub fn lookup(&self) -> &'a L
+        ensures { L.whole result.now ≡ self.now }
+    {
+        self.lookup
+    }
+
+    /// The parameter group that messages of the number stand for, if they stand for one.
+    pub fn group_of(&self, number: u32) -> Option<u32>
+        ensures { result ≡ group_of number self.now }
+    {
+        group_in(self.lookup, number)
     }
 
     /// Whether at least two messages have the number.

@@ -4,7 +4,7 @@ ghost use Rattle.can_references.specs.HeadFaults.{is_pseudo, bad_identifier, sha
 
 use crate::known::Known;
 use can_diagnostics::{Code, Diagnostic};
-use can_rows::{Lookup, group_in, is_bad_number};
+use can_rows::{Lookup, is_bad_number};
 use dbc_records::{Head, Message};
 use dbc_values::Memory;
 
@@ -30,9 +30,9 @@ fn push_bad_identifier(found: &mut Vec<Diagnostic>, message: &Message) -> Result
 }
 
 #[tactic(auto, unfolding(crate::specs::HeadFaults::shared_identifier))]
-fn push_shared_identifier(
+fn push_shared_identifier<L: Lookup>(
     found: &mut Vec<Diagnostic>,
-    known: &Known<'_>,
+    known: &Known<'_, L>,
     message: &Message,
 ) -> Result<(), Memory>
     ensures { OnOk result (found.new.items ≡ found.old.items ++ shared_identifier known.now message.now) }
@@ -45,9 +45,9 @@ fn push_shared_identifier(
 }
 
 #[tactic(auto, unfolding(crate::specs::HeadFaults::shared_name))]
-fn push_shared_name(
+fn push_shared_name<L: Lookup>(
     found: &mut Vec<Diagnostic>,
-    known: &Known<'_>,
+    known: &Known<'_, L>,
     message: &Message,
 ) -> Result<(), Memory>
     ensures { OnOk result (found.new.items ≡ found.old.items ++ shared_name known.now message.now) }
@@ -60,9 +60,9 @@ fn push_shared_name(
 }
 
 // Adds the diagnostic of a message of a group that others are of, too.
-fn push_in_group(
+fn push_in_group<L: Lookup>(
     found: &mut Vec<Diagnostic>,
-    known: &Known<'_>,
+    known: &Known<'_, L>,
     head: &Head,
     group: Option<u32>,
 ) -> Result<(), Memory>
@@ -79,30 +79,26 @@ fn push_in_group(
 #[tactic(auto, unfolding(crate::specs::HeadFaults::shared_group))]
 fn push_shared_group<L: Lookup>(
     found: &mut Vec<Diagnostic>,
-    known: &Known<'_>,
-    lookup: &L,
+    known: &Known<'_, L>,
     message: &Message,
 ) -> Result<(), Memory>
-    requires { L.whole lookup.now ≡ known.now }
     ensures { OnOk result (found.new.items ≡ found.old.items ++ shared_group known.now message.now) }
 {
     let head = &message.head;
-    push_in_group(found, known, head, group_in(lookup, head.number))
+    push_in_group(found, known, head, known.group_of(head.number))
 }
 
 /// Adds what is doubtful of a message's number and name: codes 1 to 4.
 #[tactic(auto, using(crate::proofs::Pushing::pushed_then), unfolding(crate::specs::HeadFaults::head_faults))]
 pub fn push_head_faults<L: Lookup>(
     found: &mut Vec<Diagnostic>,
-    known: &Known<'_>,
-    lookup: &L,
+    known: &Known<'_, L>,
     message: &Message,
 ) -> Result<(), Memory>
-    requires { L.whole lookup.now ≡ known.now }
     ensures { OnOk result (found.new.items ≡ found.old.items ++ head_faults known.now message.now) }
 {
     push_bad_identifier(found, message)?;
     push_shared_identifier(found, known, message)?;
     push_shared_name(found, known, message)?;
-    push_shared_group(found, known, lookup, message)
+    push_shared_group(found, known, message)
 }

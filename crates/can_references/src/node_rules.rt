@@ -5,12 +5,13 @@ ghost use Rattle.can_references.specs.HeadFaults.{unknown_sender, unknown_receiv
 
 use crate::known::Known;
 use can_diagnostics::{Code, Diagnostic};
+use can_rows::Lookup;
 use dbc_records::{Head, Message, Signal};
 use dbc_values::{Memory, Name};
 
-fn push_unknown_sender(
+fn push_unknown_sender<L: Lookup>(
     found: &mut Vec<Diagnostic>,
-    known: &Known<'_>,
+    known: &Known<'_, L>,
     head: &Head,
 ) -> Result<(), Memory>
     ensures { OnOk result (found.new.items ≡ found.old.items ++ unknown_sender known.now head.now) }
@@ -21,9 +22,9 @@ fn push_unknown_sender(
     Ok(())
 }
 
-fn push_unknown_nodes_of(
+fn push_unknown_nodes_of<L: Lookup>(
     found: &mut Vec<Diagnostic>,
-    known: &Known<'_>,
+    known: &Known<'_, L>,
     head: &Head,
     signal: &Signal,
     nodes: &[Name],
@@ -38,9 +39,9 @@ fn push_unknown_nodes_of(
     Ok(())
 }
 
-fn push_unknown_receivers(
+fn push_unknown_receivers<L: Lookup>(
     found: &mut Vec<Diagnostic>,
-    known: &Known<'_>,
+    known: &Known<'_, L>,
     head: &Head,
     signal: &Signal,
 ) -> Result<(), Memory>
@@ -49,9 +50,9 @@ fn push_unknown_receivers(
     push_unknown_nodes_of(found, known, head, signal, signal.receivers.as_slice())
 }
 
-fn push_all_unknown_receivers(
+fn push_all_unknown_receivers<L: Lookup>(
     found: &mut Vec<Diagnostic>,
-    known: &Known<'_>,
+    known: &Known<'_, L>,
     head: &Head,
     signals: &[Signal],
 ) -> Result<(), Memory>
@@ -65,9 +66,9 @@ fn push_all_unknown_receivers(
 
 /// Adds the sender and the receivers of a message that are no nodes of the database: code 13.
 #[tactic(auto, using(crate::proofs::Pushing::pushed_then), unfolding(crate::specs::HeadFaults::unknown_nodes))]
-pub fn push_unknown_nodes(
+pub fn push_unknown_nodes<L: Lookup>(
     found: &mut Vec<Diagnostic>,
-    known: &Known<'_>,
+    known: &Known<'_, L>,
     message: &Message,
 ) -> Result<(), Memory>
     ensures { OnOk result (found.new.items ≡ found.old.items ++ unknown_nodes known.now message.now) }

@@ -9,17 +9,18 @@ use crate::known::Known;
 use crate::row::Row;
 use can_diagnostics::{Code, Diagnostic};
 use can_keys::{Key, Place, RowKeys};
+use can_rows::Lookup;
 use dbc_records::Database;
 use dbc_values::Memory;
 
 // Whether no message of the number has the signal.
-fn lacks_signal<'a>(known: &Known<'a>, number: u32, name: &'a [u8]) -> bool
+fn lacks_signal<'a, L: Lookup>(known: &Known<'a, L>, number: u32, name: &'a [u8]) -> bool
     ensures { result ≡ lacks_signal known.now number name.now }
 {
     !known.has_signal(number, name)
 }
 
-fn lacks_target<'a>(known: &Known<'a>, place: Place<'a>) -> bool
+fn lacks_target<'a, L: Lookup>(known: &Known<'a, L>, place: Place<'a>) -> bool
     ensures { result ≡ lacks_target known.now (target_of place.entry) }
 {
     match place {
@@ -31,7 +32,7 @@ fn lacks_target<'a>(known: &Known<'a>, place: Place<'a>) -> bool
 }
 
 // Whether the row names what is not there.
-fn is_dangling<'a>(known: &Known<'a>, key: Key<'a>) -> bool
+fn is_dangling<'a, L: Lookup>(known: &Known<'a, L>, key: Key<'a>) -> bool
     ensures { result ≡ is_dangling known.now (row_key key.entry) }
 {
     match key {
@@ -43,14 +44,14 @@ fn is_dangling<'a>(known: &Known<'a>, key: Key<'a>) -> bool
     }
 }
 
-fn lacks_definition(known: &Known<'_>, name: &[u8]) -> bool
+fn lacks_definition<L: Lookup>(known: &Known<'_, L>, name: &[u8]) -> bool
     ensures { result ≡ lacks_definition known.now name.now }
 {
     !known.is_defined(name)
 }
 
 // Whether the row gives an attribute that is not defined.
-fn is_undefined(known: &Known<'_>, key: Key<'_>) -> bool
+fn is_undefined<L: Lookup>(known: &Known<'_, L>, key: Key<'_>) -> bool
     ensures { result ≡ is_undefined known.now (row_key key.entry) }
 {
     match key {
@@ -81,9 +82,9 @@ fn push_where<R: Row>(
 
 // Adds what is doubtful of a row, given the rows before it, and takes it among them.
 #[tactic(auto, using(crate::proofs::Pushing::pushed_then), unfolding(crate::specs::RowFaults::row_fault))]
-fn push_row<'a, R: Row>(
+fn push_row<'a, L: Lookup, R: Row>(
     found: &mut Vec<Diagnostic>,
-    known: &Known<'a>,
+    known: &Known<'a, L>,
     seen: &mut RowKeys<'a>,
     row: &'a R,
 ) -> Result<(), Memory>
@@ -98,9 +99,9 @@ fn push_row<'a, R: Row>(
 }
 
 // Adds what is doubtful of rows of one kind, given the rows before them.
-fn push_rows<'a, R: Row>(
+fn push_rows<'a, L: Lookup, R: Row>(
     found: &mut Vec<Diagnostic>,
-    known: &Known<'a>,
+    known: &Known<'a, L>,
     seen: &mut RowKeys<'a>,
     rows: &'a [R],
 ) -> Result<(), Memory>
@@ -114,9 +115,9 @@ fn push_rows<'a, R: Row>(
 }
 
 #[tactic(auto, using(crate::proofs::Rows::after_then), unfolding(crate::specs::RowFaults::front_keys))]
-fn push_front<'a>(
+fn push_front<'a, L: Lookup>(
     found: &mut Vec<Diagnostic>,
-    known: &Known<'a>,
+    known: &Known<'a, L>,
     seen: &mut RowKeys<'a>,
     database: &'a Database,
 ) -> Result<(), Memory>
@@ -128,9 +129,9 @@ fn push_front<'a>(
 }
 
 #[tactic(auto, using(crate::proofs::Rows::after_then), unfolding(crate::specs::RowFaults::attribute_keys))]
-fn push_attributes<'a>(
+fn push_attributes<'a, L: Lookup>(
     found: &mut Vec<Diagnostic>,
-    known: &Known<'a>,
+    known: &Known<'a, L>,
     seen: &mut RowKeys<'a>,
     database: &'a Database,
 ) -> Result<(), Memory>
@@ -143,9 +144,9 @@ fn push_attributes<'a>(
 }
 
 #[tactic(auto, using(crate::proofs::Rows::after_then), unfolding(crate::specs::RowFaults::signal_keys))]
-fn push_signal_rows<'a>(
+fn push_signal_rows<'a, L: Lookup>(
     found: &mut Vec<Diagnostic>,
-    known: &Known<'a>,
+    known: &Known<'a, L>,
     seen: &mut RowKeys<'a>,
     database: &'a Database,
 ) -> Result<(), Memory>
@@ -159,7 +160,10 @@ fn push_signal_rows<'a>(
 
 /// Adds what is doubtful of the rows of a database: codes 16 to 18.
 #[tactic(auto, using(crate::proofs::Rows::after_then), unfolding(crate::specs::RowFaults::row_keys, crate::specs::RowFaults::row_faults))]
-pub fn push_row_faults<'a>(found: &mut Vec<Diagnostic>, known: &Known<'a>) -> Result<(), Memory>
+pub fn push_row_faults<'a, L: Lookup>(
+    found: &mut Vec<Diagnostic>,
+    known: &Known<'a, L>,
+) -> Result<(), Memory>
     ensures { OnOk result (found.new.items ≡ found.old.items ++ row_faults known.now) }
 {
     let database = known.database();

@@ -1,13 +1,11 @@
 //! Which messages stand for a parameter group of SAE J1939, and for which.
-ghost use Rattle.std.specs.Prelude.{◌≡◌, IfOk, map};
+ghost use Rattle.std.specs.Prelude.{◌≡◌};
 ghost use Rattle.can_rows.specs.Groups.{group_number_of, group_of, is_bad_number, is_extended};
 
 use crate::format::frame_format;
-use crate::indexed::Indexed;
 use crate::lookup::Lookup;
-use dbc_records::{Database, Message};
-use dbc_values::{Memory, same};
-use std::alloc::Global;
+use dbc_records::Database;
+use dbc_values::same;
 
 /// The frame format of messages that stand for a parameter group.
 const GROUP_FORMAT: &[u8] = b"J1939PG";
@@ -71,26 +69,4 @@ pub fn group_of(database: &Database, number: u32) -> Option<u32>
     ensures { result ≡ group_of number database.now }
 {
     group_in(database, number)
-}
-
-fn groups_in<L: Lookup>(
-    alloc: Global,
-    lookup: &L,
-    messages: &[Message],
-) -> Result<Vec<Option<u32>>, Memory>
-    ensures { IfOk result (λ groups. groups.items ≡ map (λ message. group_of message.head.number (L.whole lookup.now)) messages.now) }
-{
-    let mut groups = Vec::with_capacity(alloc, messages.len())?;
-    for message in messages {
-        groups.push(group_in(lookup, message.head.number))?;
-    }
-    Ok(groups)
-}
-
-/// The parameter group of each message of a database, in order. The database is indexed for it.
-pub fn groups(alloc: Global, database: &Database) -> Result<Vec<Option<u32>>, Memory>
-    ensures { IfOk result (λ groups. groups.items ≡ map (λ message. group_of message.head.number database.now) database.now.messages) }
-{
-    let indexed = Indexed::of(alloc, database)?;
-    groups_in(alloc, &indexed, database.messages.as_slice())
 }

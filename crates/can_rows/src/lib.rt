@@ -13,6 +13,6 @@ pub mod laws;
 mod lookup;
 mod row;
 
-pub use group::{group_in, group_number, group_of, groups, is_bad_number};
+pub use group::{group_in, group_number, group_of, is_bad_number};
 pub use indexed::Indexed;
 pub use lookup::Lookup;

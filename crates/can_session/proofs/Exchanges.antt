@@ -12,7 +12,7 @@ use Rattle.dbc_records.specs.Databases.{Database}
 use Rattle.can_decode.specs.DecodedLines.{decoded_line}
 use Rattle.can_session.specs.declared.line.Line.{Line}
 use Rattle.can_session.specs.declared.line.Fresh.{Fresh}
-use Rattle.can_session.specs.Logs.{bytes_of, IsDecoded, IsTextOf, Completes, TextsAt, place_of}
+use Rattle.can_session.specs.Logs.{bytes_of, IsNumbered, IsDecoded, IsTextOf, Completes, TextsAt, place_of}
 
 pub all_but_last : {X : Type 0} (P : X → Type 0) (xs : List X) (y : X) → All P (xs ++ y ∷ []) → All P xs
 all_but_last P xs y h = λ k d within. rw (← get_or_append_left xs (y ∷ []) d k within) (h k d (omega (arith, length-append xs (y ∷ []))))
@@ -27,6 +27,14 @@ bytes_stay lines place line within same k d =
     elim (eqb_tells k place) [
       | inl here ↦ rw here.1 (ap bytes_of (get_or-set_same lines place line d within) ∙ same ∙ ap bytes_of (get_or_default lines place line d within))
       | inr there ↦ ap bytes_of (get_or-set_other lines place k line d there.1)
+    ]
+
+-- a line that takes another text keeps its number
+pub numbered_still : (lines : List Line) (place : ℕ) (line : Line) → place < length lines → IsNumbered line → All IsNumbered lines → All IsNumbered (slice_set lines place line)
+numbered_still lines place line within is all = λ k d inside.
+    elim (eqb_tells k place) [
+      | inl here ↦ rw (here.1, get_or-set_same lines place line d within) is
+      | inr there ↦ rw (get_or-set_other lines place k line d there.1) (all k d (omega (arith, inside, length-set lines place line)))
     ]
 
 pub one_given : (database : Database) (lines : List Line) (line : Line) (rest : List Fresh) (fresh : Fresh)

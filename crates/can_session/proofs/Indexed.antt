@@ -3,7 +3,8 @@ use Rattle.std.proofs.Common.{◌≡◌, ◌+◌, ℕ, List, [], ◌∷◌, ◌+
 use Rattle.std.specs.Prelude.{Some, None}
 use Rattle.std.proofs.lemmas.List.{append-nil}
 use Rattle.can_session.specs.declared.log_index.LogIndex.{LogIndex}
-use Rattle.can_session.specs.Indexes.{data_number, has_number, has_group, SamePlaces, Puts, IsIndexed}
+use Rattle.can_decode.specs.Choices.{data_number}
+use Rattle.can_session.specs.Indexes.{has_number, has_group, SamePlaces, Puts, IsIndexed}
 use Rattle.can_session.proofs.Places.{places-push}
 
 pub same_places : (lines : List (List ℕ)) (before after : LogIndex) → IsIndexed lines before → SamePlaces before after → IsIndexed lines after

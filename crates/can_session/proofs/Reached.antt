@@ -1,5 +1,5 @@
 -- Which lines numbers touch, by the numbers of the lines' data frames.
-use Rattle.std.proofs.Common.{◌≡◌, ℕ, Bool, true, false, not, List, [], ◌∷◌, ◌++◌, refl, sym, ◌∙◌, inl, inr}
+use Rattle.std.proofs.Common.{◌≡◌, ℕ, Bool, true, false, not, List, [], ◌∷◌, ◌++◌, refl, sym, ap, ◌∙◌, inl, inr}
 use Rattle.std.specs.Prelude.{◌==◌, ◌||◌, ◌&&◌, Option, Some, None, option_and_then, if◌then◌else◌}
 use Rattle.std.specs.List.{list_any}
 use Rattle.std.specs.Option.{option_map_or}
@@ -7,35 +7,38 @@ use Rattle.std.proofs.lemmas.Bool.{cases_Bool, eqb-true, eq-eqb, and_parts}
 use Rattle.std.proofs.lemmas.List.Folds.{list_any-append}
 use Rattle.log_frames.specs.Frames.{Frame, body_of, frame_of, is_data}
 use Rattle.can_rows.specs.Groups.{is_extended, is_bad_number, group_number_of}
-use Rattle.edit_reach.specs.Touched.{may_have_group, concerns, is_touched, line_touched}
+use Rattle.edit_reach.specs.Touched.{may_have_group, concerns, is_touched, line_touched, number_touched}
 use Rattle.can_session.specs.declared.log_index.LogIndex.{LogIndex}
-use Rattle.can_session.specs.Indexes.{number_of_data, data_number, has_number, has_group, places_of, IsIndexed}
+use Rattle.can_decode.specs.Choices.{number_of_data, data_number}
+use Rattle.can_session.specs.declared.line.Line.{Line}
+use Rattle.can_session.specs.Logs.{bytes_of, IsNumbered}
+use Rattle.can_session.specs.Indexes.{has_number, has_group, places_of, IsIndexed}
 use Rattle.can_session.specs.Places.{places_from}
 use Rattle.can_session.proofs.Places.{places_same}
 
--- one of the numbers concerns the number of a data frame
-abbrev pub any_concerns : List ℕ → Option ℕ → Bool
-any_concerns numbers number = option_map_or (λ other. list_any (concerns other) numbers) number false
-
-by_frame : (numbers : List ℕ) (frame : Option Frame) → option_map_or (is_touched numbers) frame false ≡ any_concerns numbers (option_and_then number_of_data frame)
+by_frame : (numbers : List ℕ) (frame : Option Frame) → option_map_or (is_touched numbers) frame false ≡ number_touched numbers (option_and_then number_of_data frame)
 unfolding is_touched
 by_frame numbers None = refl
 by_frame numbers (Some frame) = elim (cases_Bool (is_data frame)) [ inl t ↦ rw t refl | inr f ↦ rw f refl ]
 
-pub touched_by : (numbers : List ℕ) (line : List ℕ) → line_touched numbers line ≡ any_concerns numbers (data_number line)
+pub touched_by : (numbers : List ℕ) (line : List ℕ) → line_touched numbers line ≡ number_touched numbers (data_number line)
 unfolding line_touched data_number
 touched_by numbers line = by_frame numbers (frame_of (body_of line))
 
+-- by the number that is kept with the line
+pub untouched_by_number : (numbers : List ℕ) (line : Line) → IsNumbered line → not (number_touched numbers line.number) ≡ not (line_touched numbers (bytes_of line))
+untouched_by_number numbers line is = ap (λ n. not (number_touched numbers n)) is ∙ ap not (sym (touched_by numbers (bytes_of line)))
+
 -- ---- one more number
 
-one_more : (earlier : List ℕ) (number : ℕ) (other : Option ℕ) → any_concerns (earlier ++ number ∷ []) other ≡ (any_concerns earlier other || any_concerns (number ∷ []) other)
+one_more : (earlier : List ℕ) (number : ℕ) (other : Option ℕ) → number_touched (earlier ++ number ∷ []) other ≡ (number_touched earlier other || number_touched (number ∷ []) other)
 one_more earlier number None = refl
 one_more earlier number (Some other) = list_any-append (concerns other) earlier (number ∷ [])
 
 pub touched_more : (earlier : List ℕ) (number : ℕ) (line : List ℕ) → line_touched (earlier ++ number ∷ []) line ≡ (line_touched earlier line || line_touched (number ∷ []) line)
 touched_more earlier number line = rw (touched_by, touched_by, touched_by) (one_more earlier number (data_number line))
 
-of_none : (other : Option ℕ) → any_concerns [] other ≡ false
+of_none : (other : Option ℕ) → number_touched [] other ≡ false
 of_none None = refl
 of_none (Some other) = refl
 
@@ -76,7 +79,7 @@ one_key other number =
       ]
     ]
 
-by_key : (number : ℕ) (other : Option ℕ) → any_concerns (number ∷ []) other
+by_key : (number : ℕ) (other : Option ℕ) → number_touched (number ∷ []) other
     ≡ (if may_have_group number then option_map_or (λ n. is_extended n && group_number_of number == group_number_of n) other false else option_map_or (λ n. number == n) other false)
 by_key number None = elim (cases_Bool (may_have_group number)) [ inl t ↦ rw t refl | inr f ↦ rw f refl ]
 by_key number (Some other) =

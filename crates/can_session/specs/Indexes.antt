@@ -1,24 +1,17 @@
 -- The retained lines by the numbers and by the parameter groups of their data frames.
 -- Source: SAE J1939-21, "Parameter Group Numbers", for which frames belong to one group.
-use Rattle.std.specs.Prelude.{◌≡◌, ◌<◌, ◌≤◌, ℕ, Bool, true, false, not, ◌&&◌, ◌==◌, List, [], ◌∷◌, ◌++◌, All, length, count_by, slice_get, Option, Some, None, MatchOption, option_and_then, Vec, vec_len, vec_capacity, nat_eq, if◌then◌else◌}
+use Rattle.std.specs.Prelude.{◌≡◌, ◌<◌, ◌≤◌, ℕ, Bool, true, false, not, ◌&&◌, ◌==◌, List, [], ◌∷◌, ◌++◌, All, length, count_by, slice_get, MatchOption, Vec, vec_len, vec_capacity, nat_eq, if◌then◌else◌}
 use Rattle.std.specs.declared.alloc.Global.{Global}
 use Rattle.std.specs.List.{list_any, slice_index_or}
 use Rattle.std.specs.Option.{option_map_or}
 use Rattle.indexmap.specs.IndexMap.{IndexMap, get}
 use Rattle.can_rows.specs.Groups.{is_extended, group_number_of}
-use Rattle.log_frames.specs.Frames.{Frame, body_of, frame_of, is_data, number_of}
+use Rattle.can_decode.specs.Choices.{data_number}
 use Rattle.edit_reach.specs.Touched.{may_have_group, line_touched}
 use Rattle.can_session.specs.declared.log_index.LogIndex.{LogIndex}
 use Rattle.can_session.specs.Places.{places_from}
 
 -- ---- what a line is found by
-
-abbrev pub number_of_data : Frame → Option ℕ
-number_of_data frame = if is_data frame then Some (number_of frame) else None
-
--- the number of the line's data frame
-unfoldable pub data_number : List ℕ → Option ℕ
-data_number line = option_and_then number_of_data (frame_of (body_of line))
 
 -- the line has a data frame of the number
 abbrev pub has_number : ℕ → List ℕ → Bool

@@ -2,12 +2,17 @@
 use Rattle.std.specs.Prelude.{◌≡◌, ◌==◌, ℕ, ◌<◌, Bool, false, List, All, length, map}
 use Rattle.std.specs.List.{list_any, slice_index_or}
 use Rattle.dbc_records.specs.Databases.{Database}
+use Rattle.can_decode.specs.Choices.{data_number}
 use Rattle.can_decode.specs.DecodedLines.{decoded_line}
 use Rattle.can_session.specs.declared.line.Line.{Line}
 use Rattle.can_session.specs.declared.line.Fresh.{Fresh}
 
 abbrev pub bytes_of : Line → List ℕ
 bytes_of line = line.bytes.items
+
+-- the number that is kept with the line is that of its data frame
+abbrev pub IsNumbered : Line → Type 0
+IsNumbered line = line.number ≡ data_number (bytes_of line)
 
 -- the text is that of the line in this database
 abbrev pub IsDecoded : Database → Line → Type 0

@@ -1,10 +1,9 @@
 //! What a session shows of its messages.
-ghost use Rattle.std.specs.Prelude.{◌≡◌, ◌<◌, IfOk, Some, map, length, slice_get};
-ghost use Rattle.std.specs.Option.{option_map};
+ghost use Rattle.std.specs.Prelude.{◌≡◌, IfOk, map, length};
 ghost use Rattle.can_session.specs.Compiled.{compiled_of, Raised};
 
 use can_layout::{Lookup, Meter, Plan, picture_with, plan_with};
-use dbc_records::{Database, Message};
+use dbc_records::Message;
 use dbc_values::Memory;
 use std::alloc::Global;
 use std::marker::Model;
@@ -58,17 +57,4 @@ pub(crate) fn compiled_all<L: Lookup>(
         all.push(compiled_with(alloc, lookup, message, meter)?)?;
     }
     Ok(all)
-}
-
-/// What is compiled of the message at a place.
-pub(crate) fn compiled_at<'a>(
-    compiled: &'a [Rc<Compiled>],
-    database: &Database,
-    place: usize,
-) -> &'a Compiled
-    requires compiled { map (λ one. one.value) compiled.now ≡ map (compiled_of database.now) database.now.messages }
-    requires place { place < length database.now.messages }
-    ensures { Some result.now ≡ option_map (compiled_of database.now) (slice_get database.now.messages place) }
-{
-    &compiled[place]
 }

@@ -7,12 +7,13 @@
 
 mod accepted;
 mod compiled;
-mod decoding;
 mod keyed_places;
 mod line;
+mod log;
 mod log_index;
 mod recompiling;
 mod session;
+mod shown;
 mod touching;
 
 pub use can_check::Diagnostic;

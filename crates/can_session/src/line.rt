@@ -1,13 +1,15 @@
 //! Retained lines, and texts that take the place of older ones.
 ghost use Rattle.std.specs.Prelude.{◌≡◌, ◌<◌, All, map, length};
 ghost use Rattle.dbc_records.specs.Databases.{Database};
-ghost use Rattle.can_session.specs.Logs.{bytes_of, IsDecoded, Completes};
+ghost use Rattle.can_session.specs.Logs.{bytes_of, IsNumbered, IsDecoded, Completes};
 
 /// A retained line and its decoded text.
 #[derive(Drop)]
 pub(crate) struct Line {
     /// The line.
     pub bytes: Vec<u8>,
+    /// The number of its frame, where that is a data frame.
+    pub number: Option<u32>,
     /// Its decoded text.
     pub decoded: Vec<u8>,
 }
@@ -25,6 +27,7 @@ pub(crate) struct Fresh {
 pub(crate) fn exchange(lines: &mut [Line], mut fresh: Vec<Fresh>)
     requires { All (λ text. text.place < length lines.old) fresh.items }
     ensures lines { map bytes_of lines.new ≡ map bytes_of lines.old }
+    ensures numbered { All IsNumbered lines.old → All IsNumbered lines.new }
     ensures decoded { (database : Database) → Completes database lines.old fresh.items → All (IsDecoded database) lines.new }
 {
     while let Some(Fresh { place, text }) = fresh.pop() {

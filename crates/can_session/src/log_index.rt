@@ -2,8 +2,8 @@
 ghost use Rattle.std.specs.Prelude.{◌≡◌, ◌==◌, ◌&&◌, ◌<◌, ℕ, [], ◌∷◌, ◌++◌, OnOk, OnErr, IsOk, length, map, vec_len, vec_capacity, if◌then◌else◌};
 ghost use Rattle.can_rows.specs.Groups.{is_extended, group_number_of};
 ghost use Rattle.edit_reach.specs.Touched.{may_have_group};
-ghost use Rattle.can_session.specs.Logs.{bytes_of};
-ghost use Rattle.can_session.specs.Indexes.{data_number, number_of_data, places_at, HasRoom, HasRoomFor, SamePlaces, Puts, places_of, IsIndexed};
+ghost use Rattle.can_session.specs.Logs.{bytes_of, IsNumbered};
+ghost use Rattle.can_session.specs.Indexes.{places_at, HasRoom, HasRoomFor, SamePlaces, Puts, places_of, IsIndexed};
 
 use crate::keyed_places::{Places, make_room, places_at, push_reserved, put};
 use crate::line::Line;
@@ -11,7 +11,6 @@ use can_decode::group_number;
 use dbc_values::Memory;
 use edit_reach::{is_extended, may_have_group};
 use indexmap::IndexMap;
-use log_frames::{Frame, read_frame};
 use std::alloc::Global;
 
 /// The places of lines by the numbers of their data frames, and of those with identifiers of 29 bits by their groups.
@@ -67,25 +66,6 @@ impl LogIndex {
     }
 }
 
-fn number_of_data(frame: &Frame) -> Option<u32>
-    ensures { result ≡ number_of_data frame.now }
-{
-    if frame.is_data() {
-        Some(frame.number())
-    } else {
-        None
-    }
-}
-
-// The number of a line's data frame.
-#[tactic(auto, unfolding(crate::specs::Indexes::data_number))]
-fn data_number(line: &[u8]) -> Option<u32>
-    ensures { result ≡ data_number line.now }
-{
-    let frame = read_frame(line)?;
-    number_of_data(&frame)
-}
-
 /// Retains a line, behind the others and in the index. Where memory is refused, the lines are as they were.
 pub(crate) fn retain(
     alloc: Global,
@@ -93,15 +73,15 @@ pub(crate) fn retain(
     index: &mut LogIndex,
     line: Line,
 ) -> Result<(), Memory>
-    requires { IsIndexed (map bytes_of lines.old.items) index.old }
+    requires indexed { IsIndexed (map bytes_of lines.old.items) index.old }
+    requires numbered { IsNumbered line }
     ensures ok { OnOk result (lines.new.items ≡ lines.old.items ++ line ∷ []) }
     ensures err { OnErr result (lines.new.items ≡ lines.old.items) }
     ensures indexed { IsIndexed (map bytes_of lines.new.items) index.new }
 {
     let place = lines.len();
-    let number = data_number(line.bytes.as_slice());
     lines.reserve(1)?;
-    if let Some(number) = number {
+    if let Some(number) = line.number {
         index.make_room(alloc, number)?;
         index.put(number, place);
     }

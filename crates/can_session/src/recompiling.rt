@@ -1,14 +1,17 @@
 //! What is compiled of the messages of an edited database. What the edit doesn't touch is kept.
-ghost use Rattle.std.specs.Prelude.{◌≡◌, IfOk, Ok, map, filter, length, count_by};
-ghost use Rattle.dbc_edits.specs.Edits.{edited};
-ghost use Rattle.edit_reach.specs.Touched.{edit_numbers};
+ghost use Rattle.std.specs.Prelude.{◌≡◌, IfOk, map, filter, count_by};
 ghost use Rattle.edit_reach.specs.Elsewhere.{is_elsewhere};
+ghost use Rattle.can_session.specs.Acceptance.{numbers_of};
 ghost use Rattle.can_session.specs.Compiled.{compiled_of, count_here, is_here, Raised};
+ghost use Rattle.can_session.specs.Shown.{IsShown};
 
 use crate::accepted::Accepted;
 use crate::compiled::{Compiled, compiled_with};
+use crate::shown::{Parts, Shown, messages_of};
+use can_check::all_faults_with;
+use can_decode::MessageIndex;
 use can_layout::{Indexed, Lookup, Meter};
-use dbc_records::{Database, Message};
+use dbc_records::Message;
 use dbc_values::Memory;
 use edit_reach::is_among;
 use edit_reach::laws::{others_stay, untouched_messages_stay};
@@ -22,26 +25,13 @@ fn is_here(numbers: &[u32], message: &Message) -> bool
     is_among(numbers, message.head.number)
 }
 
-/// The messages of a database.
-pub(crate) fn messages_of(database: &Database) -> &[Message]
-    ensures { result.now ≡ database.now.messages }
-{
-    database.messages.as_slice()
-}
-
 // What was compiled of the messages that have none of the numbers, in order.
-fn kept(
-    alloc: Global,
-    numbers: &[u32],
-    before: &Database,
-    compiled: &[Rc<Compiled>],
-) -> Result<Vec<Rc<Compiled>>, Memory>
-    requires { map (λ one. one.value) compiled.now ≡ map (compiled_of before.now) before.now.messages }
+fn kept(alloc: Global, numbers: &[u32], before: &Shown) -> Result<Vec<Rc<Compiled>>, Memory>
     ensures { IfOk result (λ kept. map (λ one. one.value) kept.items ≡ map (compiled_of before.now) (filter (is_elsewhere numbers.now) before.now.messages)) }
 {
     let mut kept = Vec::new(alloc);
-    let mut rest = compiled;
-    for message in before.messages.as_slice() {
+    let mut rest = before.compiled();
+    for message in before.database().messages.as_slice() {
         if let [first, others @ ..] = rest {
             if !is_here(numbers, message) {
                 kept.push(first.clone()?)?;
@@ -52,21 +42,31 @@ fn kept(
     Ok(kept)
 }
 
+// What was compiled of messages that an edit doesn't touch: of the edited database, too, it is what is compiled of them.
+fn kept_after(alloc: Global, accepted: &Accepted<'_>) -> Result<Vec<Rc<Compiled>>, Memory>
+    ensures { IfOk result (λ kept. map (λ one. one.value) kept.items ≡ map (compiled_of accepted.now.after) (filter (is_elsewhere (numbers_of accepted.now)) accepted.now.after.messages)) }
+{
+    others_stay();
+    untouched_messages_stay();
+    let kept = kept(alloc, accepted.numbers(), accepted.shown_before())?;
+    Ok(kept)
+}
+
 // Those of messages, in order: of a message that has none of the numbers the next of the kept ones, of another a new one.
 fn merged<L: Lookup>(
-    alloc: Global,
     numbers: &[u32],
-    kept: &[Rc<Compiled>],
+    kept: &Vec<Rc<Compiled>>,
     lookup: &L,
     messages: &[Message],
     meter: &mut Meter,
 ) -> Result<Vec<Rc<Compiled>>, Memory>
-    requires { map (λ one. one.value) kept.now ≡ map (compiled_of (L.whole lookup.now)) (filter (is_elsewhere numbers.now) messages.now) }
+    requires { map (λ one. one.value) kept.now.items ≡ map (compiled_of (L.whole lookup.now)) (filter (is_elsewhere numbers.now) messages.now) }
     ensures compiled { IfOk result (λ all. map (λ one. one.value) all.items ≡ map (compiled_of (L.whole lookup.now)) messages.now) }
     ensures made { Raised (count_by (is_here numbers.now) messages.now) 0 meter.old meter.new }
 {
+    let alloc = *kept.allocator();
     let mut all = Vec::new(alloc);
-    let mut rest = kept;
+    let mut rest = kept.as_slice();
     for message in messages {
         if is_here(numbers, message) {
             all.push(compiled_with(alloc, lookup, message, meter)?)?;
@@ -78,31 +78,25 @@ fn merged<L: Lookup>(
     Ok(all)
 }
 
-/// Those of the messages of an edited database, in order, by those of the database before. Only of messages that have one of
-/// the edit's numbers are they made.
-pub(crate) fn recompiled(
+/// What is made of the database that an accepted edit gives, by one index of its rows. Only of messages that have one of the
+/// edit's numbers are plans and pictures made.
+pub(crate) fn parts_after(
     alloc: Global,
     accepted: &Accepted<'_>,
-    compiled: &[Rc<Compiled>],
     meter: &mut Meter,
-) -> Result<Vec<Rc<Compiled>>, Memory>
-    requires done { edited accepted.now.before.now accepted.now.edit.now ≡ Ok accepted.now.after.now }
-    requires numbered { accepted.now.numbers.now ≡ edit_numbers accepted.now.before.now accepted.now.edit.now }
-    requires compiled { map (λ one. one.value) compiled.now ≡ map (compiled_of accepted.now.before.now) accepted.now.before.now.messages }
-    ensures compiled { IfOk result (λ all. map (λ one. one.value) all.items ≡ map (compiled_of accepted.now.after.now) accepted.now.after.now.messages) }
-    ensures made { Raised (count_here accepted.now.numbers.now accepted.now.after.now) 0 meter.old meter.new }
+) -> Result<Parts, Memory>
+    ensures parts { IfOk result (λ parts. IsShown accepted.now.after parts.diagnostics.items (map (λ one. one.value) parts.compiled.items) parts.messages) }
+    ensures made { Raised (count_here (numbers_of accepted.now) accepted.now.after) 0 meter.old meter.new }
 {
-    others_stay();
-    untouched_messages_stay();
-    let kept = kept(alloc, accepted.numbers, accepted.before, compiled)?;
-    let indexed = Indexed::of(alloc, accepted.after)?;
-    let all = merged(
-        alloc,
-        accepted.numbers,
-        kept.as_slice(),
-        &indexed,
-        messages_of(accepted.after),
-        meter,
-    )?;
-    Ok(all)
+    let indexed = Indexed::of(alloc, accepted.after())?;
+    let diagnostics = all_faults_with(alloc, &indexed)?;
+    let kept = kept_after(alloc, accepted)?;
+    let messages = messages_of(accepted.after());
+    let compiled = merged(accepted.numbers(), &kept, &indexed, messages, meter)?;
+    let index = MessageIndex::by(alloc, &indexed)?;
+    Ok(Parts {
+        diagnostics,
+        compiled,
+        messages: index,
+    })
 }

@@ -1,13 +1,14 @@
 -- The signals of a message have different names, and still do when one is put in, goes or gives way to another of its name.
 use Rattle.std.proofs.Common.{◌≡◌, ℕ, zero, suc, ◌<◌, ◌≤◌, Bool, true, false, List, [], ◌∷◌, length, map, refl, sym, ◌∙◌, inl, inr, arith}
-use Rattle.std.specs.Prelude.{not, ◌||◌, ◌&&◌, insert, nat_le, IsTrue}
-use Rattle.std.specs.List.{list_any}
+use Rattle.std.specs.Prelude.{not, ◌||◌, ◌&&◌, insert, slice_set, nat_le, IsTrue}
+use Rattle.std.specs.List.{list_any, position_or_len}
 use Rattle.std.specs.Str.{bytes_eq}
 use Rattle.std.proofs.lemmas.Bool.{cases_Bool, both_ways}
 use Rattle.std.proofs.lemmas.Slice.Eq.{bytes_eq-Decides}
 use Rattle.std.proofs.lemmas.List.Edits.{length-insert}
 use Rattle.std.proofs.lemmas.List.{length-map}
 use Rattle.dbc_records.specs.Records.{Signal, names_of, are_distinct, signals_fit, most_signals}
+use Rattle.dbc_edits.proofs.Places.{one_more}
 use Rattle.dbc_edits.specs.Rows.{without}
 use Rattle.dbc_edits.specs.Edits.{is_named, has_named, replaced_by}
 
@@ -121,6 +122,24 @@ same_names : (signal : Signal) (signals : List Signal) → names_of (map (replac
 same_names signal [] = refl
 same_names signal (old ∷ signals) = rw (same_name signal old, same_names signal signals) refl
 
+-- a signal whose name no other has stands alone
+untouched : (signal : Signal) (signals : List Signal) → has_named signal.name signals ≡ false → map (replaced_by signal) signals ≡ signals
+untouched signal [] e = refl
+untouched signal (old ∷ signals) e =
+    let parts = neither (is_named signal.name old) (has_named signal.name signals) e in rw (parts.0, untouched signal signals parts.1) refl
+
+others_differ : (signal first : Signal) (signals : List Signal) → are_distinct (names_of (first ∷ signals)) ≡ true → is_named signal.name first ≡ true → has_named signal.name signals ≡ false
+others_differ signal first signals e t =
+    sym (named signal.name signals) ∙ rw (← true_same first.name signal.name t) (first_differs first.name (names_of signals) e)
+
+set_once : (signal : Signal) (signals : List Signal) → are_distinct (names_of signals) ≡ true → slice_set signals (position_or_len (is_named signal.name) signals) signal ≡ map (replaced_by signal) signals
+set_once signal [] e = refl
+set_once signal (first ∷ signals) e =
+    elim (cases_Bool (is_named signal.name first)) [
+      | inl t ↦ rw (t, untouched signal signals (others_differ signal first signals e t)) refl
+      | inr f ↦ rw (f, one_more (position_or_len (is_named signal.name) signals), ← set_once signal signals (rest_differ first.name (names_of signals) e)) refl
+    ]
+
 -- ---- the signals of a message
 
 together : (a b : Bool) → a ≡ true → b ≡ true → (a && b) ≡ true
@@ -155,6 +174,12 @@ fits_inserted signals at signal fit place room new =
 pub fits_without : (gone : Signal → Bool) (signals : List Signal) → IsTrue (signals_fit signals) → IsTrue (signals_fit (without gone signals))
 fits_without gone signals fit = fits-of _ (omega (arith, shorter gone signals, fits-few signals fit)) (distinct_without gone signals (fits-distinct signals fit))
 
-pub fits_replaced : (signal : Signal) (signals : List Signal) → IsTrue (signals_fit signals) → IsTrue (signals_fit (map (replaced_by signal) signals))
+pub replaced : (signal : Signal) (signals : List Signal) → IsTrue (signals_fit signals) → slice_set signals (position_or_len (is_named signal.name) signals) signal ≡ map (replaced_by signal) signals
+replaced signal signals fit = set_once signal signals (fits-distinct signals fit)
+
+fits_replaced : (signal : Signal) (signals : List Signal) → IsTrue (signals_fit signals) → IsTrue (signals_fit (map (replaced_by signal) signals))
 fits_replaced signal signals fit =
     fits-of _ (rw (length-map signals (replaced_by signal)) (fits-few signals fit)) (rw (same_names signal signals) (fits-distinct signals fit))
+
+pub fits_set : (signal : Signal) (signals : List Signal) → IsTrue (signals_fit signals) → IsTrue (signals_fit (slice_set signals (position_or_len (is_named signal.name) signals) signal))
+fits_set signal signals fit = rw (replaced signal signals fit) (fits_replaced signal signals fit)

@@ -1,4 +1,4 @@
 pub mod Fitting
-pub mod Parts
 pub mod Adding
 pub mod Clearing
+pub mod Places

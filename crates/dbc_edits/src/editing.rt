@@ -21,23 +21,19 @@ pub fn edited(alloc: Global, database: &Database, edit: &Edit) -> Result<Databas
 {
     match edit {
         Edit::AddMessage(place, head) => add_message(alloc, database, *place, head),
-        Edit::RemoveMessage(place) => remove_message(alloc, database, *place),
-        Edit::ChangeMessage(place, change) => change_message(alloc, database, *place, change),
-        Edit::Renumber(place, number) => renumber(alloc, database, *place, *number),
-        Edit::AddSignal(place, at, signal) => add_signal(alloc, database, *place, *at, signal),
-        Edit::RemoveSignal(place, name) => remove_signal(alloc, database, *place, name.as_bytes()),
-        Edit::ChangeSignal(place, signal) => change_signal(alloc, database, *place, signal),
-        Edit::SetMux(row) => set_mux(alloc, database, row),
-        Edit::SetValues(row) => set_values(alloc, database, row),
-        Edit::DropMux(number, name) => drop_mux(alloc, database, *number, name.as_bytes()),
-        Edit::DropValues(number, name) => drop_values(alloc, database, *number, name.as_bytes()),
-        Edit::DropTable(name) => drop_table(alloc, database, name.as_bytes()),
-        Edit::SetTable(row) => set_table(alloc, database, row),
-        Edit::SetAttribute(name, number, value) => {
-            set_attribute(alloc, database, name, *number, value)
-        }
-        Edit::DropAttribute(name, number) => {
-            drop_attribute(alloc, database, name.as_bytes(), *number)
-        }
+        Edit::RemoveMessage(place) => remove_message(database, *place),
+        Edit::ChangeMessage(place, change) => change_message(database, *place, change),
+        Edit::Renumber(place, number) => renumber(database, *place, *number),
+        Edit::AddSignal(place, at, signal) => add_signal(database, *place, *at, signal),
+        Edit::RemoveSignal(place, name) => remove_signal(database, *place, name.as_bytes()),
+        Edit::ChangeSignal(place, signal) => change_signal(database, *place, signal),
+        Edit::SetMux(row) => set_mux(database, row),
+        Edit::SetValues(row) => set_values(database, row),
+        Edit::DropMux(number, name) => drop_mux(database, *number, name.as_bytes()),
+        Edit::DropValues(number, name) => drop_values(database, *number, name.as_bytes()),
+        Edit::DropTable(name) => drop_table(database, name.as_bytes()),
+        Edit::SetTable(row) => set_table(database, row),
+        Edit::SetAttribute(name, number, value) => { set_attribute(database, name, *number, value) }
+        Edit::DropAttribute(name, number) => { drop_attribute(database, name.as_bytes(), *number) }
     }
 }

@@ -5,7 +5,7 @@ ghost use Rattle.dbc_records.specs.declared.target.Target.TheVariants as targets
 ghost use Rattle.can_rows.specs.Groups.{is_for_message};
 
 use dbc_records::{AttrRow, Comment, FloatRow, MuxRow, Signal, TableRow, Target, ValueRow};
-use dbc_values::{Checked, Copied, Name, same};
+use dbc_values::{Checked, Name, same};
 
 /// A test on rows of a kind.
 pub(crate) trait Key<R: Checked>: Drop {
@@ -29,7 +29,7 @@ pub(crate) trait TargetKey: Drop {
 }
 
 /// A row that speaks of something.
-pub(crate) trait Targeted: Copied {
+pub(crate) trait Targeted: Checked {
     // What it speaks of.
     ghost target: { Self → TargetSpec };
 

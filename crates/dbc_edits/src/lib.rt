@@ -10,7 +10,6 @@ mod databases;
 mod edit;
 mod editing;
 mod key;
-mod lists;
 mod messages;
 mod refusal;
 mod renumbering;

@@ -1,19 +1,15 @@
 //! Edits of messages.
-ghost use Rattle.std.specs.Prelude.{◌≡◌, ◌<◌, [], IfOk, IsTrue, length, nat_le, remove};
+ghost use Rattle.std.specs.Prelude.{◌≡◌, ◌<◌, ◌≤◌, [], IfOk, length, insert, remove};
 ghost use Rattle.dbc_records.specs.Databases.{most_messages};
-ghost use Rattle.dbc_edits.specs.Rows.{rows_renumbered};
 ghost use Rattle.dbc_edits.specs.Changes.{changed};
 ghost use Rattle.dbc_edits.specs.Refusals.{IsAnswer};
 ghost use Rattle.dbc_edits.specs.Edits.{has_number, cleared_of_number, with_message, message_added, message_removed, message_changed, message_renumbered};
 
 use crate::change::Change;
-use crate::databases::{
-    has_row, messages_without, number_of, rows_renumbered, with_message, with_messages,
-    without_rows,
-};
+use crate::databases::{drop_rows, has_row, with_message};
 use crate::key::OfNumber;
-use crate::lists::{inserted, replaced};
 use crate::refusal::Refusal;
+use crate::renumbering::{Renumbering, renumber_rows};
 use dbc_records::{Database, Head, Message};
 use dbc_values::{Copied, List, Memory};
 use std::alloc::Global;
@@ -30,6 +26,13 @@ pub(crate) fn has_number(messages: &[Message], number: u32) -> bool
     false
 }
 
+/// A message's number.
+pub(crate) fn number_of(message: &Message) -> u32
+    ensures { result ≡ message.now.head.number }
+{
+    message.head.number
+}
+
 // The message of a first line, without signals.
 #[tactic(auto, using(crate::proofs::Fitting::fits_none))]
 fn bare(alloc: Global, head: Head) -> Message
@@ -39,6 +42,17 @@ fn bare(alloc: Global, head: Head) -> Message
         head,
         signals: List::new(alloc),
     }
+}
+
+// The database with one more message, before that at the place.
+fn with_added(database: &Database, place: usize, message: Message) -> Result<Database, Memory>
+    requires place { place ≤ length database.now.messages }
+    requires room { length database.now.messages < most_messages }
+    ensures { IfOk result (λ edited. edited ≡ record database.now { messages = insert database.now.messages place message }) }
+{
+    let mut edited = database.copy()?;
+    edited.messages.insert(place, message)?;
+    Ok(edited)
 }
 
 /// The database with a message without signals at the place.
@@ -59,56 +73,41 @@ pub(crate) fn add_message(
         return Err(Refusal::MessagesFull);
     }
     let message = bare(alloc, head.copy()?);
-    let messages = inserted(alloc, messages, place, message)?;
-    let edited = with_messages(database, messages)?;
+    let edited = with_added(database, place, message)?;
     Ok(edited)
 }
 
-// The database with these messages, and without the rows of the number where no message has it.
-fn cleared_of_number(
-    alloc: Global,
-    database: &Database,
-    messages: List<Message>,
-    number: u32,
-) -> Result<Database, Memory>
-    requires { IsTrue (nat_le (length messages) most_messages) }
-    ensures { IfOk result (λ cleared. cleared ≡ cleared_of_number number (record database.now { messages = messages })) }
+// Takes out the message at the place, and the rows of this number where no other has it.
+fn remove_at(database: &mut Database, place: usize, number: u32)
+    requires { place < length database.old.messages }
+    ensures { database.new ≡ cleared_of_number number (record database.old { messages = remove database.old.messages place }) }
 {
-    if has_number(messages.as_slice(), number) {
-        return with_messages(database, messages);
+    database.messages.remove(place);
+    if !has_number(database.messages.as_slice(), number) {
+        drop_rows(database, &OfNumber { number });
     }
-    without_rows(alloc, database, messages, &OfNumber { number })
 }
 
 // The database without the message at the place, and without the rows of this one's number where no other has it.
-fn removed_at(
-    alloc: Global,
-    database: &Database,
-    place: usize,
-    message: &Message,
-) -> Result<Database, Memory>
+fn removed_at(database: &Database, place: usize, message: &Message) -> Result<Database, Memory>
     requires { place < length database.now.messages }
     ensures { IfOk result (λ edited. edited ≡ cleared_of_number message.now.head.number (record database.now { messages = remove database.now.messages place })) }
 {
     let number = number_of(message);
-    let messages = messages_without(alloc, database, place)?;
-    let edited = cleared_of_number(alloc, database, messages, number)?;
+    let mut edited = database.copy()?;
+    remove_at(&mut edited, place, number);
     Ok(edited)
 }
 
 /// The database without the message at the place, and without the rows of its number where no other has it.
 #[tactic(auto, unfolding(crate::specs::Edits::message_removed, crate::specs::Edits::at_message))]
-pub(crate) fn remove_message(
-    alloc: Global,
-    database: &Database,
-    place: usize,
-) -> Result<Database, Refusal>
+pub(crate) fn remove_message(database: &Database, place: usize) -> Result<Database, Refusal>
     ensures { IsAnswer (message_removed place database.now) result }
 {
     let Some(message) = database.messages.as_slice().get(place) else {
         return Err(Refusal::NoMessage);
     };
-    let edited = removed_at(alloc, database, place, message)?;
+    let edited = removed_at(database, place, message)?;
     Ok(edited)
 }
 
@@ -138,7 +137,6 @@ fn with_head(message: &Message, head: Head) -> Result<Message, Memory>
 /// The database with another first line of the message at the place.
 #[tactic(auto, unfolding(crate::specs::Edits::message_changed, crate::specs::Edits::at_message))]
 pub(crate) fn change_message(
-    alloc: Global,
     database: &Database,
     place: usize,
     change: &Change,
@@ -150,7 +148,7 @@ pub(crate) fn change_message(
     };
     let head = changed_head(&message.head, change)?;
     let message = with_head(message, head)?;
-    let edited = with_message(alloc, database, place, message)?;
+    let edited = with_message(database, place, message)?;
     Ok(edited)
 }
 
@@ -164,41 +162,18 @@ fn another_has_number(messages: &[Message], place: usize, number: u32) -> bool
     has_number(before, number) || has_number(behind, number)
 }
 
-// The first line with another number.
-fn renumbered_head(head: &Head, number: u32) -> Result<Head, Memory>
-    ensures { IfOk result (λ other. other ≡ record head.now { number = number }) }
+// The message with another number.
+fn with_number(message: &Message, number: u32) -> Result<Message, Memory>
+    ensures { IfOk result (λ other. other ≡ record message.now { head = record message.now.head { number = number } }) }
 {
-    let mut other = head.copy()?;
-    other.number = number;
+    let mut other = message.copy()?;
+    other.head.number = number;
     Ok(other)
-}
-
-// The database with another number of this message, which comes to stand at the place, and of all rows of its number.
-fn renumbered_at(
-    alloc: Global,
-    database: &Database,
-    place: usize,
-    message: &Message,
-    number: u32,
-) -> Result<Database, Memory>
-    requires { place < length database.now.messages }
-    ensures { IfOk result (λ edited. edited ≡ rows_renumbered message.now.head.number number (with_message place (record message.now { head = record message.now.head { number = number } }) database.now)) }
-{
-    let old = message.head.number;
-    let head = renumbered_head(&message.head, number)?;
-    let message = with_head(message, head)?;
-    let messages = replaced(alloc, database.messages.as_slice(), place, message)?;
-    rows_renumbered(alloc, database, messages, old, number)
 }
 
 /// The database with another number of the message at the place and of all rows of its number.
 #[tactic(auto, unfolding(crate::specs::Edits::message_renumbered, crate::specs::Edits::at_message, crate::specs::Edits::refused_if))]
-pub(crate) fn renumber(
-    alloc: Global,
-    database: &Database,
-    place: usize,
-    number: u32,
-) -> Result<Database, Refusal>
+pub(crate) fn renumber(database: &Database, place: usize, number: u32) -> Result<Database, Refusal>
     ensures { IsAnswer (message_renumbered place number database.now) result }
 {
     let messages = database.messages.as_slice();
@@ -212,6 +187,14 @@ pub(crate) fn renumber(
     if another_has_number(messages, place, old) {
         return Err(Refusal::IdShared);
     }
-    let edited = renumbered_at(alloc, database, place, message, number)?;
+    let message = with_number(message, number)?;
+    let mut edited = with_message(database, place, message)?;
+    renumber_rows(
+        &mut edited,
+        &Renumbering {
+            from: old,
+            to: number,
+        },
+    );
     Ok(edited)
 }

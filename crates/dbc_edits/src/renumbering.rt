@@ -1,118 +1,96 @@
 //! Rows of a number that take another.
-ghost use Rattle.std.specs.Prelude.{◌≡◌, ℕ, All, IfOk, map};
-ghost use Rattle.dbc_edits.specs.Rows.{renumbered, target_renumbered};
+ghost use Rattle.std.specs.Prelude.{◌≡◌};
+ghost use Rattle.dbc_records.specs.Comments.{IsTarget};
+ghost use Rattle.dbc_edits.specs.Rows.{renumbered, target_renumbered, rows_renumbered};
 
-use dbc_records::{AttrRow, Comment, FloatRow, MuxRow, Target, ValueRow};
-use dbc_values::{Copied, List, Memory};
-use std::alloc::Global;
+use dbc_records::{AttrRow, Comment, Database, FloatRow, MuxRow, Target, ValueRow};
+use dbc_values::Rewrite;
 
-/// A row that speaks of a message by its number.
-pub(crate) trait Numbered: Copied {
-    // The row, with the second number in place of the first.
-    ghost renumbered: { ℕ → ℕ → Self → Self };
-
-    fn renumbered(&self, old: u32, new: u32) -> Result<Self, Memory>
-        ensures row { IfOk result (λ row. row ≡ renumbered old new self.now) }
-        ensures valid { IfOk result Self.IsValid };
+/// One number takes the place of another.
+#[derive(Drop)]
+pub(crate) struct Renumbering {
+    pub(crate) from: u32,
+    pub(crate) to: u32,
 }
 
-fn renumbered(old: u32, new: u32, number: u32) -> u32
-    ensures { result ≡ renumbered old new number }
-{
-    if number == old { new } else { number }
-}
+impl Renumbering {
+    fn renumbered(&self, number: u32) -> u32
+        ensures { result ≡ renumbered self.now.from self.now.to number }
+    {
+        if number == self.from { self.to } else { number }
+    }
 
-fn target_renumbered(old: u32, new: u32, target: &Target) -> Result<Target, Memory>
-    ensures { IfOk result (λ other. other ≡ target_renumbered old new target.now) }
-{
-    match target {
-        Target::Whole => Ok(Target::Whole),
-        Target::Node(name) => Ok(Target::Node(name.copy()?)),
-        Target::Message(number) => Ok(Target::Message(renumbered(old, new, *number))),
-        Target::Signal(number, name) => {
-            Ok(Target::Signal(renumbered(old, new, *number), name.copy()?))
+    fn retarget(&self, target: &mut Target)
+        requires { IsTarget target.old }
+        ensures new { target.new ≡ target_renumbered self.now.from self.now.to target.old }
+        ensures valid { IsTarget target.new }
+    {
+        match target {
+            Target::Message(number) => *number = self.renumbered(*number),
+            Target::Signal(number, _) => *number = self.renumbered(*number),
+            _ => {}
         }
     }
 }
 
-impl Numbered for Comment {
+impl Rewrite<Comment> for Renumbering {
     ghost use Rattle.dbc_edits.specs.Rows.{comment_renumbered};
 
-    ghost renumbered = { comment_renumbered };
+    ghost rewritten = { λ change. comment_renumbered change.from change.to };
 
-    fn renumbered(&self, old: u32, new: u32) -> Result<Comment, Memory> {
-        let target = target_renumbered(old, new, &self.target)?;
-        let text = self.text.copy()?;
-        Ok(Comment { target, text })
+    fn rewrite(&self, row: &mut Comment) {
+        self.retarget(&mut row.target);
     }
 }
 
-impl Numbered for AttrRow {
+impl Rewrite<AttrRow> for Renumbering {
     ghost use Rattle.dbc_edits.specs.Rows.{attribute_renumbered};
 
-    ghost renumbered = { attribute_renumbered };
+    ghost rewritten = { λ change. attribute_renumbered change.from change.to };
 
-    fn renumbered(&self, old: u32, new: u32) -> Result<AttrRow, Memory> {
-        let name = self.name.copy()?;
-        let target = target_renumbered(old, new, &self.target)?;
-        let value = self.value.copy()?;
-        Ok(AttrRow {
-            name,
-            target,
-            value,
-        })
+    fn rewrite(&self, row: &mut AttrRow) {
+        self.retarget(&mut row.target);
     }
 }
 
-impl Numbered for ValueRow {
+impl Rewrite<ValueRow> for Renumbering {
     ghost use Rattle.dbc_edits.specs.Rows.{values_renumbered};
 
-    ghost renumbered = { values_renumbered };
+    ghost rewritten = { λ change. values_renumbered change.from change.to };
 
-    fn renumbered(&self, old: u32, new: u32) -> Result<ValueRow, Memory> {
-        let mut row = self.copy()?;
-        row.number = renumbered(old, new, self.number);
-        Ok(row)
+    fn rewrite(&self, row: &mut ValueRow) {
+        row.number = self.renumbered(row.number);
     }
 }
 
-impl Numbered for FloatRow {
+impl Rewrite<FloatRow> for Renumbering {
     ghost use Rattle.dbc_edits.specs.Rows.{float_renumbered};
 
-    ghost renumbered = { float_renumbered };
+    ghost rewritten = { λ change. float_renumbered change.from change.to };
 
-    fn renumbered(&self, old: u32, new: u32) -> Result<FloatRow, Memory> {
-        let mut row = self.copy()?;
-        row.number = renumbered(old, new, self.number);
-        Ok(row)
+    fn rewrite(&self, row: &mut FloatRow) {
+        row.number = self.renumbered(row.number);
     }
 }
 
-impl Numbered for MuxRow {
+impl Rewrite<MuxRow> for Renumbering {
     ghost use Rattle.dbc_edits.specs.Rows.{mux_renumbered};
 
-    ghost renumbered = { mux_renumbered };
+    ghost rewritten = { λ change. mux_renumbered change.from change.to };
 
-    fn renumbered(&self, old: u32, new: u32) -> Result<MuxRow, Memory> {
-        let mut row = self.copy()?;
-        row.number = renumbered(old, new, self.number);
-        Ok(row)
+    fn rewrite(&self, row: &mut MuxRow) {
+        row.number = self.renumbered(row.number);
     }
 }
 
-/// All rows, with the second number in place of the first.
-pub(crate) fn all_renumbered<R: Numbered>(
-    alloc: Global,
-    rows: &[R],
-    old: u32,
-    new: u32,
-) -> Result<List<R>, Memory>
-    requires { All R.IsValid rows.now }
-    ensures { IfOk result (λ list. list ≡ map (R.renumbered old new) rows.now) }
+/// Renumbers all rows of the database.
+#[tactic(auto, unfolding(crate::specs::Rows::rows_renumbered))]
+pub(crate) fn renumber_rows(database: &mut Database, change: &Renumbering)
+    ensures { database.new ≡ rows_renumbered change.now.from change.now.to database.old }
 {
-    let mut list = List::new(alloc);
-    for row in rows {
-        list.push(row.renumbered(old, new)?)?;
-    }
-    Ok(list)
+    database.comments.rewrite_all(change);
+    database.attributes.rewrite_all(change);
+    database.values.rewrite_all(change);
+    database.floats.rewrite_all(change);
+    database.muxes.rewrite_all(change);
 }

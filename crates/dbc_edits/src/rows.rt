@@ -1,14 +1,13 @@
 //! Lists of rows: those of a key go, or one takes their place.
-ghost use Rattle.std.specs.Prelude.{◌≡◌, ◌∷◌, ◌++◌, All, IfOk, map};
-ghost use Rattle.std.specs.List.{list_any};
+ghost use Rattle.std.specs.Prelude.{◌≡◌, All, OnOk};
+ghost use Rattle.std.specs.List.{list_any, position_or_len};
 ghost use Rattle.dbc_edits.specs.Rows.{without, with_item};
 
 use crate::key::Key;
-use dbc_values::{Copied, List, Memory};
-use std::alloc::Global;
+use dbc_values::{Checked, List, Memory};
 
 /// Whether a row is of the key.
-pub(crate) fn has_any<R: Copied, K: Key<R>>(rows: &[R], key: &K) -> bool
+pub(crate) fn has_any<R: Checked, K: Key<R>>(rows: &[R], key: &K) -> bool
     ensures { result ≡ list_any (K.has key.now) rows.now }
 {
     for row in rows {
@@ -19,47 +18,38 @@ pub(crate) fn has_any<R: Copied, K: Key<R>>(rows: &[R], key: &K) -> bool
     false
 }
 
-/// The rows that aren't of the key.
-pub(crate) fn without<R: Copied, K: Key<R>>(
-    alloc: Global,
-    rows: &[R],
-    key: &K,
-) -> Result<List<R>, Memory>
-    requires { All R.IsValid rows.now }
-    ensures { IfOk result (λ list. list ≡ without (K.has key.now) rows.now) }
+/// The place of the first row of the key, or how many rows there are where none is of it.
+pub(crate) fn place_of<R: Checked, K: Key<R>>(rows: &[R], key: &K) -> usize
+    ensures { result ≡ position_or_len (K.has key.now) rows.now }
 {
-    let mut list = List::new(alloc);
-    for row in rows {
-        if !key.has(row) {
-            list.push(row.copy()?)?;
+    for (place, row) in rows.iter().enumerate() {
+        if key.has(row) {
+            return place;
         }
     }
-    Ok(list)
+    rows.len()
 }
 
-/// The rows with this one in place of the first of the key and of all others of it, or last where there is none.
-pub(crate) fn with_row<R: Copied, K: Key<R>>(
-    alloc: Global,
-    rows: &[R],
-    key: &K,
-    row: &R,
-) -> Result<List<R>, Memory>
-    requires rows { All R.IsValid rows.now }
-    requires row { R.IsValid row.now }
-    ensures { IfOk result (λ list. list ≡ with_item (K.has key.now) row.now rows.now) }
+/// Takes out the rows of the key.
+pub(crate) fn drop_all<R: Checked, K: Key<R>>(rows: &mut List<R>, key: &K)
+    ensures new { rows.new ≡ without (K.has key.now) rows.old }
+    ensures valid { All R.IsValid rows.new }
 {
-    let mut list = List::new(alloc);
-    let mut placed = false;
-    for old in rows {
-        if !key.has(old) {
-            list.push(old.copy()?)?;
-        } else if !placed {
-            list.push(row.copy()?)?;
-            placed = true;
-        }
-    }
-    if !placed {
-        list.push(row.copy()?)?;
-    }
-    Ok(list)
+    rows.retain(|row| !key.has(row));
+}
+
+/// Puts the row in place of the first of the key and of all others of it, or last where there is none.
+#[tactic(auto, using(crate::proofs::Places::within, crate::proofs::Places::placed))]
+pub(crate) fn set_row<R: Checked, K: Key<R>>(
+    rows: &mut List<R>,
+    key: &K,
+    row: R,
+) -> Result<(), Memory>
+    requires { R.IsValid row }
+    ensures new { OnOk result (rows.new ≡ with_item (K.has key.now) row rows.old) }
+    ensures valid { All R.IsValid rows.new }
+{
+    let place = place_of(rows.as_slice(), key);
+    drop_all(rows, key);
+    rows.insert(place, row)
 }

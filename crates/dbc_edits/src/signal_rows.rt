@@ -1,38 +1,30 @@
 //! Edits of the multiplexer rows and the named values of signals.
 ghost use Rattle.std.specs.Prelude.{◌≡◌, IfOk};
+ghost use Rattle.dbc_edits.specs.Rows.{with_item, is_mux_of, is_values_of};
 ghost use Rattle.dbc_edits.specs.Refusals.{IsAnswer};
 ghost use Rattle.dbc_edits.specs.Edits.{mux_set, values_set, mux_dropped, values_dropped};
 
 use crate::key::OfSignal;
 use crate::messages::has_number;
 use crate::refusal::Refusal;
-use crate::rows::{has_any, with_row, without};
+use crate::rows::{drop_all, has_any, set_row};
 use crate::signals::has_signal;
 use dbc_records::{Database, MuxRow, ValueRow};
-use dbc_values::{Copied, List, Memory};
-use std::alloc::Global;
+use dbc_values::{Copied, Memory};
 
-// The database with these multiplexer rows.
-fn with_muxes(database: &Database, muxes: List<MuxRow>) -> Result<Database, Memory>
-    ensures { IfOk result (λ edited. edited ≡ record database.now { muxes = muxes }) }
+// The database with the multiplexer row set.
+fn with_mux(database: &Database, key: &OfSignal<'_>, row: &MuxRow) -> Result<Database, Memory>
+    ensures { IfOk result (λ edited. edited ≡ record database.now { muxes = with_item (is_mux_of key.now.number key.now.name.now) row.now database.now.muxes }) }
 {
+    let row = row.copy()?;
     let mut edited = database.copy()?;
-    edited.muxes = muxes;
+    set_row(&mut edited.muxes, key, row)?;
     Ok(edited)
 }
 
-// The database with these rows of named values.
-fn with_values(database: &Database, values: List<ValueRow>) -> Result<Database, Memory>
-    ensures { IfOk result (λ edited. edited ≡ record database.now { values = values }) }
-{
-    let mut edited = database.copy()?;
-    edited.values = values;
-    Ok(edited)
-}
-
-/// The database with the multiplexer row set.
+/// The database with the multiplexer row set, where its message has its signal.
 #[tactic(auto, unfolding(crate::specs::Edits::mux_set, crate::specs::Edits::refused_if))]
-pub(crate) fn set_mux(alloc: Global, database: &Database, row: &MuxRow) -> Result<Database, Refusal>
+pub(crate) fn set_mux(database: &Database, row: &MuxRow) -> Result<Database, Refusal>
     ensures { IsAnswer (mux_set row.now database.now) result }
 {
     let number = row.number;
@@ -43,19 +35,23 @@ pub(crate) fn set_mux(alloc: Global, database: &Database, row: &MuxRow) -> Resul
     if !has_signal(database.messages.as_slice(), number, name) {
         return Err(Refusal::NoSignal);
     }
-    let key = OfSignal { number, name };
-    let muxes = with_row(alloc, database.muxes.as_slice(), &key, row)?;
-    let edited = with_muxes(database, muxes)?;
+    let edited = with_mux(database, &OfSignal { number, name }, row)?;
     Ok(edited)
 }
 
-/// The database with the row of named values set.
+// The database with the row of named values set.
+fn with_named(database: &Database, key: &OfSignal<'_>, row: &ValueRow) -> Result<Database, Memory>
+    ensures { IfOk result (λ edited. edited ≡ record database.now { values = with_item (is_values_of key.now.number key.now.name.now) row.now database.now.values }) }
+{
+    let row = row.copy()?;
+    let mut edited = database.copy()?;
+    set_row(&mut edited.values, key, row)?;
+    Ok(edited)
+}
+
+/// The database with the row of named values set, where its message has its signal.
 #[tactic(auto, unfolding(crate::specs::Edits::values_set, crate::specs::Edits::refused_if))]
-pub(crate) fn set_values(
-    alloc: Global,
-    database: &Database,
-    row: &ValueRow,
-) -> Result<Database, Refusal>
+pub(crate) fn set_values(database: &Database, row: &ValueRow) -> Result<Database, Refusal>
     ensures { IsAnswer (values_set row.now database.now) result }
 {
     let number = row.number;
@@ -66,35 +62,27 @@ pub(crate) fn set_values(
     if !has_signal(database.messages.as_slice(), number, name) {
         return Err(Refusal::NoSignal);
     }
-    let key = OfSignal { number, name };
-    let values = with_row(alloc, database.values.as_slice(), &key, row)?;
-    let edited = with_values(database, values)?;
+    let edited = with_named(database, &OfSignal { number, name }, row)?;
     Ok(edited)
 }
 
 /// The database without the multiplexer rows of the signal.
 #[tactic(auto, unfolding(crate::specs::Edits::mux_dropped, crate::specs::Edits::refused_if))]
-pub(crate) fn drop_mux(
-    alloc: Global,
-    database: &Database,
-    number: u32,
-    name: &[u8],
-) -> Result<Database, Refusal>
+pub(crate) fn drop_mux(database: &Database, number: u32, name: &[u8]) -> Result<Database, Refusal>
     ensures { IsAnswer (mux_dropped number name.now database.now) result }
 {
     let key = OfSignal { number, name };
     if !has_any(database.muxes.as_slice(), &key) {
         return Err(Refusal::NoRow);
     }
-    let muxes = without(alloc, database.muxes.as_slice(), &key)?;
-    let edited = with_muxes(database, muxes)?;
+    let mut edited = database.copy()?;
+    drop_all(&mut edited.muxes, &key);
     Ok(edited)
 }
 
 /// The database without the rows of named values of the signal.
 #[tactic(auto, unfolding(crate::specs::Edits::values_dropped, crate::specs::Edits::refused_if))]
 pub(crate) fn drop_values(
-    alloc: Global,
     database: &Database,
     number: u32,
     name: &[u8],
@@ -105,7 +93,7 @@ pub(crate) fn drop_values(
     if !has_any(database.values.as_slice(), &key) {
         return Err(Refusal::NoRow);
     }
-    let values = without(alloc, database.values.as_slice(), &key)?;
-    let edited = with_values(database, values)?;
+    let mut edited = database.copy()?;
+    drop_all(&mut edited.values, &key);
     Ok(edited)
 }

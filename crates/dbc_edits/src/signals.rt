@@ -1,19 +1,17 @@
 //! Edits of the signals of a message.
-ghost use Rattle.std.specs.Prelude.{◌≡◌, IfOk, IsTrue, nat_le, map, not, ◌==◌, true, false, ◌≤◌, ◌<◌, length, insert};
+ghost use Rattle.std.specs.Prelude.{◌≡◌, IfOk, IsTrue, map, true, false, ◌≤◌, ◌<◌, length, insert};
 ghost use Rattle.dbc_records.specs.Records.{signals_fit, most_signals};
-ghost use Rattle.dbc_records.specs.Databases.{most_messages};
 ghost use Rattle.dbc_edits.specs.Rows.{without};
 ghost use Rattle.dbc_edits.specs.Refusals.{IsAnswer};
 ghost use Rattle.dbc_edits.specs.Edits.{is_named, has_named, has_signal, with_message, cleared_of_signal, replaced_by, signal_added, signal_removed, signal_changed};
 
-use crate::databases::{messages_with, number_of, with_message, with_messages, without_rows};
+use crate::databases::{drop_rows, with_message};
 use crate::key::{OfName, OfSignal};
-use crate::lists::inserted;
+use crate::messages::number_of;
 use crate::refusal::Refusal;
-use crate::rows::{has_any, without};
+use crate::rows::{drop_all, has_any, place_of};
 use dbc_records::{Database, Message, Signal};
-use dbc_values::{Copied, List, Memory, same};
-use std::alloc::Global;
+use dbc_values::{Copied, List, Memory};
 
 // Whether a signal has the name.
 fn has_named(signals: &[Signal], name: &[u8]) -> bool
@@ -45,25 +43,21 @@ fn with_signals(message: &Message, signals: List<Signal>) -> Result<Message, Mem
 
 // The message with one more signal, before that at the place.
 #[tactic(auto, using(crate::proofs::Fitting::fits_inserted))]
-fn with_signal(
-    alloc: Global,
-    message: &Message,
-    at: usize,
-    signal: &Signal,
-) -> Result<Message, Memory>
+fn with_signal(message: &Message, at: usize, signal: &Signal) -> Result<Message, Memory>
     requires place { at ≤ length message.now.signals }
     requires room { length message.now.signals < most_signals }
     requires new { has_named signal.now.name message.now.signals ≡ false }
     ensures { IfOk result (λ other. other ≡ record message.now { signals = insert message.now.signals at signal.now }) }
 {
-    let signals = inserted(alloc, message.signals.as_slice(), at, signal.copy()?)?;
+    let signal = signal.copy()?;
+    let mut signals = message.signals.copy()?;
+    signals.insert(at, signal)?;
     with_signals(message, signals)
 }
 
 /// The database with one more signal of the message at the first place.
 #[tactic(auto, unfolding(crate::specs::Edits::signal_added, crate::specs::Edits::at_message, crate::specs::Edits::refused_if))]
 pub(crate) fn add_signal(
-    alloc: Global,
     database: &Database,
     place: usize,
     at: usize,
@@ -84,41 +78,33 @@ pub(crate) fn add_signal(
     if signals.len() >= Message::MAX_SIGNALS {
         return Err(Refusal::SignalsFull);
     }
-    let message = with_signal(alloc, message, at, signal)?;
-    let edited = with_message(alloc, database, place, message)?;
+    let message = with_signal(message, at, signal)?;
+    let edited = with_message(database, place, message)?;
     Ok(edited)
 }
 
 // The message without the signals of the name.
 #[tactic(auto, using(crate::proofs::Fitting::fits_without))]
-fn without_signal(alloc: Global, message: &Message, name: &[u8]) -> Result<Message, Memory>
+fn without_signal(message: &Message, name: &[u8]) -> Result<Message, Memory>
     ensures { IfOk result (λ other. other ≡ record message.now { signals = without (is_named name.now) message.now.signals }) }
 {
-    let signals = without(alloc, message.signals.as_slice(), &OfName { name })?;
+    let mut signals = message.signals.copy()?;
+    drop_all(&mut signals, &OfName { name });
     with_signals(message, signals)
 }
 
-// The database with these messages, and without the rows of the signal where no message of the number has it.
-fn cleared_of_signal(
-    alloc: Global,
-    database: &Database,
-    messages: List<Message>,
-    number: u32,
-    name: &[u8],
-) -> Result<Database, Memory>
-    requires { IsTrue (nat_le (length messages) most_messages) }
-    ensures { IfOk result (λ cleared. cleared ≡ cleared_of_signal number name.now (record database.now { messages = messages })) }
+// Takes out the rows of the signal where no message of the number has it.
+fn clear_signal(database: &mut Database, number: u32, name: &[u8])
+    ensures { database.new ≡ cleared_of_signal number name.now database.old }
 {
-    if has_signal(messages.as_slice(), number, name) {
-        return with_messages(database, messages);
+    if !has_signal(database.messages.as_slice(), number, name) {
+        drop_rows(database, &OfSignal { number, name });
     }
-    without_rows(alloc, database, messages, &OfSignal { number, name })
 }
 
 // The database with this message, which comes to stand at the place, without the signal of the name, and without its
 // rows where no other message of the number has such a signal.
 fn removed_at(
-    alloc: Global,
     database: &Database,
     place: usize,
     message: &Message,
@@ -128,9 +114,9 @@ fn removed_at(
     ensures { IfOk result (λ edited. edited ≡ cleared_of_signal message.now.head.number name.now (with_message place (record message.now { signals = without (is_named name.now) message.now.signals }) database.now)) }
 {
     let number = number_of(message);
-    let other = without_signal(alloc, message, name)?;
-    let messages = messages_with(alloc, database, place, other)?;
-    let edited = cleared_of_signal(alloc, database, messages, number, name)?;
+    let other = without_signal(message, name)?;
+    let mut edited = with_message(database, place, other)?;
+    clear_signal(&mut edited, number, name);
     Ok(edited)
 }
 
@@ -138,7 +124,6 @@ fn removed_at(
 /// of the number has such a signal.
 #[tactic(auto, unfolding(crate::specs::Edits::signal_removed, crate::specs::Edits::at_message, crate::specs::Edits::refused_if))]
 pub(crate) fn remove_signal(
-    alloc: Global,
     database: &Database,
     place: usize,
     name: &[u8],
@@ -151,38 +136,29 @@ pub(crate) fn remove_signal(
     if !has_named(message.signals.as_slice(), name) {
         return Err(Refusal::NoSignal);
     }
-    let edited = removed_at(alloc, database, place, message, name)?;
+    let edited = removed_at(database, place, message, name)?;
     Ok(edited)
 }
 
-// The signals with this one in place of those of its name.
-fn all_replaced(alloc: Global, signals: &[Signal], signal: &Signal) -> Result<List<Signal>, Memory>
-    ensures { IfOk result (λ list. list ≡ map (replaced_by signal.now) signals.now) }
-{
-    let mut list = List::new(alloc);
-    for old in signals {
-        if same(old.name.as_bytes(), signal.name.as_bytes()) {
-            list.push(signal.copy()?)?;
-        } else {
-            list.push(old.copy()?)?;
-        }
-    }
-    Ok(list)
-}
-
 // The message with this signal in place of that of its name.
-#[tactic(auto, using(crate::proofs::Fitting::fits_replaced))]
-fn with_replaced(alloc: Global, message: &Message, signal: &Signal) -> Result<Message, Memory>
+#[tactic(auto, using(crate::proofs::Places::found, crate::proofs::Fitting::fits_set, crate::proofs::Fitting::replaced))]
+fn with_replaced(message: &Message, signal: &Signal) -> Result<Message, Memory>
+    requires { has_named signal.now.name message.now.signals ≡ true }
     ensures { IfOk result (λ other. other ≡ record message.now { signals = map (replaced_by signal.now) message.now.signals }) }
 {
-    let signals = all_replaced(alloc, message.signals.as_slice(), signal)?;
+    let key = OfName {
+        name: signal.name.as_bytes(),
+    };
+    let other = signal.copy()?;
+    let mut signals = message.signals.copy()?;
+    let at = place_of(signals.as_slice(), &key);
+    signals.set(at, other);
     with_signals(message, signals)
 }
 
 /// The database with this signal in place of that of its name in the message at the place.
 #[tactic(auto, unfolding(crate::specs::Edits::signal_changed, crate::specs::Edits::at_message, crate::specs::Edits::refused_if))]
 pub(crate) fn change_signal(
-    alloc: Global,
     database: &Database,
     place: usize,
     signal: &Signal,
@@ -195,7 +171,7 @@ pub(crate) fn change_signal(
     if !has_named(message.signals.as_slice(), signal.name.as_bytes()) {
         return Err(Refusal::NoSignal);
     }
-    let message = with_replaced(alloc, message, signal)?;
-    let edited = with_message(alloc, database, place, message)?;
+    let message = with_replaced(message, signal)?;
+    let edited = with_message(database, place, message)?;
     Ok(edited)
 }

@@ -5,9 +5,11 @@ use Rattle.std.specs.List.{flat_map}
 use Rattle.std.specs.Result.{IsErr}
 use Rattle.std.proofs.Math.Seq.{take-length}
 use Rattle.std.proofs.lemmas.List.Concat.{flat_map-append}
-use Rattle.byte_devices.specs.Device.{Written, Broke, Passes, Sends}
+use Rattle.byte_devices.specs.Device.{Written}
+use Rattle.byte_devices.specs.declared.sending.Out.{Out}
+use Rattle.byte_devices.specs.Outs.{Took, Lost, Sends}
 use Rattle.dbc_records.specs.Layout.{Layout, element_text, layout_text, separated}
-use Rattle.byte_devices.proofs.Writes.{Passes-nil, Sends-after, Sends-stop}
+use Rattle.byte_devices.proofs.Outs.{Took-nil, Sends-after, Sends-stop}
 
 pub layout_text-append : (xs ys : Layout) → layout_text (xs ++ ys) ≡ layout_text xs ++ layout_text ys
 unfolding layout_text
@@ -34,18 +36,18 @@ separated-some first further (y ∷ xs) x d many is =
     let rest : take (length (y ∷ xs) - 1) xs ≡ xs = ap (λ n. take n xs) (omega arith) ∙ take-length xs in
     ap (λ z. first z ++ flat_map further (take (length (y ∷ xs) - 1) xs)) is ∙ ap (λ zs. first y ++ flat_map further zs) rest
 
--- a layout goes out behind one that went through
-pub Sends-then : {X E : Type 0} (a b c : Written) (r : Result X E) (before between after : List ℕ) (xs ys : Layout) → Passes a b before (layout_text xs) between
-    → Sends b c between r (layout_text ys) after → Sends a c before r (layout_text (xs ++ ys)) after
-Sends-then a b c r before between after xs ys p q = rw (layout_text-append xs ys) (Sends-after a b c r before (layout_text xs) between (layout_text ys) after p q)
+-- a layout goes out behind one that was sent
+pub Sends-then : {W X E : Type 0} (written : W → Written) (a b c : Out W) (r : Result X E) (xs ys : Layout) → Took written a b (layout_text xs)
+    → Sends written b c r (layout_text ys) → Sends written a c r (layout_text (xs ++ ys))
+Sends-then written a b c r xs ys p q = rw (layout_text-append xs ys) (Sends-after written a b c r (layout_text xs) (layout_text ys) p q)
 
 -- a failure in a layout, before another
-pub Sends-broke : {X E : Type 0} (a b : Written) (r : Result X E) (before after : List ℕ) (xs ys : Layout) → IsErr r → Broke a b (before ++ layout_text xs)
-    → Sends a b before r (layout_text (xs ++ ys)) after
-Sends-broke a b r before after xs ys e p = rw (layout_text-append xs ys) (Sends-stop a b r before (layout_text xs) (layout_text ys) after e p)
+pub Sends-broke : {W X E : Type 0} (written : W → Written) (a b : Out W) (r : Result X E) (xs ys : Layout) → IsErr r → Lost written a b (layout_text xs)
+    → Sends written a b r (layout_text (xs ++ ys))
+Sends-broke written a b r xs ys e p = rw (layout_text-append xs ys) (Sends-stop written a b r (layout_text xs) (layout_text ys) e p)
 
 -- nothing goes out where there is nothing to print
-pub Passes-none : (a : Written) (held : List ℕ) → Passes a a held (layout_text []) held
-Passes-none a held = subst (λ (t : List ℕ). Passes a a held t held) (sym layout_text-nil) (Passes-nil a held)
+pub Took-none : {W : Type 0} (written : W → Written) (a : Out W) → Took written a a (layout_text [])
+Took-none written a = subst (λ (t : List ℕ). Took written a a t) (sym layout_text-nil) (Took-nil written a)
 
-pub ruleset layouts = (Sends-then, Sends-broke, Passes-none)
+pub ruleset layouts = (Sends-then, Sends-broke, Took-none)

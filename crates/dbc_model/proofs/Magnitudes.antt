@@ -1,14 +1,9 @@
 -- Texts of decimals.
-use Rattle.std.proofs.Common.{◌≡◌, ℕ, suc, ℤ, pos, negsuc, ◌+◌, ◌-◌, ◌≤◌, ◌≤ℤ◌, List, ◌∷◌, ◌++◌, length, take, drop, ap, ◌∙◌, arith, subst}
-use Rattle.std.specs.Prelude.{nat_le, unsigned_abs, Result}
+use Rattle.std.proofs.Common.{◌≡◌, ℕ, suc, ℤ, pos, negsuc, ◌+◌, ◌-◌, ◌≤◌, ◌≤ℤ◌, List, ◌∷◌, ◌++◌, length, take, drop, ap, ◌∙◌, arith}
+use Rattle.std.specs.Prelude.{nat_le, unsigned_abs}
 use Rattle.std.proofs.lemmas.Bool.{le-leb, cond-true}
 use Rattle.std.proofs.lemmas.List.{length-replicate, length-append}
-use Rattle.byte_devices.specs.Device.{Written, Sends}
 use Rattle.dbc_records.specs.Layout.{plain_digits, zeros, filled, point_before_last, magnitude_text}
-
--- the same bytes under another name
-pub Sends-as : {X E : Type 0} (a b : Written) (r : Result X E) (before xs ys after : List ℕ) → xs ≡ ys → Sends a b before r xs after → Sends a b before r ys after
-Sends-as a b r before xs ys after same p = subst (λ (t : List ℕ). Sends a b before r t after) same p
 
 -- too few digits for a point among them
 pub fraction_filled : (behind : ℕ) (digits : List ℕ) → length digits ≤ behind → point_before_last behind (filled behind digits) ≡ 48 ∷ 46 ∷ (zeros (behind - length digits) ++ digits)

@@ -7,10 +7,7 @@
 
 mod printing;
 
-pub use byte_devices::{
-    Broken, FromRead, FromWrite, Held, Sink, Source, WriteFault, flush, hold, hold_pieces, limp,
-    put_all,
-};
+pub use byte_devices::{Broken, FromRead, FromWrite, Out, Sink, Source, WriteFault, limp, put_all};
 pub use dbc_records::{
     AttrDef, AttrDefault, AttrRow, AttrValue, Comment, Database, Entry, FloatRow, Form, Head, Kept,
     Limits, Message, MuxRow, Object, Range, Signal, TableRow, Tag, Target, ValueRow,

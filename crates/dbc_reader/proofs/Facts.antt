@@ -4,4 +4,5 @@ pub mod MessageNames
 pub mod Faults
 pub mod Names
 pub mod KeptBeginnings
+pub mod Keywords
 pub mod Unsigned

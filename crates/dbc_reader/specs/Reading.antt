@@ -1,6 +1,7 @@
 -- How the code goes through tokens: a middle step, that private functions and the proofs cite. What is promised is told without it.
 pub mod Readers
 pub mod Cursors
+pub mod Keywords
 pub mod Parts
 pub mod Messages
 pub mod Tables

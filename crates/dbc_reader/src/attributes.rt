@@ -1,8 +1,8 @@
 //! Comments and attributes.
-ghost use Rattle.std.specs.Prelude.{◌≡◌, ◌<◌, IfOk, IsTrue, Some, None};
+ghost use Rattle.std.specs.Prelude.{◌≡◌, ◌<◌, codes, IfOk, IsTrue, Some, None};
 ghost use Rattle.dbc_records.specs.Attributes.{form_fits, IsForm, IsAttrValue};
 ghost use Rattle.dbc_records.specs.Comments.{IsTarget};
-ghost use Rattle.dbc_reader.specs.Reading.Cursors.{left_at};
+ghost use Rattle.dbc_reader.specs.Reading.Cursors.{left_at, behind, with_word};
 ghost use Rattle.dbc_reader.specs.Reading.Readers.{GivesTo, starts};
 ghost use Rattle.dbc_reader.specs.Reading.Parts.{begins_decimal};
 ghost use Rattle.dbc_reader.specs.Reading.Attributes.{node_target_at, message_target_at, signal_target_at, target_at, comment_at, object_at, limits_at, enumeration_at, form_at, definition_at, value_at, default_at, attribute_at};
@@ -10,7 +10,7 @@ ghost use Rattle.dbc_reader.specs.Reading.Attributes.{node_target_at, message_ta
 use crate::classes;
 use crate::cursor::Cursor;
 use crate::numerals::{decimal, id};
-use crate::parts::{mark, name, text, texts, word};
+use crate::parts::{mark, name, text, text_here, texts, word};
 use crate::stopped::Stopped;
 use dbc_records::{
     AttrDef, AttrDefault, AttrRow, AttrValue, Comment, Form, Limits, Object, Target,
@@ -64,12 +64,11 @@ fn target(alloc: Global, at: &mut Cursor<'_>) -> Result<Target, Stopped>
     Ok(Target::Whole)
 }
 
-/// Takes a comment: `CM_`.
-#[tactic(auto, unfolding(crate::specs::Reading::Attributes::comment_at))]
+/// Takes a comment, behind `CM_`.
+#[tactic(auto, unfolding(crate::specs::Reading::Attributes::comment_at, crate::specs::Reading::Parts::word_at, crate::specs::Reading::Readers::token_at, crate::specs::Classes::has_word))]
 pub fn comment(alloc: Global, at: &mut Cursor<'_>) -> Result<Comment, Stopped>
-    ensures { GivesTo result (left_at at.new) (comment_at (left_at at.old)) }
+    ensures { GivesTo result (left_at at.new) (comment_at (with_word (codes "CM_") (left_at at.old))) }
 {
-    word(at, b"CM_")?;
     let target = target(alloc, at)?;
     let text = text(alloc, at)?;
     mark(at, b';')?;
@@ -160,12 +159,11 @@ fn form(alloc: Global, at: &mut Cursor<'_>) -> Result<Form, Stopped>
     enumeration(alloc, at)
 }
 
-/// Takes the definition of an attribute: `BA_DEF_`.
-#[tactic(auto, unfolding(crate::specs::Reading::Attributes::definition_at))]
+/// Takes the definition of an attribute, behind `BA_DEF_`.
+#[tactic(auto, unfolding(crate::specs::Reading::Attributes::definition_at, crate::specs::Reading::Parts::word_at, crate::specs::Reading::Readers::token_at, crate::specs::Classes::has_word))]
 pub fn definition(alloc: Global, at: &mut Cursor<'_>) -> Result<AttrDef, Stopped>
-    ensures { GivesTo result (left_at at.new) (definition_at (left_at at.old)) }
+    ensures { GivesTo result (left_at at.new) (definition_at (with_word (codes "BA_DEF_") (left_at at.old))) }
 {
-    word(at, b"BA_DEF_")?;
     let object = object(at)?;
     let title = text(alloc, at)?;
     let form = form(alloc, at)?;
@@ -189,25 +187,24 @@ pub fn value(alloc: Global, at: &mut Cursor<'_>) -> Result<AttrValue, Stopped>
     Ok(AttrValue::Decimal(number))
 }
 
-/// Takes the default of an attribute: `BA_DEF_DEF_`.
-#[tactic(auto, unfolding(crate::specs::Reading::Attributes::default_at))]
+/// Takes the default of an attribute, behind `BA_DEF_DEF_`.
+#[tactic(auto, unfolding(crate::specs::Reading::Attributes::default_at, crate::specs::Reading::Parts::word_at, crate::specs::Reading::Readers::token_at, crate::specs::Classes::has_word))]
 pub fn default(alloc: Global, at: &mut Cursor<'_>) -> Result<AttrDefault, Stopped>
-    ensures { GivesTo result (left_at at.new) (default_at (left_at at.old)) }
+    ensures { GivesTo result (left_at at.new) (default_at (with_word (codes "BA_DEF_DEF_") (left_at at.old))) }
 {
-    word(at, b"BA_DEF_DEF_")?;
     let title = text(alloc, at)?;
     let value = value(alloc, at)?;
     mark(at, b';')?;
     Ok(AttrDefault { name: title, value })
 }
 
-/// Takes the value of an attribute of one object: `BA_`.
-#[tactic(auto, unfolding(crate::specs::Reading::Attributes::attribute_at))]
-pub fn attribute(alloc: Global, at: &mut Cursor<'_>) -> Result<AttrRow, Stopped>
-    ensures { GivesTo result (left_at at.new) (attribute_at (left_at at.old)) }
+/// Takes the value of an attribute of one object, behind `BA_` and the title, which stands at another place.
+#[tactic(auto, unfolding(crate::specs::Reading::Attributes::attribute_at, crate::specs::Reading::Parts::word_at, crate::specs::Reading::Readers::token_at, crate::specs::Classes::has_word))]
+pub fn attribute(alloc: Global, title: Cursor<'_>, at: &mut Cursor<'_>) -> Result<AttrRow, Stopped>
+    requires { left_at at.old ≡ behind (left_at title) }
+    ensures { GivesTo result (left_at at.new) (attribute_at (with_word (codes "BA_") (left_at title.entry))) }
 {
-    word(at, b"BA_")?;
-    let title = text(alloc, at)?;
+    let title = text_here(alloc, title)?;
     let target = target(alloc, at)?;
     let value = value(alloc, at)?;
     mark(at, b';')?;

@@ -1,11 +1,13 @@
 //! A place in a text: the token that stands there, and the tokens behind it.
 ghost use Rattle.std.specs.Prelude.{◌≡◌, false};
 ghost use Rattle.dbc_tokens.specs.Reading.Scanner.{cut_of};
-ghost use Rattle.dbc_reader.specs.Classes.{has_word, has_mark, has_name, has_symbol, has_string, has_piece, has_kept_word, has_number};
+ghost use Rattle.dbc_reader.specs.Classes.{has_word, has_mark, has_name, has_symbol, has_string, has_piece, has_number};
 ghost use Rattle.dbc_reader.specs.Reading.Cursors.{left_at, behind};
+ghost use Rattle.dbc_reader.specs.Reading.Keywords.{keyword_at};
 ghost use Rattle.dbc_reader.specs.Reading.Readers.{GivesTo, TakesTo, starts, token_at, end_at};
 
 use crate::classes;
+use crate::keyword::{Keyword, keyword_of};
 use crate::stopped::Stopped;
 use dbc_tokens::{Cause, Next, Token, Tokens, tokens};
 
@@ -26,20 +28,25 @@ impl<'t> Cursor<'t> {
         Cursor { next, after }
     }
 
-    /// Takes the token that stands here.
+    /// The token that stands here.
     #[tactic(auto, unfolding(crate::specs::Reading::Cursors::left_at, crate::specs::Reading::Readers::token_at))]
-    pub fn take(&mut self) -> Result<Token<'t>, Stopped>
-        ensures { TakesTo result (left_at self.new) (token_at (left_at self.old)) }
+    pub fn token(self) -> Result<Token<'t>, Stopped>
+        ensures { TakesTo result (behind (left_at self.entry)) (token_at (left_at self.entry)) }
     {
         match self.next {
-            Next::Token(token) => {
-                let (next, after) = self.after.advance();
-                *self = Cursor { next, after };
-                Ok(token)
-            }
+            Next::Token(token) => Ok(token),
             Next::End(line) => Err(Stopped::at(line, Cause::Statement)),
             Next::Fault(line) => Err(Stopped::at(line, Cause::Token)),
         }
+    }
+
+    /// Takes the token that stands here.
+    pub fn take(&mut self) -> Result<Token<'t>, Stopped>
+        ensures { TakesTo result (left_at self.new) (token_at (left_at self.old)) }
+    {
+        let token = self.token()?;
+        *self = self.behind();
+        Ok(token)
     }
 
     /// The place behind the token that stands here; this place where none does.
@@ -96,14 +103,14 @@ impl<'t> Cursor<'t> {
         }
     }
 
-    /// Whether a statement that is kept as it stands may begin with the word here.
-    #[tactic(auto, unfolding(crate::specs::Reading::Cursors::left_at, crate::specs::Reading::Readers::starts))]
-    pub fn starts_kept_word(self) -> bool
-        ensures { result ≡ starts has_kept_word (left_at self.entry) }
+    /// The keyword that stands here, if one does.
+    #[tactic(auto, unfolding(crate::specs::Reading::Cursors::left_at, crate::specs::Reading::Keywords::keyword_at))]
+    pub fn keyword(self) -> Option<Keyword>
+        ensures { result ≡ keyword_at (left_at self.entry) }
     {
         match self.next {
-            Next::Token(token) => classes::has_kept_word(token),
-            _ => false,
+            Next::Token(token) => keyword_of(token.bytes),
+            _ => None,
         }
     }
 

@@ -10,19 +10,6 @@ use crate::stopped::Stopped;
 use dbc_records::Kept;
 use std::alloc::Global;
 
-/// Whether a statement stands here that is kept as it stands.
-#[tactic(auto, using(crate::proofs::Facts::KeptBeginnings::kept_by_tokens))]
-pub fn begins_kept(at: Cursor<'_>) -> bool
-    ensures { result ≡ begins_kept (left_at at.entry) }
-{
-    at.starts_kept_word()
-        || at.starts_word(b"VAL_") && at.behind().starts_name()
-        || at.starts_word(b"CM_") && at.behind().starts_word(b"EV_")
-        || at.starts_word(b"BA_")
-            && at.behind().starts_string()
-            && at.behind().behind().starts_word(b"EV_")
-}
-
 /// Takes a statement that is kept as it stands.
 #[tactic(auto, using(crate::proofs::Facts::KeptBeginnings::pieces_fit), unfolding(crate::specs::Reading::Databases::kept_at))]
 pub fn kept(alloc: Global, at: &mut Cursor<'_>) -> Result<Kept, Stopped>

@@ -8,6 +8,7 @@ mod attributes;
 mod classes;
 mod cursor;
 mod kept;
+mod keyword;
 mod messages;
 mod numerals;
 mod parts;

@@ -1,11 +1,12 @@
 //! Messages with their signals.
-ghost use Rattle.std.specs.Prelude.{◌≡◌, ◌<◌, [], false, IfOk, OnOk, IsTrue, length};
+ghost use Rattle.std.specs.Prelude.{◌≡◌, ◌<◌, [], true, false, codes, IfOk, OnOk, IsTrue, length};
 ghost use Rattle.std.specs.List.{list_any};
 ghost use Rattle.std.specs.Str.{bytes_eq};
 ghost use Rattle.dbc_records.specs.Databases.{most_messages};
 ghost use Rattle.dbc_records.specs.Records.{most_signals, signal_fits, signals_fit, names_of};
+ghost use Rattle.dbc_reader.specs.Classes.{has_word};
 ghost use Rattle.dbc_reader.specs.Reading.Cursors.{left_at};
-ghost use Rattle.dbc_reader.specs.Reading.Readers.{GivesTo};
+ghost use Rattle.dbc_reader.specs.Reading.Readers.{GivesTo, starts};
 ghost use Rattle.dbc_reader.specs.Reading.Messages.{begin_message_at, head_at, begin_signal_at, signal_name_at, tag_at, sign_at, place_at, signal_at, signals_from, message_at};
 
 use crate::cursor::Cursor;
@@ -18,25 +19,24 @@ use dbc_tokens::Cause;
 use dbc_values::{List, Name};
 use std::alloc::Global;
 
-// Takes the keyword of a message, in a text that has had so many.
-#[tactic(auto, unfolding(crate::specs::Reading::Messages::begin_message_at))]
+// Takes the keyword of a message, which stands here, in a text that has had so many.
+#[tactic(auto, unfolding(crate::specs::Reading::Messages::begin_message_at, crate::specs::Reading::Readers::starts, crate::specs::Reading::Readers::token_at))]
 fn begin_message(at: &mut Cursor<'_>, count: usize) -> Result<(), Stopped>
+    requires { starts (has_word (codes "BO_")) (left_at at.old) ≡ true }
     ensures value { GivesTo result (left_at at.new) (begin_message_at count (left_at at.old)) }
     ensures count { OnOk result (count < most_messages) }
 {
     let token = at.take()?;
-    if !classes::has_word(token, b"BO_") {
-        return Err(Stopped::at(token.line, Cause::Statement));
-    }
     if count >= Database::MAX_MESSAGES {
         return Err(Stopped::at(token.line, Cause::MessagesFull));
     }
     Ok(())
 }
 
-/// Takes the first line of a message, in a text that has had so many messages.
+/// Takes the first line of a message, of which the keyword stands here, in a text that has had so many messages.
 #[tactic(auto, unfolding(crate::specs::Reading::Messages::head_at))]
 pub fn head(alloc: Global, at: &mut Cursor<'_>, count: usize) -> Result<Head, Stopped>
+    requires { starts (has_word (codes "BO_")) (left_at at.old) ≡ true }
     ensures value { GivesTo result (left_at at.new) (head_at count (left_at at.old)) }
     ensures count { OnOk result (count < most_messages) }
 {
@@ -54,16 +54,14 @@ pub fn head(alloc: Global, at: &mut Cursor<'_>, count: usize) -> Result<Head, St
     })
 }
 
-// Takes the keyword of a signal, in a message that has so many.
-#[tactic(auto, unfolding(crate::specs::Reading::Messages::begin_signal_at))]
+// Takes the keyword of a signal, which stands here, in a message that has so many.
+#[tactic(auto, unfolding(crate::specs::Reading::Messages::begin_signal_at, crate::specs::Reading::Readers::starts, crate::specs::Reading::Readers::token_at))]
 fn begin_signal(at: &mut Cursor<'_>, count: usize) -> Result<(), Stopped>
+    requires { starts (has_word (codes "SG_")) (left_at at.old) ≡ true }
     ensures value { GivesTo result (left_at at.new) (begin_signal_at count (left_at at.old)) }
     ensures count { OnOk result (count < most_signals) }
 {
     let token = at.take()?;
-    if !classes::has_word(token, b"SG_") {
-        return Err(Stopped::at(token.line, Cause::Statement));
-    }
     if count >= Message::MAX_SIGNALS {
         return Err(Stopped::at(token.line, Cause::SignalsFull));
     }
@@ -157,9 +155,10 @@ fn place_here(at: &mut Cursor<'_>) -> Result<Place, Stopped>
     })
 }
 
-/// Takes a signal, in a message that has these signals.
+/// Takes a signal, of which the keyword stands here, in a message that has these signals.
 #[tactic(auto, unfolding(crate::specs::Reading::Messages::signal_at))]
 pub fn signal(alloc: Global, at: &mut Cursor<'_>, signals: &[Signal]) -> Result<Signal, Stopped>
+    requires { starts (has_word (codes "SG_")) (left_at at.old) ≡ true }
     ensures value { GivesTo result (left_at at.new) (signal_at signals.now (left_at at.old)) }
     ensures count { OnOk result (length signals.now < most_signals) }
     ensures fresh { IfOk result (λ signal. list_any (bytes_eq signal.name) (names_of signals.now) ≡ false) }
@@ -203,9 +202,10 @@ fn signals(alloc: Global, at: &mut Cursor<'_>) -> Result<List<Signal>, Stopped>
     Ok(signals)
 }
 
-/// Takes a message with its signals, in a text that has had so many messages.
+/// Takes a message with its signals, of which the keyword stands here, in a text that has had so many messages.
 #[tactic(auto, unfolding(crate::specs::Reading::Messages::message_at))]
 pub fn message(alloc: Global, at: &mut Cursor<'_>, count: usize) -> Result<Message, Stopped>
+    requires { starts (has_word (codes "BO_")) (left_at at.old) ≡ true }
     ensures value { GivesTo result (left_at at.new) (message_at count (left_at at.old)) }
     ensures count { OnOk result (count < most_messages) }
 {

@@ -1,11 +1,11 @@
 //! Numbers of statements, and entries of tables.
-ghost use Rattle.std.specs.Prelude.{◌≡◌, ◌≤◌, ◌<◌, ◌^◌, ◌==◌, false, [], IfOk, IsTrue, nat_le, not};
+ghost use Rattle.std.specs.Prelude.{◌≡◌, ◌≤◌, ◌<◌, ◌^◌, ◌==◌, false, [], IfOk, IfSome, IsTrue, nat_le, not};
 ghost use Rattle.dbc_records.specs.Records.{entry_fits};
 ghost use Rattle.dbc_reader.specs.Reading.Cursors.{left_at};
-ghost use Rattle.dbc_reader.specs.Reading.Readers.{GivesTo, starts};
+ghost use Rattle.dbc_reader.specs.Reading.Readers.{GivesTo, MayGive};
 ghost use Rattle.dbc_reader.specs.Reading.Parts.{whole_at, id_at, number_at, order_at, decimal_at, int_at, pair_at, entry_at, begins_int, entries_from};
 
-use crate::classes;
+use crate::classes::has_mark;
 use crate::cursor::Cursor;
 use crate::parts::{mark, text};
 use crate::stopped::Stopped;
@@ -67,24 +67,33 @@ pub fn decimal(at: &mut Cursor<'_>) -> Result<Decimal, Stopped>
     number(at, false)
 }
 
-/// Takes the number of an entry, with a sign or without.
-#[tactic(auto, unfolding(crate::specs::Reading::Parts::int_at))]
-fn int(at: &mut Cursor<'_>) -> Result<i128, Stopped>
-    ensures value { GivesTo result (left_at at.new) (int_at (left_at at.old)) }
-    ensures fits { IfOk result (λ n. IsTrue (entry_fits n)) }
+// Takes the number of an entry, with a sign or without, if one stands here.
+#[tactic(auto, unfolding(crate::specs::Reading::Cursors::left_at, crate::specs::Reading::Readers::starts, crate::specs::Reading::Readers::token_at, crate::specs::Reading::Parts::int_at, crate::specs::Reading::Parts::begins_int, crate::specs::Reading::Parts::mark_at, crate::specs::Reading::Parts::whole_at, crate::specs::Classes::has_whole, crate::specs::Classes::whole_of))]
+fn int_if_any(at: &mut Cursor<'_>) -> Result<Option<i128>, Stopped>
+    ensures value { MayGive result begins_int int_at (left_at at.new) (left_at at.old) }
+    ensures fits { IfOk result (λ found. IfSome found (λ n. IsTrue (entry_fits n))) }
 {
-    if at.starts_mark(b'-') {
-        mark(at, b'-')?;
+    let Next::Token(token) = at.next else {
+        return Ok(None);
+    };
+    if has_mark(token, b'-') {
+        *at = at.behind();
         let n = whole(at, 0, 9_223_372_036_854_775_808)?;
-        return Ok(-i128::from(n));
+        return Ok(Some(-i128::from(n)));
     }
-    if at.starts_mark(b'+') {
-        mark(at, b'+')?;
+    if has_mark(token, b'+') {
+        *at = at.behind();
         let n = whole(at, 0, u64::MAX)?;
-        return Ok(i128::from(n));
+        return Ok(Some(i128::from(n)));
     }
-    let n = whole(at, 0, u64::MAX)?;
-    Ok(i128::from(n))
+    match whole_of(token.bytes) {
+        Some(Whole::Value(n)) => {
+            *at = at.behind();
+            Ok(Some(i128::from(n)))
+        }
+        Some(Whole::TooLarge) => Err(Stopped::at(token.line, Cause::Limit)),
+        Some(Whole::Fraction) | None => Ok(None),
+    }
 }
 
 /// Takes the digit of a byte order: 1 for Intel, 0 for Motorola.
@@ -118,23 +127,16 @@ pub fn pair(
     Ok((first, second))
 }
 
+// Takes an entry, if one stands here.
 #[tactic(auto, unfolding(crate::specs::Reading::Parts::entry_at))]
-fn entry(alloc: Global, at: &mut Cursor<'_>) -> Result<Entry, Stopped>
-    ensures { GivesTo result (left_at at.new) (entry_at (left_at at.old)) }
+fn entry_if_any(alloc: Global, at: &mut Cursor<'_>) -> Result<Option<Entry>, Stopped>
+    ensures { MayGive result begins_int entry_at (left_at at.new) (left_at at.old) }
 {
-    let number = int(at)?;
+    let Some(number) = int_if_any(at)? else {
+        return Ok(None);
+    };
     let text = text(alloc, at)?;
-    Ok(Entry { number, text })
-}
-
-#[tactic(auto, unfolding(crate::specs::Reading::Cursors::left_at, crate::specs::Reading::Readers::starts))]
-fn starts_int(at: Cursor<'_>) -> bool
-    ensures { result ≡ starts begins_int (left_at at.entry) }
-{
-    match at.next {
-        Next::Token(token) => classes::begins_int(token),
-        _ => false,
-    }
+    Ok(Some(Entry { number, text }))
 }
 
 /// Takes the entries that stand here.
@@ -143,8 +145,7 @@ pub fn entries(alloc: Global, at: &mut Cursor<'_>) -> Result<List<Entry>, Stoppe
     ensures { GivesTo result (left_at at.new) (entries_from [] (left_at at.old)) }
 {
     let mut entries = List::new(alloc);
-    'entries: while starts_int(*at) {
-        let found = entry(alloc, at)?;
+    'entries: while let Some(found) = entry_if_any(alloc, at)? {
         entries.push(found)?;
     }
     Ok(entries)

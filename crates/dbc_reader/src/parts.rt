@@ -3,8 +3,9 @@ ghost use Rattle.std.specs.Prelude.{◌≡◌, [], ◌∷◌, Some, None, option
 ghost use Rattle.std.specs.Str.{bytes_eq};
 ghost use Rattle.dbc_values.specs.Lexical.{quoted};
 ghost use Rattle.dbc_values.specs.Pieces.{inside};
-ghost use Rattle.dbc_reader.specs.Reading.Cursors.{left_at};
-ghost use Rattle.dbc_reader.specs.Reading.Readers.{GivesTo, MakesTo, starts};
+ghost use Rattle.dbc_reader.specs.Classes.{has_name};
+ghost use Rattle.dbc_reader.specs.Reading.Cursors.{left_at, behind};
+ghost use Rattle.dbc_reader.specs.Reading.Readers.{GivesTo, MakesTo, MayGive, starts};
 ghost use Rattle.dbc_reader.specs.Reading.Parts.{word_at, mark_at, name_at, symbol_at, text_at, piece_at, names_from, symbols_from, pieces_from, comma_at, begins_receiver, receivers_from, receivers_at, texts_from};
 
 use crate::classes;
@@ -52,6 +53,21 @@ pub fn name(alloc: Global, at: &mut Cursor<'_>) -> Result<Name, Stopped>
     }
 }
 
+/// Takes a name, if one stands here.
+#[tactic(auto, unfolding(crate::specs::Reading::Cursors::left_at, crate::specs::Reading::Readers::starts, crate::specs::Reading::Readers::token_at, crate::specs::Reading::Parts::name_at, crate::specs::Classes::has_name))]
+fn name_if_any(alloc: Global, at: &mut Cursor<'_>) -> Result<Option<Name>, Stopped>
+    ensures { MayGive result has_name name_at (left_at at.new) (left_at at.old) }
+{
+    let Next::Token(token) = at.next else {
+        return Ok(None);
+    };
+    let Some(name) = Name::new(alloc, token.bytes)? else {
+        return Ok(None);
+    };
+    *at = at.behind();
+    Ok(Some(name))
+}
+
 /// Takes a word of the list of symbols.
 #[tactic(auto, unfolding(crate::specs::Reading::Parts::symbol_at))]
 pub fn symbol(alloc: Global, at: &mut Cursor<'_>) -> Result<Symbol, Stopped>
@@ -93,12 +109,12 @@ fn between_quotes(bytes: &[u8]) -> Option<&[u8]>
     }
 }
 
-/// Takes a string, and gives its text.
-#[tactic(auto, unfolding(crate::specs::Reading::Parts::text_at, crate::specs::Classes::text_of, dbc_values::specs::Pieces::is_string))]
-pub fn text(alloc: Global, at: &mut Cursor<'_>) -> Result<Text, Stopped>
-    ensures { GivesTo result (left_at at.new) (text_at (left_at at.old)) }
+/// The text of the string that stands here; nothing is taken.
+#[tactic(auto, unfolding(crate::specs::Reading::Cursors::left_at, crate::specs::Reading::Parts::text_at, crate::specs::Reading::Readers::token_at, crate::specs::Classes::text_of, dbc_values::specs::Pieces::is_string))]
+pub fn text_here(alloc: Global, at: Cursor<'_>) -> Result<Text, Stopped>
+    ensures { GivesTo result (behind (left_at at.entry)) (text_at (left_at at.entry)) }
 {
-    let token = at.take()?;
+    let token = at.token()?;
     let Some(text) = between_quotes(token.bytes) else {
         return Err(Stopped::at(token.line, Cause::Statement));
     };
@@ -108,13 +124,21 @@ pub fn text(alloc: Global, at: &mut Cursor<'_>) -> Result<Text, Stopped>
     }
 }
 
+/// Takes a string, and gives its text.
+pub fn text(alloc: Global, at: &mut Cursor<'_>) -> Result<Text, Stopped>
+    ensures { GivesTo result (left_at at.new) (text_at (left_at at.old)) }
+{
+    let text = text_here(alloc, *at)?;
+    *at = at.behind();
+    Ok(text)
+}
+
 /// Takes the names that stand here, and puts them behind the others.
 #[tactic(auto, using(crate::proofs::Turns::Lists::names_on, crate::proofs::Turns::Lists::names_fail, crate::proofs::Turns::Lists::names_end, crate::proofs::Turns::Lists::names_less))]
 pub fn names(alloc: Global, at: &mut Cursor<'_>, names: &mut List<Name>) -> Result<(), Stopped>
     ensures { MakesTo result names.new (left_at at.new) (names_from names.old (left_at at.old)) }
 {
-    'names: while at.starts_name() {
-        let found = name(alloc, at)?;
+    'names: while let Some(found) = name_if_any(alloc, at)? {
         names.push(found)?;
     }
     Ok(())
@@ -190,11 +214,9 @@ fn receivers_behind(alloc: Global, at: &mut Cursor<'_>, first: Name) -> Result<L
 pub fn receivers(alloc: Global, at: &mut Cursor<'_>) -> Result<List<Name>, Stopped>
     ensures { GivesTo result (left_at at.new) (receivers_at (left_at at.old)) }
 {
-    if at.starts_name() {
-        let first = name(alloc, at)?;
-        receivers_behind(alloc, at, first)
-    } else {
-        Ok(List::new(alloc))
+    match name_if_any(alloc, at)? {
+        Some(first) => receivers_behind(alloc, at, first),
+        None => Ok(List::new(alloc)),
     }
 }
 

@@ -163,7 +163,7 @@ fn message_attribute(alloc: Global, at: &mut Cursor<'_>) -> Result<AttrRow, Stop
     })
 }
 
-#[tactic(auto, unfolding(crate::specs::Reading::Databases::one_of_six_at))]
+#[tactic(auto, using(crate::proofs::Facts::Keywords::values_alone), unfolding(crate::specs::Reading::Databases::one_of_six_at))]
 fn one_of_six(alloc: Global, at: &mut Cursor<'_>) -> Result<Statement, Stopped>
     ensures { GivesTo result (left_at at.new) (one_of_six_at (left_at at.old)) }
 {
@@ -174,12 +174,15 @@ fn one_of_six(alloc: Global, at: &mut Cursor<'_>) -> Result<Statement, Stopped>
         return Ok(Statement::Signal(signal(alloc, at, &[])?));
     }
     if at.starts_word(b"VAL_TABLE_") {
+        *at = at.behind();
         return Ok(Statement::Table(table(alloc, at)?));
     }
     if at.starts_word(b"VAL_") {
+        *at = at.behind();
         return Ok(Statement::Values(values(alloc, at)?));
     }
     if at.starts_word(b"SG_MUL_VAL_") {
+        *at = at.behind();
         return Ok(Statement::Mux(mux(alloc, at)?));
     }
     Ok(Statement::Attribute(message_attribute(alloc, at)?))

@@ -1,24 +1,23 @@
 //! Tables of named values, float types and extended multiplexing.
-ghost use Rattle.std.specs.Prelude.{◌≡◌, [], ◌∷◌, IfOk, IsTrue};
+ghost use Rattle.std.specs.Prelude.{◌≡◌, [], ◌∷◌, codes, IfOk, IsTrue};
 ghost use Rattle.dbc_records.specs.Records.{ranges_fit};
-ghost use Rattle.dbc_reader.specs.Reading.Cursors.{left_at};
+ghost use Rattle.dbc_reader.specs.Reading.Cursors.{left_at, with_word};
 ghost use Rattle.dbc_reader.specs.Reading.Readers.{GivesTo};
 ghost use Rattle.dbc_reader.specs.Reading.Tables.{table_at, values_at, colon_at, float_at, range_at, ranges_from, ranges_at, mux_at};
 
 use crate::cursor::Cursor;
 use crate::numerals::{entries, id, whole};
-use crate::parts::{mark, name, word};
+use crate::parts::{mark, name};
 use crate::stopped::Stopped;
 use dbc_records::{FloatRow, MuxRow, Range, TableRow, ValueRow};
 use dbc_values::List;
 use std::alloc::Global;
 
-/// Takes a table of its own name: `VAL_TABLE_`.
-#[tactic(auto, unfolding(crate::specs::Reading::Tables::table_at))]
+/// Takes a table of its own name, behind `VAL_TABLE_`.
+#[tactic(auto, unfolding(crate::specs::Reading::Tables::table_at, crate::specs::Reading::Parts::word_at, crate::specs::Reading::Readers::token_at, crate::specs::Classes::has_word))]
 pub fn table(alloc: Global, at: &mut Cursor<'_>) -> Result<TableRow, Stopped>
-    ensures { GivesTo result (left_at at.new) (table_at (left_at at.old)) }
+    ensures { GivesTo result (left_at at.new) (table_at (with_word (codes "VAL_TABLE_") (left_at at.old))) }
 {
-    word(at, b"VAL_TABLE_")?;
     let title = name(alloc, at)?;
     let entries = entries(alloc, at)?;
     mark(at, b';')?;
@@ -28,12 +27,11 @@ pub fn table(alloc: Global, at: &mut Cursor<'_>) -> Result<TableRow, Stopped>
     })
 }
 
-/// Takes the named values of a signal: `VAL_`.
-#[tactic(auto, unfolding(crate::specs::Reading::Tables::values_at))]
+/// Takes the named values of a signal, behind `VAL_`.
+#[tactic(auto, unfolding(crate::specs::Reading::Tables::values_at, crate::specs::Reading::Parts::word_at, crate::specs::Reading::Readers::token_at, crate::specs::Classes::has_word))]
 pub fn values(alloc: Global, at: &mut Cursor<'_>) -> Result<ValueRow, Stopped>
-    ensures { GivesTo result (left_at at.new) (values_at (left_at at.old)) }
+    ensures { GivesTo result (left_at at.new) (values_at (with_word (codes "VAL_") (left_at at.old))) }
 {
-    word(at, b"VAL_")?;
     let number = id(at)?;
     let signal = name(alloc, at)?;
     let entries = entries(alloc, at)?;
@@ -56,12 +54,11 @@ fn colon(at: &mut Cursor<'_>) -> Result<(), Stopped>
     Ok(())
 }
 
-/// Takes the float type of a signal: `SIG_VALTYPE_`.
-#[tactic(auto, unfolding(crate::specs::Reading::Tables::float_at))]
+/// Takes the float type of a signal, behind `SIG_VALTYPE_`.
+#[tactic(auto, unfolding(crate::specs::Reading::Tables::float_at, crate::specs::Reading::Parts::word_at, crate::specs::Reading::Readers::token_at, crate::specs::Classes::has_word))]
 pub fn float(alloc: Global, at: &mut Cursor<'_>) -> Result<FloatRow, Stopped>
-    ensures { GivesTo result (left_at at.new) (float_at (left_at at.old)) }
+    ensures { GivesTo result (left_at at.new) (float_at (with_word (codes "SIG_VALTYPE_") (left_at at.old))) }
 {
-    word(at, b"SIG_VALTYPE_")?;
     let number = id(at)?;
     let signal = name(alloc, at)?;
     colon(at)?;
@@ -109,12 +106,11 @@ fn ranges(alloc: Global, at: &mut Cursor<'_>) -> Result<List<Range>, Stopped>
     ranges_behind(alloc, at, first)
 }
 
-/// Takes a row of extended multiplexing: `SG_MUL_VAL_`.
-#[tactic(auto, unfolding(crate::specs::Reading::Tables::mux_at))]
+/// Takes a row of extended multiplexing, behind `SG_MUL_VAL_`.
+#[tactic(auto, unfolding(crate::specs::Reading::Tables::mux_at, crate::specs::Reading::Parts::word_at, crate::specs::Reading::Readers::token_at, crate::specs::Classes::has_word))]
 pub fn mux(alloc: Global, at: &mut Cursor<'_>) -> Result<MuxRow, Stopped>
-    ensures { GivesTo result (left_at at.new) (mux_at (left_at at.old)) }
+    ensures { GivesTo result (left_at at.new) (mux_at (with_word (codes "SG_MUL_VAL_") (left_at at.old))) }
 {
-    word(at, b"SG_MUL_VAL_")?;
     let number = id(at)?;
     let signal = name(alloc, at)?;
     let switch = name(alloc, at)?;

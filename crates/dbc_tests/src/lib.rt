@@ -5,6 +5,8 @@
 #[cfg(test)]
 mod devices;
 #[cfg(test)]
+mod lists;
+#[cfg(test)]
 mod numbers;
 #[cfg(test)]
 mod tests;

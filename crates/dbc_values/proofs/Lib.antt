@@ -8,3 +8,4 @@ pub mod Exponents
 pub mod NormalForms
 pub mod Signs
 pub mod Scaling
+pub mod Kept

@@ -1,5 +1,7 @@
 //! Lists of values that keep the bounds of their type.
-ghost use Rattle.std.specs.Prelude.{◌≡◌, ◌==◌, [], ◌∷◌, ◌++◌, All, length, IfOk, OnOk, OnErr};
+ghost use Rattle.std.specs.Prelude.{◌≡◌, ◌==◌, ◌<◌, ◌≤◌, [], ◌∷◌, ◌++◌, All, length, map, insert, remove, slice_set, IfOk, OnOk, OnErr};
+ghost use Rattle.std.specs.Fn.{CalledAt};
+ghost use Rattle.std.specs.List.Retain.{IsFiltered};
 ghost use Rattle.std.specs.Slice.Iter.{iter_rest};
 ghost use Rattle.std.specs.Iterator.Adapters.{IterYieldsInOrder};
 
@@ -19,6 +21,18 @@ pub trait Copied: Checked {
     /// An equal value.
     fn copy(&self) -> Result<Self, Memory>
         ensures { IfOk result (λ copy. copy ≡ self.now) };
+}
+
+/// A change that each item of a list can be put through.
+pub trait Rewrite<T: Checked>: Drop {
+    // The item, changed.
+    ghost rewritten: { Self → T → T };
+
+    /// Changes the item in place.
+    fn rewrite(&self, item: &mut T)
+        requires { T.IsValid item.old }
+        ensures new { item.new ≡ rewritten self.now item.old }
+        ensures valid { T.IsValid item.new };
 }
 
 /// A list, which contracts see as the list of its items. It keeps the allocator that it was made with.
@@ -88,6 +102,54 @@ impl<T: Checked> List<T> {
         Ok(())
     }
 
+    /// Puts an item before that at the place, or behind all others. An `Err` changes nothing.
+    pub fn insert(&mut self, place: usize, item: T) -> Result<(), Memory>
+        requires place { place ≤ length self.old }
+        requires item { T.IsValid item }
+        ensures ok { OnOk result (self.new ≡ insert self.old place item) }
+        ensures err { OnErr result (self.new ≡ self.old) }
+        ensures valid { All T.IsValid self.new }
+    {
+        self.items.insert(place, item)?;
+        Ok(())
+    }
+
+    /// Takes out the item at the place.
+    pub fn remove(&mut self, place: usize)
+        requires { place < length self.old }
+        ensures new { self.new ≡ remove self.old place }
+        ensures valid { All T.IsValid self.new }
+    {
+        self.items.remove(place);
+    }
+
+    /// Puts an item in place of that at the place.
+    pub fn set(&mut self, place: usize, item: T)
+        requires place { place < length self.old }
+        requires item { T.IsValid item }
+        ensures new { self.new ≡ slice_set self.old place item }
+        ensures valid { All T.IsValid self.new }
+    {
+        self.items[place] = item;
+    }
+
+    /// Keeps the items of which the closure says `true`, in their order, and takes out the others.
+    pub fn retain<F: FnMut(&T) -> bool>(&mut self, keeps: F)
+        requires { F.IsAlwaysCallable keeps }
+        ensures kept { IsFiltered (CalledAt F.FnMut) keeps self.old self.new }
+        ensures valid { All T.IsValid self.new }
+    {
+        self.items.retain(keeps);
+    }
+
+    /// Puts each item through the change.
+    pub fn rewrite_all<R: Rewrite<T>>(&mut self, change: &R)
+        ensures new { self.new ≡ map (R.rewritten change.now) self.old }
+        ensures valid { All T.IsValid self.new }
+    {
+        rewrite_items(self.items.as_mut_slice(), change);
+    }
+
     /// The items in order.
     pub fn iter(&self) -> Iter<'_, T>
         ensures rest { iter_rest result ≡ self.now }
@@ -95,6 +157,17 @@ impl<T: Checked> List<T> {
         ensures valid { All T.IsValid self.now }
     {
         self.items.iter()
+    }
+}
+
+// Puts each item through the change.
+fn rewrite_items<T: Checked, R: Rewrite<T>>(items: &mut [T], change: &R)
+    requires { All T.IsValid items.old }
+    ensures new { items.new ≡ map (R.rewritten change.now) items.old }
+    ensures valid { All T.IsValid items.new }
+{
+    for item in items.iter_mut() {
+        change.rewrite(item);
     }
 }
 

@@ -1,6 +1,6 @@
 -- What an edit touches: message numbers, and with them the frames that these concern.
 -- Source: SAE J1939-21, "Parameter Group Numbers", for which frames belong to one group.
-use Rattle.std.specs.Prelude.{ℕ, Bool, false, not, ◌&&◌, ◌||◌, ◌==◌, List, [], ◌∷◌, slice_get}
+use Rattle.std.specs.Prelude.{ℕ, Bool, false, not, ◌&&◌, ◌||◌, ◌==◌, List, [], ◌∷◌, Option, slice_get}
 use Rattle.std.specs.List.{list_any}
 use Rattle.std.specs.Option.{option_map_or}
 use Rattle.dbc_records.specs.Databases.{Database}
@@ -58,3 +58,7 @@ is_touched numbers frame = is_data frame && list_any (concerns (number_of frame)
 -- so is a line, by its frame
 unfoldable pub line_touched : List ℕ → List ℕ → Bool
 line_touched numbers line = option_map_or (is_touched numbers) (frame_of (body_of line)) false
+
+-- the same by the number of a line's data frame, if it has one
+abbrev pub number_touched : List ℕ → Option ℕ → Bool
+number_touched numbers number = option_map_or (λ other. list_any (concerns other) numbers) number false

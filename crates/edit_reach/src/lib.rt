@@ -9,4 +9,4 @@ mod numbers;
 mod touching;
 
 pub use numbers::{Numbers, edit_numbers, is_among};
-pub use touching::{is_extended, line_touched, may_have_group};
+pub use touching::{is_extended, may_have_group, number_touched};

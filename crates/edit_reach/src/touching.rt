@@ -2,10 +2,9 @@
 ghost use Rattle.std.specs.Prelude.{◌≡◌};
 ghost use Rattle.std.specs.List.{list_any};
 ghost use Rattle.can_rows.specs.Groups.{is_extended};
-ghost use Rattle.edit_reach.specs.Touched.{may_have_group, shares_group, concerns, is_touched, line_touched};
+ghost use Rattle.edit_reach.specs.Touched.{may_have_group, shares_group, concerns, number_touched};
 
 use can_rows::{group_number, is_bad_number};
-use log_frames::{Frame, read_frame};
 
 /// Whether the number is that of an identifier of 29 bits.
 pub fn is_extended(number: u32) -> bool
@@ -44,20 +43,13 @@ fn any_concerns(frame_number: u32, numbers: &[u32]) -> bool
     numbers.iter().any(|number| concerns(frame_number, *number))
 }
 
-#[tactic(auto, unfolding(crate::specs::Touched::is_touched))]
-fn is_touched(numbers: &[u32], frame: &Frame) -> bool
-    ensures { result ≡ is_touched numbers.now frame.now }
+/// Whether one of the numbers concerns a frame of the number, if there is one, so that the text of its line may change with the
+/// messages and rows of that number.
+pub fn number_touched(numbers: &[u32], number: Option<u32>) -> bool
+    ensures { result ≡ number_touched numbers.now number }
 {
-    frame.is_data() && any_concerns(frame.number(), numbers)
-}
-
-/// Whether one of the numbers concerns the frame of a line, so that its text may change with the messages and rows of that number.
-#[tactic(auto, unfolding(crate::specs::Touched::line_touched))]
-pub fn line_touched(numbers: &[u32], line: &[u8]) -> bool
-    ensures { result ≡ line_touched numbers.now line.now }
-{
-    match read_frame(line) {
-        Some(frame) => is_touched(numbers, &frame),
+    match number {
+        Some(number) => any_concerns(number, numbers),
         None => false,
     }
 }

@@ -6,7 +6,7 @@ use Rattle.std.proofs.KnownBytes.{Appends-trans}
 use Rattle.byte_devices.specs.Device.{Rises, Written, Wrote, Broke, Passes}
 use Rattle.byte_devices.proofs.Writes.{Wrote-nil, Wrote-then, Passes-nil, Passes-then, Passes-flush}
 use Rattle.line_stream.specs.Lines.{IsShort, AllShort}
-use Rattle.line_stream.specs.Runs.{Runs, Breaks, Handled, HandledBut, StopsAmong, BreaksAmong, FailsAt}
+use Rattle.line_stream.specs.Runs.{Rules, Runs, Breaks, Handled, HandledBut, StopsAmong, BreaksAmong, FailsAt}
 
 pub AllByRecursion-append : {X : Type 0} (P : X → Type 0) (xs ys : List X) → AllByRecursion P xs → AllByRecursion P ys → AllByRecursion P (xs ++ ys)
 AllByRecursion-append P [] ys h k = k
@@ -56,47 +56,47 @@ module _ {State : Type 0} (Step : State → List ℕ → State → List ℕ → 
   pub Runs-push : (a b c : State) (lines : List (List ℕ)) (line xs ys : List ℕ) → Runs Step a lines b xs → Step b line c ys → Runs Step a (lines ++ line ∷ []) c (xs ++ ys)
   Runs-push a b c lines line xs ys p q = Runs-append a b c lines (line ∷ []) xs ys p (Runs-one b c line ys q)
 
-module _ {State : Type 0} (Step : State → List ℕ → State → List ℕ → Type 0) (Stops : State → List ℕ → Type 0) (Waits : List ℕ → Type 0) (most : ℕ) where
+module _ {State : Type 0} (rules : Rules State) (most : ℕ) where
   -- ---- line by line
 
-  pub HandledBut-none : (s : State) (a : Written) → Waits [] → HandledBut Step Stops Waits most s a [] s a []
+  pub HandledBut-none : (s : State) (a : Written) → rules.Waits [] → HandledBut rules most s a [] s a []
   HandledBut-none s a w = record { text = []; short = tt; ran = (refl, refl); passes = Passes-nil a []; waits = w }
 
-  pub Handled-none : (s : State) (a : Written) → Handled Step Stops Waits most s a [] s a
+  pub Handled-none : (s : State) (a : Written) → Handled rules most s a [] s a
   Handled-none s a = record { text = []; short = tt; ran = (refl, refl); wrote = Wrote-nil a }
 
-  pub HandledBut-next : (s t u : State) (a b c : Written) (lines : List (List ℕ)) (line held next : List ℕ) → HandledBut Step Stops Waits most s a lines t b held
-      → IsShort most line → ((text : List ℕ) × Step t line u text × Passes b c held text next × Waits next) → HandledBut Step Stops Waits most s a (lines ++ line ∷ []) u c next
+  pub HandledBut-next : (s t u : State) (a b c : Written) (lines : List (List ℕ)) (line held next : List ℕ) → HandledBut rules most s a lines t b held
+      → IsShort most line → ((text : List ℕ) × rules.Step t line u text × Passes b c held text next × rules.Waits next) → HandledBut rules most s a (lines ++ line ∷ []) u c next
   HandledBut-next s t u a b c lines line held next h is_short k = record {
     text = h.text ++ k.0;
     short = AllByRecursion-append (IsShort most) lines (line ∷ []) h.short (is_short, tt);
-    ran = Runs-push Step s t u lines line h.text k.0 h.ran k.1;
+    ran = Runs-push rules.Step s t u lines line h.text k.0 h.ran k.1;
     passes = Passes-then a b c [] h.text held k.0 next h.passes k.2;
     waits = k.3;
   }
 
   -- what was held is put
-  pub Handled-flush : (s t u : State) (a b c : Written) (lines : List (List ℕ)) (held : List ℕ) → HandledBut Step Stops Waits most s a lines t b held → u ≡ t → Wrote b c held → Handled Step Stops Waits most s a lines u c
+  pub Handled-flush : (s t u : State) (a b c : Written) (lines : List (List ℕ)) (held : List ℕ) → HandledBut rules most s a lines t b held → u ≡ t → Wrote b c held → Handled rules most s a lines u c
   Handled-flush s t u a b c lines held h same p = record {
     text = h.text;
     short = h.short;
-    ran = subst (λ v. Runs Step s lines v h.text) (sym same) h.ran;
+    ran = subst (λ v. Runs rules.Step s lines v h.text) (sym same) h.ran;
     wrote = Passes-flush a b c [] h.text held h.passes p;
   }
 
-  pub StopsAmong-at : (s t u : State) (a b c : Written) (lines : List (List ℕ)) (line held : List ℕ) → HandledBut Step Stops Waits most s a lines t b held
-      → Stops t line × (u ≡ t) × Wrote b c held → StopsAmong Step Stops Waits most s a (lines ++ line ∷ []) u c
+  pub StopsAmong-at : (s t u : State) (a b c : Written) (lines : List (List ℕ)) (line held : List ℕ) → HandledBut rules most s a lines t b held
+      → rules.Stops t line × (u ≡ t) × Wrote b c held → StopsAmong rules most s a (lines ++ line ∷ []) u c
   StopsAmong-at s t u a b c lines line held h k = record {
     lines = lines;
     line = line;
     more = [];
     parts = refl;
-    stops = subst (λ v. Stops v line) (sym k.1) k.0;
+    stops = subst (λ v. rules.Stops v line) (sym k.1) k.0;
     handled = Handled-flush s t u a b c lines held h k.1 k.2;
   }
 
-  pub BreaksAmong-behind : (s t u : State) (a b c : Written) (lines more : List (List ℕ)) (held : List ℕ) → HandledBut Step Stops Waits most s a lines t b held
-      → u ≡ t → 0 < length held → Broke b c held → BreaksAmong Step Stops Waits most s a (lines ++ more) u c
+  pub BreaksAmong-behind : (s t u : State) (a b c : Written) (lines more : List (List ℕ)) (held : List ℕ) → HandledBut rules most s a lines t b held
+      → u ≡ t → 0 < length held → Broke b c held → BreaksAmong rules most s a (lines ++ more) u c
   BreaksAmong-behind s t u a b c lines more held h same some p = inr (record {
     lines = lines;
     more = more;
@@ -104,14 +104,14 @@ module _ {State : Type 0} (Step : State → List ℕ → State → List ℕ → 
     short = h.short;
     out = h.passes.out;
     waiting = held;
-    ran = subst (λ v. Runs Step s lines v (h.passes.out ++ held)) (sym same) (subst (Runs Step s lines t) h.passes.parts h.ran);
+    ran = subst (λ v. Runs rules.Step s lines v (h.passes.out ++ held)) (sym same) (subst (Runs rules.Step s lines t) h.passes.parts h.ran);
     waits = h.waits;
     some = some;
     breaks = Breaks-of a b c h.passes.out held h.passes.wrote p;
   })
 
-  pub BreaksAmong-at : (s t u : State) (a b c : Written) (lines : List (List ℕ)) (line held : List ℕ) → HandledBut Step Stops Waits most s a lines t b held
-      → FailsAt Step Stops Waits most t b held line u c → BreaksAmong Step Stops Waits most s a (lines ++ line ∷ []) u c
+  pub BreaksAmong-at : (s t u : State) (a b c : Written) (lines : List (List ℕ)) (line held : List ℕ) → HandledBut rules most s a lines t b held
+      → FailsAt rules most t b held line u c → BreaksAmong rules most s a (lines ++ line ∷ []) u c
   BreaksAmong-at s t u a b c lines line held h (inl k) = inl (record {
     lines = lines;
     line = line;
@@ -122,7 +122,7 @@ module _ {State : Type 0} (Step : State → List ℕ → State → List ℕ → 
     out = h.passes.out;
     waiting = held;
     last = k.1;
-    ran = subst (Runs Step s lines t) h.passes.parts h.ran;
+    ran = subst (Runs rules.Step s lines t) h.passes.parts h.ran;
     waits = h.waits;
     step = k.2;
     breaks = Breaks-of a b c h.passes.out (held ++ k.1) h.passes.wrote k.3;
@@ -131,11 +131,11 @@ module _ {State : Type 0} (Step : State → List ℕ → State → List ℕ → 
 
   -- ---- piece by piece
 
-  pub Handled-then : (s t u : State) (a b c : Written) (lines more : List (List ℕ)) → Handled Step Stops Waits most s a lines t b → Handled Step Stops Waits most t b more u c → Handled Step Stops Waits most s a (lines ++ more) u c
+  pub Handled-then : (s t u : State) (a b c : Written) (lines more : List (List ℕ)) → Handled rules most s a lines t b → Handled rules most t b more u c → Handled rules most s a (lines ++ more) u c
   Handled-then s t u a b c lines more h k = record {
     text = h.text ++ k.text;
     short = AllByRecursion-append (IsShort most) lines more h.short k.short;
-    ran = Runs-append Step s t u lines more h.text k.text h.ran k.ran;
+    ran = Runs-append rules.Step s t u lines more h.text k.text h.ran k.ran;
     wrote = Wrote-then a b c h.text k.text h.wrote k.wrote;
   }
 
@@ -145,7 +145,7 @@ module _ {State : Type 0} (Step : State → List ℕ → State → List ℕ → 
   longer : (all lines more back : List (List ℕ)) → all ≡ lines ++ more → all ++ back ≡ lines ++ (more ++ back)
   longer all lines more back e = ap (λ xs. xs ++ back) e ∙ append_assoc lines more back
 
-  pub StopsAmong-then : (s t u : State) (a b c : Written) (lines more : List (List ℕ)) → Handled Step Stops Waits most s a lines t b → StopsAmong Step Stops Waits most t b more u c → StopsAmong Step Stops Waits most s a (lines ++ more) u c
+  pub StopsAmong-then : (s t u : State) (a b c : Written) (lines more : List (List ℕ)) → Handled rules most s a lines t b → StopsAmong rules most t b more u c → StopsAmong rules most s a (lines ++ more) u c
   StopsAmong-then s t u a b c lines more h k = record {
     lines = lines ++ k.lines;
     line = k.line;
@@ -155,7 +155,7 @@ module _ {State : Type 0} (Step : State → List ℕ → State → List ℕ → 
     handled = Handled-then s t u a b c lines k.lines h k.handled;
   }
 
-  pub BreaksAmong-then : (s t u : State) (a b c : Written) (lines more : List (List ℕ)) → Handled Step Stops Waits most s a lines t b → BreaksAmong Step Stops Waits most t b more u c → BreaksAmong Step Stops Waits most s a (lines ++ more) u c
+  pub BreaksAmong-then : (s t u : State) (a b c : Written) (lines more : List (List ℕ)) → Handled rules most s a lines t b → BreaksAmong rules most t b more u c → BreaksAmong rules most s a (lines ++ more) u c
   BreaksAmong-then s t u a b c lines more h (inl k) = inl (record {
     lines = lines ++ k.lines;
     line = k.line;
@@ -166,7 +166,7 @@ module _ {State : Type 0} (Step : State → List ℕ → State → List ℕ → 
     out = h.text ++ k.out;
     waiting = k.waiting;
     last = k.last;
-    ran = subst (Runs Step s (lines ++ k.lines) k.between) (sym (append_assoc h.text k.out k.waiting)) (Runs-append Step s t k.between lines k.lines h.text (k.out ++ k.waiting) h.ran k.ran);
+    ran = subst (Runs rules.Step s (lines ++ k.lines) k.between) (sym (append_assoc h.text k.out k.waiting)) (Runs-append rules.Step s t k.between lines k.lines h.text (k.out ++ k.waiting) h.ran k.ran);
     waits = k.waits;
     step = k.step;
     breaks = Breaks-behind a b c h.text k.out (k.waiting ++ k.last) h.wrote k.breaks;
@@ -178,7 +178,7 @@ module _ {State : Type 0} (Step : State → List ℕ → State → List ℕ → 
     short = AllByRecursion-append (IsShort most) lines k.lines h.short k.short;
     out = h.text ++ k.out;
     waiting = k.waiting;
-    ran = subst (Runs Step s (lines ++ k.lines) u) (sym (append_assoc h.text k.out k.waiting)) (Runs-append Step s t u lines k.lines h.text (k.out ++ k.waiting) h.ran k.ran);
+    ran = subst (Runs rules.Step s (lines ++ k.lines) u) (sym (append_assoc h.text k.out k.waiting)) (Runs-append rules.Step s t u lines k.lines h.text (k.out ++ k.waiting) h.ran k.ran);
     waits = k.waits;
     some = k.some;
     breaks = Breaks-behind a b c h.text k.out k.waiting h.wrote k.breaks;
@@ -186,7 +186,7 @@ module _ {State : Type 0} (Step : State → List ℕ → State → List ℕ → 
 
   -- ---- more lines behind those that were met
 
-  pub StopsAmong-more : (s u : State) (a c : Written) (all back : List (List ℕ)) → StopsAmong Step Stops Waits most s a all u c → StopsAmong Step Stops Waits most s a (all ++ back) u c
+  pub StopsAmong-more : (s u : State) (a c : Written) (all back : List (List ℕ)) → StopsAmong rules most s a all u c → StopsAmong rules most s a (all ++ back) u c
   StopsAmong-more s u a c all back k = record {
     lines = k.lines;
     line = k.line;
@@ -196,7 +196,7 @@ module _ {State : Type 0} (Step : State → List ℕ → State → List ℕ → 
     handled = k.handled;
   }
 
-  pub BreaksAmong-more : (s u : State) (a c : Written) (all back : List (List ℕ)) → BreaksAmong Step Stops Waits most s a all u c → BreaksAmong Step Stops Waits most s a (all ++ back) u c
+  pub BreaksAmong-more : (s u : State) (a c : Written) (all back : List (List ℕ)) → BreaksAmong rules most s a all u c → BreaksAmong rules most s a (all ++ back) u c
   BreaksAmong-more s u a c all back (inl k) = inl (record {
     lines = k.lines;
     line = k.line;
@@ -226,6 +226,6 @@ module _ {State : Type 0} (Step : State → List ℕ → State → List ℕ → 
   })
 
   -- that a put failed
-  pub BreaksAmong-rises : (s u : State) (a c : Written) (all : List (List ℕ)) → BreaksAmong Step Stops Waits most s a all u c → Rises a.failures c.failures
+  pub BreaksAmong-rises : (s u : State) (a c : Written) (all : List (List ℕ)) → BreaksAmong rules most s a all u c → Rises a.failures c.failures
   BreaksAmong-rises s u a c all (inl k) = k.breaks.failures
   BreaksAmong-rises s u a c all (inr k) = k.breaks.failures

@@ -9,7 +9,7 @@ use Rattle.line_stream.specs.declared.fault.StreamFault.TheVariants as faults
 use Rattle.line_stream.specs.Lines.{lines_of, AllShort}
 use Rattle.line_stream.specs.Runs.{Runs, Handled, StopsAmong, BreaksAmong}
 use Rattle.line_stream.specs.Stream.{StreamEnds}
-use Rattle.line_stream.specs.LineTexts.{longest_line, line_text, texts, WritesText, StopsAtWrite, StopsAtMemory, Streams}
+use Rattle.line_stream.specs.LineTexts.{longest_line, line_text, texts, WritesText, writes_texts, StopsAtWrite, StopsAtMemory, Streams}
 use Rattle.line_stream.proofs.Handling.{Broke-both}
 
 -- what texts depend on stays through a run
@@ -41,11 +41,11 @@ at-write text_of input old new lines more e short broke =
       of_all = subst (Broke old new) (sym (ap (texts text_of) e ∙ flat_map-append (line_text text_of) lines more)) (Broke-more old new (texts text_of lines) (texts text_of more) broke);
     }
 
-module _ {S : Type 0} (Stops : S → List ℕ → Type 0) (Waits : List ℕ → Type 0) (text_of : S → List ℕ → List ℕ) (s t : S) (old new : Written) where
-  handled-texts : (lines : List (List ℕ)) → Handled (WritesText text_of) Stops Waits longest_line s old lines t new → Wrote old new (texts (text_of s) lines)
+module _ {S : Type 0} (text_of : S → List ℕ → List ℕ) (s t : S) (old new : Written) where
+  handled-texts : (lines : List (List ℕ)) → Handled (writes_texts text_of) longest_line s old lines t new → Wrote old new (texts (text_of s) lines)
   handled-texts lines h = subst (Wrote old new) (text-run text_of s t lines h.text h.ran) h.wrote
 
-  memory-texts : (input : List ℕ) → StopsAmong (WritesText text_of) Stops Waits longest_line s old (lines_of input) t new → StopsAtMemory (text_of s) input old new
+  memory-texts : (input : List ℕ) → StopsAmong (writes_texts text_of) longest_line s old (lines_of input) t new → StopsAtMemory (text_of s) input old new
   memory-texts input h =
       let first = sym (first-lines (lines_of input) h.lines (h.line ∷ h.more) h.parts) in record {
         count = length h.lines;
@@ -53,7 +53,7 @@ module _ {S : Type 0} (Stops : S → List ℕ → Type 0) (Waits : List ℕ → 
         wrote = subst (λ ls. Wrote old new (texts (text_of s) ls)) first (handled-texts h.lines h.handled);
       }
 
-  write-texts : (input : List ℕ) → BreaksAmong (WritesText text_of) Stops Waits longest_line s old (lines_of input) t new → StopsAtWrite (text_of s) input old new
+  write-texts : (input : List ℕ) → BreaksAmong (writes_texts text_of) longest_line s old (lines_of input) t new → StopsAtWrite (text_of s) input old new
   write-texts input (inl h) =
       let front = text-run text_of s h.between h.lines (h.out ++ h.waiting) h.ran in
       let kept : h.between ≡ s = same-run text_of s h.between h.lines (h.out ++ h.waiting) h.ran in
@@ -66,7 +66,7 @@ module _ {S : Type 0} (Stops : S → List ℕ → Type 0) (Waits : List ℕ → 
       at-write (text_of s) input old new h.lines h.more h.parts h.short
       (subst (Broke old new) (text-run text_of s t h.lines (h.out ++ h.waiting) h.ran) (Broke-both old new h.out h.waiting h.breaks))
 
-  pub Streams-of : (before after : Unread) (result : Result ℕ StreamFault) → StreamEnds (WritesText text_of) Stops Waits longest_line s old before after t new result → Streams (text_of s) before after old new result
+  pub Streams-of : (before after : Unread) (result : Result ℕ StreamFault) → StreamEnds (writes_texts text_of) longest_line s old before after t new result → Streams (text_of s) before after old new result
   Streams-of before after (Ok count) h =
       IfSome-map before.bytes _ _ (λ input h. record { ended = h.ended; short = h.handled.short; counted = h.counted; wrote = handled-texts (lines_of input) h.handled }) h
   Streams-of before after (Err faults.LongLine) h =

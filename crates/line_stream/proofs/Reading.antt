@@ -6,7 +6,7 @@ use Rattle.std.proofs.KnownBytes.{Consumes-nil, Consumes-trans}
 use Rattle.std.proofs.lemmas.Grind.{flat_map-append}
 use Rattle.byte_devices.specs.Device.{Unread, Pulled, PullFailed, Rises, Written}
 use Rattle.line_stream.specs.Lines.{lines_of, whole_lines, onto_whole, IsShort, AllShort}
-use Rattle.line_stream.specs.Runs.{Handled, StopsAmong, BreaksAmong}
+use Rattle.line_stream.specs.Runs.{Rules, Handled, StopsAmong, BreaksAmong}
 use Rattle.line_stream.specs.Stream.{HandlesAll, EndsAtLong, EndsAtRead}
 use Rattle.line_stream.specs.Cuts.{HasNoLineFeed, with_line_feed, Cuts}
 use Rattle.line_stream.proofs.Handling.{AllByRecursion-append, StopsAmong-more, BreaksAmong-more}
@@ -127,7 +127,7 @@ told-end (Some xs) (Some ys) read P h end p = (ap Some end, subst P (sym (h ∙ 
 
 -- ---- the exits of the stream, from what was read and how it was cut
 
-module _ {State : Type 0} (Step : State → List ℕ → State → List ℕ → Type 0) (Stops : State → List ℕ → Type 0) (Waits : List ℕ → Type 0) (most : ℕ) (before after : Option (List ℕ)) (s u : State) (old new : Written) (read : List ℕ) (lines : List (List ℕ)) (rest : List ℕ) (consumed : Consumes before after read) (cuts : Cuts read lines rest) where
+module _ {State : Type 0} (rules : Rules State) (most : ℕ) (before after : Option (List ℕ)) (s u : State) (old new : Written) (read : List ℕ) (lines : List (List ℕ)) (rest : List ℕ) (consumed : Consumes before after read) (cuts : Cuts read lines rest) where
   input-lines : (left : List ℕ) → lines_of (read ++ left) ≡ lines ++ lines_of (rest ++ left)
   input-lines left = ap (λ xs. lines_of (xs ++ left)) cuts.whole ∙ ap lines_of (append_assoc (flat_map with_line_feed lines) rest left) ∙ lines_of-cut lines (rest ++ left) cuts.each
 
@@ -137,44 +137,44 @@ module _ {State : Type 0} (Step : State → List ℕ → State → List ℕ → 
   read-short : AllShort most lines → HasNoLineFeed rest → IsShort most rest → AllShort most (lines_of read)
   read-short short h k = subst (AllShort most) (sym read-lines) (AllByRecursion-append (IsShort most) lines (lines_of rest) short (AllShort-part most rest h k))
 
-  pub exit-read : (unread left : Unread) → HasNoLineFeed rest → IsShort most rest → PullFailed unread left read → Handled Step Stops Waits most s old lines u new → EndsAtRead Step Stops Waits most s old unread left u new
+  pub exit-read : (unread left : Unread) → HasNoLineFeed rest → IsShort most rest → PullFailed unread left read → Handled rules most s old lines u new → EndsAtRead rules most s old unread left u new
   exit-read unread left h k failed p = record {
     read = read;
     failed = failed;
     short = read-short p.short h k;
-    handled = subst (λ ls. Handled Step Stops Waits most s old ls u new) (sym (ap whole_lines cuts.whole ∙ whole_lines-cut lines rest cuts.each h)) p;
+    handled = subst (λ ls. Handled rules most s old ls u new) (sym (ap whole_lines cuts.whole ∙ whole_lines-cut lines rest cuts.each h)) p;
   }
 
-  pub exit-memory : StopsAmong Step Stops Waits most s old lines u new → IfSome before (λ input. StopsAmong Step Stops Waits most s old (lines_of input) u new)
+  pub exit-memory : StopsAmong rules most s old lines u new → IfSome before (λ input. StopsAmong rules most s old (lines_of input) u new)
   exit-memory p =
-      told before after read (λ input. StopsAmong Step Stops Waits most s old (lines_of input) u new) consumed (λ left.
-      subst (λ ls. StopsAmong Step Stops Waits most s old ls u new) (sym (input-lines left)) (StopsAmong-more Step Stops Waits most s u old new lines (lines_of (rest ++ left)) p))
+      told before after read (λ input. StopsAmong rules most s old (lines_of input) u new) consumed (λ left.
+      subst (λ ls. StopsAmong rules most s old ls u new) (sym (input-lines left)) (StopsAmong-more rules most s u old new lines (lines_of (rest ++ left)) p))
 
-  pub exit-write : BreaksAmong Step Stops Waits most s old lines u new → IfSome before (λ input. BreaksAmong Step Stops Waits most s old (lines_of input) u new)
+  pub exit-write : BreaksAmong rules most s old lines u new → IfSome before (λ input. BreaksAmong rules most s old (lines_of input) u new)
   exit-write p =
-      told before after read (λ input. BreaksAmong Step Stops Waits most s old (lines_of input) u new) consumed (λ left.
-      subst (λ ls. BreaksAmong Step Stops Waits most s old ls u new) (sym (input-lines left)) (BreaksAmong-more Step Stops Waits most s u old new lines (lines_of (rest ++ left)) p))
+      told before after read (λ input. BreaksAmong rules most s old (lines_of input) u new) consumed (λ left.
+      subst (λ ls. BreaksAmong rules most s old ls u new) (sym (input-lines left)) (BreaksAmong-more rules most s u old new lines (lines_of (rest ++ left)) p))
 
-  pub exit-ok : (count : ℕ) → IsAtEnd after → Handled Step Stops Waits most s old (lines ++ lines_of rest) u new → count ≡ min (length lines + length (lines_of rest)) (2 ^ 64 - 1)
-      → IfSome before (λ input. HandlesAll Step Stops Waits most s old input after u new count)
+  pub exit-ok : (count : ℕ) → IsAtEnd after → Handled rules most s old (lines ++ lines_of rest) u new → count ≡ min (length lines + length (lines_of rest)) (2 ^ 64 - 1)
+      → IfSome before (λ input. HandlesAll rules most s old input after u new count)
   exit-ok count end p counted =
-      let P = λ (input : List ℕ). (count ≡ min (length (lines_of input)) (2 ^ 64 - 1)) × Handled Step Stops Waits most s old (lines_of input) u new in
-      IfSome-weaker before (λ input. (after ≡ Some []) × P input) (λ input. HandlesAll Step Stops Waits most s old input after u new count) (λ input q. record { ended = q.0; counted = q.1.0; handled = q.1.1 })
+      let P = λ (input : List ℕ). (count ≡ min (length (lines_of input)) (2 ^ 64 - 1)) × Handled rules most s old (lines_of input) u new in
+      IfSome-weaker before (λ input. (after ≡ Some []) × P input) (λ input. HandlesAll rules most s old input after u new count) (λ input q. record { ended = q.0; counted = q.1.0; handled = q.1.1 })
       (told-end before after read P consumed end (
         counted ∙ ap (λ n. min n (2 ^ 64 - 1)) (sym (ap length read-lines ∙ length-append lines (lines_of rest))),
-        subst (λ ls. Handled Step Stops Waits most s old ls u new) (sym read-lines) p,
+        subst (λ ls. Handled rules most s old ls u new) (sym read-lines) p,
       ))
 
-module _ {State : Type 0} (Step : State → List ℕ → State → List ℕ → Type 0) (Stops : State → List ℕ → Type 0) (Waits : List ℕ → Type 0) (most : ℕ) where
-  pub exit-long : (s u : State) (old new : Written) (before after : Option (List ℕ)) (read : List ℕ) (lines : List (List ℕ)) (long rest : List ℕ) → Consumes before after read → Cuts read lines (long ++ rest) → HasNoLineFeed long → most < length long → Handled Step Stops Waits most s old lines u new
-      → IfSome before (λ input. EndsAtLong Step Stops Waits most s old input u new)
+module _ {State : Type 0} (rules : Rules State) (most : ℕ) where
+  pub exit-long : (s u : State) (old new : Written) (before after : Option (List ℕ)) (read : List ℕ) (lines : List (List ℕ)) (long rest : List ℕ) → Consumes before after read → Cuts read lines (long ++ rest) → HasNoLineFeed long → most < length long → Handled rules most s old lines u new
+      → IfSome before (λ input. EndsAtLong rules most s old input u new)
   exit-long s u old new before after read lines long rest consumed cuts h longer p =
-      told before after read (λ input. EndsAtLong Step Stops Waits most s old input u new) consumed (λ left.
+      told before after read (λ input. EndsAtLong rules most s old input u new) consumed (λ left.
       let next = lines_of-part long (rest ++ left) h (omega arith) in record {
         lines = lines;
         long = long ++ next.0;
         more = next.1;
-        parts = input-lines Step Stops Waits most before after s u old new read lines (long ++ rest) consumed cuts left ∙ ap (λ xs. lines ++ lines_of xs) (append_assoc long rest left) ∙ ap (λ ls. lines ++ ls) next.2;
+        parts = input-lines rules most before after s u old new read lines (long ++ rest) consumed cuts left ∙ ap (λ xs. lines ++ lines_of xs) (append_assoc long rest left) ∙ ap (λ ls. lines ++ ls) next.2;
         is_long = omega (arith, length-append long next.0);
         handled = p;
       })

@@ -6,6 +6,7 @@ use Rattle.dbc_values.specs.Lexical.{line_feed}
 use Rattle.line_stream.specs.declared.fault.StreamFault.{StreamFault}
 use Rattle.line_stream.specs.declared.fault.StreamFault.TheVariants as faults
 use Rattle.line_stream.specs.Lines.{lines_of, whole_lines, AllShort}
+use Rattle.line_stream.specs.Runs.{Rules}
 
 -- the most bytes of a line, its CR counted and its LF not
 abbrev pub longest_line : ℕ
@@ -68,3 +69,7 @@ Streams text_of before after old new (Err faults.Memory) = IfSome before.bytes (
 -- the step of a line that has one text: what texts depend on stays, and that text is written
 abbrev pub WritesText : {State : Type 0} → (State → List ℕ → List ℕ) → State → List ℕ → State → List ℕ → Type 0
 WritesText text_of before line after text = (after ≡ before) × (text ≡ line_text (text_of before) line)
+
+-- so each line is handled; memory may be wanting for any, and any text may wait
+abbrev pub writes_texts : {State : Type 0} → (State → List ℕ → List ℕ) → Rules State
+writes_texts text_of = record { Step = WritesText text_of; Stops = λ state line. Unit {0}; Waits = λ held. Unit {0} }

@@ -18,23 +18,29 @@ pub record Breaks (old new : Written) (whole part : List ℕ) : Type 0 where
   pub bytes : Appends old.bytes new.bytes (whole ++ front)
   pub failures : Rises old.failures new.failures
 
--- For a handler: its steps, the lines for which memory may be wanting in a state, what may be held from one line to the
--- next, and the most bytes of a line that is handed to it.
-module _ {State : Type 0} (Step : State → List ℕ → State → List ℕ → Type 0) (Stops : State → List ℕ → Type 0) (Waits : List ℕ → Type 0) (most : ℕ) where
+-- How lines are handled: what a line may do to a state, and its text; the lines for which memory may be wanting in a state; and what
+-- may wait from one line to the next.
+pub record Rules (State : Type 0) : Type 1 where
+  pub Step : State → List ℕ → State → List ℕ → Type 0
+  pub Stops : State → List ℕ → Type 0
+  pub Waits : List ℕ → Type 0
+
+-- for such rules, and the most bytes of a line that is handled
+module _ {State : Type 0} (rules : Rules State) (most : ℕ) where
   -- these lines, none of them long, were handled, and all their text was written
   pub record Handled (before : State) (old : Written) (lines : List (List ℕ)) (after : State) (new : Written) : Type 0 where
     pub text : List ℕ
     pub short : AllShort most lines
-    pub ran : Runs Step before lines after text
+    pub ran : Runs rules.Step before lines after text
     pub wrote : Wrote old new text
 
   -- these lines, none of them long, were handled, and their text was written but for its end, which is held
   pub record HandledBut (before : State) (old : Written) (lines : List (List ℕ)) (after : State) (new : Written) (held : List ℕ) : Type 0 where
     pub text : List ℕ
     pub short : AllShort most lines
-    pub ran : Runs Step before lines after text
+    pub ran : Runs rules.Step before lines after text
     pub passes : Passes old new [] text held
-    pub waits : Waits held
+    pub waits : rules.Waits held
 
   -- for one of these lines memory was wanting; those before were handled, and all their text was written
   pub record StopsAmong (before : State) (old : Written) (all : List (List ℕ)) (after : State) (new : Written) : Type 0 where
@@ -42,7 +48,7 @@ module _ {State : Type 0} (Step : State → List ℕ → State → List ℕ → 
     pub line : List ℕ
     pub more : List (List ℕ)
     pub parts : all ≡ lines ++ line ∷ more
-    pub stops : Stops after line
+    pub stops : rules.Stops after line
     pub handled : Handled before old lines after new
 
   -- A put failed for one of these lines. It and those before were handled. The text of those before was written but for
@@ -57,9 +63,9 @@ module _ {State : Type 0} (Step : State → List ℕ → State → List ℕ → 
     pub out : List ℕ
     pub waiting : List ℕ
     pub last : List ℕ
-    pub ran : Runs Step before lines between (out ++ waiting)
-    pub waits : Waits waiting
-    pub step : Step between line after last
+    pub ran : Runs rules.Step before lines between (out ++ waiting)
+    pub waits : rules.Waits waiting
+    pub step : rules.Step between line after last
     pub breaks : Breaks old new out (waiting ++ last)
 
   -- A put failed behind the first of these lines, which were handled. Their text was written but for its end, which was
@@ -71,8 +77,8 @@ module _ {State : Type 0} (Step : State → List ℕ → State → List ℕ → 
     pub short : AllShort most lines
     pub out : List ℕ
     pub waiting : List ℕ
-    pub ran : Runs Step before lines after (out ++ waiting)
-    pub waits : Waits waiting
+    pub ran : Runs rules.Step before lines after (out ++ waiting)
+    pub waits : rules.Waits waiting
     pub some : 0 < length waiting
     pub breaks : Breaks old new out waiting
 
@@ -83,5 +89,5 @@ module _ {State : Type 0} (Step : State → List ℕ → State → List ℕ → 
   -- a put failed at this line: for it, or for what was held before, which isn't empty
   abbrev pub FailsAt : State → Written → List ℕ → List ℕ → State → Written → Type 0
   FailsAt before old held line after new =
-      (IsShort most line × (text : List ℕ) × Step before line after text × Broke old new (held ++ text))
+      (IsShort most line × (text : List ℕ) × rules.Step before line after text × Broke old new (held ++ text))
       ⊎ ((after ≡ before) × (0 < length held) × Broke old new held)

@@ -4,14 +4,14 @@ use Rattle.byte_devices.specs.Device.{Rises, Unread, Written, PullFailed}
 use Rattle.line_stream.specs.declared.fault.StreamFault.{StreamFault}
 use Rattle.line_stream.specs.declared.fault.StreamFault.TheVariants as faults
 use Rattle.line_stream.specs.Lines.{lines_of, whole_lines, AllShort}
-use Rattle.line_stream.specs.Runs.{Handled, StopsAmong, BreaksAmong}
+use Rattle.line_stream.specs.Runs.{Rules, Handled, StopsAmong, BreaksAmong}
 
-module _ {State : Type 0} (Step : State → List ℕ → State → List ℕ → Type 0) (Stops : State → List ℕ → Type 0) (Waits : List ℕ → Type 0) (most : ℕ) where
+module _ {State : Type 0} (rules : Rules State) (most : ℕ) where
   -- all of the input was read, and each of its lines was handled, of which none is long; there are this many, up to 2^64 - 1
   pub record HandlesAll (before : State) (old : Written) (input : List ℕ) (left : Option (List ℕ)) (after : State) (new : Written) (count : ℕ) : Type 0 where
     pub ended : left ≡ Some []
     pub counted : count ≡ min (length (lines_of input)) (2 ^ 64 - 1)
-    pub handled : Handled Step Stops Waits most before old (lines_of input) after new
+    pub handled : Handled rules most before old (lines_of input) after new
 
   -- the lines before the first long one were handled
   pub record EndsAtLong (before : State) (old : Written) (input : List ℕ) (after : State) (new : Written) : Type 0 where
@@ -20,14 +20,14 @@ module _ {State : Type 0} (Step : State → List ℕ → State → List ℕ → 
     pub more : List (List ℕ)
     pub parts : lines_of input ≡ lines ++ long ∷ more
     pub is_long : most < length long
-    pub handled : Handled Step Stops Waits most before old lines after new
+    pub handled : Handled rules most before old lines after new
 
   -- a pull failed; of what was read before, the lines that have their LF were handled, and the unfinished one isn't long
   pub record EndsAtRead (before : State) (old : Written) (unread left : Unread) (after : State) (new : Written) : Type 0 where
     pub read : List ℕ
     pub failed : PullFailed unread left read
     pub short : AllShort most (lines_of read)
-    pub handled : Handled Step Stops Waits most before old (whole_lines read) after new
+    pub handled : Handled rules most before old (whole_lines read) after new
 
   -- Where the source doesn't tell its bytes, nothing is said of lines but at a failed pull.
   abbrev pub StreamEnds : State → Written → Unread → Unread → State → Written → Result ℕ StreamFault → Type 0
@@ -35,6 +35,6 @@ module _ {State : Type 0} (Step : State → List ℕ → State → List ℕ → 
   StreamEnds before old unread left after new (Err faults.LongLine) = IfSome unread.bytes (λ input. EndsAtLong before old input after new)
   StreamEnds before old unread left after new (Err faults.Read) = EndsAtRead before old unread left after new
   StreamEnds before old unread left after new (Err faults.Write) =
-      Rises old.failures new.failures × IfSome unread.bytes (λ input. BreaksAmong Step Stops Waits most before old (lines_of input) after new)
+      Rises old.failures new.failures × IfSome unread.bytes (λ input. BreaksAmong rules most before old (lines_of input) after new)
   StreamEnds before old unread left after new (Err faults.Memory) =
-      ((state : State) × (line : List ℕ) × Stops state line) × IfSome unread.bytes (λ input. StopsAmong Step Stops Waits most before old (lines_of input) after new)
+      ((state : State) × (line : List ℕ) × rules.Stops state line) × IfSome unread.bytes (λ input. StopsAmong rules most before old (lines_of input) after new)

@@ -7,7 +7,7 @@ use crate::fault::{Stop, StreamFault};
 use crate::handler::Handler;
 use crate::streaming::stream_lines;
 use arrayvec::ArrayVec;
-use byte_devices::{Held, Sink, Source, WriteFault, hold};
+use byte_devices::{Out, Sink, Source, WriteFault};
 use dbc_values::Memory;
 use std::alloc::Global;
 use std::marker::PhantomData;
@@ -33,7 +33,7 @@ struct Writer<T> {
 }
 
 impl<T: LineText> Handler for Writer<T> {
-    ghost use Rattle.line_stream.specs.LineTexts.{WritesText};
+    ghost use Rattle.line_stream.specs.LineTexts.{writes_texts};
 
     type State = T;
 
@@ -41,30 +41,25 @@ impl<T: LineText> Handler for Writer<T> {
 
     ghost view = { λ texts. texts };
 
-    ghost Step = { λ _. WritesText T.text_of };
-
-    ghost Stops = { λ _ _ _. Unit {0} };
-
-    ghost Waits = { λ _. Unit {0} };
+    ghost rules = { λ _. writes_texts T.text_of };
 
     fn handle<W: Sink>(
         &self,
         texts: &mut T,
         room: &mut Vec<u8>,
-        sink: &mut W,
-        held: &mut Held,
+        out: &mut Out<'_, W>,
         line: &[u8],
     ) -> Result<(), Stop> {
         let Ok(()) = texts.renew(room, line) else {
             return Err(Stop::Memory);
         };
-        if let Err(WriteFault) = hold(sink, held, room.as_slice()) {
+        if let Err(WriteFault) = out.send(room.as_slice()) {
             return Err(Stop::Write);
         }
         Ok(())
     }
 
-    ghost nothing_waits = { tt };
+    ghost nothing_waits = { λ handler. tt };
 }
 
 /// Reads the source to its end, writes the text of each line and an LF behind it, and answers how many lines there are,

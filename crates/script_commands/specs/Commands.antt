@@ -3,7 +3,7 @@ use Rattle.std.specs.Prelude.{◌≡◌, ℕ, ◌&&◌, Bool, true, false, List,
 use Rattle.std.specs.Str.{bytes_eq}
 use Rattle.dbc_values.specs.Lexical.{is_name}
 use Rattle.dbc_values.specs.Pieces.{is_string, inside}
-use Rattle.dbc_records.specs.Records.{Head, Signal, ValueRow, MuxRow, TableRow, head_fits}
+use Rattle.dbc_records.specs.Records.{head_fits}
 use Rattle.dbc_records.specs.Attributes.{AttrRow}
 use Rattle.dbc_records.specs.declared.target.Target.{Target}
 use Rattle.dbc_records.specs.declared.target.Target.TheVariants as targets
@@ -37,10 +37,6 @@ abbrev pub Says : List ℕ → Option Statement → Type 0
 Says text (Some statement) = HasStatement text statement
 Says text None = (fault : ReadFault) × HasFirstFault grammar.one_statement text fault
 
--- what a text says as a statement of a kind
-abbrev pub SaysKind : {X : Type 0} → (Statement → Option X) → List ℕ → Option X → Type 0
-SaysKind kind text found = (said : Option Statement) × Says text said × (found ≡ option_and_then kind said)
-
 -- What the words behind a verb ask for: a command or none, as they stand, or a command by the statement that a text is.
 pub data Sense : Type 0 where
   Plain : Option Command → Sense
@@ -50,39 +46,30 @@ abbrev pub HasSense : Sense → Option Command → Type 0
 HasSense (Plain command) meaning = meaning ≡ command
 HasSense (Reads text command) meaning = (said : Option Statement) × Says text said × (meaning ≡ option_and_then command said)
 
--- what a statement is of each kind
-abbrev pub head_of : Statement → Option Head
-head_of (statements.Head head) = Some head
-head_of statement = None
-
-abbrev pub signal_of : Statement → Option Signal
-signal_of (statements.Signal signal) = Some signal
-signal_of statement = None
-
-abbrev pub mux_of : Statement → Option MuxRow
-mux_of (statements.Mux row) = Some row
-mux_of statement = None
-
-abbrev pub values_of : Statement → Option ValueRow
-values_of (statements.Values row) = Some row
-values_of statement = None
-
-abbrev pub table_of : Statement → Option TableRow
-table_of (statements.Table row) = Some row
-table_of statement = None
-
 -- an attribute of a message, as an edit sets it
 abbrev pub attribute_set : AttrRow → Target → Option Edit
 attribute_set row (targets.Message number) = Some (edits.SetAttribute row.name number row.value)
 attribute_set row target = None
 
-abbrev pub attribute_of : Statement → Option Edit
-attribute_of (statements.Attribute row) = attribute_set row row.target
-attribute_of statement = None
+-- The edit that a verb asks for by a statement, behind the places of a message and of a signal. Where the verb takes fewer
+-- places, what stands for the others is of no matter.
+abbrev pub edit_by : Verb → ℕ → ℕ → Statement → Option Edit
+edit_by verbs.AddMessage place at (statements.Head head) = Some (edits.AddMessage place head)
+edit_by verbs.AddSignal place at (statements.Signal signal) = Some (edits.AddSignal place at signal)
+edit_by verbs.ChangeSignal place at (statements.Signal signal) = Some (edits.ChangeSignal place signal)
+edit_by verbs.SetMux place at (statements.Mux row) = Some (edits.SetMux row)
+edit_by verbs.SetValues place at (statements.Values row) = Some (edits.SetValues row)
+edit_by verbs.SetTable place at (statements.Table row) = Some (edits.SetTable row)
+edit_by verbs.SetAttribute place at (statements.Attribute row) = attribute_set row row.target
+edit_by verb place at statement = None
 
--- by the statement of a kind that a text is
-abbrev pub by_kind : {X : Type 0} → (Statement → Option X) → (X → Edit) → List ℕ → Sense
-by_kind kind edit text = Reads text (λ statement. option_map (λ x. Change (edit x)) (kind statement))
+-- an edit is a command
+abbrev pub changes : Option Edit → Option Command
+changes edit = option_map (λ e. Change e) edit
+
+-- by the statement that a text is
+abbrev pub by_statement : Verb → ℕ → ℕ → List ℕ → Sense
+by_statement verb place at text = Reads text (λ statement. changes (edit_by verb place at statement))
 
 -- ---- words
 
@@ -141,26 +128,30 @@ show text =
 
 -- ---- verbs
 
+-- what the verb of an edit asks for with the text behind its blank
+abbrev pub edit_sense : Verb → List ℕ → Sense
+edit_sense verbs.AddMessage text = with_number (λ place statement. by_statement verbs.AddMessage place 0 statement) text
+edit_sense verbs.RemoveMessage text = by_number (λ place. edits.RemoveMessage place) text
+edit_sense verbs.ChangeMessage text = with_number (λ place words. Plain (change_by place (word_of words) (rest_of words))) text
+edit_sense verbs.Renumber text = with_number (λ place number. by_number (λ n. edits.Renumber place n) number) text
+edit_sense verbs.AddSignal text = with_number (λ place words. with_number (λ at statement. by_statement verbs.AddSignal place at statement) words) text
+edit_sense verbs.RemoveSignal text = with_number (λ place name. by_name (λ n. edits.RemoveSignal place n) name) text
+edit_sense verbs.ChangeSignal text = with_number (λ place statement. by_statement verbs.ChangeSignal place 0 statement) text
+edit_sense verbs.SetMux text = by_statement verbs.SetMux 0 0 text
+edit_sense verbs.SetValues text = by_statement verbs.SetValues 0 0 text
+edit_sense verbs.SetTable text = by_statement verbs.SetTable 0 0 text
+edit_sense verbs.SetAttribute text = by_statement verbs.SetAttribute 0 0 text
+edit_sense verbs.DropMux text = with_number (λ number name. by_name (λ n. edits.DropMux number n) name) text
+edit_sense verbs.DropValues text = with_number (λ number name. by_name (λ n. edits.DropValues number n) name) text
+edit_sense verbs.DropTable text = by_name (λ n. edits.DropTable n) text
+edit_sense verbs.DropAttribute text = with_number (λ number name. by_string (λ n. edits.DropAttribute n number) name) text
+edit_sense verb text = Plain None
+
 -- what a verb asks for with the text behind its blank
 abbrev pub sense_of : Verb → List ℕ → Sense
 sense_of verbs.Log text = Plain (Some (Log text))
-sense_of verbs.AddMessage text = with_number (λ place statement. by_kind head_of (λ head. edits.AddMessage place head) statement) text
-sense_of verbs.RemoveMessage text = by_number (λ place. edits.RemoveMessage place) text
-sense_of verbs.ChangeMessage text = with_number (λ place words. Plain (change_by place (word_of words) (rest_of words))) text
-sense_of verbs.Renumber text = with_number (λ place number. by_number (λ n. edits.Renumber place n) number) text
-sense_of verbs.AddSignal text = with_number (λ place words. with_number (λ at statement. by_kind signal_of (λ signal. edits.AddSignal place at signal) statement) words) text
-sense_of verbs.RemoveSignal text = with_number (λ place name. by_name (λ n. edits.RemoveSignal place n) name) text
-sense_of verbs.ChangeSignal text = with_number (λ place statement. by_kind signal_of (λ signal. edits.ChangeSignal place signal) statement) text
-sense_of verbs.SetMux text = by_kind mux_of (λ row. edits.SetMux row) text
-sense_of verbs.SetValues text = by_kind values_of (λ row. edits.SetValues row) text
-sense_of verbs.SetTable text = by_kind table_of (λ row. edits.SetTable row) text
-sense_of verbs.SetAttribute text = by_kind attribute_of (λ edit. edit) text
-sense_of verbs.DropMux text = with_number (λ number name. by_name (λ n. edits.DropMux number n) name) text
-sense_of verbs.DropValues text = with_number (λ number name. by_name (λ n. edits.DropValues number n) name) text
-sense_of verbs.DropTable text = by_name (λ n. edits.DropTable n) text
-sense_of verbs.DropAttribute text = with_number (λ number name. by_string (λ n. edits.DropAttribute n number) name) text
 sense_of verbs.Show text = Plain (show text)
-sense_of verbs.Print text = Plain None
+sense_of verb text = edit_sense verb text
 
 -- the one verb that stands alone is `print`
 abbrev pub sense_alone : Verb → Sense
@@ -192,7 +183,3 @@ seen coded.ShowDiagnostics = ShowDiagnostics
 seen (coded.ShowLayout place) = ShowLayout place
 seen coded.ShowLines = ShowLines
 seen coded.Print = Print
-
--- an edit is a command
-abbrev pub changes : Option Edit → Option Command
-changes edit = option_map (λ e. Change e) edit

@@ -1,5 +1,5 @@
 -- The words of a script line. They stand one blank apart.
-use Rattle.std.specs.Prelude.{ℕ, Bool, true, false, not, ◌&&◌, ◌==◌, nat_le, List, [], ◌∷◌, take, drop, Option, Some, None, codes, if◌then◌else◌}
+use Rattle.std.specs.Prelude.{ℕ, not, ◌&&◌, ◌==◌, nat_le, List, [], ◌∷◌, take, drop, Option, Some, None, codes, if◌then◌else◌}
 use Rattle.std.specs.List.{prefix_len, find}
 use Rattle.std.specs.Str.{bytes_eq}
 use Rattle.std.specs.Str.Parse.{digits_value}
@@ -58,10 +58,3 @@ all_verbs =
 -- the verb that a word is
 unfoldable pub verb_of : List ℕ → Option Verb
 verb_of word = find (λ verb. bytes_eq (verb_word verb) word) all_verbs
-
--- the verb of an edit
-abbrev pub is_edit : Verb → Bool
-is_edit verbs.Log = false
-is_edit verbs.Show = false
-is_edit verbs.Print = false
-is_edit verb = true

@@ -1,48 +1,19 @@
 //! What lines ask for.
 ghost use Rattle.std.specs.Prelude.{◌≡◌, IfOk, OnErr, IsTrue, option_map};
 ghost use Rattle.std.specs.Str.{bytes_eq};
-ghost use Rattle.script_commands.specs.Words.{verb_of, word_of, is_edit};
-ghost use Rattle.std.specs.Prelude.{true, Some};
+ghost use Rattle.script_commands.specs.Words.{verb_of, word_of};
+ghost use Rattle.std.specs.Prelude.{Some};
 ghost use Rattle.script_commands.specs.Commands.{HasSense, sense_of, line_sense, sense_alone, show_layout, show, changes, seen, Means, takes_memory};
 ghost use Rattle.log_frames.specs.LogLines.{body_of};
 
 use crate::command::Command;
-use crate::edits::{
-    add_message, add_signal, change_message, change_signal, drop_attribute, drop_mux, drop_table,
-    drop_values, remove_message, remove_signal, renumber, set_attribute, set_mux, set_table,
-    set_values,
-};
+use crate::edits::edit_of;
 use crate::verb::Verb;
 use crate::words::{number_of, rest_of, word_of};
 use dbc_edits::Edit;
 use dbc_values::{Memory, same};
 use log_frames::body_of;
 use std::alloc::Global;
-
-// The edit that a verb asks for with the text behind it.
-fn edit_of(alloc: Global, verb: Verb, text: &[u8]) -> Result<Option<Edit>, Memory>
-    requires { is_edit verb ≡ true }
-    ensures { IfOk result (λ edit. HasSense (sense_of verb text.now) (changes edit)) }
-{
-    match verb {
-        Verb::AddMessage => add_message(alloc, text),
-        Verb::RemoveMessage => Ok(remove_message(text)),
-        Verb::ChangeMessage => change_message(alloc, text),
-        Verb::Renumber => Ok(renumber(text)),
-        Verb::AddSignal => add_signal(alloc, text),
-        Verb::RemoveSignal => remove_signal(alloc, text),
-        Verb::ChangeSignal => change_signal(alloc, text),
-        Verb::SetMux => set_mux(alloc, text),
-        Verb::SetValues => set_values(alloc, text),
-        Verb::SetTable => set_table(alloc, text),
-        Verb::SetAttribute => set_attribute(alloc, text),
-        Verb::DropMux => drop_mux(alloc, text),
-        Verb::DropValues => drop_values(alloc, text),
-        Verb::DropTable => drop_table(alloc, text),
-        Verb::DropAttribute => drop_attribute(alloc, text),
-        Verb::Log | Verb::Show | Verb::Print => Ok(None),
-    }
-}
 
 fn changed(edit: Option<Edit>) -> Option<Command<'static>>
     ensures { option_map seen result ≡ changes edit }

@@ -1,97 +1,96 @@
 //! The edits that lines ask for.
-ghost use Rattle.std.specs.Prelude.{◌≡◌, ℕ, List, IfOk, Some, None, if◌then◌else◌};
-ghost use Rattle.dbc_values.specs.Lexical.{is_name};
+ghost use Rattle.std.specs.Prelude.{◌≡◌, IfOk, Some, None, if◌then◌else◌};
 ghost use Rattle.dbc_values.specs.Pieces.{is_string, inside};
 ghost use Rattle.dbc_edits.specs.declared.edit.Edit.TheVariants as edits;
 ghost use Rattle.script_commands.specs.declared.verb.Verb.TheVariants as verbs;
-ghost use Rattle.script_commands.specs.Commands.{SaysKind, HasSense, sense_of, changes, change_of, head_of, signal_of, mux_of, values_of, table_of, attribute_of};
+ghost use Rattle.script_commands.specs.Commands.{HasSense, edit_sense, changes, change_of, attribute_set, edit_by, by_statement, with_number};
 
-use crate::statement::{
-    attribute_of, head_of, mux_of, signal_of, statement_of, table_of, values_of,
-};
+use crate::statement::statement_of;
 use crate::verb::Verb;
 use crate::words::{number_and_rest, number_of, rest_of, word_of};
 use dbc_edits::{Change, Edit};
-use dbc_records::{Head, MuxRow, Signal, TableRow, ValueRow};
+use dbc_reader::Statement;
+use dbc_records::{AttrRow, Target};
 use dbc_values::{Memory, Name, Text, is_string};
 use std::alloc::Global;
 
-// The first line of a message that the text spells, if it spells one.
-fn head_in(alloc: Global, text: &[u8]) -> Result<Option<Head>, Memory>
-    ensures { IfOk result (λ found. SaysKind head_of text.now found) }
+// An attribute of a message is set; that of another object is none.
+fn attribute_set(row: AttrRow) -> Option<Edit>
+    ensures { result ≡ attribute_set row row.target }
+{
+    let AttrRow {
+        name,
+        target,
+        value,
+    } = row;
+    match target {
+        Target::Message(number) => Some(Edit::SetAttribute(name, number, value)),
+        Target::Whole | Target::Node(_) | Target::Signal(_, _) => None,
+    }
+}
+
+// The edit that a verb asks for by a statement, behind the places of a message and of a signal.
+fn edit_by(verb: Verb, place: u32, at: u32, statement: Statement) -> Option<Edit>
+    ensures { result ≡ edit_by verb place at statement }
+{
+    match (verb, statement) {
+        (Verb::AddMessage, Statement::Head(head)) => Some(Edit::AddMessage(place as usize, head)),
+        (Verb::AddSignal, Statement::Signal(signal)) => {
+            Some(Edit::AddSignal(place as usize, at as usize, signal))
+        }
+        (Verb::ChangeSignal, Statement::Signal(signal)) => {
+            Some(Edit::ChangeSignal(place as usize, signal))
+        }
+        (Verb::SetMux, Statement::Mux(row)) => Some(Edit::SetMux(row)),
+        (Verb::SetValues, Statement::Values(row)) => Some(Edit::SetValues(row)),
+        (Verb::SetTable, Statement::Table(row)) => Some(Edit::SetTable(row)),
+        (Verb::SetAttribute, Statement::Attribute(row)) => attribute_set(row),
+        _ => None,
+    }
+}
+
+// By the statement that the text is; 0 stands for a place that the verb does not take.
+fn by_statement(
+    alloc: Global,
+    verb: Verb,
+    place: u32,
+    at: u32,
+    text: &[u8],
+) -> Result<Option<Edit>, Memory>
+    ensures { IfOk result (λ edit. HasSense (by_statement verb place at text.now) (changes edit)) }
 {
     match statement_of(alloc, text)? {
-        Some(statement) => Ok(head_of(statement)),
+        Some(statement) => Ok(edit_by(verb, place, at, statement)),
         None => Ok(None),
     }
 }
 
-// The signal that the text spells, if it spells one.
-fn signal_in(alloc: Global, text: &[u8]) -> Result<Option<Signal>, Memory>
-    ensures { IfOk result (λ found. SaysKind signal_of text.now found) }
+// By the place of a message and a statement.
+fn by_place(alloc: Global, verb: Verb, text: &[u8]) -> Result<Option<Edit>, Memory>
+    ensures { IfOk result (λ edit. HasSense (with_number (λ place statement. by_statement verb place 0 statement) text.now) (changes edit)) }
 {
-    match statement_of(alloc, text)? {
-        Some(statement) => Ok(signal_of(statement)),
+    match number_and_rest(text) {
+        Some((place, statement)) => by_statement(alloc, verb, place, 0, statement),
         None => Ok(None),
     }
 }
 
-// The multiplexer row that the text spells, if it spells one.
-fn mux_in(alloc: Global, text: &[u8]) -> Result<Option<MuxRow>, Memory>
-    ensures { IfOk result (λ found. SaysKind mux_of text.now found) }
+// A signal is added: the place of its message, its own and a `SG_` statement.
+fn add_signal(alloc: Global, text: &[u8]) -> Result<Option<Edit>, Memory>
+    ensures { IfOk result (λ edit. HasSense (edit_sense verbs.AddSignal text.now) (changes edit)) }
 {
-    match statement_of(alloc, text)? {
-        Some(statement) => Ok(mux_of(statement)),
-        None => Ok(None),
-    }
-}
-
-// The row of named values that the text spells, if it spells one.
-fn values_in(alloc: Global, text: &[u8]) -> Result<Option<ValueRow>, Memory>
-    ensures { IfOk result (λ found. SaysKind values_of text.now found) }
-{
-    match statement_of(alloc, text)? {
-        Some(statement) => Ok(values_of(statement)),
-        None => Ok(None),
-    }
-}
-
-// The value table that the text spells, if it spells one.
-fn table_in(alloc: Global, text: &[u8]) -> Result<Option<TableRow>, Memory>
-    ensures { IfOk result (λ found. SaysKind table_of text.now found) }
-{
-    match statement_of(alloc, text)? {
-        Some(statement) => Ok(table_of(statement)),
-        None => Ok(None),
-    }
-}
-
-// The edit that sets the attribute of a message that the text spells, if it spells one.
-fn attribute_in(alloc: Global, text: &[u8]) -> Result<Option<Edit>, Memory>
-    ensures { IfOk result (λ found. SaysKind attribute_of text.now found) }
-{
-    match statement_of(alloc, text)? {
-        Some(statement) => Ok(attribute_of(statement)),
-        None => Ok(None),
-    }
-}
-
-/// A message is added: a place and a `BO_` statement.
-pub(crate) fn add_message(alloc: Global, text: &[u8]) -> Result<Option<Edit>, Memory>
-    ensures { IfOk result (λ edit. HasSense (sense_of verbs.AddMessage text.now) (changes edit)) }
-{
-    let Some((place, statement)) = number_and_rest(text) else {
+    let Some((place, words)) = number_and_rest(text) else {
         return Ok(None);
     };
-    match head_in(alloc, statement)? {
-        Some(head) => Ok(Some(Edit::AddMessage(place as usize, head))),
+    match number_and_rest(words) {
+        Some((at, statement)) => by_statement(alloc, Verb::AddSignal, place, at, statement),
         None => Ok(None),
     }
 }
 
-/// A message is removed: its place.
-pub(crate) fn remove_message(text: &[u8]) -> Option<Edit>
-    ensures { HasSense (sense_of verbs.RemoveMessage text.now) (changes result) }
+// A message is removed: its place.
+fn remove_message(text: &[u8]) -> Option<Edit>
+    ensures { HasSense (edit_sense verbs.RemoveMessage text.now) (changes result) }
 {
     let place = number_of(text)?;
     Some(Edit::RemoveMessage(place as usize))
@@ -113,9 +112,9 @@ fn change_to(alloc: Global, name: &[u8], size: u32, sender: &[u8]) -> Result<Opt
     Ok(Change::new(name, size, sender))
 }
 
-/// A first line is changed: a place, a name, a size and a sender.
-pub(crate) fn change_message(alloc: Global, text: &[u8]) -> Result<Option<Edit>, Memory>
-    ensures { IfOk result (λ edit. HasSense (sense_of verbs.ChangeMessage text.now) (changes edit)) }
+// A first line is changed: a place, a name, a size and a sender.
+fn change_message(alloc: Global, text: &[u8]) -> Result<Option<Edit>, Memory>
+    ensures { IfOk result (λ edit. HasSense (edit_sense verbs.ChangeMessage text.now) (changes edit)) }
 {
     let Some((place, words)) = number_and_rest(text) else {
         return Ok(None);
@@ -132,34 +131,18 @@ pub(crate) fn change_message(alloc: Global, text: &[u8]) -> Result<Option<Edit>,
     }
 }
 
-/// A message takes another number: its place and that number.
-pub(crate) fn renumber(text: &[u8]) -> Option<Edit>
-    ensures { HasSense (sense_of verbs.Renumber text.now) (changes result) }
+// A message takes another number: its place and that number.
+fn renumber(text: &[u8]) -> Option<Edit>
+    ensures { HasSense (edit_sense verbs.Renumber text.now) (changes result) }
 {
     let (place, number) = number_and_rest(text)?;
     let number = number_of(number)?;
     Some(Edit::Renumber(place as usize, number))
 }
 
-/// A signal is added: the place of its message, its own and a `SG_` statement.
-pub(crate) fn add_signal(alloc: Global, text: &[u8]) -> Result<Option<Edit>, Memory>
-    ensures { IfOk result (λ edit. HasSense (sense_of verbs.AddSignal text.now) (changes edit)) }
-{
-    let Some((place, words)) = number_and_rest(text) else {
-        return Ok(None);
-    };
-    let Some((at, statement)) = number_and_rest(words) else {
-        return Ok(None);
-    };
-    match signal_in(alloc, statement)? {
-        Some(signal) => Ok(Some(Edit::AddSignal(place as usize, at as usize, signal))),
-        None => Ok(None),
-    }
-}
-
-/// A signal is removed: the place of its message and its name.
-pub(crate) fn remove_signal(alloc: Global, text: &[u8]) -> Result<Option<Edit>, Memory>
-    ensures { IfOk result (λ edit. HasSense (sense_of verbs.RemoveSignal text.now) (changes edit)) }
+// A signal is removed: the place of its message and its name.
+fn remove_signal(alloc: Global, text: &[u8]) -> Result<Option<Edit>, Memory>
+    ensures { IfOk result (λ edit. HasSense (edit_sense verbs.RemoveSignal text.now) (changes edit)) }
 {
     let Some((place, name)) = number_and_rest(text) else {
         return Ok(None);
@@ -170,59 +153,9 @@ pub(crate) fn remove_signal(alloc: Global, text: &[u8]) -> Result<Option<Edit>, 
     }
 }
 
-/// A signal is changed: the place of its message and a `SG_` statement.
-pub(crate) fn change_signal(alloc: Global, text: &[u8]) -> Result<Option<Edit>, Memory>
-    ensures { IfOk result (λ edit. HasSense (sense_of verbs.ChangeSignal text.now) (changes edit)) }
-{
-    let Some((place, statement)) = number_and_rest(text) else {
-        return Ok(None);
-    };
-    match signal_in(alloc, statement)? {
-        Some(signal) => Ok(Some(Edit::ChangeSignal(place as usize, signal))),
-        None => Ok(None),
-    }
-}
-
-/// A multiplexer row is set: a `SG_MUL_VAL_` statement.
-pub(crate) fn set_mux(alloc: Global, text: &[u8]) -> Result<Option<Edit>, Memory>
-    ensures { IfOk result (λ edit. HasSense (sense_of verbs.SetMux text.now) (changes edit)) }
-{
-    match mux_in(alloc, text)? {
-        Some(row) => Ok(Some(Edit::SetMux(row))),
-        None => Ok(None),
-    }
-}
-
-/// Named values are set: a `VAL_` statement.
-pub(crate) fn set_values(alloc: Global, text: &[u8]) -> Result<Option<Edit>, Memory>
-    ensures { IfOk result (λ edit. HasSense (sense_of verbs.SetValues text.now) (changes edit)) }
-{
-    match values_in(alloc, text)? {
-        Some(row) => Ok(Some(Edit::SetValues(row))),
-        None => Ok(None),
-    }
-}
-
-/// A value table is set: a `VAL_TABLE_` statement.
-pub(crate) fn set_table(alloc: Global, text: &[u8]) -> Result<Option<Edit>, Memory>
-    ensures { IfOk result (λ edit. HasSense (sense_of verbs.SetTable text.now) (changes edit)) }
-{
-    match table_in(alloc, text)? {
-        Some(row) => Ok(Some(Edit::SetTable(row))),
-        None => Ok(None),
-    }
-}
-
-/// An attribute of a message is set: a `BA_` statement.
-pub(crate) fn set_attribute(alloc: Global, text: &[u8]) -> Result<Option<Edit>, Memory>
-    ensures { IfOk result (λ edit. HasSense (sense_of verbs.SetAttribute text.now) (changes edit)) }
-{
-    attribute_in(alloc, text)
-}
-
-/// Multiplexer rows are dropped: a number and a name.
-pub(crate) fn drop_mux(alloc: Global, text: &[u8]) -> Result<Option<Edit>, Memory>
-    ensures { IfOk result (λ edit. HasSense (sense_of verbs.DropMux text.now) (changes edit)) }
+// Multiplexer rows are dropped: a number and a name.
+fn drop_mux(alloc: Global, text: &[u8]) -> Result<Option<Edit>, Memory>
+    ensures { IfOk result (λ edit. HasSense (edit_sense verbs.DropMux text.now) (changes edit)) }
 {
     let Some((number, name)) = number_and_rest(text) else {
         return Ok(None);
@@ -233,9 +166,9 @@ pub(crate) fn drop_mux(alloc: Global, text: &[u8]) -> Result<Option<Edit>, Memor
     }
 }
 
-/// Named values are dropped: a number and a name.
-pub(crate) fn drop_values(alloc: Global, text: &[u8]) -> Result<Option<Edit>, Memory>
-    ensures { IfOk result (λ edit. HasSense (sense_of verbs.DropValues text.now) (changes edit)) }
+// Named values are dropped: a number and a name.
+fn drop_values(alloc: Global, text: &[u8]) -> Result<Option<Edit>, Memory>
+    ensures { IfOk result (λ edit. HasSense (edit_sense verbs.DropValues text.now) (changes edit)) }
 {
     let Some((number, name)) = number_and_rest(text) else {
         return Ok(None);
@@ -246,9 +179,9 @@ pub(crate) fn drop_values(alloc: Global, text: &[u8]) -> Result<Option<Edit>, Me
     }
 }
 
-/// Value tables are dropped: their name.
-pub(crate) fn drop_table(alloc: Global, text: &[u8]) -> Result<Option<Edit>, Memory>
-    ensures { IfOk result (λ edit. HasSense (sense_of verbs.DropTable text.now) (changes edit)) }
+// Value tables are dropped: their name.
+fn drop_table(alloc: Global, text: &[u8]) -> Result<Option<Edit>, Memory>
+    ensures { IfOk result (λ edit. HasSense (edit_sense verbs.DropTable text.now) (changes edit)) }
 {
     match Name::new(alloc, text)? {
         Some(name) => Ok(Some(Edit::DropTable(name))),
@@ -278,9 +211,9 @@ fn string_in(alloc: Global, token: &[u8]) -> Result<Option<Text>, Memory>
     }
 }
 
-/// An attribute of a message is dropped: a number and the attribute in quotes.
-pub(crate) fn drop_attribute(alloc: Global, text: &[u8]) -> Result<Option<Edit>, Memory>
-    ensures { IfOk result (λ edit. HasSense (sense_of verbs.DropAttribute text.now) (changes edit)) }
+// An attribute of a message is dropped: a number and the attribute in quotes.
+fn drop_attribute(alloc: Global, text: &[u8]) -> Result<Option<Edit>, Memory>
+    ensures { IfOk result (λ edit. HasSense (edit_sense verbs.DropAttribute text.now) (changes edit)) }
 {
     let Some((number, token)) = number_and_rest(text) else {
         return Ok(None);
@@ -288,5 +221,27 @@ pub(crate) fn drop_attribute(alloc: Global, text: &[u8]) -> Result<Option<Edit>,
     match string_in(alloc, token)? {
         Some(name) => Ok(Some(Edit::DropAttribute(name, number))),
         None => Ok(None),
+    }
+}
+
+/// The edit that a verb asks for with the text behind it.
+pub(crate) fn edit_of(alloc: Global, verb: Verb, text: &[u8]) -> Result<Option<Edit>, Memory>
+    ensures { IfOk result (λ edit. HasSense (edit_sense verb text.now) (changes edit)) }
+{
+    match verb {
+        Verb::AddMessage | Verb::ChangeSignal => by_place(alloc, verb, text),
+        Verb::AddSignal => add_signal(alloc, text),
+        Verb::SetMux | Verb::SetValues | Verb::SetTable | Verb::SetAttribute => {
+            by_statement(alloc, verb, 0, 0, text)
+        }
+        Verb::RemoveMessage => Ok(remove_message(text)),
+        Verb::ChangeMessage => change_message(alloc, text),
+        Verb::Renumber => Ok(renumber(text)),
+        Verb::RemoveSignal => remove_signal(alloc, text),
+        Verb::DropMux => drop_mux(alloc, text),
+        Verb::DropValues => drop_values(alloc, text),
+        Verb::DropTable => drop_table(alloc, text),
+        Verb::DropAttribute => drop_attribute(alloc, text),
+        Verb::Log | Verb::Show | Verb::Print => Ok(None),
     }
 }

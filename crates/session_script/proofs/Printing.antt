@@ -3,7 +3,7 @@ use Rattle.std.proofs.Common.{ℕ, List, ◌++◌}
 use Rattle.std.specs.Prelude.{Result, Ok, Err}
 use Rattle.std.specs.Result.{IsErr}
 use Rattle.byte_devices.specs.Device.{Written, Wrote, Broke, Prints}
-use Rattle.byte_devices.proofs.Writes.{Wrote-then, Broke-then, Broke-more, Prints-flush}
+use Rattle.byte_devices.proofs.Writes.{Wrote-then, Broke-then, Broke-more}
 
 pub Prints-after : {X E : Type 0} (a b c : Written) (r : Result X E) (xs ys : List ℕ) → Wrote a b xs → Prints b c r ys → Prints a c r (xs ++ ys)
 Prints-after a b c (Ok x) xs ys p q = Wrote-then a b c xs ys p q
@@ -14,5 +14,3 @@ Prints-stop a b (Ok x) xs ys e p = absurd (cc)
 Prints-stop a b (Err x) xs ys e p = Broke-more a b xs ys p
 
 pub ruleset prints = (Prints-after, Prints-stop)
-
-pub ruleset flushes = (Prints-flush)

@@ -3,6 +3,7 @@ use Rattle.std.specs.Prelude.{◌≡◌, ℕ, List, [], Result, Ok, Err}
 use Rattle.byte_devices.specs.Device.{Unread, Written}
 use Rattle.line_stream.specs.declared.fault.StreamFault.{StreamFault}
 use Rattle.line_stream.specs.declared.fault.StreamFault.TheVariants as faults
+use Rattle.line_stream.specs.Runs.{Rules}
 use Rattle.line_stream.specs.Stream.{StreamEnds}
 use Rattle.can_session.specs.States.{State}
 use Rattle.session_script.specs.Replies.{Replies}
@@ -19,8 +20,12 @@ NeverStops state line = ⊥
 abbrev pub NothingWaits : List ℕ → Type 0
 NothingWaits held = held ≡ []
 
+-- how the lines of a script are handled
+abbrev pub script_rules : Rules State
+script_rules = record { Step = Replies; Stops = NeverStops; Waits = NothingWaits }
+
 abbrev pub Ends : State → Written → Unread → Unread → State → Written → Result ℕ StreamFault → Type 0
-Ends before old unread left after new result = StreamEnds Replies NeverStops NothingWaits longest_line before old unread left after new result
+Ends before old unread left after new result = StreamEnds script_rules longest_line before old unread left after new result
 
 -- The lines of the script were done one after another, each with its reply. Or nothing was read, since there was no memory for a
 -- line.

@@ -2,10 +2,11 @@
 ghost use Rattle.std.specs.Prelude.{◌≡◌, ◌++◌, codes, option_map, slice_get};
 ghost use Rattle.can_layout.specs.Pictures.{picture_of};
 ghost use Rattle.std.specs.List.{flat_map};
-ghost use Rattle.byte_devices.specs.Device.{Prints, Sends};
+ghost use Rattle.byte_devices.specs.Device.{Prints};
+ghost use Rattle.byte_devices.specs.Outs.{Sends};
 ghost use Rattle.session_script.specs.Replies.{ok_text, bad_text, refused_text, answer_text, diagnostics_text, layout_text, decoded_texts, lines_text, print_text};
 
-use byte_devices::{Held, Sink, WriteFault, flush, hold_pieces, put_all};
+use byte_devices::{Out, Sink, WriteFault, put_all};
 use can_check::write_lines;
 use can_session::{Refusal, Session};
 use dbc_model::print;
@@ -26,11 +27,11 @@ pub(crate) fn put_bad<W: Sink>(sink: &mut W) -> Result<(), WriteFault>
 }
 
 /// Why a command is refused.
-#[tactic(auto, using(crate::proofs::Printing::flushes), unfolding(crate::specs::Replies::refused_text))]
+#[tactic(auto, using(byte_devices::proofs::Outs::flushes), unfolding(crate::specs::Replies::refused_text))]
 pub(crate) fn put_refusal<W: Sink>(sink: &mut W, refusal: Refusal) -> Result<(), WriteFault>
     ensures { Prints (W.written sink.old) (W.written sink.new) result (refused_text refusal) }
 {
-    let mut held = Held::new();
+    let mut out = Out::new(sink);
     let mut number = Buffer::new();
     let pieces: [&[u8]; 5] = [
         b"refused ",
@@ -39,8 +40,8 @@ pub(crate) fn put_refusal<W: Sink>(sink: &mut W, refusal: Refusal) -> Result<(),
         refusal.word(),
         b"\n",
     ];
-    hold_pieces(sink, &mut held, &pieces)?;
-    flush(sink, &mut held)
+    out.send_pieces(&pieces)?;
+    out.flush()
 }
 
 /// What is answered to a command.
@@ -99,29 +100,29 @@ pub(crate) fn show_layout<W: Sink>(
     }
 }
 
-fn hold_line<W: Sink>(sink: &mut W, held: &mut Held, text: &[u8]) -> Result<(), WriteFault>
-    ensures { Sends (W.written sink.old) (W.written sink.new) held.old.items result (text.now ++ codes "\n") held.new.items }
+fn hold_line<W: Sink>(out: &mut Out<'_, W>, text: &[u8]) -> Result<(), WriteFault>
+    ensures { Sends W.written out.old out.new result (text.now ++ codes "\n") }
 {
     let pieces: [&[u8]; 2] = [text, b"\n"];
-    hold_pieces(sink, held, &pieces)
+    out.send_pieces(&pieces)
 }
 
-fn hold_lines<W: Sink>(sink: &mut W, held: &mut Held, session: &Session) -> Result<(), WriteFault>
-    ensures { Sends (W.written sink.old) (W.written sink.new) held.old.items result (flat_map (λ text. text ++ codes "\n") (decoded_texts session.now.state)) held.new.items }
+fn hold_lines<W: Sink>(out: &mut Out<'_, W>, session: &Session) -> Result<(), WriteFault>
+    ensures { Sends W.written out.old out.new result (flat_map (λ text. text ++ codes "\n") (decoded_texts session.now.state)) }
 {
     for n in 0..session.line_count() {
-        hold_line(sink, held, session.decoded(n))?;
+        hold_line(out, session.decoded(n))?;
     }
     Ok(())
 }
 
-#[tactic(auto, using(crate::proofs::Printing::flushes))]
+#[tactic(auto, using(byte_devices::proofs::Outs::flushes))]
 fn put_lines<W: Sink>(sink: &mut W, session: &Session) -> Result<(), WriteFault>
     ensures { Prints (W.written sink.old) (W.written sink.new) result (flat_map (λ text. text ++ codes "\n") (decoded_texts session.now.state)) }
 {
-    let mut held = Held::new();
-    hold_lines(sink, &mut held, session)?;
-    flush(sink, &mut held)
+    let mut out = Out::new(sink);
+    hold_lines(&mut out, session)?;
+    out.flush()
 }
 
 /// The decoded lines.

@@ -3,7 +3,7 @@ ghost use Rattle.session_script.specs.Serving.{Serves};
 
 use crate::performing::reply;
 use arrayvec::ArrayVec;
-use byte_devices::{Held, Sink, Source, WriteFault};
+use byte_devices::{Out, Sink, Source, WriteFault};
 use can_session::Session;
 use line_stream::{Handler, Stop, StreamFault, stream_lines};
 use std::alloc::Global;
@@ -20,8 +20,7 @@ struct Script {
 impl Handler for Script {
     ghost use Rattle.std.specs.Prelude.{refl};
     ghost use Rattle.can_session.specs.States.{State as SessionState};
-    ghost use Rattle.session_script.specs.Replies.{Replies};
-    ghost use Rattle.session_script.specs.Serving.{NeverStops, NothingWaits};
+    ghost use Rattle.session_script.specs.Serving.{script_rules};
 
     type State = Session;
 
@@ -29,27 +28,22 @@ impl Handler for Script {
 
     ghost view = { λ session. session.state };
 
-    ghost Step = { λ _. Replies };
-
-    ghost Stops = { λ _. NeverStops };
-
-    ghost Waits = { NothingWaits };
+    ghost rules = { λ _. script_rules };
 
     fn handle<W: Sink>(
         &self,
         session: &mut Session,
         _room: &mut Vec<u8>,
-        sink: &mut W,
-        _held: &mut Held,
+        out: &mut Out<'_, W>,
         line: &[u8],
     ) -> Result<(), Stop> {
-        match reply(self.alloc, session, line, sink) {
+        match reply(self.alloc, session, line, out.sink) {
             Ok(()) => Ok(()),
             Err(WriteFault) => Err(Stop::Write),
         }
     }
 
-    ghost nothing_waits = { refl };
+    ghost nothing_waits = { λ handler. refl };
 }
 
 /// Runs a script to its end: each line is a command, and its reply is written before the next is done. It answers how many commands

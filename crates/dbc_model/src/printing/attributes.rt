@@ -1,6 +1,6 @@
 //! Comments, and attributes with their definitions and defaults.
 ghost use Rattle.std.specs.Prelude.{◌≡◌, codes};
-ghost use Rattle.byte_devices.specs.Device.{Sends};
+ghost use Rattle.byte_devices.specs.Outs.{Sends};
 ghost use Rattle.dbc_records.specs.Layout.{layout_text};
 ghost use Rattle.dbc_records.specs.CanonicalText.{target_layout, comment_key, object_word, object_layout, number_limits_layout, texts_layout, form_layout, definition_key, value_layout, default_key, attribute_key};
 
@@ -8,7 +8,7 @@ use crate::printing::parts::{
     hold_spaced_number, hold_spaced_text, hold_spaced_word, hold_statement_end, hold_word,
 };
 use crate::printing::style::{Style, hold_separated};
-use byte_devices::{Held, Sink, WriteFault, hold_pieces};
+use byte_devices::{Out, Sink, WriteFault};
 use dbc_records::{
     AttrDef, AttrDefault, AttrRow, AttrValue, Comment, Form, Limits, Object, Target,
 };
@@ -16,16 +16,16 @@ use dbc_values::Text;
 use itoa::Buffer;
 
 #[tactic(auto, unfolding(dbc_records::specs::Layout::layout_text, dbc_records::specs::CanonicalText::target_layout))]
-fn hold_target<W: Sink>(sink: &mut W, held: &mut Held, target: &Target) -> Result<(), WriteFault>
-    ensures { Sends (W.written sink.old) (W.written sink.new) held.old.items result (layout_text (target_layout target.now)) held.new.items }
+fn hold_target<W: Sink>(out: &mut Out<'_, W>, target: &Target) -> Result<(), WriteFault>
+    ensures { Sends W.written out.old out.new result (layout_text (target_layout target.now)) }
 {
     let mut buffer = Buffer::new();
     match target {
         Target::Whole => Ok(()),
-        Target::Node(name) => hold_pieces(sink, held, &[b" BU_ ".as_slice(), name.as_bytes()]),
+        Target::Node(name) => out.send_pieces(&[b" BU_ ".as_slice(), name.as_bytes()]),
         Target::Message(number) => {
             let pieces: [&[u8]; 2] = [b" BO_ ", buffer.format(*number).as_bytes()];
-            hold_pieces(sink, held, &pieces)
+            out.send_pieces(&pieces)
         }
         Target::Signal(number, name) => {
             let pieces: [&[u8]; 4] = [
@@ -34,21 +34,17 @@ fn hold_target<W: Sink>(sink: &mut W, held: &mut Held, target: &Target) -> Resul
                 b" ",
                 name.as_bytes(),
             ];
-            hold_pieces(sink, held, &pieces)
+            out.send_pieces(&pieces)
         }
     }
 }
 
 #[tactic(auto, using(crate::proofs::Layouts::layouts), unfolding(dbc_records::specs::CanonicalText::comment_key))]
-fn hold_comment_key<W: Sink>(
-    sink: &mut W,
-    held: &mut Held,
-    comment: &Comment,
-) -> Result<(), WriteFault>
-    ensures { Sends (W.written sink.old) (W.written sink.new) held.old.items result (layout_text (comment_key comment.now)) held.new.items }
+fn hold_comment_key<W: Sink>(out: &mut Out<'_, W>, comment: &Comment) -> Result<(), WriteFault>
+    ensures { Sends W.written out.old out.new result (layout_text (comment_key comment.now)) }
 {
-    hold_word(sink, held, b"CM_")?;
-    hold_target(sink, held, &comment.target)
+    hold_word(out, b"CM_")?;
+    hold_target(out, &comment.target)
 }
 
 /// A comment's line.
@@ -60,14 +56,10 @@ impl Style<Comment> for CommentLine {
     ghost layout = { comment_layout };
 
     #[tactic(auto, using(crate::proofs::Layouts::layouts), unfolding(dbc_records::specs::CanonicalText::comment_layout))]
-    fn hold_item<W: Sink>(
-        sink: &mut W,
-        held: &mut Held,
-        comment: &Comment,
-    ) -> Result<(), WriteFault> {
-        hold_comment_key(sink, held, comment)?;
-        hold_spaced_text(sink, held, &comment.text)?;
-        hold_statement_end(sink, held)
+    fn hold_item<W: Sink>(out: &mut Out<'_, W>, comment: &Comment) -> Result<(), WriteFault> {
+        hold_comment_key(out, comment)?;
+        hold_spaced_text(out, &comment.text)?;
+        hold_statement_end(out)
     }
 }
 
@@ -83,31 +75,23 @@ fn word_of(object: Object) -> &'static [u8]
 }
 
 #[tactic(auto, using(crate::proofs::Layouts::layouts), unfolding(dbc_records::specs::CanonicalText::object_layout))]
-fn hold_object<W: Sink>(
-    sink: &mut W,
-    held: &mut Held,
-    object: Option<Object>,
-) -> Result<(), WriteFault>
-    ensures { Sends (W.written sink.old) (W.written sink.new) held.old.items result (layout_text (object_layout object)) held.new.items }
+fn hold_object<W: Sink>(out: &mut Out<'_, W>, object: Option<Object>) -> Result<(), WriteFault>
+    ensures { Sends W.written out.old out.new result (layout_text (object_layout object)) }
 {
     match object {
-        Some(object) => hold_spaced_word(sink, held, word_of(object)),
+        Some(object) => hold_spaced_word(out, word_of(object)),
         None => Ok(()),
     }
 }
 
 #[tactic(auto, using(crate::proofs::Layouts::layouts), unfolding(dbc_records::specs::CanonicalText::number_limits_layout))]
-fn hold_limits<W: Sink>(
-    sink: &mut W,
-    held: &mut Held,
-    limits: &Option<Limits>,
-) -> Result<(), WriteFault>
-    ensures { Sends (W.written sink.old) (W.written sink.new) held.old.items result (layout_text (number_limits_layout limits.now)) held.new.items }
+fn hold_limits<W: Sink>(out: &mut Out<'_, W>, limits: &Option<Limits>) -> Result<(), WriteFault>
+    ensures { Sends W.written out.old out.new result (layout_text (number_limits_layout limits.now)) }
 {
     match limits {
         Some(limits) => {
-            hold_spaced_number(sink, held, limits.minimum)?;
-            hold_spaced_number(sink, held, limits.maximum)
+            hold_spaced_number(out, limits.minimum)?;
+            hold_spaced_number(out, limits.maximum)
         }
         None => Ok(()),
     }
@@ -122,8 +106,8 @@ impl Style<Text> for SpacedText {
     ghost layout = { spaced_text };
 
     #[tactic(auto, unfolding(dbc_records::specs::Layout::layout_text, dbc_records::specs::CanonicalText::spaced_text))]
-    fn hold_item<W: Sink>(sink: &mut W, held: &mut Held, text: &Text) -> Result<(), WriteFault> {
-        hold_spaced_text(sink, held, text)
+    fn hold_item<W: Sink>(out: &mut Out<'_, W>, text: &Text) -> Result<(), WriteFault> {
+        hold_spaced_text(out, text)
     }
 }
 
@@ -136,54 +120,53 @@ impl Style<Text> for FurtherText {
     ghost layout = { further_text };
 
     #[tactic(auto, unfolding(dbc_records::specs::Layout::layout_text, dbc_records::specs::CanonicalText::further_text))]
-    fn hold_item<W: Sink>(sink: &mut W, held: &mut Held, text: &Text) -> Result<(), WriteFault> {
-        hold_pieces(sink, held, &[b",\"".as_slice(), text.as_bytes(), b"\""])
+    fn hold_item<W: Sink>(out: &mut Out<'_, W>, text: &Text) -> Result<(), WriteFault> {
+        out.send_pieces(&[b",\"".as_slice(), text.as_bytes(), b"\""])
     }
 }
 
 #[tactic(auto, using(crate::proofs::Layouts::layouts), unfolding(dbc_records::specs::CanonicalText::texts_layout))]
-fn hold_texts<W: Sink>(sink: &mut W, held: &mut Held, texts: &[Text]) -> Result<(), WriteFault>
-    ensures { Sends (W.written sink.old) (W.written sink.new) held.old.items result (layout_text (texts_layout texts.now)) held.new.items }
+fn hold_texts<W: Sink>(out: &mut Out<'_, W>, texts: &[Text]) -> Result<(), WriteFault>
+    ensures { Sends W.written out.old out.new result (layout_text (texts_layout texts.now)) }
 {
-    hold_separated::<SpacedText, FurtherText, Text, W>(sink, held, texts)
+    hold_separated::<SpacedText, FurtherText, Text, W>(out, texts)
 }
 
 #[tactic(auto, using(crate::proofs::Layouts::layouts), unfolding(dbc_records::specs::CanonicalText::form_layout))]
-fn hold_form<W: Sink>(sink: &mut W, held: &mut Held, form: &Form) -> Result<(), WriteFault>
-    ensures { Sends (W.written sink.old) (W.written sink.new) held.old.items result (layout_text (form_layout form.now)) held.new.items }
+fn hold_form<W: Sink>(out: &mut Out<'_, W>, form: &Form) -> Result<(), WriteFault>
+    ensures { Sends W.written out.old out.new result (layout_text (form_layout form.now)) }
 {
     match form {
         Form::Int(limits) => {
-            hold_spaced_word(sink, held, b"INT")?;
-            hold_limits(sink, held, limits)
+            hold_spaced_word(out, b"INT")?;
+            hold_limits(out, limits)
         }
         Form::Hex(limits) => {
-            hold_spaced_word(sink, held, b"HEX")?;
-            hold_limits(sink, held, limits)
+            hold_spaced_word(out, b"HEX")?;
+            hold_limits(out, limits)
         }
         Form::Float(limits) => {
-            hold_spaced_word(sink, held, b"FLOAT")?;
-            hold_limits(sink, held, limits)
+            hold_spaced_word(out, b"FLOAT")?;
+            hold_limits(out, limits)
         }
-        Form::Str => hold_spaced_word(sink, held, b"STRING"),
+        Form::Str => hold_spaced_word(out, b"STRING"),
         Form::Enumeration(texts) => {
-            hold_spaced_word(sink, held, b"ENUM")?;
-            hold_texts(sink, held, texts.as_slice())
+            hold_spaced_word(out, b"ENUM")?;
+            hold_texts(out, texts.as_slice())
         }
     }
 }
 
 #[tactic(auto, using(crate::proofs::Layouts::layouts), unfolding(dbc_records::specs::CanonicalText::definition_key))]
 fn hold_definition_key<W: Sink>(
-    sink: &mut W,
-    held: &mut Held,
+    out: &mut Out<'_, W>,
     definition: &AttrDef,
 ) -> Result<(), WriteFault>
-    ensures { Sends (W.written sink.old) (W.written sink.new) held.old.items result (layout_text (definition_key definition.now)) held.new.items }
+    ensures { Sends W.written out.old out.new result (layout_text (definition_key definition.now)) }
 {
-    hold_word(sink, held, b"BA_DEF_")?;
-    hold_object(sink, held, definition.object)?;
-    hold_spaced_text(sink, held, &definition.name)
+    hold_word(out, b"BA_DEF_")?;
+    hold_object(out, definition.object)?;
+    hold_spaced_text(out, &definition.name)
 }
 
 /// The line of an attribute's definition.
@@ -195,37 +178,29 @@ impl Style<AttrDef> for DefinitionLine {
     ghost layout = { definition_layout };
 
     #[tactic(auto, using(crate::proofs::Layouts::layouts), unfolding(dbc_records::specs::CanonicalText::definition_layout))]
-    fn hold_item<W: Sink>(
-        sink: &mut W,
-        held: &mut Held,
-        definition: &AttrDef,
-    ) -> Result<(), WriteFault> {
-        hold_definition_key(sink, held, definition)?;
-        hold_form(sink, held, &definition.form)?;
-        hold_statement_end(sink, held)
+    fn hold_item<W: Sink>(out: &mut Out<'_, W>, definition: &AttrDef) -> Result<(), WriteFault> {
+        hold_definition_key(out, definition)?;
+        hold_form(out, &definition.form)?;
+        hold_statement_end(out)
     }
 }
 
 #[tactic(auto, using(crate::proofs::Layouts::layouts), unfolding(dbc_records::specs::CanonicalText::value_layout))]
-fn hold_value<W: Sink>(sink: &mut W, held: &mut Held, value: &AttrValue) -> Result<(), WriteFault>
-    ensures { Sends (W.written sink.old) (W.written sink.new) held.old.items result (layout_text (value_layout value.now)) held.new.items }
+fn hold_value<W: Sink>(out: &mut Out<'_, W>, value: &AttrValue) -> Result<(), WriteFault>
+    ensures { Sends W.written out.old out.new result (layout_text (value_layout value.now)) }
 {
     match value {
-        AttrValue::Text(text) => hold_spaced_text(sink, held, text),
-        AttrValue::Decimal(number) => hold_spaced_number(sink, held, *number),
+        AttrValue::Text(text) => hold_spaced_text(out, text),
+        AttrValue::Decimal(number) => hold_spaced_number(out, *number),
     }
 }
 
 #[tactic(auto, using(crate::proofs::Layouts::layouts), unfolding(dbc_records::specs::CanonicalText::default_key))]
-fn hold_default_key<W: Sink>(
-    sink: &mut W,
-    held: &mut Held,
-    row: &AttrDefault,
-) -> Result<(), WriteFault>
-    ensures { Sends (W.written sink.old) (W.written sink.new) held.old.items result (layout_text (default_key row.now)) held.new.items }
+fn hold_default_key<W: Sink>(out: &mut Out<'_, W>, row: &AttrDefault) -> Result<(), WriteFault>
+    ensures { Sends W.written out.old out.new result (layout_text (default_key row.now)) }
 {
-    hold_word(sink, held, b"BA_DEF_DEF_")?;
-    hold_spaced_text(sink, held, &row.name)
+    hold_word(out, b"BA_DEF_DEF_")?;
+    hold_spaced_text(out, &row.name)
 }
 
 /// The line of an attribute's default.
@@ -237,28 +212,20 @@ impl Style<AttrDefault> for DefaultLine {
     ghost layout = { default_layout };
 
     #[tactic(auto, using(crate::proofs::Layouts::layouts), unfolding(dbc_records::specs::CanonicalText::default_layout))]
-    fn hold_item<W: Sink>(
-        sink: &mut W,
-        held: &mut Held,
-        row: &AttrDefault,
-    ) -> Result<(), WriteFault> {
-        hold_default_key(sink, held, row)?;
-        hold_value(sink, held, &row.value)?;
-        hold_statement_end(sink, held)
+    fn hold_item<W: Sink>(out: &mut Out<'_, W>, row: &AttrDefault) -> Result<(), WriteFault> {
+        hold_default_key(out, row)?;
+        hold_value(out, &row.value)?;
+        hold_statement_end(out)
     }
 }
 
 #[tactic(auto, using(crate::proofs::Layouts::layouts), unfolding(dbc_records::specs::CanonicalText::attribute_key))]
-fn hold_attribute_key<W: Sink>(
-    sink: &mut W,
-    held: &mut Held,
-    row: &AttrRow,
-) -> Result<(), WriteFault>
-    ensures { Sends (W.written sink.old) (W.written sink.new) held.old.items result (layout_text (attribute_key row.now)) held.new.items }
+fn hold_attribute_key<W: Sink>(out: &mut Out<'_, W>, row: &AttrRow) -> Result<(), WriteFault>
+    ensures { Sends W.written out.old out.new result (layout_text (attribute_key row.now)) }
 {
-    hold_word(sink, held, b"BA_")?;
-    hold_spaced_text(sink, held, &row.name)?;
-    hold_target(sink, held, &row.target)
+    hold_word(out, b"BA_")?;
+    hold_spaced_text(out, &row.name)?;
+    hold_target(out, &row.target)
 }
 
 /// The line of an attribute.
@@ -270,9 +237,9 @@ impl Style<AttrRow> for AttributeLine {
     ghost layout = { attribute_layout };
 
     #[tactic(auto, using(crate::proofs::Layouts::layouts), unfolding(dbc_records::specs::CanonicalText::attribute_layout))]
-    fn hold_item<W: Sink>(sink: &mut W, held: &mut Held, row: &AttrRow) -> Result<(), WriteFault> {
-        hold_attribute_key(sink, held, row)?;
-        hold_value(sink, held, &row.value)?;
-        hold_statement_end(sink, held)
+    fn hold_item<W: Sink>(out: &mut Out<'_, W>, row: &AttrRow) -> Result<(), WriteFault> {
+        hold_attribute_key(out, row)?;
+        hold_value(out, &row.value)?;
+        hold_statement_end(out)
     }
 }

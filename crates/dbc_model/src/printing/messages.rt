@@ -1,19 +1,19 @@
 //! Messages and their signals.
 ghost use Rattle.std.specs.Prelude.{◌≡◌, [], ◌∷◌};
-ghost use Rattle.byte_devices.specs.Device.{Sends};
+ghost use Rattle.byte_devices.specs.Outs.{Sends};
 ghost use Rattle.dbc_records.specs.Layout.{Order, item_text, layout_text};
 ghost use Rattle.dbc_records.specs.CanonicalText.{sign_mark, head_layout, signal_name_layout, tag_layout, place_layout, scale_layout, limits_layout, receivers_layout};
 
 use crate::printing::parts::{SpacedName, hold_line_end, hold_pair, hold_spaced_text};
 use crate::printing::style::{Style, hold_list, hold_separated};
-use byte_devices::{Held, Sink, WriteFault, hold, hold_pieces};
+use byte_devices::{Out, Sink, WriteFault};
 use dbc_records::{Head, Message, Signal, Tag};
 use dbc_values::Name;
 use itoa::Buffer;
 
 #[tactic(auto, unfolding(dbc_records::specs::Layout::layout_text, dbc_records::specs::CanonicalText::head_layout))]
-fn hold_head<W: Sink>(sink: &mut W, held: &mut Held, head: &Head) -> Result<(), WriteFault>
-    ensures { Sends (W.written sink.old) (W.written sink.new) held.old.items result (layout_text (head_layout head.now)) held.new.items }
+fn hold_head<W: Sink>(out: &mut Out<'_, W>, head: &Head) -> Result<(), WriteFault>
+    ensures { Sends W.written out.old out.new result (layout_text (head_layout head.now)) }
 {
     let mut number = Buffer::new();
     let mut size = Buffer::new();
@@ -28,35 +28,31 @@ fn hold_head<W: Sink>(sink: &mut W, held: &mut Held, head: &Head) -> Result<(), 
         head.sender.as_bytes(),
         b"\n",
     ];
-    hold_pieces(sink, held, &pieces)
+    out.send_pieces(&pieces)
 }
 
 #[tactic(auto, unfolding(dbc_records::specs::Layout::layout_text, dbc_records::specs::CanonicalText::signal_name_layout))]
-fn hold_signal_name<W: Sink>(
-    sink: &mut W,
-    held: &mut Held,
-    signal: &Signal,
-) -> Result<(), WriteFault>
-    ensures { Sends (W.written sink.old) (W.written sink.new) held.old.items result (layout_text (signal_name_layout signal.now)) held.new.items }
+fn hold_signal_name<W: Sink>(out: &mut Out<'_, W>, signal: &Signal) -> Result<(), WriteFault>
+    ensures { Sends W.written out.old out.new result (layout_text (signal_name_layout signal.now)) }
 {
-    hold_pieces(sink, held, &[b" SG_ ".as_slice(), signal.name.as_bytes()])
+    out.send_pieces(&[b" SG_ ".as_slice(), signal.name.as_bytes()])
 }
 
 #[tactic(auto, unfolding(dbc_records::specs::Layout::layout_text, dbc_records::specs::CanonicalText::tag_layout))]
-fn hold_tag<W: Sink>(sink: &mut W, held: &mut Held, tag: Tag) -> Result<(), WriteFault>
-    ensures { Sends (W.written sink.old) (W.written sink.new) held.old.items result (layout_text (tag_layout tag)) held.new.items }
+fn hold_tag<W: Sink>(out: &mut Out<'_, W>, tag: Tag) -> Result<(), WriteFault>
+    ensures { Sends W.written out.old out.new result (layout_text (tag_layout tag)) }
 {
     let mut number = Buffer::new();
     match tag {
         Tag::Plain => Ok(()),
-        Tag::Switch => hold(sink, held, b" M"),
+        Tag::Switch => out.send(b" M"),
         Tag::Muxed(n) => {
             let pieces: [&[u8]; 2] = [b" m", number.format(n).as_bytes()];
-            hold_pieces(sink, held, &pieces)
+            out.send_pieces(&pieces)
         }
         Tag::Both(n) => {
             let pieces: [&[u8]; 3] = [b" m", number.format(n).as_bytes(), b"M"];
-            hold_pieces(sink, held, &pieces)
+            out.send_pieces(&pieces)
         }
     }
 }
@@ -74,8 +70,8 @@ fn sign_of(signed: bool) -> &'static [u8]
 }
 
 #[tactic(auto, unfolding(dbc_records::specs::Layout::layout_text, dbc_records::specs::CanonicalText::place_layout))]
-fn hold_place<W: Sink>(sink: &mut W, held: &mut Held, signal: &Signal) -> Result<(), WriteFault>
-    ensures { Sends (W.written sink.old) (W.written sink.new) held.old.items result (layout_text (place_layout signal.now)) held.new.items }
+fn hold_place<W: Sink>(out: &mut Out<'_, W>, signal: &Signal) -> Result<(), WriteFault>
+    ensures { Sends W.written out.old out.new result (layout_text (place_layout signal.now)) }
 {
     let mut start = Buffer::new();
     let mut length = Buffer::new();
@@ -88,21 +84,21 @@ fn hold_place<W: Sink>(sink: &mut W, held: &mut Held, signal: &Signal) -> Result
         order_of(signal.intel),
         sign_of(signal.signed),
     ];
-    hold_pieces(sink, held, &pieces)
+    out.send_pieces(&pieces)
 }
 
 #[tactic(auto, using(crate::proofs::Layouts::layouts), unfolding(dbc_records::specs::CanonicalText::scale_layout))]
-fn hold_scale<W: Sink>(sink: &mut W, held: &mut Held, signal: &Signal) -> Result<(), WriteFault>
-    ensures { Sends (W.written sink.old) (W.written sink.new) held.old.items result (layout_text (scale_layout signal.now)) held.new.items }
+fn hold_scale<W: Sink>(out: &mut Out<'_, W>, signal: &Signal) -> Result<(), WriteFault>
+    ensures { Sends W.written out.old out.new result (layout_text (scale_layout signal.now)) }
 {
-    hold_pair(sink, held, b'(', signal.factor, b',', signal.offset, b')')
+    hold_pair(out, b'(', signal.factor, b',', signal.offset, b')')
 }
 
 #[tactic(auto, using(crate::proofs::Layouts::layouts), unfolding(dbc_records::specs::CanonicalText::limits_layout))]
-fn hold_limits<W: Sink>(sink: &mut W, held: &mut Held, signal: &Signal) -> Result<(), WriteFault>
-    ensures { Sends (W.written sink.old) (W.written sink.new) held.old.items result (layout_text (limits_layout signal.now)) held.new.items }
+fn hold_limits<W: Sink>(out: &mut Out<'_, W>, signal: &Signal) -> Result<(), WriteFault>
+    ensures { Sends W.written out.old out.new result (layout_text (limits_layout signal.now)) }
 {
-    hold_pair(sink, held, b'[', signal.minimum, b'|', signal.maximum, b']')
+    hold_pair(out, b'[', signal.minimum, b'|', signal.maximum, b']')
 }
 
 // A name behind a comma.
@@ -114,16 +110,16 @@ impl Style<Name> for FurtherReceiver {
     ghost layout = { further_receiver };
 
     #[tactic(auto, unfolding(dbc_records::specs::Layout::layout_text, dbc_records::specs::CanonicalText::further_receiver))]
-    fn hold_item<W: Sink>(sink: &mut W, held: &mut Held, name: &Name) -> Result<(), WriteFault> {
-        hold_pieces(sink, held, &[b",".as_slice(), name.as_bytes()])
+    fn hold_item<W: Sink>(out: &mut Out<'_, W>, name: &Name) -> Result<(), WriteFault> {
+        out.send_pieces(&[b",".as_slice(), name.as_bytes()])
     }
 }
 
 #[tactic(auto, using(crate::proofs::Layouts::layouts), unfolding(dbc_records::specs::CanonicalText::receivers_layout))]
-fn hold_receivers<W: Sink>(sink: &mut W, held: &mut Held, names: &[Name]) -> Result<(), WriteFault>
-    ensures { Sends (W.written sink.old) (W.written sink.new) held.old.items result (layout_text (receivers_layout names.now)) held.new.items }
+fn hold_receivers<W: Sink>(out: &mut Out<'_, W>, names: &[Name]) -> Result<(), WriteFault>
+    ensures { Sends W.written out.old out.new result (layout_text (receivers_layout names.now)) }
 {
-    hold_separated::<SpacedName, FurtherReceiver, Name, W>(sink, held, names)
+    hold_separated::<SpacedName, FurtherReceiver, Name, W>(out, names)
 }
 
 // A signal's line.
@@ -135,19 +131,15 @@ impl Style<Signal> for SignalLine {
     ghost layout = { signal_layout };
 
     #[tactic(auto, using(crate::proofs::Layouts::layouts), unfolding(dbc_records::specs::CanonicalText::signal_layout))]
-    fn hold_item<W: Sink>(
-        sink: &mut W,
-        held: &mut Held,
-        signal: &Signal,
-    ) -> Result<(), WriteFault> {
-        hold_signal_name(sink, held, signal)?;
-        hold_tag(sink, held, signal.tag)?;
-        hold_place(sink, held, signal)?;
-        hold_scale(sink, held, signal)?;
-        hold_limits(sink, held, signal)?;
-        hold_spaced_text(sink, held, &signal.unit)?;
-        hold_receivers(sink, held, signal.receivers.as_slice())?;
-        hold_line_end(sink, held)
+    fn hold_item<W: Sink>(out: &mut Out<'_, W>, signal: &Signal) -> Result<(), WriteFault> {
+        hold_signal_name(out, signal)?;
+        hold_tag(out, signal.tag)?;
+        hold_place(out, signal)?;
+        hold_scale(out, signal)?;
+        hold_limits(out, signal)?;
+        hold_spaced_text(out, &signal.unit)?;
+        hold_receivers(out, signal.receivers.as_slice())?;
+        hold_line_end(out)
     }
 }
 
@@ -160,12 +152,8 @@ impl Style<Message> for MessageLines {
     ghost layout = { message_layout };
 
     #[tactic(auto, using(crate::proofs::Layouts::layouts), unfolding(dbc_records::specs::CanonicalText::message_layout))]
-    fn hold_item<W: Sink>(
-        sink: &mut W,
-        held: &mut Held,
-        message: &Message,
-    ) -> Result<(), WriteFault> {
-        hold_head(sink, held, &message.head)?;
-        hold_list::<SignalLine, Signal, W>(sink, held, &message.signals)
+    fn hold_item<W: Sink>(out: &mut Out<'_, W>, message: &Message) -> Result<(), WriteFault> {
+        hold_head(out, &message.head)?;
+        hold_list::<SignalLine, Signal, W>(out, &message.signals)
     }
 }

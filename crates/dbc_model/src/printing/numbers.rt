@@ -1,9 +1,9 @@
 //! The text of a decimal.
 ghost use Rattle.std.specs.Prelude.{◌≡◌, ◌+◌, ◌<◌, ◌≤◌, length, decimal};
-ghost use Rattle.byte_devices.specs.Device.{Sends};
+ghost use Rattle.byte_devices.specs.Outs.{Sends};
 ghost use Rattle.dbc_records.specs.Layout.{decimal_text, sign_text, magnitude_text, point_before_last, filled};
 
-use byte_devices::{Held, Sink, WriteFault, hold, hold_pieces};
+use byte_devices::{Out, Sink, WriteFault};
 use dbc_values::Decimal;
 use itoa::Buffer;
 
@@ -14,86 +14,71 @@ const ZEROS: [u8; PLAIN_DIGITS] = [b'0'; PLAIN_DIGITS];
 
 // Holds the digits with a point before the last of them, and zeros in front where there are too few.
 fn hold_fraction<W: Sink>(
-    sink: &mut W,
-    held: &mut Held,
+    out: &mut Out<'_, W>,
     digits: &[u8],
     behind: usize,
 ) -> Result<(), WriteFault>
     requires { behind ≤ 20 }
-    ensures { Sends (W.written sink.old) (W.written sink.new) held.old.items result (point_before_last behind (filled behind digits.now)) held.new.items }
+    ensures { Sends W.written out.old out.new result (point_before_last behind (filled behind digits.now)) }
 {
     if digits.len() > behind {
         let (whole, fraction) = digits.split_at(digits.len() - behind);
-        hold_pieces(sink, held, &[whole, b".", fraction])
+        out.send_pieces(&[whole, b".", fraction])
     } else {
         let (zeros, _) = ZEROS.split_at(behind - digits.len());
         let pieces: [&[u8]; 3] = [b"0.", zeros, digits];
-        hold_pieces(sink, held, &pieces)
+        out.send_pieces(&pieces)
     }
 }
 
 // Holds `digits · 10^exponent`.
 #[tactic(auto, unfolding(dbc_records::specs::Layout::magnitude_text))]
 fn hold_magnitude<W: Sink>(
-    sink: &mut W,
-    held: &mut Held,
+    out: &mut Out<'_, W>,
     digits: &[u8],
     exponent: i16,
 ) -> Result<(), WriteFault>
     requires { length digits.now ≤ 40 }
-    ensures { Sends (W.written sink.old) (W.written sink.new) held.old.items result (magnitude_text digits.now exponent) held.new.items }
+    ensures { Sends W.written out.old out.new result (magnitude_text digits.now exponent) }
 {
     let count = exponent.unsigned_abs() as usize;
     if exponent >= 0 && digits.len() + count <= PLAIN_DIGITS {
         let (zeros, _) = ZEROS.split_at(count);
-        return hold_pieces(sink, held, &[digits, zeros]);
+        return out.send_pieces(&[digits, zeros]);
     }
     if exponent < 0 && count <= PLAIN_DIGITS && digits.len() <= PLAIN_DIGITS + count {
-        return hold_fraction(sink, held, digits, count);
+        return hold_fraction(out, digits, count);
     }
     let mut buffer = Buffer::new();
-    hold_pieces(
-        sink,
-        held,
-        &[digits, b"E", buffer.format(exponent).as_bytes()],
-    )
+    out.send_pieces(&[digits, b"E", buffer.format(exponent).as_bytes()])
 }
 
 // Holds a minus where the number is negative.
 #[tactic(auto, unfolding(dbc_records::specs::Layout::sign_text))]
-fn hold_sign<W: Sink>(sink: &mut W, held: &mut Held, negative: bool) -> Result<(), WriteFault>
-    ensures { Sends (W.written sink.old) (W.written sink.new) held.old.items result (sign_text negative) held.new.items }
+fn hold_sign<W: Sink>(out: &mut Out<'_, W>, negative: bool) -> Result<(), WriteFault>
+    ensures { Sends W.written out.old out.new result (sign_text negative) }
 {
-    if negative {
-        hold(sink, held, b"-")
-    } else {
-        Ok(())
-    }
+    if negative { out.send(b"-") } else { Ok(()) }
 }
 
 // Holds `mantissa · 10^exponent`.
 fn hold_unsigned<W: Sink>(
-    sink: &mut W,
-    held: &mut Held,
+    out: &mut Out<'_, W>,
     mantissa: u128,
     exponent: i16,
 ) -> Result<(), WriteFault>
-    ensures { Sends (W.written sink.old) (W.written sink.new) held.old.items result (magnitude_text (decimal mantissa) exponent) held.new.items }
+    ensures { Sends W.written out.old out.new result (magnitude_text (decimal mantissa) exponent) }
 {
     let mut buffer = Buffer::new();
     let digits = buffer.format(mantissa).as_bytes();
-    hold_magnitude(sink, held, digits, exponent)
+    hold_magnitude(out, digits, exponent)
 }
 
 /// Holds the decimal: digits with a point where at most 20 stand on each side of it, else as `1E-31`.
-#[tactic(auto, using(byte_devices::proofs::Writes::sends), unfolding(dbc_records::specs::Layout::decimal_text))]
-pub fn hold_decimal<W: Sink>(
-    sink: &mut W,
-    held: &mut Held,
-    decimal: Decimal,
-) -> Result<(), WriteFault>
-    ensures { Sends (W.written sink.old) (W.written sink.new) held.old.items result (decimal_text decimal) held.new.items }
+#[tactic(auto, using(byte_devices::proofs::Outs::sends), unfolding(dbc_records::specs::Layout::decimal_text))]
+pub fn hold_decimal<W: Sink>(out: &mut Out<'_, W>, decimal: Decimal) -> Result<(), WriteFault>
+    ensures { Sends W.written out.old out.new result (decimal_text decimal) }
 {
-    hold_sign(sink, held, decimal.negative)?;
-    hold_unsigned(sink, held, decimal.mantissa, decimal.exponent)
+    hold_sign(out, decimal.negative)?;
+    hold_unsigned(out, decimal.mantissa, decimal.exponent)
 }

@@ -1,104 +1,87 @@
 //! The parts that statements are printed of.
-ghost use Rattle.byte_devices.specs.Device.{Sends};
+ghost use Rattle.byte_devices.specs.Outs.{Sends};
 ghost use Rattle.dbc_records.specs.Layout.{layout_text};
 ghost use Rattle.dbc_records.specs.CanonicalText.{blank, mark_layout, spaced_mark, number_layout, spaced_number, spaced_text, spaced_name, spaced_word, word_layout, signal_key, line_end, statement_end, spaced_end, pair_layout};
 
 use crate::printing::numbers::hold_decimal;
 use crate::printing::style::Style;
-use byte_devices::{Held, Sink, WriteFault, hold, hold_pieces};
+use byte_devices::{Out, Sink, WriteFault};
 use dbc_values::{Decimal, Name, Text};
 use itoa::Buffer;
 
 /// Holds the mark.
 #[tactic(auto, unfolding(dbc_records::specs::Layout::layout_text, dbc_records::specs::CanonicalText::mark_layout))]
-pub fn hold_mark<W: Sink>(sink: &mut W, held: &mut Held, mark: u8) -> Result<(), WriteFault>
-    ensures { Sends (W.written sink.old) (W.written sink.new) held.old.items result (layout_text (mark_layout mark)) held.new.items }
+pub fn hold_mark<W: Sink>(out: &mut Out<'_, W>, mark: u8) -> Result<(), WriteFault>
+    ensures { Sends W.written out.old out.new result (layout_text (mark_layout mark)) }
 {
-    hold(sink, held, &[mark])
+    out.send(&[mark])
 }
 
 /// Holds a blank and the mark.
 #[tactic(auto, unfolding(dbc_records::specs::Layout::layout_text, dbc_records::specs::CanonicalText::spaced_mark))]
-pub fn hold_spaced_mark<W: Sink>(sink: &mut W, held: &mut Held, mark: u8) -> Result<(), WriteFault>
-    ensures { Sends (W.written sink.old) (W.written sink.new) held.old.items result (layout_text (spaced_mark mark)) held.new.items }
+pub fn hold_spaced_mark<W: Sink>(out: &mut Out<'_, W>, mark: u8) -> Result<(), WriteFault>
+    ensures { Sends W.written out.old out.new result (layout_text (spaced_mark mark)) }
 {
-    hold(sink, held, &[b' ', mark])
+    out.send(&[b' ', mark])
 }
 
 /// Holds the number.
 #[tactic(auto, unfolding(dbc_records::specs::Layout::layout_text, dbc_records::specs::CanonicalText::number_layout))]
-pub fn hold_number<W: Sink>(
-    sink: &mut W,
-    held: &mut Held,
-    number: Decimal,
-) -> Result<(), WriteFault>
-    ensures { Sends (W.written sink.old) (W.written sink.new) held.old.items result (layout_text (number_layout number)) held.new.items }
+pub fn hold_number<W: Sink>(out: &mut Out<'_, W>, number: Decimal) -> Result<(), WriteFault>
+    ensures { Sends W.written out.old out.new result (layout_text (number_layout number)) }
 {
-    hold_decimal(sink, held, number)
+    hold_decimal(out, number)
 }
 
 /// Holds a blank.
 #[tactic(auto, unfolding(dbc_records::specs::Layout::layout_text, dbc_records::specs::CanonicalText::blank))]
-fn hold_blank<W: Sink>(sink: &mut W, held: &mut Held) -> Result<(), WriteFault>
-    ensures { Sends (W.written sink.old) (W.written sink.new) held.old.items result (layout_text blank) held.new.items }
+fn hold_blank<W: Sink>(out: &mut Out<'_, W>) -> Result<(), WriteFault>
+    ensures { Sends W.written out.old out.new result (layout_text blank) }
 {
-    hold(sink, held, b" ")
+    out.send(b" ")
 }
 
 /// Holds a blank and the number.
 #[tactic(auto, using(crate::proofs::Layouts::layouts), unfolding(dbc_records::specs::CanonicalText::spaced_number))]
-pub fn hold_spaced_number<W: Sink>(
-    sink: &mut W,
-    held: &mut Held,
-    number: Decimal,
-) -> Result<(), WriteFault>
-    ensures { Sends (W.written sink.old) (W.written sink.new) held.old.items result (layout_text (spaced_number number)) held.new.items }
+pub fn hold_spaced_number<W: Sink>(out: &mut Out<'_, W>, number: Decimal) -> Result<(), WriteFault>
+    ensures { Sends W.written out.old out.new result (layout_text (spaced_number number)) }
 {
-    hold_blank(sink, held)?;
-    hold_number(sink, held, number)
+    hold_blank(out)?;
+    hold_number(out, number)
 }
 
 /// Holds a blank and the text between quotes.
 #[tactic(auto, unfolding(dbc_records::specs::Layout::layout_text, dbc_records::specs::CanonicalText::spaced_text))]
-pub fn hold_spaced_text<W: Sink>(
-    sink: &mut W,
-    held: &mut Held,
-    text: &Text,
-) -> Result<(), WriteFault>
-    ensures { Sends (W.written sink.old) (W.written sink.new) held.old.items result (layout_text (spaced_text text.now)) held.new.items }
+pub fn hold_spaced_text<W: Sink>(out: &mut Out<'_, W>, text: &Text) -> Result<(), WriteFault>
+    ensures { Sends W.written out.old out.new result (layout_text (spaced_text text.now)) }
 {
-    hold_pieces(sink, held, &[b" \"".as_slice(), text.as_bytes(), b"\""])
+    out.send_pieces(&[b" \"".as_slice(), text.as_bytes(), b"\""])
 }
 
 /// Holds a blank and the word.
 #[tactic(auto, unfolding(dbc_records::specs::Layout::layout_text, dbc_records::specs::CanonicalText::spaced_word))]
-pub fn hold_spaced_word<W: Sink>(
-    sink: &mut W,
-    held: &mut Held,
-    word: &[u8],
-) -> Result<(), WriteFault>
-    ensures { Sends (W.written sink.old) (W.written sink.new) held.old.items result (layout_text (spaced_word word.now)) held.new.items }
+pub fn hold_spaced_word<W: Sink>(out: &mut Out<'_, W>, word: &[u8]) -> Result<(), WriteFault>
+    ensures { Sends W.written out.old out.new result (layout_text (spaced_word word.now)) }
 {
-    hold_pieces(sink, held, &[b" ".as_slice(), word])
+    out.send_pieces(&[b" ".as_slice(), word])
 }
 
 /// Holds the word.
 #[tactic(auto, unfolding(dbc_records::specs::Layout::layout_text, dbc_records::specs::CanonicalText::word_layout))]
-pub fn hold_word<W: Sink>(sink: &mut W, held: &mut Held, word: &[u8]) -> Result<(), WriteFault>
-    ensures { Sends (W.written sink.old) (W.written sink.new) held.old.items result (layout_text (word_layout word.now)) held.new.items }
+pub fn hold_word<W: Sink>(out: &mut Out<'_, W>, word: &[u8]) -> Result<(), WriteFault>
+    ensures { Sends W.written out.old out.new result (layout_text (word_layout word.now)) }
 {
-    hold(sink, held, word)
+    out.send(word)
 }
 
 /// Holds the number of a message and the name of a signal, each behind a blank.
 #[tactic(auto, unfolding(dbc_records::specs::Layout::layout_text, dbc_records::specs::CanonicalText::signal_key))]
 pub fn hold_signal_key<W: Sink>(
-    sink: &mut W,
-    held: &mut Held,
+    out: &mut Out<'_, W>,
     number: u32,
     name: &Name,
 ) -> Result<(), WriteFault>
-    ensures { Sends (W.written sink.old) (W.written sink.new) held.old.items result (layout_text (signal_key number name.now)) held.new.items }
+    ensures { Sends W.written out.old out.new result (layout_text (signal_key number name.now)) }
 {
     let mut buffer = Buffer::new();
     let pieces: [&[u8]; 4] = [
@@ -107,51 +90,50 @@ pub fn hold_signal_key<W: Sink>(
         b" ",
         name.as_bytes(),
     ];
-    hold_pieces(sink, held, &pieces)
+    out.send_pieces(&pieces)
 }
 
 /// Ends the line.
 #[tactic(auto, unfolding(dbc_records::specs::Layout::layout_text, dbc_records::specs::CanonicalText::line_end))]
-pub fn hold_line_end<W: Sink>(sink: &mut W, held: &mut Held) -> Result<(), WriteFault>
-    ensures { Sends (W.written sink.old) (W.written sink.new) held.old.items result (layout_text (line_end)) held.new.items }
+pub fn hold_line_end<W: Sink>(out: &mut Out<'_, W>) -> Result<(), WriteFault>
+    ensures { Sends W.written out.old out.new result (layout_text (line_end)) }
 {
-    hold(sink, held, b"\n")
+    out.send(b"\n")
 }
 
 /// Ends the statement.
 #[tactic(auto, unfolding(dbc_records::specs::Layout::layout_text, dbc_records::specs::CanonicalText::statement_end))]
-pub fn hold_statement_end<W: Sink>(sink: &mut W, held: &mut Held) -> Result<(), WriteFault>
-    ensures { Sends (W.written sink.old) (W.written sink.new) held.old.items result (layout_text (statement_end)) held.new.items }
+pub fn hold_statement_end<W: Sink>(out: &mut Out<'_, W>) -> Result<(), WriteFault>
+    ensures { Sends W.written out.old out.new result (layout_text (statement_end)) }
 {
-    hold(sink, held, b";\n")
+    out.send(b";\n")
 }
 
 /// Ends a statement behind entries.
 #[tactic(auto, unfolding(dbc_records::specs::Layout::layout_text, dbc_records::specs::CanonicalText::spaced_end))]
-pub fn hold_spaced_end<W: Sink>(sink: &mut W, held: &mut Held) -> Result<(), WriteFault>
-    ensures { Sends (W.written sink.old) (W.written sink.new) held.old.items result (layout_text (spaced_end)) held.new.items }
+pub fn hold_spaced_end<W: Sink>(out: &mut Out<'_, W>) -> Result<(), WriteFault>
+    ensures { Sends W.written out.old out.new result (layout_text (spaced_end)) }
 {
-    hold(sink, held, b" ;\n")
+    out.send(b" ;\n")
 }
 
 /// Holds two numbers with marks before, between and behind them: ` (a,b)`.
 #[tactic(auto, using(crate::proofs::Layouts::layouts), unfolding(dbc_records::specs::CanonicalText::pair_layout))]
 pub fn hold_pair<W: Sink>(
-    sink: &mut W,
-    held: &mut Held,
+    out: &mut Out<'_, W>,
     opening: u8,
     first: Decimal,
     between: u8,
     second: Decimal,
     closing: u8,
 ) -> Result<(), WriteFault>
-    ensures { Sends (W.written sink.old) (W.written sink.new) held.old.items result (layout_text (pair_layout opening first between second closing)) held.new.items }
+    ensures { Sends W.written out.old out.new result (layout_text (pair_layout opening first between second closing)) }
 {
-    hold_spaced_mark(sink, held, opening)?;
-    hold_number(sink, held, first)?;
-    hold_mark(sink, held, between)?;
-    hold_number(sink, held, second)?;
-    hold_mark(sink, held, closing)
+    hold_spaced_mark(out, opening)?;
+    hold_number(out, first)?;
+    hold_mark(out, between)?;
+    hold_number(out, second)?;
+    hold_mark(out, closing)
 }
 
 /// A name behind a blank.
@@ -163,7 +145,7 @@ impl Style<Name> for SpacedName {
     ghost layout = { spaced_name };
 
     #[tactic(auto, unfolding(dbc_records::specs::Layout::layout_text, dbc_records::specs::CanonicalText::spaced_name))]
-    fn hold_item<W: Sink>(sink: &mut W, held: &mut Held, name: &Name) -> Result<(), WriteFault> {
-        hold_pieces(sink, held, &[b" ".as_slice(), name.as_bytes()])
+    fn hold_item<W: Sink>(out: &mut Out<'_, W>, name: &Name) -> Result<(), WriteFault> {
+        out.send_pieces(&[b" ".as_slice(), name.as_bytes()])
     }
 }

@@ -1,5 +1,5 @@
 //! Rows of tables, named values, float types and multiplexing, and kept statements.
-ghost use Rattle.byte_devices.specs.Device.{Sends};
+ghost use Rattle.byte_devices.specs.Outs.{Sends};
 ghost use Rattle.dbc_records.specs.Layout.{layout_text};
 ghost use Rattle.dbc_records.specs.CanonicalText.{table_key, values_key, float_key, float_kind, mux_key, ranges_layout};
 
@@ -7,7 +7,7 @@ use crate::printing::parts::{
     SpacedName, hold_signal_key, hold_spaced_end, hold_statement_end, hold_word,
 };
 use crate::printing::style::{Style, hold_list, hold_separated};
-use byte_devices::{Held, Sink, WriteFault, hold_pieces};
+use byte_devices::{Out, Sink, WriteFault};
 use dbc_records::{Entry, FloatRow, Kept, MuxRow, Range, TableRow, ValueRow};
 use dbc_values::Piece;
 use itoa::Buffer;
@@ -21,7 +21,7 @@ impl Style<Entry> for EntryStyle {
     ghost layout = { entry_layout };
 
     #[tactic(auto, unfolding(dbc_records::specs::Layout::layout_text, dbc_records::specs::CanonicalText::entry_layout))]
-    fn hold_item<W: Sink>(sink: &mut W, held: &mut Held, entry: &Entry) -> Result<(), WriteFault> {
+    fn hold_item<W: Sink>(out: &mut Out<'_, W>, entry: &Entry) -> Result<(), WriteFault> {
         let mut number = Buffer::new();
         let pieces: [&[u8]; 5] = [
             b" ",
@@ -30,16 +30,16 @@ impl Style<Entry> for EntryStyle {
             entry.text.as_bytes(),
             b"\"",
         ];
-        hold_pieces(sink, held, &pieces)
+        out.send_pieces(&pieces)
     }
 }
 
 #[tactic(auto, using(crate::proofs::Layouts::layouts), unfolding(dbc_records::specs::CanonicalText::table_key))]
-fn hold_table_key<W: Sink>(sink: &mut W, held: &mut Held, row: &TableRow) -> Result<(), WriteFault>
-    ensures { Sends (W.written sink.old) (W.written sink.new) held.old.items result (layout_text (table_key row.now)) held.new.items }
+fn hold_table_key<W: Sink>(out: &mut Out<'_, W>, row: &TableRow) -> Result<(), WriteFault>
+    ensures { Sends W.written out.old out.new result (layout_text (table_key row.now)) }
 {
-    hold_word(sink, held, b"VAL_TABLE_")?;
-    SpacedName::hold_item(sink, held, &row.name)
+    hold_word(out, b"VAL_TABLE_")?;
+    SpacedName::hold_item(out, &row.name)
 }
 
 /// A table's line.
@@ -51,19 +51,19 @@ impl Style<TableRow> for TableLine {
     ghost layout = { table_layout };
 
     #[tactic(auto, using(crate::proofs::Layouts::layouts), unfolding(dbc_records::specs::CanonicalText::table_layout))]
-    fn hold_item<W: Sink>(sink: &mut W, held: &mut Held, row: &TableRow) -> Result<(), WriteFault> {
-        hold_table_key(sink, held, row)?;
-        hold_list::<EntryStyle, Entry, W>(sink, held, &row.entries)?;
-        hold_spaced_end(sink, held)
+    fn hold_item<W: Sink>(out: &mut Out<'_, W>, row: &TableRow) -> Result<(), WriteFault> {
+        hold_table_key(out, row)?;
+        hold_list::<EntryStyle, Entry, W>(out, &row.entries)?;
+        hold_spaced_end(out)
     }
 }
 
 #[tactic(auto, using(crate::proofs::Layouts::layouts), unfolding(dbc_records::specs::CanonicalText::values_key))]
-fn hold_values_key<W: Sink>(sink: &mut W, held: &mut Held, row: &ValueRow) -> Result<(), WriteFault>
-    ensures { Sends (W.written sink.old) (W.written sink.new) held.old.items result (layout_text (values_key row.now)) held.new.items }
+fn hold_values_key<W: Sink>(out: &mut Out<'_, W>, row: &ValueRow) -> Result<(), WriteFault>
+    ensures { Sends W.written out.old out.new result (layout_text (values_key row.now)) }
 {
-    hold_word(sink, held, b"VAL_")?;
-    hold_signal_key(sink, held, row.number, &row.signal)
+    hold_word(out, b"VAL_")?;
+    hold_signal_key(out, row.number, &row.signal)
 }
 
 /// The line of a signal's named values.
@@ -75,28 +75,28 @@ impl Style<ValueRow> for ValuesLine {
     ghost layout = { values_layout };
 
     #[tactic(auto, using(crate::proofs::Layouts::layouts), unfolding(dbc_records::specs::CanonicalText::values_layout))]
-    fn hold_item<W: Sink>(sink: &mut W, held: &mut Held, row: &ValueRow) -> Result<(), WriteFault> {
-        hold_values_key(sink, held, row)?;
-        hold_list::<EntryStyle, Entry, W>(sink, held, &row.entries)?;
-        hold_spaced_end(sink, held)
+    fn hold_item<W: Sink>(out: &mut Out<'_, W>, row: &ValueRow) -> Result<(), WriteFault> {
+        hold_values_key(out, row)?;
+        hold_list::<EntryStyle, Entry, W>(out, &row.entries)?;
+        hold_spaced_end(out)
     }
 }
 
 #[tactic(auto, using(crate::proofs::Layouts::layouts), unfolding(dbc_records::specs::CanonicalText::float_key))]
-fn hold_float_key<W: Sink>(sink: &mut W, held: &mut Held, row: &FloatRow) -> Result<(), WriteFault>
-    ensures { Sends (W.written sink.old) (W.written sink.new) held.old.items result (layout_text (float_key row.now)) held.new.items }
+fn hold_float_key<W: Sink>(out: &mut Out<'_, W>, row: &FloatRow) -> Result<(), WriteFault>
+    ensures { Sends W.written out.old out.new result (layout_text (float_key row.now)) }
 {
-    hold_word(sink, held, b"SIG_VALTYPE_")?;
-    hold_signal_key(sink, held, row.number, &row.signal)
+    hold_word(out, b"SIG_VALTYPE_")?;
+    hold_signal_key(out, row.number, &row.signal)
 }
 
 #[tactic(auto, unfolding(dbc_records::specs::Layout::layout_text, dbc_records::specs::CanonicalText::float_kind))]
-fn hold_float_kind<W: Sink>(sink: &mut W, held: &mut Held, row: &FloatRow) -> Result<(), WriteFault>
-    ensures { Sends (W.written sink.old) (W.written sink.new) held.old.items result (layout_text (float_kind row.now)) held.new.items }
+fn hold_float_kind<W: Sink>(out: &mut Out<'_, W>, row: &FloatRow) -> Result<(), WriteFault>
+    ensures { Sends W.written out.old out.new result (layout_text (float_kind row.now)) }
 {
     let mut kind = Buffer::new();
     let pieces: [&[u8]; 2] = [b" : ", kind.format(row.kind).as_bytes()];
-    hold_pieces(sink, held, &pieces)
+    out.send_pieces(&pieces)
 }
 
 /// The line of a signal's float type.
@@ -108,10 +108,10 @@ impl Style<FloatRow> for FloatLine {
     ghost layout = { float_layout };
 
     #[tactic(auto, using(crate::proofs::Layouts::layouts), unfolding(dbc_records::specs::CanonicalText::float_layout))]
-    fn hold_item<W: Sink>(sink: &mut W, held: &mut Held, row: &FloatRow) -> Result<(), WriteFault> {
-        hold_float_key(sink, held, row)?;
-        hold_float_kind(sink, held, row)?;
-        hold_statement_end(sink, held)
+    fn hold_item<W: Sink>(out: &mut Out<'_, W>, row: &FloatRow) -> Result<(), WriteFault> {
+        hold_float_key(out, row)?;
+        hold_float_kind(out, row)?;
+        hold_statement_end(out)
     }
 }
 
@@ -124,7 +124,7 @@ impl Style<Range> for FirstRange {
     ghost layout = { range_layout };
 
     #[tactic(auto, unfolding(dbc_records::specs::Layout::layout_text, dbc_records::specs::CanonicalText::range_layout))]
-    fn hold_item<W: Sink>(sink: &mut W, held: &mut Held, range: &Range) -> Result<(), WriteFault> {
+    fn hold_item<W: Sink>(out: &mut Out<'_, W>, range: &Range) -> Result<(), WriteFault> {
         let mut first = Buffer::new();
         let mut last = Buffer::new();
         let pieces: [&[u8]; 4] = [
@@ -133,7 +133,7 @@ impl Style<Range> for FirstRange {
             b"-",
             last.format(range.last).as_bytes(),
         ];
-        hold_pieces(sink, held, &pieces)
+        out.send_pieces(&pieces)
     }
 }
 
@@ -146,7 +146,7 @@ impl Style<Range> for FurtherRange {
     ghost layout = { further_range };
 
     #[tactic(auto, unfolding(dbc_records::specs::Layout::layout_text, dbc_records::specs::CanonicalText::further_range))]
-    fn hold_item<W: Sink>(sink: &mut W, held: &mut Held, range: &Range) -> Result<(), WriteFault> {
+    fn hold_item<W: Sink>(out: &mut Out<'_, W>, range: &Range) -> Result<(), WriteFault> {
         let mut first = Buffer::new();
         let mut last = Buffer::new();
         let pieces: [&[u8]; 4] = [
@@ -155,23 +155,23 @@ impl Style<Range> for FurtherRange {
             b"-",
             last.format(range.last).as_bytes(),
         ];
-        hold_pieces(sink, held, &pieces)
+        out.send_pieces(&pieces)
     }
 }
 
 #[tactic(auto, using(crate::proofs::Layouts::layouts), unfolding(dbc_records::specs::CanonicalText::ranges_layout))]
-fn hold_ranges<W: Sink>(sink: &mut W, held: &mut Held, ranges: &[Range]) -> Result<(), WriteFault>
-    ensures { Sends (W.written sink.old) (W.written sink.new) held.old.items result (layout_text (ranges_layout ranges.now)) held.new.items }
+fn hold_ranges<W: Sink>(out: &mut Out<'_, W>, ranges: &[Range]) -> Result<(), WriteFault>
+    ensures { Sends W.written out.old out.new result (layout_text (ranges_layout ranges.now)) }
 {
-    hold_separated::<FirstRange, FurtherRange, Range, W>(sink, held, ranges)
+    hold_separated::<FirstRange, FurtherRange, Range, W>(out, ranges)
 }
 
 #[tactic(auto, using(crate::proofs::Layouts::layouts), unfolding(dbc_records::specs::CanonicalText::mux_key))]
-fn hold_mux_key<W: Sink>(sink: &mut W, held: &mut Held, row: &MuxRow) -> Result<(), WriteFault>
-    ensures { Sends (W.written sink.old) (W.written sink.new) held.old.items result (layout_text (mux_key row.now)) held.new.items }
+fn hold_mux_key<W: Sink>(out: &mut Out<'_, W>, row: &MuxRow) -> Result<(), WriteFault>
+    ensures { Sends W.written out.old out.new result (layout_text (mux_key row.now)) }
 {
-    hold_word(sink, held, b"SG_MUL_VAL_")?;
-    hold_signal_key(sink, held, row.number, &row.signal)
+    hold_word(out, b"SG_MUL_VAL_")?;
+    hold_signal_key(out, row.number, &row.signal)
 }
 
 /// The line of a signal's multiplexing.
@@ -183,11 +183,11 @@ impl Style<MuxRow> for MuxLine {
     ghost layout = { mux_layout };
 
     #[tactic(auto, using(crate::proofs::Layouts::layouts), unfolding(dbc_records::specs::CanonicalText::mux_layout))]
-    fn hold_item<W: Sink>(sink: &mut W, held: &mut Held, row: &MuxRow) -> Result<(), WriteFault> {
-        hold_mux_key(sink, held, row)?;
-        SpacedName::hold_item(sink, held, &row.switch)?;
-        hold_ranges(sink, held, row.ranges.as_slice())?;
-        hold_statement_end(sink, held)
+    fn hold_item<W: Sink>(out: &mut Out<'_, W>, row: &MuxRow) -> Result<(), WriteFault> {
+        hold_mux_key(out, row)?;
+        SpacedName::hold_item(out, &row.switch)?;
+        hold_ranges(out, row.ranges.as_slice())?;
+        hold_statement_end(out)
     }
 }
 
@@ -200,8 +200,8 @@ impl Style<Piece> for PieceStyle {
     ghost layout = { piece_layout };
 
     #[tactic(auto, unfolding(dbc_records::specs::Layout::layout_text, dbc_records::specs::CanonicalText::piece_layout))]
-    fn hold_item<W: Sink>(sink: &mut W, held: &mut Held, piece: &Piece) -> Result<(), WriteFault> {
-        hold_pieces(sink, held, &[piece.as_bytes(), b" "])
+    fn hold_item<W: Sink>(out: &mut Out<'_, W>, piece: &Piece) -> Result<(), WriteFault> {
+        out.send_pieces(&[piece.as_bytes(), b" "])
     }
 }
 
@@ -214,12 +214,8 @@ impl Style<Kept> for KeptLine {
     ghost layout = { kept_layout };
 
     #[tactic(auto, using(crate::proofs::Layouts::layouts), unfolding(dbc_records::specs::CanonicalText::kept_layout))]
-    fn hold_item<W: Sink>(
-        sink: &mut W,
-        held: &mut Held,
-        statement: &Kept,
-    ) -> Result<(), WriteFault> {
-        hold_list::<PieceStyle, Piece, W>(sink, held, &statement.tokens)?;
-        hold_statement_end(sink, held)
+    fn hold_item<W: Sink>(out: &mut Out<'_, W>, statement: &Kept) -> Result<(), WriteFault> {
+        hold_list::<PieceStyle, Piece, W>(out, &statement.tokens)?;
+        hold_statement_end(out)
     }
 }

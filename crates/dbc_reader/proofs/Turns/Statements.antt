@@ -1,5 +1,5 @@
 -- Each statement takes tokens, and what one statement more does in the loop over them.
-use Rattle.std.proofs.Common.{◌≡◌, ℕ, ◌<◌, true, false, [], Result, Ok}
+use Rattle.std.proofs.Common.{◌≡◌, ℕ, ◌<◌, true, false, [], None, Result, Ok}
 use Rattle.std.specs.Prelude.{codes, nat_lt}
 use Rattle.dbc_records.specs.Databases.{Database}
 use Rattle.dbc_tokens.specs.declared.fault.Cause.TheVariants as causes
@@ -12,6 +12,8 @@ use Rattle.dbc_reader.specs.Reading.Messages.{begun, begin_message_at, head_at, 
 use Rattle.dbc_reader.specs.Reading.Tables.{table_at, values_at, colon_at, float_at, ranges_at, mux_at}
 use Rattle.dbc_reader.specs.Reading.Attributes.{node_target_at, message_target_at, signal_target_at, target_at, comment_at, object_at, limits_at, string_form_at, enumeration_at, form_at, definition_at, value_at, default_at, attribute_at}
 use Rattle.dbc_reader.specs.Reading.Databases.{symbols_into, nodes_into, message_into, kept_at, kept_into, table_into, values_into, float_into, mux_into, comment_into, definition_into, default_into, attribute_into, object_into, value_row_into, attribute_row_into, begins_statement, statement_into, statements_into}
+use Rattle.dbc_reader.specs.Reading.Keywords.{keyword_at}
+use Rattle.dbc_reader.proofs.Facts.Keywords.{no_statement_begins}
 use Rattle.dbc_reader.proofs.Turns.{Shrinks, Keeps, one_shrinks, value_keeps, keeps, bind_shrinks, bind_keeps, after_shrinks, choose_shrinks, choose_by_shrinks, choose_keeps, goes_on, fails, ends}
 use Rattle.dbc_reader.proofs.Turns.Lists.{word_shrinks, mark_shrinks, name_shrinks, text_shrinks, whole_shrinks, id_shrinks, decimal_shrinks, range_shrinks, names_keep, symbols_keep, pieces_keep, entries_keep, texts_keep, ranges_keep}
 use Rattle.dbc_reader.proofs.Turns.Signals.{signals_keep}
@@ -173,6 +175,10 @@ statements_fail e d cut total t h so_far = fails begins_statement statement_into
 pub statements_end : (d : Database) (cut : Cut) (total : Result (Database × Cut) ReadFault) → starts begins_statement cut ≡ false → statements_into d cut ≡ total → total ≡ Ok (d, cut)
 unfolding statements_into
 statements_end d cut total t so_far = ends begins_statement statement_into statement_shrinks d cut total t so_far
+
+-- where no keyword stands, the statements are over
+pub statements_over : (d : Database) (cut : Cut) (total : Result (Database × Cut) ReadFault) → keyword_at cut ≡ None → statements_into d cut ≡ total → total ≡ Ok (d, cut)
+statements_over d cut total none so_far = statements_end d cut total (no_statement_begins cut none) so_far
 
 pub statements_less : (d new : Database) (cut rest : Cut) → statement_into d cut ≡ Ok (new, rest) → size rest < size cut
 statements_less d new cut rest h = (statement_shrinks d).less cut (new, rest) h

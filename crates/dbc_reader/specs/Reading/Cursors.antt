@@ -1,5 +1,7 @@
 -- The tokens from a cursor on.
+use Rattle.std.specs.Prelude.{ℕ, List}
 use Rattle.dbc_reader.specs.declared.cursor.Cursor.{Cursor}
+use Rattle.dbc_tokens.specs.declared.token.Kind.TheVariants as kinds
 use Rattle.dbc_tokens.specs.Tokens.{Cut, End, Fault, ◌▸◌}
 use Rattle.dbc_tokens.specs.Views.{left, cut_from}
 
@@ -11,3 +13,7 @@ abbrev pub behind : Cut → Cut
 behind (End line) = End line
 behind (Fault line) = Fault line
 behind (t ▸ cut) = cut
+
+-- a word, and these tokens behind it: what is read behind a word does not depend on the word's line
+abbrev pub with_word : List ℕ → Cut → Cut
+with_word word cut = record { kind = kinds.Word; bytes = word; line = 0 } ▸ cut

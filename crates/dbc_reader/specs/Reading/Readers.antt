@@ -1,6 +1,6 @@
 -- Readers: what stands at the front of some tokens and what is left behind it, or the first fault. They are joined by
 -- `do`, by a choice and by repetition.
-use Rattle.std.specs.Prelude.{◌≡◌, ◌⊎◌, ℕ, zero, suc, Bool, false, Result, Ok, Err, if◌then◌else◌}
+use Rattle.std.specs.Prelude.{◌≡◌, ◌⊎◌, ℕ, zero, suc, Bool, true, false, Option, Some, None, Result, Ok, Err, if◌then◌else◌}
 use Rattle.dbc_tokens.specs.declared.fault.Cause.{Cause}
 use Rattle.dbc_tokens.specs.declared.fault.Cause.TheVariants as causes
 use Rattle.dbc_tokens.specs.declared.fault.ReadFault.{ReadFault}
@@ -95,6 +95,12 @@ TakesTo (Err stopped) left read = Fails stopped read
 abbrev pub GivesTo : {A : Type 0} → Result A Stopped → Cut → Result (A × Cut) ReadFault → Type 0
 GivesTo (Ok x) left read = read ≡ Ok (x, left)
 GivesTo (Err stopped) left read = Fails stopped read
+
+-- a function gives what stands here where a token that passes the test stands here, and else takes nothing
+abbrev pub MayGive : {A : Type 0} → Result (Option A) Stopped → (Token → Bool) → Reader A → Cut → Cut → Type 0
+MayGive (Ok None) test reader left cut = (starts test cut ≡ false) × (left ≡ cut)
+MayGive (Ok (Some x)) test reader left cut = (starts test cut ≡ true) × (reader cut ≡ Ok (x, left))
+MayGive (Err stopped) test reader left cut = (starts test cut ≡ true) × Fails stopped (reader cut)
 
 -- the same of a function whose value is what it made of one of its arguments
 abbrev pub MakesTo : {A X : Type 0} → Result X Stopped → A → Cut → Result (A × Cut) ReadFault → Type 0

@@ -4,7 +4,7 @@ use Rattle.std.proofs.Math.Seq.{map-set_same}
 use Rattle.can_session.specs.declared.line.Line.{Line}
 use Rattle.can_session.specs.declared.line.Fresh.{Fresh}
 use Rattle.can_session.specs.Logs.{bytes_of}
-use Rattle.can_session.proofs.Exchanges.{all_but_last, last_of_all, one_given, all_given}
+use Rattle.can_session.proofs.Exchanges.{all_but_last, last_of_all, numbered_still, one_given, all_given}
 use Rattle.can_session.proofs.line.exchange.Goals as goal
 
 pub loop-place-preserved : goal.loop-place-preserved
@@ -16,10 +16,11 @@ loop-place-preserved c =
     let within = rw split at c.loop-place.invariant.within in
     let place : fresh.place < length lines = last_of_all (λ (text : Fresh). text.place < length lines) rest fresh within in
     let found : Line = c.index-lines-place.result in
-    let line : Line = record { bytes = (slice_index_or lines fresh.place found).bytes; decoded = fresh.text } in
+    let line : Line = record { bytes = (slice_index_or lines fresh.place found).bytes; number = (slice_index_or lines fresh.place found).number; decoded = fresh.text } in
     let same : bytes_of line ≡ bytes_of (slice_index_or lines fresh.place line) = ap bytes_of (get_or_default lines fresh.place found line place) in
     record {
       bytes = map-set_same bytes_of lines fresh.place line line same ∙ c.loop-place.invariant.bytes;
+      numbered = λ all. let before = c.loop-place.invariant.numbered all in numbered_still lines fresh.place line place (before fresh.place found place) before;
       within = rw length-set (all_but_last (λ (text : Fresh). text.place < length lines) rest fresh within);
       completes = λ database completes. one_given database lines line rest fresh same refl (rw split at (c.loop-place.invariant.completes database completes));
     }

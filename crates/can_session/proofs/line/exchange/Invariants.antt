@@ -2,13 +2,14 @@ use Rattle.std.proofs.Common.{◌≡◌, ◌<◌, length}
 use Rattle.std.specs.Prelude.{map, All}
 use Rattle.dbc_records.specs.Databases.{Database}
 use Rattle.can_session.specs.declared.line.Fresh.{Fresh}
-use Rattle.can_session.specs.Logs.{bytes_of, Completes}
+use Rattle.can_session.specs.Logs.{bytes_of, IsNumbered, Completes}
 use Rattle.can_session.proofs.line.exchange.Given as goal
 
 -- the lines keep their bytes, and the texts that are left complete them
 abbrev pub invariant-loop-place : goal.invariant-loop-place
 invariant-loop-place l = record {
   bytes : map bytes_of l.lines ≡ map bytes_of l.initial.lines;
+  numbered : All IsNumbered l.initial.lines → All IsNumbered l.lines;
   within : All {X = Fresh} (λ text. text.place < length l.lines) l.fresh.items;
   completes : (database : Database) → Completes database l.initial.lines l.initial.fresh.items → Completes database l.lines l.fresh.items;
 }

@@ -1,4 +1,3 @@
-use Rattle.std.proofs.Common.{sym}
 use Rattle.std.proofs.lemmas.Result.{err_from_is_err_and}
 use Rattle.dbc_reader.specs.Reading.Cursors.{left_at}
 use Rattle.dbc_reader.proofs.Turns.Lists.{names_fail}
@@ -7,4 +6,4 @@ use Rattle.dbc_reader.proofs.parts.names.Goals as goal
 pub returns-in_err-found : goal.returns-in_err-found
 returns-in_err-found c =
     let p = err_from_is_err_and c.from_residual.result c.from_residual.ensures.1 in
-    rw (p.1, p.2) (names_fail _ c.names.names (left_at c.names.at) _ (sym c.names-test.ensures) c.in_err-found.ensures c.names.invariant)
+    rw (p.1, p.2) (names_fail _ c.names.names (left_at c.names.at) _ c.in_err-found.ensures.0 c.in_err-found.ensures.1 c.names.invariant)

@@ -1,7 +1,7 @@
 use Rattle.std.proofs.Common.{◌<◌, ◌++◌, ℕ, [], length, codes, arith}
 use Rattle.std.proofs.lemmas.List.{length-map}
 use Rattle.std.proofs.lemmas.Result.{MatchResult-from_err}
-use Rattle.byte_devices.proofs.Writes.{Passes-item, Broke-item}
+use Rattle.byte_devices.proofs.Outs.{Took-item, Lost-item}
 use Rattle.can_decode.specs.DecodedLines.{decoded_line}
 use Rattle.session_script.specs.Replies.{decoded_texts}
 use Rattle.session_script.proofs.Layouts.{at_place}
@@ -13,11 +13,11 @@ returns-in_err-hold_line g c =
     let n : ℕ = c.loop-n.n in
     let within : n < length (decoded_texts state) = omega (arith, c.loop-n-test.true, c.line_count-n-end.ensures, length-map state.lines (decoded_line state.database)) in
     MatchResult-from_err c.from_residual.result _ _ c.from_residual.ensures.0
-    (λ _. Broke-item (λ text. text ++ codes "\n") (decoded_texts state) n c.decoded.result.now [] _ _ _ _ _ within (at_place (decoded_line state.database) state.lines n c.decoded.result.now [] c.decoded.ensures) c.loop-n.invariant c.in_err-hold_line.ensures)
+    (λ _. Lost-item g.W.Sink.written (λ text. text ++ codes "\n") (decoded_texts state) n c.decoded.result.now [] _ _ _ within (at_place (decoded_line state.database) state.lines n c.decoded.result.now [] c.decoded.ensures) c.loop-n.invariant c.in_err-hold_line.ensures)
 
 pub loop-n-preserved : goal.loop-n-preserved
 loop-n-preserved g c =
     let state = c.args.session.now.state in
     let n : ℕ = c.loop-n.n in
     let within : n < length (decoded_texts state) = omega (arith, c.loop-n-test.true, c.line_count-n-end.ensures, length-map state.lines (decoded_line state.database)) in
-    Passes-item (λ text. text ++ codes "\n") (decoded_texts state) n c.decoded.result.now [] _ _ _ _ _ _ within (at_place (decoded_line state.database) state.lines n c.decoded.result.now [] c.decoded.ensures) c.loop-n.invariant c.in_ok-hold_line.ensures
+    Took-item g.W.Sink.written (λ text. text ++ codes "\n") (decoded_texts state) n c.decoded.result.now [] _ _ _ within (at_place (decoded_line state.database) state.lines n c.decoded.result.now [] c.decoded.ensures) c.loop-n.invariant c.in_ok-hold_line.ensures

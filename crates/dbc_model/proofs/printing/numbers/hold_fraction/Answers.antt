@@ -1,7 +1,8 @@
 use Rattle.std.proofs.Common.{◌-◌, ◌≤◌, ◌++◌, ◌∷◌, [], length, ap, ◌∙◌, arith, rules, sym, append-nil}
 use Rattle.std.proofs.lemmas.List.{take-replicate}
 use Rattle.dbc_records.specs.Layout.{zeros}
-use Rattle.dbc_model.proofs.Magnitudes.{Sends-as, fraction_filled}
+use Rattle.byte_devices.proofs.Outs.{Sends-as}
+use Rattle.dbc_model.proofs.Magnitudes.{fraction_filled}
 use Rattle.dbc_model.proofs.printing.numbers.hold_fraction.Goals as goal
 
 pub returns-else-digits-behind : goal.returns-else-digits-behind
@@ -12,4 +13,4 @@ returns-else-digits-behind g c =
     let most : c.args.behind ≤ 20 = search rules in
     let front = c.split_at-else-digits-behind.ensures.front ∙ take-replicate k 20 48 (omega (arith, most)) in
     let text = ap (λ t. t ++ (digits ++ [])) front ∙ ap (λ t. zeros k ++ t) (append-nil digits) in
-    Sends-as _ _ _ _ _ _ _ (ap (λ t. 48 ∷ 46 ∷ t) text ∙ sym (fraction_filled c.args.behind digits few)) c.hold_pieces-else-digits-behind.ensures
+    Sends-as _ _ _ _ _ _ (ap (λ t. 48 ∷ 46 ∷ t) text ∙ sym (fraction_filled c.args.behind digits few)) c.send_pieces-else-digits-behind.ensures

@@ -1,0 +1,69 @@
+//! A sink, and the bytes that wait before it.
+ghost use Rattle.std.specs.Prelude.{◌≡◌, [], OnOk};
+ghost use Rattle.std.specs.List.{flat_map};
+ghost use Rattle.byte_devices.specs.Device.{Prints};
+ghost use Rattle.byte_devices.specs.Outs.{SameSink, Sends};
+
+use crate::device::{Sink, WriteFault, put_all};
+use arrayvec::ArrayVec;
+
+const ROOM: usize = 65536;
+
+/// A sink, and the bytes that wait before they are put to it, so that many short texts cost one call. What waits is lost where it
+/// isn't [flushed](Out::flush).
+#[derive(Drop)]
+pub struct Out<'w, W: Sink> {
+    /// The sink.
+    pub sink: &'w mut W,
+    /// The bytes that wait.
+    pub held: ArrayVec<u8, ROOM>,
+}
+
+impl<'w, W: Sink> Out<'w, W> {
+    /// The sink, and no bytes.
+    pub fn new(sink: &'w mut W) -> Out<'w, W>
+        ensures same { result.sink.ghost_name ≡ sink.entry.ghost_name }
+        ensures written { result.sink.now ≡ sink.old }
+        ensures empty { result.held.items ≡ [] }
+    {
+        Out {
+            sink,
+            held: ArrayVec::new(),
+        }
+    }
+
+    /// Puts what waits.
+    pub fn flush(&mut self) -> Result<(), WriteFault>
+        ensures prints { Prints (W.written self.old.sink.now) (W.written self.new.sink.now) result self.old.held.items }
+        ensures same { SameSink self.old self.new }
+        ensures empty { OnOk result (self.new.held.items ≡ []) }
+    {
+        put_all(self.sink, self.held.as_slice())?;
+        self.held.clear();
+        Ok(())
+    }
+
+    /// Sends these bytes: they wait, and what there is no room for is put to the sink.
+    pub fn send(&mut self, bytes: &[u8]) -> Result<(), WriteFault>
+        ensures { Sends W.written self.old self.new result bytes.now }
+    {
+        if self.held.try_extend_from_slice(bytes).is_ok() {
+            return Ok(());
+        }
+        self.flush()?;
+        if self.held.try_extend_from_slice(bytes).is_err() {
+            put_all(self.sink, bytes)?;
+        }
+        Ok(())
+    }
+
+    /// Sends these pieces, one after another.
+    pub fn send_pieces(&mut self, pieces: &[&[u8]]) -> Result<(), WriteFault>
+        ensures { Sends W.written self.old self.new result (flat_map (λ piece. piece.now) pieces.now) }
+    {
+        for piece in pieces {
+            self.send(piece)?;
+        }
+        Ok(())
+    }
+}

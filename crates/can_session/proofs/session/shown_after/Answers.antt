@@ -1,8 +1,0 @@
-use Rattle.can_session.proofs.Raising.{made_then_decoded}
-use Rattle.can_session.proofs.session.shown_after.Goals as goal
-
-pub returns-in_err-fresh-clause-made : goal.returns-in_err-fresh-clause-made
-returns-in_err-fresh-clause-made c = made_then_decoded _ _ c.args.meter.now c.recompiled.new.meter c.decode_touched.new.meter c.recompiled.ensures.made c.decode_touched.ensures.lines
-
-pub returns-clause-made : goal.returns-clause-made
-returns-clause-made c = made_then_decoded _ _ c.args.meter.now c.recompiled.new.meter c.decode_touched.new.meter c.recompiled.ensures.made c.decode_touched.ensures.lines
