@@ -7,3 +7,4 @@ pub mod SignedValues
 pub mod Signs
 pub mod Tables
 pub mod Words
+pub mod Stepping

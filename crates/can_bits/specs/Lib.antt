@@ -1,4 +1,5 @@
 pub mod Bits
+pub mod Stepping
 pub mod Steps
 pub mod Windows
 pub mod Grids

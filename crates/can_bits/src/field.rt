@@ -73,3 +73,11 @@ impl Field {
         self.length > 0 && self.passed(self.length - 1) / 8 >= u32::from(size)
     }
 }
+
+/// The position of a signal's bit at a place, as [`Field::position`] tells it.
+pub fn position(signal: &Signal, place: u16) -> u32
+    requires { place < signal.now.length }
+    ensures { result ≡ position_of (field_of signal.now) place }
+{
+    Field::of(signal).position(place)
+}

@@ -7,6 +7,7 @@
 mod cell;
 mod field;
 mod grid;
+pub mod laws;
 mod step;
 mod steps;
 mod table;
@@ -14,7 +15,7 @@ mod table;
 mod tests;
 mod window;
 
-pub use field::Field;
+pub use field::{Field, position};
 pub use grid::{push_grid, push_right};
 pub use step::{Shift, Step};
 pub use steps::Steps;

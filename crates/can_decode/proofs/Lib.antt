@@ -4,3 +4,9 @@ pub mod Targets
 pub mod Indexes
 pub mod Named
 pub mod Labels
+pub mod Counting
+pub mod FrameNumbers
+pub mod DigitTexts
+pub mod OneText
+pub mod ScaledTexts
+pub mod TextParts

@@ -1,6 +1,7 @@
 //! A database with all that decoding its bus needs.
-ghost use Rattle.std.specs.Prelude.{◌≡◌, IfOk, map};
+ghost use Rattle.std.specs.Prelude.{◌≡◌, IfOk, OnOk, length, map};
 ghost use Rattle.can_layout.specs.Plans.{plan_of};
+ghost use Rattle.can_layout.specs.Meters.{with_plan, repeated, AtMost};
 ghost use Rattle.can_decode.specs.Remembering.{IsDecoding};
 
 use crate::choices::Choices;
@@ -36,7 +37,9 @@ fn parts_of(
     database: &Database,
     meter: &mut Meter,
 ) -> Result<(Vec<Plan>, MessageIndex), Memory>
-    ensures { IfOk result (λ parts. IsDecoding database.now parts.0.items parts.1) }
+    ensures parts { IfOk result (λ parts. IsDecoding database.now parts.0.items parts.1) }
+    ensures counted { OnOk result (meter.new ≡ repeated (length database.now.messages) with_plan meter.old) }
+    ensures at_most { AtMost (length database.now.messages) with_plan meter.old meter.new }
 {
     let indexed = Indexed::of(alloc, database)?;
     let plans = plans_with(alloc, &indexed, meter)?;
@@ -47,7 +50,9 @@ fn parts_of(
 impl Decoding {
     /// That of a database. Its rows are indexed once. The meter counts each plan, also where memory is refused.
     pub fn of(alloc: Global, database: Database, meter: &mut Meter) -> Result<Decoding, Memory>
-        ensures { IfOk result (λ decoding. decoding ≡ database) }
+        ensures database { IfOk result (λ decoding. decoding ≡ database) }
+        ensures counted { OnOk result (meter.new ≡ repeated (length database.messages) with_plan meter.old) }
+        ensures at_most { AtMost (length database.messages) with_plan meter.old meter.new }
     {
         let (plans, index) = parts_of(alloc, &database, meter)?;
         Ok(Decoding {

@@ -11,6 +11,7 @@ mod decoding;
 mod frame_text;
 mod j1939;
 mod known_line;
+pub mod laws;
 mod line;
 mod message;
 mod message_index;

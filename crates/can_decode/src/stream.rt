@@ -1,7 +1,9 @@
 //! A log in, its decoded lines out.
-ghost use Rattle.std.specs.Prelude.{◌≡◌, map};
-ghost use Rattle.line_stream.specs.LineTexts.{Streams};
+ghost use Rattle.std.specs.Prelude.{◌≡◌, ℕ, List, map};
+ghost use Rattle.line_stream.specs.LineTexts.{StreamsLines};
 ghost use Rattle.can_layout.specs.Plans.{plan_of};
+ghost use Rattle.can_layout.specs.Meters.{with_line, repeated};
+ghost use Rattle.can_decode.specs.Counting.{refused_count, counted};
 ghost use Rattle.can_decode.specs.DecodedLines.{decoded_line};
 
 use crate::choices::Finding;
@@ -15,36 +17,33 @@ use dbc_records::Database;
 use dbc_values::Memory;
 use line_stream::{LineText, StreamFault, stream_texts};
 use std::alloc::Global;
-use std::marker::Model;
 use std::mem::swap;
 
-// The decoded lines of a database.
+// The decoded lines of a database, and the meter that counts them.
 #[derive(Drop)]
 struct Decoded<'a, C: Choose> {
     finder: Finder<'a, C>,
     meter: Meter,
 }
 
-impl<'a, C: Choose> Model for Decoded<'a, C> {
-    ghost use Rattle.dbc_records.specs.Databases.{Database};
-
-    ghost Value = { Database };
-
-    ghost view = { λ a. a.finder };
-}
-
 impl<'a, C: Choose> LineText for Decoded<'a, C> {
+    ghost use Rattle.std.proofs.Common.{refl};
+    ghost use Rattle.can_layout.specs.Meters.{with_line};
     ghost use Rattle.can_decode.specs.DecodedLines.{decoded_line};
 
-    ghost text_of = { λ database. decoded_line database };
+    ghost text_of = { λ decoded. decoded_line decoded.finder };
+
+    ghost next = { λ decoded line. record decoded { meter = with_line decoded.meter } };
 
     fn renew(&mut self, text: &mut Vec<u8>, line: &[u8]) -> Result<(), Memory> {
-        self.meter.count_line();
         text.clear();
         push_line(*text.allocator(), text, &mut self.finder, line)?;
         text.push(b'\n')?;
+        self.meter.count_line();
         Ok(())
     }
+
+    ghost same_texts = { λ decoded line. refl };
 }
 
 // The same, and what numbers went to is remembered.
@@ -58,6 +57,15 @@ fn remembering<'a, C: Choose>(finder: Finder<'a, C>) -> Finder<'a, Remembered<C>
     }
 }
 
+// Counts the line that memory was wanting for.
+fn count_refused(ended: &Result<u64, StreamFault>, meter: &mut Meter)
+    ensures { meter.new ≡ repeated (refused_count ended.now) with_line meter.old }
+{
+    if let Err(StreamFault::Memory) = ended {
+        meter.count_line();
+    }
+}
+
 // Decodes by what finds the messages of numbers.
 fn stream_by<'a, C: Choose, R: Source, W: Sink>(
     alloc: Global,
@@ -66,21 +74,24 @@ fn stream_by<'a, C: Choose, R: Source, W: Sink>(
     source: &mut R,
     sink: &mut W,
 ) -> Result<u64, StreamFault>
-    ensures { Streams (decoded_line finder.entry) (R.unread source.old) (R.unread source.new) (W.written sink.old) (W.written sink.new) result }
+    ensures { (lines : List (List ℕ)) × StreamsLines (decoded_line finder.entry) (R.unread source.old) (R.unread source.new) (W.written sink.old) (W.written sink.new) result lines
+        × (meter.new ≡ counted result lines meter.old) }
 {
     let mut decoded = Decoded {
         finder: remembering(finder),
         meter: Meter::new(),
     };
     swap(&mut decoded.meter, meter);
-    let result = stream_texts(alloc, &mut decoded, source, sink);
+    let ended = stream_texts(alloc, &mut decoded, source, sink);
     swap(&mut decoded.meter, meter);
-    result
+    count_refused(&ended, meter);
+    ended
 }
 
 /// Reads the source to its end, writes the decoded line and an LF for each line, and answers how many lines there are,
 /// up to `u64::MAX`. `plans` are those of the messages in order. A line has at most 4,096 bytes, its CR counted and its
-/// LF not. Before it pulls again, it has written the texts of all lines that were read whole.
+/// LF not. Before it pulls again, it has written the texts of all lines that were read whole. The meter counts each line whose
+/// text was made, and the one that memory was wanting for. A fault is a longer line, a read or a write that failed, or want of memory.
 ///
 /// What a number goes to is remembered, and is found by going through the messages. [`decode_stream_by`] has an index.
 pub fn decode_stream<R: Source, W: Sink>(
@@ -92,7 +103,8 @@ pub fn decode_stream<R: Source, W: Sink>(
     sink: &mut W,
 ) -> Result<u64, StreamFault>
     requires { plans.now ≡ map (plan_of database.now) database.now.messages }
-    ensures { Streams (decoded_line database.now) (R.unread source.old) (R.unread source.new) (W.written sink.old) (W.written sink.new) result }
+    ensures { (lines : List (List ℕ)) × StreamsLines (decoded_line database.now) (R.unread source.old) (R.unread source.new) (W.written sink.old) (W.written sink.new) result lines
+        × (meter.new ≡ counted result lines meter.old) }
 {
     let finder = Finder {
         database,
@@ -110,7 +122,8 @@ pub fn decode_stream_by<R: Source, W: Sink>(
     source: &mut R,
     sink: &mut W,
 ) -> Result<u64, StreamFault>
-    ensures { Streams (decoded_line decoding.now) (R.unread source.old) (R.unread source.new) (W.written sink.old) (W.written sink.new) result }
+    ensures { (lines : List (List ℕ)) × StreamsLines (decoded_line decoding.now) (R.unread source.old) (R.unread source.new) (W.written sink.old) (W.written sink.new) result lines
+        × (meter.new ≡ counted result lines meter.old) }
 {
     let choices = decoding.choices();
     let finder = Finder {

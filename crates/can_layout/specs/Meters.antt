@@ -1,5 +1,5 @@
 -- How often something was made.
-use Rattle.std.specs.Prelude.{◌≡◌, ℕ, zero, suc, ◌+◌, ◌-◌, ◌^◌, ◌<◌, ◌≤◌, min}
+use Rattle.std.specs.Prelude.{◌≡◌, ℕ, zero, suc, ◌+◌, ◌-◌, ◌^◌, ◌<◌, ◌≤◌, min, max}
 
 pub record Meter : Type 0 where
   pub plans : ℕ
@@ -11,9 +11,9 @@ pub record IsMeter (meter : Meter) : Type 0 where
   pub pictures : meter.pictures < 2 ^ 64
   pub lines : meter.lines < 2 ^ 64
 
--- one more; a count stays at the greatest number of 64 bits
+-- one more; a count stays at the greatest number of 64 bits, and none falls
 abbrev pub one_more : ℕ → ℕ
-one_more count = min (count + 1) (2 ^ 64 - 1)
+one_more count = max count (min (count + 1) (2 ^ 64 - 1))
 
 -- the meter after a plan, a picture or a decoded line more
 abbrev pub with_plan : Meter → Meter

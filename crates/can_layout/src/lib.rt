@@ -24,7 +24,7 @@ mod walk;
 
 pub use above::Above;
 pub use asking::{cause, chain, message_walks};
-pub use can_bits::{Field, Steps};
+pub use can_bits::{Field, Steps, position};
 pub use can_rows::{Indexed, Lookup, group_in, group_number, group_of, is_bad_number};
 pub use decoder::Decoder;
 pub use drawing::{picture, picture_with, pictures};

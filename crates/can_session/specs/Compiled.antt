@@ -23,8 +23,11 @@ is_here numbers message = is_among numbers message.head.number
 abbrev pub count_here : List ℕ → Database → ℕ
 count_here numbers database = count_by (is_here numbers) database.messages
 
--- at most so many plans and as many pictures were made meanwhile, and at most so many lines decoded
+-- meanwhile at most so many plans and as many pictures were counted, and at most so many decoded lines; no count fell
 pub record Raised (made decoded : ℕ) (before after : Meter) : Type 0 where
+  pub no_plan_lost : before.plans ≤ after.plans
+  pub no_picture_lost : before.pictures ≤ after.pictures
+  pub no_line_lost : before.lines ≤ after.lines
   pub plans : after.plans ≤ before.plans + made
   pub pictures : after.pictures ≤ before.pictures + made
   pub lines : after.lines ≤ before.lines + decoded

@@ -24,8 +24,8 @@ pub record Open : Type 0 where
 
 -- ---- the first state
 
--- The state of a text's database without lines, for which at most a plan and a picture were made of each message. Or the first
--- fault of the text, or memory ran out.
+-- The state of a text's database without lines, for which at most as many plans and pictures were counted as there are messages. Or
+-- the first fault of the text, or memory ran out.
 abbrev pub Opens : List ℕ → Result Open ReadFault → Type 0
 Opens text (Ok session) =
     HasDatabase text session.state.database × (session.state.lines ≡ []) × Raised (length session.state.database.messages) 0 nothing_made session.meter

@@ -2,7 +2,8 @@
 use Rattle.std.specs.Prelude.{◌≡◌, ℕ, List, Result, Ok, Err}
 use Rattle.byte_devices.specs.Device.{Unread, Written}
 use Rattle.dbc_records.specs.Databases.{Database}
-use Rattle.dbc_reader.specs.Texts.{HasDatabase, IsRead}
+use Rattle.dbc_reader.specs.Grammar as grammar
+use Rattle.dbc_reader.specs.Texts.{HasDatabase, HasFirstFault}
 use Rattle.line_stream.specs.LineTexts.{Streams}
 use Rattle.can_decode.specs.DecodedLines.{decoded_line}
 use Rattle.candesk_calls.specs.declared.fault.RunFault.{RunFault}
@@ -33,7 +34,7 @@ Decodes database before after old new (Err faults.Memory) = IsUntouched before a
 abbrev pub Runs : List ℕ → Unread → Unread → Written → Written → Result ℕ RunFault → Type 0
 Runs text before after old new (Ok count) = (database : Database) × HasDatabase text database × Decodes database before after old new (Ok count)
 Runs text before after old new (Err (faults.Stream fault)) = (database : Database) × HasDatabase text database × Decodes database before after old new (Err (faults.Stream fault))
-Runs text before after old new (Err (faults.Read fault)) = IsUntouched before after old new × IsRead text (Err fault)
+Runs text before after old new (Err (faults.Read fault)) = IsUntouched before after old new × HasFirstFault grammar.text text fault
 Runs text before after old new (Err faults.Memory) = IsUntouched before after old new
 
 -- the exit status of an outcome

@@ -7,6 +7,7 @@ use can_layout::Meter;
 use dbc_model::{Memory, Sink, Source};
 use dbc_reader::read;
 use dbc_records::Database;
+use dbc_tokens::Cause;
 use std::alloc::Global;
 
 // Decodes the log.
@@ -53,6 +54,7 @@ pub fn decode_run<R: Source, W: Sink>(
 {
     match read(alloc, text) {
         Ok(database) => decode_log(alloc, database, source, sink),
+        Err(fault) if fault.cause == Cause::Memory => Err(RunFault::Memory),
         Err(fault) => Err(RunFault::Read(fault)),
     }
 }

@@ -2,7 +2,7 @@
 
 use crate::reading::database;
 use byte_devices::limp::Limp;
-use can_decode::{StreamFault, decode_stream};
+use can_decode::{StreamFault, decode_line, decode_stream};
 use can_layout::{Meter, make_plans};
 use dbc_records::Database;
 use dbc_values::Memory;
@@ -134,5 +134,26 @@ fn failing_devices(rt: HostRuntime) -> Result<(), Fail> {
     let (unread, all_written) = broken_off(rt.alloc())?;
     assert_eq!(rt; unread, 31);
     assert!(rt; all_written);
+    Ok(())
+}
+
+// Whether a line is decoded by itself, and counted.
+fn is_line_decoded(alloc: Global, database: &Database) -> Result<bool, Memory> {
+    let mut meter = Meter::new();
+    let plans = make_plans(alloc, database, &mut meter)?;
+    let line = b"(1.0)  c  123#0102 R\r".as_slice();
+    let text = decode_line(alloc, database, plans.as_slice(), line, &mut meter)?;
+    let wanted = b"(1.0)  c  123#0102 R :: A(S: 1, T: 2)".as_slice();
+    Ok(text.as_slice() == wanted && meter.lines() == 1)
+}
+
+fn is_decoded_alone(alloc: Global) -> Result<bool, Fail> {
+    let database = database(alloc, TWO)?;
+    Ok(is_line_decoded(alloc, &database)?)
+}
+
+#[test]
+fn a_line_by_itself(rt: HostRuntime) -> Result<(), Fail> {
+    assert!(rt; is_decoded_alone(rt.alloc())?);
     Ok(())
 }

@@ -1,9 +1,11 @@
 //! That plans and pictures are made.
-ghost use Rattle.std.specs.Prelude.{◌<◌, length};
+ghost use Rattle.std.specs.Prelude.{◌<◌, IsSome, IsTrue, length};
+ghost use Rattle.can_layout.specs.Plans.{signal_at};
 
 use crate::reading::database;
-use can_layout::{Meter, make_plan, make_plans, picture, pictures};
+use can_layout::{Meter, Walk, chain, make_plan, make_plans, picture, pictures};
 use dbc_records::Database;
+use dbc_values::Memory;
 use std::alloc::Global;
 use std::test::Fail;
 
@@ -56,5 +58,42 @@ fn is_laid_out(alloc: Global) -> Result<bool, Fail> {
 #[test]
 fn a_plan_and_a_picture(rt: HostRuntime) -> Result<(), Fail> {
     assert!(rt; is_laid_out(rt.alloc())?);
+    Ok(())
+}
+
+// A signal below a switch.
+const CHAINED: &[u8] =
+    b"BO_ 5 A: 3 N\n SG_ S m1 : 16|8@1+ (1,0) [0|0] \"\"\n SG_ T M : 0|8@1+ (1,0) [0|0] \"\"\n";
+
+// Whether the first message has a first signal.
+#[tactic(auto, unfolding(can_layout::specs::Plans::signal_at))]
+fn has_first(database: &Database) -> bool
+    ensures { IsTrue result → IsSome (signal_at database.now 0 0) }
+{
+    match database.messages.as_slice() {
+        [message, ..] => !message.signals.as_slice().is_empty(),
+        [] => false,
+    }
+}
+
+// Whether one switch stands above the first signal.
+fn has_one_above(alloc: Global, database: &Database) -> Result<bool, Memory> {
+    if !has_first(database) {
+        return Ok(false);
+    }
+    match chain(alloc, database, 0, 0)? {
+        Walk::Chain(links) => Ok(links.len() == 1),
+        Walk::Absent { .. } | Walk::Loop => Ok(false),
+    }
+}
+
+fn is_chained(alloc: Global) -> Result<bool, Fail> {
+    let database = database(alloc, CHAINED)?;
+    Ok(has_one_above(alloc, &database)?)
+}
+
+#[test]
+fn a_way_up(rt: HostRuntime) -> Result<(), Fail> {
+    assert!(rt; is_chained(rt.alloc())?);
     Ok(())
 }

@@ -1,5 +1,5 @@
 -- What is answered to an edit, and the numbers and words of refusals.
-use Rattle.std.specs.Prelude.{◌≡◌, ℕ, List, Result, Ok, codes, MatchResult}
+use Rattle.std.specs.Prelude.{◌≡◌, ℕ, List, Result, Ok, Err, codes, MatchResult}
 use Rattle.dbc_edits.specs.declared.refusal.Refusal.{Refusal}
 use Rattle.dbc_edits.specs.declared.refusal.Refusal.TheVariants as refusals
 
@@ -10,6 +10,11 @@ IsRefusal defined refusal = MatchResult defined (λ _. refusal ≡ refusals.Memo
 -- an answer is the defined one, or want of memory
 abbrev pub IsAnswer : {A : Type 0} → Result A Refusal → Result A Refusal → Type 0
 IsAnswer defined answer = MatchResult answer (λ value. defined ≡ Ok value) (λ refusal. IsRefusal defined refusal)
+
+-- what is done unless it is refused before
+abbrev pub unless_refused : {A : Type 0} → Result (Unit {0}) Refusal → Result A Refusal → Result A Refusal
+unless_refused (Ok done) change = change
+unless_refused (Err refusal) change = Err refusal
 
 abbrev pub refusal_number : Refusal → ℕ
 refusal_number refusals.NoMessage = 20

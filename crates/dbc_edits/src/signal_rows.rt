@@ -1,8 +1,10 @@
 //! Edits of the multiplexer rows and the named values of signals.
-ghost use Rattle.std.specs.Prelude.{◌≡◌, IfOk};
+ghost use Rattle.std.specs.Prelude.{◌≡◌, IfOk, Result};
+ghost use Rattle.dbc_records.specs.Databases.{Database as PlainDatabase};
+ghost use Rattle.dbc_edits.specs.declared.refusal.Refusal.{Refusal as PlainRefusal};
 ghost use Rattle.dbc_edits.specs.Rows.{with_item, is_mux_of, is_values_of};
-ghost use Rattle.dbc_edits.specs.Refusals.{IsAnswer};
-ghost use Rattle.dbc_edits.specs.Edits.{mux_set, values_set, mux_dropped, values_dropped};
+ghost use Rattle.dbc_edits.specs.Refusals.{IsAnswer, unless_refused};
+ghost use Rattle.dbc_edits.specs.Edits.{for_signal, mux_set, values_set, mux_dropped, values_dropped};
 
 use crate::key::OfSignal;
 use crate::messages::has_number;
@@ -11,6 +13,20 @@ use crate::rows::{drop_all, has_any, set_row};
 use crate::signals::has_signal;
 use dbc_records::{Database, MuxRow, ValueRow};
 use dbc_values::{Copied, Memory};
+
+// Refuses where no message of the number has the signal.
+#[tactic(auto, unfolding(crate::specs::Edits::refused_if))]
+fn find_signal(database: &Database, number: u32, name: &[u8]) -> Result<(), Refusal>
+    ensures { (change : Result PlainDatabase PlainRefusal) → for_signal number name.now database.now change ≡ unless_refused result change }
+{
+    if !has_number(database.messages.as_slice(), number) {
+        return Err(Refusal::NoMessage);
+    }
+    if !has_signal(database.messages.as_slice(), number, name) {
+        return Err(Refusal::NoSignal);
+    }
+    Ok(())
+}
 
 // The database with the multiplexer row set.
 fn with_mux(database: &Database, key: &OfSignal<'_>, row: &MuxRow) -> Result<Database, Memory>
@@ -29,12 +45,7 @@ pub(crate) fn set_mux(database: &Database, row: &MuxRow) -> Result<Database, Ref
 {
     let number = row.number;
     let name = row.signal.as_bytes();
-    if !has_number(database.messages.as_slice(), number) {
-        return Err(Refusal::NoMessage);
-    }
-    if !has_signal(database.messages.as_slice(), number, name) {
-        return Err(Refusal::NoSignal);
-    }
+    find_signal(database, number, name)?;
     let edited = with_mux(database, &OfSignal { number, name }, row)?;
     Ok(edited)
 }
@@ -56,12 +67,7 @@ pub(crate) fn set_values(database: &Database, row: &ValueRow) -> Result<Database
 {
     let number = row.number;
     let name = row.signal.as_bytes();
-    if !has_number(database.messages.as_slice(), number) {
-        return Err(Refusal::NoMessage);
-    }
-    if !has_signal(database.messages.as_slice(), number, name) {
-        return Err(Refusal::NoSignal);
-    }
+    find_signal(database, number, name)?;
     let edited = with_named(database, &OfSignal { number, name }, row)?;
     Ok(edited)
 }

@@ -6,7 +6,7 @@ use Rattle.line_stream.specs.declared.fault.StreamFault.{StreamFault}
 use Rattle.line_stream.specs.declared.fault.StreamFault.TheVariants as faults
 use Rattle.line_stream.specs.Lines.{lines_of}
 use Rattle.line_stream.specs.Runs.{Rules, StopsAmong, BreaksAmong}
-use Rattle.line_stream.specs.Stream.{HandlesAll, EndsAtLong, EndsAtRead, StreamEnds}
+use Rattle.line_stream.specs.Stream.{NoneFailed, HandlesAll, EndsAtLong, EndsAtRead, StreamEnds}
 
 module _ {State : Type 0} (rules : Rules State) (most : ℕ) (before after : State) (old new : Written) (unread left : Unread) where
   pub StreamEnds-from : (result : Result ℕ StreamFault)
@@ -17,11 +17,12 @@ module _ {State : Type 0} (rules : Rules State) (most : ℕ) (before after : Sta
       → (IsErrOf result faults.Memory → IfSome unread.bytes (λ input. StopsAmong rules most before old (lines_of input) after new))
       → (IsErrOf result faults.Write → Rises old.failures new.failures)
       → (IsErrOf result faults.Memory → (state : State) × (line : List ℕ) × rules.Stops state line)
+      → ((¬ IsErrOf result faults.Read) → NoneFailed unread left)
       → StreamEnds rules most before old unread left after new result
-  StreamEnds-from (Ok count) ok long read write memory failed stopped = ok
-  StreamEnds-from (Err faults.LongLine) ok long read write memory failed stopped = long refl
-  StreamEnds-from (Err faults.Read) ok long read write memory failed stopped = read refl
-  StreamEnds-from (Err faults.Write) ok long read write memory failed stopped = (failed refl, write refl)
-  StreamEnds-from (Err faults.Memory) ok long read write memory failed stopped = (stopped refl, memory refl)
+  StreamEnds-from (Ok count) ok long read write memory failed stopped none = (none (λ is. cc), ok)
+  StreamEnds-from (Err faults.LongLine) ok long read write memory failed stopped none = (none (λ is. cc), long refl)
+  StreamEnds-from (Err faults.Read) ok long read write memory failed stopped none = read refl
+  StreamEnds-from (Err faults.Write) ok long read write memory failed stopped none = (none (λ is. cc), failed refl, write refl)
+  StreamEnds-from (Err faults.Memory) ok long read write memory failed stopped none = (none (λ is. cc), stopped refl, memory refl)
 
 pub ruleset ends = (StreamEnds-from)

@@ -2,11 +2,14 @@
 use Rattle.std.proofs.Common.{◌≡◌, ℕ, ◌<◌, List, [], ◌∷◌, ◌++◌, length, refl, sym, ap, subst, ◌∙◌, append_assoc, append-nil, inl, inr}
 use Rattle.std.specs.List.{AllByRecursion}
 use Rattle.std.specs.Io.KnownBytes.{Appends}
+use Rattle.std.specs.Prelude.{Result, Err}
 use Rattle.std.proofs.KnownBytes.{Appends-trans}
 use Rattle.byte_devices.specs.Device.{Rises, Written, Wrote, Broke, Passes}
 use Rattle.byte_devices.proofs.Writes.{Wrote-nil, Wrote-then, Passes-nil, Passes-then, Passes-flush}
+use Rattle.line_stream.specs.declared.fault.StreamFault.{StreamFault}
+use Rattle.line_stream.specs.declared.fault.StreamFault.TheVariants as faults
 use Rattle.line_stream.specs.Lines.{IsShort, AllShort}
-use Rattle.line_stream.specs.Runs.{Rules, Runs, Breaks, Handled, HandledBut, StopsAmong, BreaksAmong, FailsAt}
+use Rattle.line_stream.specs.Runs.{Rules, Runs, Leads, Breaks, Handled, HandledBut, StopsAmong, BreaksAmong, FailsAt}
 
 pub AllByRecursion-append : {X : Type 0} (P : X → Type 0) (xs ys : List X) → AllByRecursion P xs → AllByRecursion P ys → AllByRecursion P (xs ++ ys)
 AllByRecursion-append P [] ys h k = k
@@ -229,3 +232,37 @@ module _ {State : Type 0} (rules : Rules State) (most : ℕ) where
   pub BreaksAmong-rises : (s u : State) (a c : Written) (all : List (List ℕ)) → BreaksAmong rules most s a all u c → Rises a.failures c.failures
   BreaksAmong-rises s u a c all (inl k) = k.breaks.failures
   BreaksAmong-rises s u a c all (inr k) = k.breaks.failures
+
+-- ---- that lines led there
+
+module _ {State : Type 0} (rules : Rules State) (most : ℕ) where
+  pub Leads-none : (s : State) → Leads rules.Step s s
+  Leads-none s = record { lines = []; text = []; ran = (refl, refl) }
+
+  pub Leads-then : (s t u : State) → Leads rules.Step s t → Leads rules.Step t u → Leads rules.Step s u
+  Leads-then s t u h k = record { lines = h.lines ++ k.lines; text = h.text ++ k.text; ran = Runs-append rules.Step s t u h.lines k.lines h.text k.text h.ran k.ran }
+
+  pub Handled-leads : (s t : State) (a b : Written) (lines : List (List ℕ)) → Handled rules most s a lines t b → Leads rules.Step s t
+  Handled-leads s t a b lines h = record { lines = lines; text = h.text; ran = h.ran }
+
+  pub StopsAmong-leads : (s t : State) (a b : Written) (all : List (List ℕ)) → StopsAmong rules most s a all t b → Leads rules.Step s t
+  StopsAmong-leads s t a b all h = Handled-leads s t a b h.lines h.handled
+
+  pub BreaksAmong-leads : (s t : State) (a b : Written) (all : List (List ℕ)) → BreaksAmong rules most s a all t b → Leads rules.Step s t
+  BreaksAmong-leads s t a b all (inl h) = record {
+    lines = h.lines ++ h.line ∷ [];
+    text = (h.out ++ h.waiting) ++ h.last;
+    ran = Runs-push rules.Step s h.between t h.lines h.line (h.out ++ h.waiting) h.last h.ran h.step;
+  }
+  BreaksAmong-leads s t a b all (inr h) = record { lines = h.lines; text = h.out ++ h.waiting; ran = h.ran }
+
+-- what holds at each fault but that of the source
+abbrev pub faulty : StreamFault → Result ℕ StreamFault
+faulty fault = Err fault
+
+pub at-fault : {P : Type 0} (fault : StreamFault) → (faulty fault ≡ faulty faults.LongLine → P) → (faulty fault ≡ faulty faults.Memory → P) → (faulty fault ≡ faulty faults.Write → P)
+    → ¬ (faulty fault ≡ faulty faults.Read) → P
+at-fault faults.LongLine long memory write others = long refl
+at-fault faults.Memory long memory write others = memory refl
+at-fault faults.Write long memory write others = write refl
+at-fault faults.Read long memory write others = absurd (others refl)

@@ -10,6 +10,12 @@ Runs Step before [] after text = (after ≡ before) × (text ≡ [])
 Runs {State} Step before (line ∷ lines) after text =
     (between : State) × (first rest : List ℕ) × Step before line between first × Runs Step between lines after rest × (text ≡ first ++ rest)
 
+-- some lines lead from one state to the other
+pub record Leads {State : Type 0} (Step : State → List ℕ → State → List ℕ → Type 0) (before after : State) : Type 0 where
+  pub lines : List (List ℕ)
+  pub text : List ℕ
+  pub ran : Runs Step before lines after text
+
 -- all of the first text was written, then a beginning of the second, and then a put failed
 pub record Breaks (old new : Written) (whole part : List ℕ) : Type 0 where
   pub front : List ℕ

@@ -5,8 +5,8 @@ ghost use Rattle.byte_devices.specs.Device.{Rises, Wrote, Broke, Prints, Passes}
 ghost use Rattle.byte_devices.specs.Outs.{SameSink};
 ghost use Rattle.line_stream.specs.Lines.{lines_of, IsShort};
 ghost use Rattle.line_stream.specs.Cuts.{Cuts, HasNoLineFeed};
-ghost use Rattle.line_stream.specs.Runs.{Handled, StopsAmong, BreaksAmong, FailsAt};
-ghost use Rattle.line_stream.specs.Stream.{EndsAtLong, EndsAtRead, HandlesAll, StreamEnds};
+ghost use Rattle.line_stream.specs.Runs.{Leads, Handled, StopsAmong, BreaksAmong, FailsAt};
+ghost use Rattle.line_stream.specs.Stream.{NoneFailed, EndsAtLong, EndsAtRead, HandlesAll, StreamEnds};
 
 use crate::fault::{Stop, StreamFault};
 use crate::handler::Handler;
@@ -218,6 +218,10 @@ impl<'r, 'w, W: Sink> Streaming<'r, 'w, W> {
 
         // At a memory fault memory may be wanting for some line, even where the source doesn't tell its bytes.
         ensures handler_stops { IsErrOf result StreamFault.Memory → (view : H.View) × (line : List ℕ) × (H.rules handler.now).Stops view line }
+
+        // At all ends but a failed read no pull failed; and whatever the end, some lines led there.
+        ensures none_failed { (¬ IsErrOf result StreamFault.Read) → NoneFailed (R.unread source.old) (R.unread source.new) }
+        ensures leads { Leads (H.rules handler.now).Step (H.view state.old) (H.view state.new) }
         ensures same { SameSink self.old.out self.new.out }
     {
         let mut piece = [0u8; PIECE];
@@ -253,7 +257,8 @@ pub fn stream_lines<const MOST: usize, H: Handler, R: Source, W: Sink>(
     line: &mut ArrayVec<u8, MOST>,
 ) -> Result<u64, StreamFault>
     requires empty { line.old.items ≡ [] }
-    ensures { StreamEnds (H.rules handler.now) MOST (H.view state.old) (W.written sink.old) (R.unread source.old) (R.unread source.new) (H.view state.new) (W.written sink.new) result }
+    ensures ends { StreamEnds (H.rules handler.now) MOST (H.view state.old) (W.written sink.old) (R.unread source.old) (R.unread source.new) (H.view state.new) (W.written sink.new) result }
+    ensures leads { Leads (H.rules handler.now).Step (H.view state.old) (H.view state.new) }
 {
     let mut room = Vec::new(alloc);
     let mut streaming = Streaming {

@@ -1,7 +1,7 @@
 //! One text for each line.
-ghost use Rattle.std.specs.Prelude.{◌≡◌, ℕ, List, [], ◌∷◌, ◌++◌, OnOk};
+ghost use Rattle.std.specs.Prelude.{◌≡◌, ℕ, List, [], ◌∷◌, ◌++◌, OnOk, OnErr};
 ghost use Rattle.dbc_values.specs.Lexical.{line_feed};
-ghost use Rattle.line_stream.specs.LineTexts.{Streams};
+ghost use Rattle.line_stream.specs.LineTexts.{behind, StreamsLines};
 
 use crate::fault::{Stop, StreamFault};
 use crate::handler::Handler;
@@ -19,11 +19,18 @@ pub trait LineText: Drop {
     // The text of a line, without the LF that is written behind it.
     ghost text_of: { Self → List ℕ → List ℕ };
 
-    /// Puts the text of a line, and an LF behind it, into `text` in the place of what it held. What it changes of itself, such
-    /// as a table of what was looked up before, is nothing that contracts see.
+    // What it becomes when it has made the text of a line, such as a count that rises.
+    ghost next: { Self → List ℕ → Self };
+
+    /// Puts the text of a line, and an LF behind it, into `text` in the place of what it held. Where memory is wanting it is as it was,
+    /// and what `text` holds means nothing. What else it changes of itself, such as a table of what was looked up, no contract sees.
     fn renew(&mut self, text: &mut Vec<u8>, line: &[u8]) -> Result<(), Memory>
         ensures text { OnOk result (text.new.items ≡ text_of self.old line.now ++ line_feed ∷ []) }
-        ensures same { self.new ≡ self.old };
+        ensures next { OnOk result (self.new ≡ next self.old line.now) }
+        ensures same { OnErr result (self.new ≡ self.old) };
+
+    // No text changes with that.
+    ghost same_texts: { (texts : Self) (line : List ℕ) → text_of (next texts line) ≡ text_of texts };
 }
 
 // Lines are handled by writing their texts.
@@ -41,7 +48,7 @@ impl<T: LineText> Handler for Writer<T> {
 
     ghost view = { λ texts. texts };
 
-    ghost rules = { λ _. writes_texts T.text_of };
+    ghost rules = { λ _. writes_texts (record { text_of = T.text_of; next = T.next }) };
 
     fn handle<W: Sink>(
         &self,
@@ -71,7 +78,8 @@ pub fn stream_texts<T: LineText, R: Source, W: Sink>(
     source: &mut R,
     sink: &mut W,
 ) -> Result<u64, StreamFault>
-    ensures { Streams (T.text_of texts.old) (R.unread source.old) (R.unread source.new) (W.written sink.old) (W.written sink.new) result }
+    ensures { (lines : List (List ℕ)) × (texts.new ≡ behind (record { text_of = T.text_of; next = T.next }) texts.old lines)
+        × StreamsLines (T.text_of texts.old) (R.unread source.old) (R.unread source.new) (W.written sink.old) (W.written sink.new) result lines }
 {
     let mut line = ArrayVec::<u8, LONGEST>::new();
     let writer = Writer { texts: PhantomData };

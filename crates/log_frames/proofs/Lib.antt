@@ -1,1 +1,8 @@
 mod Words
+mod Runs
+mod LineWords
+mod Stamps
+mod Hexadecimals
+mod Identifiers
+mod Tails
+mod Grammar

@@ -1,3 +1,4 @@
 pub mod LogLines
 pub mod Frames
 pub mod Seen
+pub mod LogGrammar

@@ -8,6 +8,7 @@
 mod form;
 mod frame;
 mod identifier;
+pub mod laws;
 mod line;
 mod reading;
 

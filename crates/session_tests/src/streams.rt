@@ -22,7 +22,11 @@ impl<'t> Model for Marked<'t> {
 }
 
 impl<'t> LineText for Marked<'t> {
+    ghost use Rattle.std.proofs.Common.{refl};
+
     ghost text_of = { λ mark line. mark ++ line };
+
+    ghost next = { λ mark line. mark };
 
     fn renew(&mut self, text: &mut Vec<u8>, line: &[u8]) -> Result<(), Memory> {
         self.lines = self.lines.saturating_add(1);
@@ -32,6 +36,8 @@ impl<'t> LineText for Marked<'t> {
         text.push(b'\n')?;
         Ok(())
     }
+
+    ghost same_texts = { λ mark line. refl };
 }
 
 #[test]

@@ -3,7 +3,7 @@ use Rattle.std.proofs.lemmas.Result.{err_from_is_err_and}
 use Rattle.line_stream.specs.declared.fault.StreamFault.TheVariants.{LongLine, Write, Memory}
 use Rattle.line_stream.specs.Lines.{lines_of}
 use Rattle.line_stream.specs.Runs.{StopsAmong, BreaksAmong}
-use Rattle.line_stream.proofs.Handling.{Handled-none, Handled-then, StopsAmong-then, BreaksAmong-then, BreaksAmong-rises}
+use Rattle.line_stream.proofs.Handling.{Handled-none, Handled-then, StopsAmong-then, BreaksAmong-then, BreaksAmong-rises, Leads-then, Handled-leads, StopsAmong-leads, BreaksAmong-leads, at-fault}
 use Rattle.line_stream.proofs.Reading.{Pulled-nil, Pulled-then, Pulled-none, PullFailed-then, Cuts-nil, Cuts-more, exit-read, exit-long, exit-memory, exit-write, exit-end, exit-ok}
 use Rattle.line_stream.proofs.streaming.Streaming.run_lines.Goals as goal
 
@@ -147,3 +147,36 @@ returns-in_err-last-clause-handler_stops g c = λ is.
     let was : c.in_err-last.field-0.0 ≡ Memory = cc in
     let fault = c.in_err-last.ensures.memory (ap Err was) in
     (_, fault.line, fault.stops)
+
+pub returns-in-Err-clause-leads : goal.returns-in-Err-clause-leads
+returns-in-Err-clause-leads g c = Handled-leads (g.H.Handler.rules c.args.handler.now) g.row.MOST _ _ _ _ c.loop-len.invariant.1 c.loop-len.invariant.7
+
+pub returns-in_err-fed-clause-leads : goal.returns-in_err-fed-clause-leads
+returns-in_err-fed-clause-leads g c =
+    let rules = g.H.Handler.rules c.args.handler.now in
+    let so_far = c.loop-len.invariant in
+    let fed = c.in_err-fed.ensures in
+    Leads-then rules g.row.MOST _ _ _ (Handled-leads rules g.row.MOST _ _ _ _ so_far.1 so_far.7)
+    (at-fault c.in_err-fed.field-0.0
+    (λ is. let long = fed.long is in Handled-leads rules g.row.MOST _ _ _ _ long.0 long.6)
+    (λ is. let stopped = fed.memory is in StopsAmong-leads rules g.row.MOST _ _ _ _ stopped.0 stopped.3)
+    (λ is. let broke = fed.write is in BreaksAmong-leads rules g.row.MOST _ _ _ _ broke.0 broke.3)
+    fed.others)
+
+pub returns-in_err-last-clause-leads : goal.returns-in_err-last-clause-leads
+returns-in_err-last-clause-leads g c =
+    let rules = g.H.Handler.rules c.args.handler.now in
+    let so_far = c.loop-len.invariant in
+    let last = c.in_err-last.ensures in
+    Leads-then rules g.row.MOST _ _ _ (Handled-leads rules g.row.MOST _ _ _ _ so_far.1 so_far.7)
+    (at-fault c.in_err-last.field-0.0
+    (λ is. absurd (last.others.0 is))
+    (λ is. StopsAmong-leads rules g.row.MOST _ _ _ _ _ (last.memory is))
+    (λ is. BreaksAmong-leads rules g.row.MOST _ _ _ _ _ (last.write is))
+    last.others.1)
+
+pub returns-clause-leads : goal.returns-clause-leads
+returns-clause-leads g c =
+    let rules = g.H.Handler.rules c.args.handler.now in
+    let so_far = c.loop-len.invariant in
+    Leads-then rules g.row.MOST _ _ _ (Handled-leads rules g.row.MOST _ _ _ _ so_far.1 so_far.7) (Handled-leads rules g.row.MOST _ _ _ _ _ c.in_ok-last.ensures.ok)

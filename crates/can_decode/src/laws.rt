@@ -1,0 +1,22 @@
+//! Laws of the definitions. The functions do nothing: what they ensure is the law.
+ghost use Rattle.std.specs.Prelude.{◌≡◌, ◌<◌, ◌≤◌, ◌^◌, ℕ, ℤ, List, unsigned_abs, false};
+ghost use Rattle.dbc_values.specs.Scales.{Scale, IsScale};
+ghost use Rattle.log_frames.specs.Frames.{Frame, IsFrame, number_of};
+ghost use Rattle.can_rows.specs.Groups.{is_bad_number};
+ghost use Rattle.can_decode.specs.Values.{scaled, scaled_text};
+ghost use Rattle.can_decode.specs.ScaledTexts.{IsScaledText};
+
+/// The number of a frame stands for an identifier.
+pub fn frame_numbers()
+    ensures { (frame : Frame) → IsFrame frame → is_bad_number (number_of frame) ≡ false }
+{}
+
+/// The text of a scaled value is a decimal of it with nothing needless in it. No other text is one, and the text is one of no other
+/// value. Numbers are written with up to 64 digits; the values of a scale have fewer.
+pub fn one_scaled_text()
+    ensures is { (value : ℤ) (places : ℕ) → unsigned_abs value < 10 ^ 64 → IsScaledText value places (scaled_text value places) }
+    ensures one { (value : ℤ) (places : ℕ) (a b : List ℕ) → IsScaledText value places a → IsScaledText value places b → a ≡ b }
+    ensures back { (a b : ℤ) (places : ℕ) (text : List ℕ) → IsScaledText a places text → IsScaledText b places text → a ≡ b }
+    ensures of_scale { (scale : Scale) (raw : ℤ) → IsScale scale → unsigned_abs raw ≤ 2 ^ scale.length
+        → IsScaledText (scaled scale raw) scale.places (scaled_text (scaled scale raw) scale.places) }
+{}

@@ -1,0 +1,4 @@
+pub mod Steps
+pub mod Memory
+pub mod Printed
+pub mod Scripts

@@ -1,0 +1,42 @@
+-- What a session shows, and what it is from scratch.
+use Rattle.std.specs.Prelude.{◌≡◌, ℕ, List, map}
+use Rattle.dbc_records.specs.Databases.{Database}
+use Rattle.dbc_records.specs.CanonicalText.{canonical_text}
+use Rattle.dbc_reader.specs.Texts.{HasDatabase}
+use Rattle.can_diagnostics.specs.declared.diagnostic.Diagnostic.{Diagnostic}
+use Rattle.can_check.specs.AllFaults.{all_faults}
+use Rattle.can_layout.specs.Plans.{Plan, plan_of}
+use Rattle.can_layout.specs.Pictures.{picture_of}
+use Rattle.can_decode.specs.DecodedLines.{decoded_line}
+use Rattle.can_session.specs.States.{State}
+use Rattle.session_laws.specs.declared.showing.Shown.{Shown as Lent}
+
+pub record Shown : Type 0 where
+  pub diagnostics : List Diagnostic
+  pub plans : List Plan
+  pub pictures : List (List ℕ)
+  pub texts : List (List ℕ)
+
+-- all that is doubtful in a database, the plan and the picture of each message, and the text of each line, decoded by itself
+abbrev pub shown : Database → List (List ℕ) → Shown
+shown database lines = record {
+  diagnostics = all_faults database;
+  plans = map (plan_of database) database.messages;
+  pictures = map (picture_of database) database.messages;
+  texts = map (decoded_line database) lines;
+}
+
+-- what is lent of this
+abbrev pub lent : Lent → Shown
+lent all = record {
+  diagnostics = all.diagnostics.now;
+  plans = map (λ plan. plan.now) all.plans.items;
+  pictures = map (λ picture. picture.now) all.pictures.items;
+  texts = map (λ text. text.now) all.texts.items;
+}
+
+-- The printed database has that database and no other, and this is what whatever database it has, and the retained lines, show.
+pub record FromScratch (state : State) (all : Shown) : Type 0 where
+  pub printed : HasDatabase (canonical_text state.database) state.database
+  pub alone : (fresh : Database) → HasDatabase (canonical_text state.database) fresh → fresh ≡ state.database
+  pub shown_anew : (fresh : Database) → HasDatabase (canonical_text state.database) fresh → all ≡ shown fresh state.lines
