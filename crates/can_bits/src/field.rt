@@ -66,11 +66,11 @@ impl Field {
         self.numbered(self.passed(place))
     }
 
-    /// Whether a message of `size` bytes lacks one of the bits. A field of no bits lies in every message.
-    pub fn is_outside(self, size: u16) -> bool
-        ensures { result ≡ is_outside size self }
+    /// Whether one of the bits is not in so many bytes. A field of no bits lies in any.
+    pub fn is_outside(self, bytes: usize) -> bool
+        ensures { result ≡ is_outside bytes self }
     {
-        self.length > 0 && self.passed(self.length - 1) / 8 >= u32::from(size)
+        self.length > 0 && self.passed(self.length - 1) as usize / 8 >= bytes
     }
 }
 

@@ -51,7 +51,7 @@ impl SignalTest for LiesOutside {
     ghost passes = { λ test signal. lies_outside test.size signal };
 
     fn is_passed(&self, signal: &Signal) -> bool {
-        Field::of(signal).is_outside(self.size)
+        Field::of(signal).is_outside(usize::from(self.size))
     }
 }
 

@@ -6,6 +6,7 @@ use Rattle.dbc_records.specs.Records.{Message}
 use Rattle.dbc_records.specs.Databases.{Database}
 use Rattle.can_rows.specs.Groups.{is_group_number, group_number_of, group_of}
 use Rattle.can_layout.specs.Plans.{Plan, plan_of}
+use Rattle.can_decode.specs.declared.short.Short.{Short}
 use Rattle.can_decode.specs.DecodedLines.{target_of}
 
 -- a group message has a group
@@ -13,9 +14,9 @@ pub has_group : (number : ℕ) (database : Database) → is_some (group_of numbe
 unfolding group_of
 has_group number database = elim (is_group_number number database) as (λ group. is_some (if group then Some (group_number_of number) else None) ≡ group) [ true ↦ refl | false ↦ refl ]
 
-pub target_is : (database : Database) (plans : List Plan) (place : ℕ) (message : Message) (plan : Plan) → plans ≡ map (plan_of database) database.messages → Some message ≡ slice_get database.messages place → Some plan ≡ slice_get plans place
-    → Some (record { message = message; plan = plan; group = is_group_number message.head.number database }) ≡ option_map (target_of database) (slice_get database.messages place)
-target_is database plans place message plan all found planned =
+pub target_is : (short : Short) (database : Database) (plans : List Plan) (place : ℕ) (message : Message) (plan : Plan) → plans ≡ map (plan_of database) database.messages → Some message ≡ slice_get database.messages place → Some plan ≡ slice_get plans place
+    → Some (record { message = message; plan = plan; group = is_group_number message.head.number database; short = short }) ≡ option_map (target_of short database) (slice_get database.messages place)
+target_is short database plans place message plan all found planned =
     let mine : Some plan ≡ Some (plan_of database message) = planned ∙ ap (λ plans. slice_get plans place) all ∙ slice_get-map (plan_of database) database.messages place ∙ ap (λ found. option_map (plan_of database) found) (sym found) in
-    ap (λ found. option_map (λ plan. record { message = message; plan = plan; group = is_group_number message.head.number database }) found) mine
-    ∙ ap (λ found. option_map (target_of database) found) found
+    ap (λ found. option_map (λ plan. record { message = message; plan = plan; group = is_group_number message.head.number database; short = short }) found) mine
+    ∙ ap (λ found. option_map (target_of short database) found) found

@@ -6,27 +6,30 @@ ghost use Rattle.can_decode.specs.Remembering.{IsDecoding};
 
 use crate::choices::Choices;
 use crate::message_index::MessageIndex;
+use crate::short::Short;
 use can_layout::{Indexed, Meter, Plan, plans_with};
 use dbc_records::Database;
 use dbc_values::Memory;
 use std::alloc::Global;
 use std::marker::Model;
 
-/// A database with the plans of its messages in order, and the index of them. Contracts see the database.
+/// A database with the plans of its messages in order and the index of them, and what is said of short frames. Contracts see the
+/// database and that choice.
 #[derive(Drop)]
 pub struct Decoding {
     database: Database,
     plans: Vec<Plan>,
     index: MessageIndex,
+    short: Short,
 }
 
 impl Model for Decoding {
-    ghost use Rattle.dbc_records.specs.Databases.{Database as Whole};
+    ghost use Rattle.can_decode.specs.DecodedLines.{Bus};
     ghost use Rattle.can_decode.specs.Remembering.{IsDecoding};
 
-    ghost Value = { Whole };
+    ghost Value = { Bus };
 
-    ghost view = { λ a. a.database };
+    ghost view = { λ a. record { database = a.database; short = a.short } };
 
     ghost invariant = { λ a. IsDecoding a.database a.plans.items a.index };
 }
@@ -49,8 +52,13 @@ fn parts_of(
 
 impl Decoding {
     /// That of a database. Its rows are indexed once. The meter counts each plan, also where memory is refused.
-    pub fn of(alloc: Global, database: Database, meter: &mut Meter) -> Result<Decoding, Memory>
-        ensures database { IfOk result (λ decoding. decoding ≡ database) }
+    pub fn of(
+        alloc: Global,
+        database: Database,
+        short: Short,
+        meter: &mut Meter,
+    ) -> Result<Decoding, Memory>
+        ensures decoding { IfOk result (λ decoding. decoding ≡ record { database = database; short = short }) }
         ensures counted { OnOk result (meter.new ≡ repeated (length database.messages) with_plan meter.old) }
         ensures at_most { AtMost (length database.messages) with_plan meter.old meter.new }
     {
@@ -59,26 +67,34 @@ impl Decoding {
             database,
             plans,
             index,
+            short,
         })
     }
 
     /// The database.
     pub fn database(&self) -> &Database
-        ensures { result.now ≡ self.now }
+        ensures { result.now ≡ self.now.database }
     {
         &self.database
     }
 
+    /// What is said of frames that are shorter than their message.
+    pub fn short(&self) -> Short
+        ensures { result ≡ self.now.short }
+    {
+        self.short
+    }
+
     /// The plans of its messages, in order.
     pub fn plans(&self) -> &[Plan]
-        ensures { result.now ≡ map (plan_of self.now) self.now.messages }
+        ensures { result.now ≡ map (plan_of self.now.database) self.now.database.messages }
     {
         self.plans.as_slice()
     }
 
     /// What each number goes to.
     pub fn choices(&self) -> Choices<'_>
-        ensures { result ≡ self.now }
+        ensures { result ≡ self.now.database }
     {
         Choices::by(&self.database, &self.index)
     }

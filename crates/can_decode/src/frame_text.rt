@@ -64,7 +64,7 @@ fn push_data(
 {
     match target {
         None => push_unknown(alloc, text, frame.identifier),
-        Some(target) if frame.bytes.len() < target.plan.size() as usize => {
+        Some(target) if target.short.refuses(frame.bytes.len(), target.plan.size()) => {
             push_wrong_size(text, frame.bytes.len(), target.plan.size())
         }
         Some(target) => push_message(text, frame, target),

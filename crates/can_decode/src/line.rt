@@ -3,10 +3,11 @@ ghost use Rattle.std.specs.Prelude.{◌≡◌, ◌++◌, OnOk, IfOk, map, slice_
 ghost use Rattle.can_layout.specs.Plans.{plan_of};
 ghost use Rattle.can_layout.specs.Meters.{with_line};
 ghost use Rattle.can_decode.specs.Choices.{choice_at};
-ghost use Rattle.can_decode.specs.DecodedLines.{target_of, chosen_target, text_of_kind, decoded_line};
+ghost use Rattle.can_decode.specs.DecodedLines.{target_of, chosen_target, text_of_kind, bus_line, decoded_line};
 
 use crate::choosing::{Choice, Choose, Walking, message_at};
 use crate::frame_text::push_frame;
+use crate::short::Short;
 use crate::target::Target;
 use can_layout::{Meter, Plan};
 use dbc_records::Database;
@@ -16,25 +17,27 @@ use ready_texts::push_bytes;
 use std::alloc::Global;
 use std::marker::Model;
 
-/// Where the messages of frames are looked for: a database, the plans of its messages in order, and what finds the message
-/// of a number.
+/// Where the messages of frames are looked for: a database, the plans of its messages in order, what is said of short frames, and
+/// what finds the message of a number.
 #[derive(Drop)]
 pub(crate) struct Finder<'a, C: Choose> {
     /// The database.
     pub database: &'a Database,
     /// The plans of its messages.
     pub plans: &'a [Plan],
+    /// What is said of frames that are shorter than their message.
+    pub short: Short,
     /// What finds the message of a number.
     pub chooser: C,
 }
 
 impl<'a, C: Choose> Model for Finder<'a, C> {
-    ghost use Rattle.dbc_records.specs.Databases.{Database};
+    ghost use Rattle.can_decode.specs.DecodedLines.{Bus};
     ghost use Rattle.can_decode.specs.Remembering.{DecodesBy};
 
-    ghost Value = { Database };
+    ghost Value = { Bus };
 
-    ghost view = { λ a. a.database.now };
+    ghost view = { λ a. record { database = a.database.now; short = a.short } };
 
     ghost invariant = { λ a. DecodesBy a.database.now a.plans.now (C.whole a.chooser) };
 }
@@ -48,8 +51,8 @@ fn plan_at(plans: &[Plan], place: usize) -> Option<&Plan>
 impl<'a, C: Choose> Finder<'a, C> {
     // The message of a choice, with its plan.
     fn target_at(&self, choice: Choice) -> Option<Target<'a>>
-        requires { choice ≡ choice_at self.now choice.place }
-        ensures { result ≡ option_map (target_of self.now) (slice_get self.now.messages choice.place) }
+        requires { choice ≡ choice_at self.now.database choice.place }
+        ensures { result ≡ option_map (target_of self.now.short self.now.database) (slice_get self.now.database.messages choice.place) }
     {
         let message = message_at(self.database, choice.place)?;
         let plan = plan_at(self.plans, choice.place)?;
@@ -57,13 +60,14 @@ impl<'a, C: Choose> Finder<'a, C> {
             message,
             plan,
             group: choice.group,
+            short: self.short,
         })
     }
 
     // What a frame goes to.
     #[tactic(auto, unfolding(crate::specs::DecodedLines::chosen_target, crate::specs::Choices::chosen_place, crate::specs::Choices::choice_of))]
     fn target_of(&mut self, frame: &Frame) -> Option<Target<'a>>
-        ensures target { result ≡ chosen_target self.old frame.now }
+        ensures target { result ≡ chosen_target self.old.short self.old.database frame.now }
         ensures same { self.new ≡ self.old }
     {
         if !frame.is_data() {
@@ -95,7 +99,7 @@ pub(crate) fn push_line<C: Choose>(
     finder: &mut Finder<'_, C>,
     line: &[u8],
 ) -> Result<(), Memory>
-    ensures text { OnOk result (text.new.items ≡ text.old.items ++ decoded_line finder.old line.now) }
+    ensures text { OnOk result (text.new.items ≡ text.old.items ++ bus_line finder.old line.now) }
     ensures same { finder.new ≡ finder.old }
 {
     push_bytes(text, body_of(line))?;
@@ -109,16 +113,18 @@ pub(crate) fn push_line<C: Choose>(
 }
 
 /// The decoded line: the line without a final CR, and behind it what its frame says. `plans` are those of the messages
-/// in order. The meter counts it, also where memory is refused.
+/// in order, and `short` tells what is said of frames that are shorter than their message. The meter counts it, also where memory
+/// is refused.
 pub fn decode_line(
     alloc: Global,
     database: &Database,
     plans: &[Plan],
     line: &[u8],
     meter: &mut Meter,
+    short: Short,
 ) -> Result<Vec<u8>, Memory>
     requires { plans.now ≡ map (plan_of database.now) database.now.messages }
-    ensures text { IfOk result (λ text. text.items ≡ decoded_line database.now line.now) }
+    ensures text { IfOk result (λ text. text.items ≡ decoded_line short database.now line.now) }
     ensures counted { meter.new ≡ with_line meter.old }
 {
     meter.count_line();
@@ -126,6 +132,7 @@ pub fn decode_line(
     let mut finder = Finder {
         database,
         plans,
+        short,
         chooser: Walking { database },
     };
     push_line(alloc, &mut text, &mut finder, line)?;

@@ -1,7 +1,8 @@
 //! What a frame says by its message, as text.
-ghost use Rattle.std.specs.Prelude.{◌≡◌, ◌++◌, OnOk, codes, decimal, if◌then◌else◌};
+ghost use Rattle.std.specs.Prelude.{◌≡◌, ◌<◌, ◌++◌, false, length, slice_get, OnOk, codes, decimal, if◌then◌else◌};
+ghost use Rattle.std.specs.Option.{option_map_or};
 ghost use Rattle.can_layout.specs.Plans.{label_of};
-ghost use Rattle.can_decode.specs.DecodedLines.{signal_text, further_signal, present_rows, signals_text, destination_text, group_text, bracket_text, message_text};
+ghost use Rattle.can_decode.specs.DecodedLines.{signal_text, further_signal, is_shown, shown_rows, signals_text, destination_text, group_text, bracket_text, message_text};
 
 use crate::j1939::J1939;
 use crate::target::Target;
@@ -47,13 +48,22 @@ fn push_next(
     push_reading(text, &row.reading, bytes)
 }
 
-// The signals that are there, a comma and a blank between them.
+// Whether the signal at a place is shown.
+fn is_shown(plan: &Plan, signal: usize, bytes: &[u8]) -> bool
+    requires { signal < length plan.now.rows }
+    ensures { result ≡ option_map_or (is_shown bytes.now plan.now) (slice_get plan.now.rows signal) false }
+{
+    let row = plan.row(signal);
+    plan.present(signal, bytes) && (bytes.len() >= usize::from(plan.size()) || row.is_whole(bytes))
+}
+
+// The signals that are shown, a comma and a blank between them.
 fn push_signals(text: &mut Vec<u8>, plan: &Plan, bytes: &[u8]) -> Result<(), Memory>
-    ensures { OnOk result (text.new.items ≡ text.old.items ++ signals_text bytes.now (present_rows bytes.now plan.now.rows plan.now.rows)) }
+    ensures { OnOk result (text.new.items ≡ text.old.items ++ signals_text bytes.now (shown_rows bytes.now plan.now plan.now.rows)) }
 {
     let mut some = false;
     for signal in 0..plan.signals() {
-        if plan.present(signal, bytes) {
+        if is_shown(plan, signal, bytes) {
             let (label, row) = plan.labelled(signal);
             push_next(text, some, label, row, bytes)?;
             some = true;
@@ -100,7 +110,7 @@ fn push_bracket(text: &mut Vec<u8>, identifier: u32, group: bool) -> Result<(), 
     }
 }
 
-/// The message's name, and the signals that are there.
+/// The message's name, and the signals that are shown.
 #[tactic(auto, using(crate::proofs::Pushing::pushed_then), unfolding(crate::specs::DecodedLines::message_text))]
 pub(crate) fn push_message(
     text: &mut Vec<u8>,

@@ -4,13 +4,14 @@ ghost use Rattle.line_stream.specs.LineTexts.{StreamsLines};
 ghost use Rattle.can_layout.specs.Plans.{plan_of};
 ghost use Rattle.can_layout.specs.Meters.{with_line, repeated};
 ghost use Rattle.can_decode.specs.Counting.{refused_count, counted};
-ghost use Rattle.can_decode.specs.DecodedLines.{decoded_line};
+ghost use Rattle.can_decode.specs.DecodedLines.{decoded_line, bus_line};
 
 use crate::choices::Finding;
 use crate::choosing::{Choose, Walking};
 use crate::decoding::Decoding;
 use crate::line::{Finder, push_line};
 use crate::remembered::Remembered;
+use crate::short::Short;
 use byte_devices::{Sink, Source};
 use can_layout::{Meter, Plan};
 use dbc_records::Database;
@@ -29,9 +30,9 @@ struct Decoded<'a, C: Choose> {
 impl<'a, C: Choose> LineText for Decoded<'a, C> {
     ghost use Rattle.std.proofs.Common.{refl};
     ghost use Rattle.can_layout.specs.Meters.{with_line};
-    ghost use Rattle.can_decode.specs.DecodedLines.{decoded_line};
+    ghost use Rattle.can_decode.specs.DecodedLines.{bus_line};
 
-    ghost text_of = { λ decoded. decoded_line decoded.finder };
+    ghost text_of = { λ decoded. bus_line decoded.finder };
 
     ghost next = { λ decoded line. record decoded { meter = with_line decoded.meter } };
 
@@ -53,6 +54,7 @@ fn remembering<'a, C: Choose>(finder: Finder<'a, C>) -> Finder<'a, Remembered<C>
     Finder {
         database: finder.database,
         plans: finder.plans,
+        short: finder.short,
         chooser: Remembered::new(finder.chooser),
     }
 }
@@ -74,7 +76,7 @@ fn stream_by<'a, C: Choose, R: Source, W: Sink>(
     source: &mut R,
     sink: &mut W,
 ) -> Result<u64, StreamFault>
-    ensures { (lines : List (List ℕ)) × StreamsLines (decoded_line finder.entry) (R.unread source.old) (R.unread source.new) (W.written sink.old) (W.written sink.new) result lines
+    ensures { (lines : List (List ℕ)) × StreamsLines (bus_line finder.entry) (R.unread source.old) (R.unread source.new) (W.written sink.old) (W.written sink.new) result lines
         × (meter.new ≡ counted result lines meter.old) }
 {
     let mut decoded = Decoded {
@@ -92,6 +94,7 @@ fn stream_by<'a, C: Choose, R: Source, W: Sink>(
 /// up to `u64::MAX`. `plans` are those of the messages in order. A line has at most 4,096 bytes, its CR counted and its
 /// LF not. Before it pulls again, it has written the texts of all lines that were read whole. The meter counts each line whose
 /// text was made, and the one that memory was wanting for. A fault is a longer line, a read or a write that failed, or want of memory.
+/// `short` tells what is said of frames that are shorter than their message.
 ///
 /// What a number goes to is remembered, and is found by going through the messages. [`decode_stream_by`] has an index.
 pub fn decode_stream<R: Source, W: Sink>(
@@ -101,14 +104,16 @@ pub fn decode_stream<R: Source, W: Sink>(
     meter: &mut Meter,
     source: &mut R,
     sink: &mut W,
+    short: Short,
 ) -> Result<u64, StreamFault>
     requires { plans.now ≡ map (plan_of database.now) database.now.messages }
-    ensures { (lines : List (List ℕ)) × StreamsLines (decoded_line database.now) (R.unread source.old) (R.unread source.new) (W.written sink.old) (W.written sink.new) result lines
+    ensures { (lines : List (List ℕ)) × StreamsLines (decoded_line short database.now) (R.unread source.old) (R.unread source.new) (W.written sink.old) (W.written sink.new) result lines
         × (meter.new ≡ counted result lines meter.old) }
 {
     let finder = Finder {
         database,
         plans,
+        short,
         chooser: Walking { database },
     };
     stream_by(alloc, finder, meter, source, sink)
@@ -122,13 +127,14 @@ pub fn decode_stream_by<R: Source, W: Sink>(
     source: &mut R,
     sink: &mut W,
 ) -> Result<u64, StreamFault>
-    ensures { (lines : List (List ℕ)) × StreamsLines (decoded_line decoding.now) (R.unread source.old) (R.unread source.new) (W.written sink.old) (W.written sink.new) result lines
+    ensures { (lines : List (List ℕ)) × StreamsLines (bus_line decoding.now) (R.unread source.old) (R.unread source.new) (W.written sink.old) (W.written sink.new) result lines
         × (meter.new ≡ counted result lines meter.old) }
 {
     let choices = decoding.choices();
     let finder = Finder {
         database: decoding.database(),
         plans: decoding.plans(),
+        short: decoding.short(),
         chooser: Finding { choices: &choices },
     };
     stream_by(alloc, finder, meter, source, sink)

@@ -1,5 +1,6 @@
 //! What a frame goes to.
 
+use crate::short::Short;
 use can_layout::Plan;
 use dbc_records::Message;
 use std::marker::Model;
@@ -13,6 +14,8 @@ pub(crate) struct Target<'a> {
     pub plan: &'a Plan,
     /// Whether it is a group message.
     pub group: bool,
+    /// What is said of frames that are shorter than the message.
+    pub short: Short,
 }
 
 impl<'a> Model for Target<'a> {
@@ -20,5 +23,5 @@ impl<'a> Model for Target<'a> {
 
     ghost Value = { lines.Target };
 
-    ghost view = { λ a. record { message = a.message.now; plan = a.plan.now; group = a.group } };
+    ghost view = { λ a. record { message = a.message.now; plan = a.plan.now; group = a.group; short = a.short } };
 }

@@ -3,7 +3,7 @@
 -- Source: the DBC file format, "Signal Definitions", "Signal Extended Value Type Definitions", "Signal Value Descriptions",
 -- "Extended Multiplexing"; that a signal is read once its switches have their numbers is the decoding of cantools. Which
 -- signals are refused is the profile of candesk.
-use Rattle.std.specs.Prelude.{ℕ, ℤ, pos, nat_le, nat_lt, Bool, false, not, ◌==◌, ◌&&◌, List, [], ◌++◌, codes, map, Option, Some, None, slice_get, if◌then◌else◌}
+use Rattle.std.specs.Prelude.{ℕ, ℤ, pos, nat_le, nat_lt, Bool, false, not, ◌==◌, ◌&&◌, List, [], ◌++◌, length, codes, map, Option, Some, None, slice_get, if◌then◌else◌}
 use Rattle.std.specs.List.{list_any, list_all, enumerate_from}
 use Rattle.std.specs.Option.{option_map, option_and_then}
 use Rattle.dbc_values.specs.Scales.{scale_fits, scale_of, most_raw_bits}
@@ -68,7 +68,8 @@ chain_of walks.Loop = None
 
 -- the row of the signal at a place, where `aboves` stand above the signals of its message
 abbrev pub row_of : SignalRows → List Above → ℕ → ℕ → Signal → Row
-row_of rows aboves size place signal = record { name = signal.name; chain = chain_of (walk_of aboves place); reading = reading_of rows size signal }
+row_of rows aboves size place signal =
+    record { name = signal.name; field = field_of signal; chain = chain_of (walk_of aboves place); reading = reading_of rows size signal }
 
 -- a row for each signal, in order
 abbrev pub plan_rows : SignalRows → List Above → ℕ → List Signal → List Row
@@ -121,9 +122,14 @@ abbrev pub has_number : List ℕ → List Range → Reading → Bool
 has_number bytes ranges (Refused cause) = false
 has_number bytes ranges (Read decoder) = list_any (in_range (unsigned_raw bytes decoder.bits)) ranges
 
+-- all bits of the signal are in the data
+abbrev pub is_whole : List ℕ → Row → Bool
+is_whole bytes row = not (is_outside (length bytes) row.field)
+
+-- a switch of which a bit is not in the data has no number
 abbrev pub switch_has_number : List ℕ → List Range → Option Row → Bool
 switch_has_number bytes ranges None = false
-switch_has_number bytes ranges (Some row) = has_number bytes ranges row.reading
+switch_has_number bytes ranges (Some row) = is_whole bytes row && has_number bytes ranges row.reading
 
 abbrev pub is_met : List ℕ → List Row → Link → Bool
 is_met bytes rows link = switch_has_number bytes link.ranges (slice_get rows link.switch)

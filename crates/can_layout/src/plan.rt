@@ -1,7 +1,7 @@
 //! Decode plans.
 ghost use Rattle.std.specs.Prelude.{◌≡◌, ◌<◌, IfOk, Some, length, map, slice_get};
 ghost use Rattle.std.specs.List.{list_any, list_all};
-ghost use Rattle.can_layout.specs.Plans.{entries_of, reading_of, chain_of, row_of, plan_rows, label_of, plan_in, raw_at, raw_value_at, is_met, is_present, in_range};
+ghost use Rattle.can_layout.specs.Plans.{entries_of, reading_of, chain_of, row_of, plan_rows, label_of, plan_in, raw_at, raw_value_at, has_number, is_met, is_present, in_range};
 ghost use Rattle.can_rows.specs.Rows.{first_values};
 ghost use Rattle.can_layout.specs.Switches.{aboves_of};
 
@@ -101,6 +101,7 @@ fn row_of<L: Lookup>(
     let reading = reading_of(alloc, rows, size, signal)?;
     Ok(Row {
         name,
+        field: Field::of(signal),
         chain,
         reading,
     })
@@ -175,15 +176,24 @@ fn in_ranges(ranges: &[Range], raw: u64) -> bool
     ranges.iter().any(|range| in_range(*range, raw))
 }
 
+// Whether a switch has one of the numbers.
+fn has_number(reading: &Reading, ranges: &[Range], bytes: &[u8]) -> bool
+    ensures { result ≡ has_number bytes.now ranges.now reading.now }
+{
+    match reading {
+        Reading::Read(decoder) => in_ranges(ranges, decoder.bits.raw(bytes)),
+        Reading::Refused(_) => false,
+    }
+}
+
 // Whether the switch of a link has one of its numbers.
 fn is_met(rows: &[Row], link: &Link, bytes: &[u8]) -> bool
     ensures { result ≡ is_met bytes.now rows.now link.now }
 {
     match rows.get(link.switch) {
-        Some(row) => match &row.reading {
-            Reading::Read(decoder) => in_ranges(link.ranges.as_slice(), decoder.bits.raw(bytes)),
-            Reading::Refused(_) => false,
-        },
+        Some(row) => {
+            row.is_whole(bytes) && has_number(&row.reading, link.ranges.as_slice(), bytes)
+        }
         None => false,
     }
 }
@@ -228,7 +238,7 @@ impl Plan {
     }
 
     /// Whether the signal at a place is there in data: each switch above it has one of the numbers that stand beside it. A
-    /// switch that can't be decoded has none; bits behind the end of the data are 0.
+    /// switch that can't be decoded has none, nor has one of which a bit is not in the data.
     pub fn present(&self, signal: usize, bytes: &[u8]) -> bool
         requires { signal < length self.now.rows }
         ensures { result ≡ is_present bytes.now self.now.rows (slice_get self.now.rows signal) }

@@ -55,7 +55,7 @@ pub(crate) fn cause_of<L: Lookup>(
 ) -> Option<Cause>
     ensures { result ≡ cause_of rows.now size signal.now }
 {
-    if Field::of(signal).is_outside(size) {
+    if Field::of(signal).is_outside(usize::from(size)) {
         Some(Cause::Outside)
     } else if is_float(rows, signal) {
         Some(Cause::Float)

@@ -1,8 +1,11 @@
 //! What a plan says of a signal.
+ghost use Rattle.std.specs.Prelude.{◌≡◌};
+ghost use Rattle.can_layout.specs.Plans.{is_whole};
 
 use crate::decoder::Decoder;
 use crate::link::Link;
 use crate::refusal::Cause;
+use can_bits::Field;
 use dbc_values::{Checked, List, Name};
 
 /// How a signal is read, or why it can't be.
@@ -19,6 +22,8 @@ pub enum Reading {
 pub struct Row {
     /// The signal's name.
     pub name: Name,
+    /// Where its bits lie, also where it can't be decoded.
+    pub field: Field,
     /// The switches above it, from its own up, where the way up is a chain.
     pub chain: Option<List<Link>>,
     /// How it is read.
@@ -27,4 +32,13 @@ pub struct Row {
 
 impl Checked for Row {
     ghost IsValid = { λ row. Unit {0} };
+}
+
+impl Row {
+    /// Whether all bits of the signal are in data.
+    pub fn is_whole(&self, bytes: &[u8]) -> bool
+        ensures { result ≡ is_whole bytes.now self.now }
+    {
+        !self.field.is_outside(bytes.len())
+    }
 }

@@ -8,8 +8,7 @@ use Rattle.std.proofs.Math.Seq.{get_or-append_seam}
 use Rattle.std.proofs.lemmas.List.Folds.{list_any-append}
 use Rattle.std.proofs.lemmas.Bool.{or_from}
 use Rattle.std.proofs.lemmas.Bool.Decides.{eqb_tells}
-use Rattle.dbc_records.specs.Databases.{Database}
-use Rattle.can_decode.specs.DecodedLines.{decoded_line}
+use Rattle.can_decode.specs.DecodedLines.{Bus, bus_line}
 use Rattle.can_session.specs.declared.line.Line.{Line}
 use Rattle.can_session.specs.declared.line.Fresh.{Fresh}
 use Rattle.can_session.specs.Logs.{bytes_of, IsNumbered, IsDecoded, IsTextOf, Completes, TextsAt, place_of}
@@ -37,34 +36,34 @@ numbered_still lines place line within is all = λ k d inside.
       | inr there ↦ rw (get_or-set_other lines place k line d there.1) (all k d (omega (arith, inside, length-set lines place line)))
     ]
 
-pub one_given : (database : Database) (lines : List Line) (line : Line) (rest : List Fresh) (fresh : Fresh)
+pub one_given : (bus : Bus) (lines : List Line) (line : Line) (rest : List Fresh) (fresh : Fresh)
     → bytes_of line ≡ bytes_of (slice_index_or lines fresh.place line) → line.decoded.items ≡ fresh.text.items
-    → Completes database lines (rest ++ fresh ∷ []) → Completes database (slice_set lines fresh.place line) rest
-one_given database lines line rest fresh same text h =
-    let last = last_of_all (IsTextOf database lines) rest fresh h.texts in
+    → Completes bus lines (rest ++ fresh ∷ []) → Completes bus (slice_set lines fresh.place line) rest
+one_given bus lines line rest fresh same text h =
+    let last = last_of_all (IsTextOf bus lines) rest fresh h.texts in
     let stay = bytes_stay lines fresh.place line last.0 same in
     record {
       texts = λ k d within.
-          let old = all_but_last (IsTextOf database lines) rest fresh h.texts k d within in
-          (rw length-set old.0, λ e. old.1 e ∙ ap (decoded_line database) (sym (stay (slice_index_or rest k d).place e)));
+          let old = all_but_last (IsTextOf bus lines) rest fresh h.texts k d within in
+          (rw length-set old.0, λ e. old.1 e ∙ ap (bus_line bus) (sym (stay (slice_index_or rest k d).place e)));
       others = λ k d within out.
           elim (eqb_tells fresh.place k) [
-            | inl here ↦ rw (← here.1) (rw (get_or-set_same lines fresh.place line d last.0) (text ∙ last.1 line ∙ ap (decoded_line database) (sym same)))
+            | inl here ↦ rw (← here.1) (rw (get_or-set_same lines fresh.place line d last.0) (text ∙ last.1 line ∙ ap (bus_line bus) (sym same)))
             | inr there ↦ rw (get_or-set_other lines fresh.place k line d (λ e. there.1 (sym e)))
                 (h.others k d (omega (arith, length-set lines fresh.place line)) (list_any-append _ rest (fresh ∷ []) ∙ or_from _ _ out (or_from _ _ there.0 refl)))
           ];
     }
 
-pub all_given : (database : Database) (lines : List Line) (fresh : List Fresh) → length fresh ≡ 0 → Completes database lines fresh → All (IsDecoded database) lines
-all_given database lines [] none h = λ k d within. h.others k d within refl
-all_given database lines (text ∷ texts) none h = absurd (omega arith)
+pub all_given : (bus : Bus) (lines : List Line) (fresh : List Fresh) → length fresh ≡ 0 → Completes bus lines fresh → All (IsDecoded bus) lines
+all_given bus lines [] none h = λ k d within. h.others k d within refl
+all_given bus lines (text ∷ texts) none h = absurd (omega arith)
 
 -- ---- texts for places, one after another
 
-pub one_made : (database : Database) (lines : List Line) (places : List ℕ) (i : ℕ) (texts : List Fresh) (fresh : Fresh)
-    → i < length places → fresh.place ≡ get_or places i fresh.place → TextsAt database lines (take i places) texts → IsTextOf database lines fresh
-    → TextsAt database lines (take (i + 1) places) (texts ++ fresh ∷ [])
-one_made database lines places i texts fresh within is h text = record {
+pub one_made : (bus : Bus) (lines : List Line) (places : List ℕ) (i : ℕ) (texts : List Fresh) (fresh : Fresh)
+    → i < length places → fresh.place ≡ get_or places i fresh.place → TextsAt bus lines (take i places) texts → IsTextOf bus lines fresh
+    → TextsAt bus lines (take (i + 1) places) (texts ++ fresh ∷ [])
+one_made bus lines places i texts fresh within is h text = record {
   order = map-append place_of texts (fresh ∷ []) ∙ rw (h.order, is) (sym (take_more places i fresh.place within));
-  texts = All-push (IsTextOf database lines) texts fresh h.texts text;
+  texts = All-push (IsTextOf bus lines) texts fresh h.texts text;
 }

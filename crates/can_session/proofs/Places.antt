@@ -12,8 +12,7 @@ use Rattle.std.specs.Prelude.{Option, Some, option_map, slice_get, filter, ◌&&
 use Rattle.std.specs.Option.{option_map_or}
 use Rattle.can_session.specs.Places.{places_from}
 use Rattle.can_session.specs.Indexes.{Covers}
-use Rattle.dbc_records.specs.Databases.{Database}
-use Rattle.can_decode.specs.DecodedLines.{decoded_line}
+use Rattle.can_decode.specs.DecodedLines.{Bus, bus_line}
 use Rattle.edit_reach.specs.Touched.{line_touched}
 use Rattle.can_session.specs.declared.line.Line.{Line}
 use Rattle.can_session.specs.declared.line.Fresh.{Fresh}
@@ -56,8 +55,8 @@ is_for-places k [] = refl
 is_for-places k (text ∷ texts) = ap (λ rest. text.place == k || rest) (is_for-places k texts)
 
 -- with a text for each touched line nothing is left: an untouched line keeps its text
-pub all_done : (before after : Database) (numbers : List ℕ) (lines : List Line) (places : List ℕ) (fresh : List Fresh)
-    → ((line : List ℕ) → line_touched numbers line ≡ false → decoded_line after line ≡ decoded_line before line)
+pub all_done : (before after : Bus) (numbers : List ℕ) (lines : List Line) (places : List ℕ) (fresh : List Fresh)
+    → ((line : List ℕ) → line_touched numbers line ≡ false → bus_line after line ≡ bus_line before line)
     → All (IsDecoded before) lines → Covers numbers (map bytes_of lines) places → TextsAt after lines places fresh → Completes after lines fresh
 all_done before after numbers lines places fresh stays decoded covers h = record {
   texts = h.texts;

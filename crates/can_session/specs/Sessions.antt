@@ -1,6 +1,6 @@
 -- What a session keeps beside its database and its lines: what making it anew defines.
 use Rattle.std.specs.Prelude.{◌≡◌, ◌≤◌, List, All, length, map}
-use Rattle.dbc_records.specs.Databases.{Database}
+use Rattle.can_decode.specs.DecodedLines.{Bus}
 use Rattle.can_session.specs.declared.line.Line.{Line}
 use Rattle.can_session.specs.declared.log_index.LogIndex.{LogIndex}
 use Rattle.can_session.specs.Logs.{bytes_of, IsNumbered, IsDecoded}
@@ -13,6 +13,6 @@ pub record IsLog (lines : List Line) (index : LogIndex) : Type 0 where
   pub numbered : All IsNumbered lines
   pub few : length lines ≤ most_lines
 
--- each line has its text in the database
-abbrev pub AreDecoded : Database → List Line → Type 0
-AreDecoded database lines = All (IsDecoded database) lines
+-- each line has its text on the bus
+abbrev pub AreDecoded : Bus → List Line → Type 0
+AreDecoded bus lines = All (IsDecoded bus) lines

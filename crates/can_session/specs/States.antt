@@ -10,12 +10,19 @@ use Rattle.dbc_edits.specs.declared.refusal.Refusal.TheVariants as refusals
 use Rattle.dbc_edits.specs.Refusals.{IsRefusal}
 use Rattle.dbc_edits.specs.Edits.{edited}
 use Rattle.edit_reach.specs.Touched.{line_touched}
+use Rattle.can_decode.specs.declared.short.Short.TheVariants.{Refuse}
+use Rattle.can_session.specs.declared.options.Options.{Options}
 use Rattle.can_session.specs.Compiled.{count_here, Raised, nothing_made}
 
--- what commands change: the database, and the retained lines in order of arrival
+-- what is chosen as the session is opened, and what commands change: the database, and the retained lines in order of arrival
 pub record State : Type 0 where
+  pub options : Options
   pub database : Database
   pub lines : List (List ℕ)
+
+-- the choices where nothing else is said: frames that are shorter than their message are refused
+abbrev pub usual : Options
+usual = record { short = Refuse }
 
 -- what contracts see of a session
 pub record Open : Type 0 where
@@ -24,12 +31,13 @@ pub record Open : Type 0 where
 
 -- ---- the first state
 
--- The state of a text's database without lines, for which at most as many plans and pictures were counted as there are messages. Or
--- the first fault of the text, or memory ran out.
-abbrev pub Opens : List ℕ → Result Open ReadFault → Type 0
-Opens text (Ok session) =
+-- The state of a text's database without lines, with the choices, for which at most as many plans and pictures were counted as there
+-- are messages. Or the first fault of the text, or memory ran out.
+abbrev pub Opens : List ℕ → Options → Result Open ReadFault → Type 0
+Opens text options (Ok session) =
     HasDatabase text session.state.database × (session.state.lines ≡ []) × Raised (length session.state.database.messages) 0 nothing_made session.meter
-Opens text (Err fault) = IsRead text (Err fault)
+    × (session.state.options ≡ options)
+Opens text options (Err fault) = IsRead text (Err fault)
 
 -- ---- edits
 
@@ -38,7 +46,7 @@ Opens text (Err fault) = IsRead text (Err fault)
 abbrev pub Applies : Edit → State → Result (Unit {0}) Refusal → State → Type 0
 Applies edit before answer after =
     MatchResult answer
-    (λ _. (edited before.database edit ≡ Ok after.database) × (after.lines ≡ before.lines))
+    (λ _. (edited before.database edit ≡ Ok after.database) × (after.lines ≡ before.lines) × (after.options ≡ before.options))
     (λ refusal. IsRefusal (edited before.database edit) refusal × (after ≡ before))
 
 -- An accepted edit raises the counts of plans and pictures at most by the messages of the edited database that have one of its
@@ -70,5 +78,5 @@ with_line lines line =
 abbrev pub Adds : List ℕ → State → Result (Unit {0}) Refusal → State → Type 0
 Adds line before answer after =
     MatchResult answer
-    (λ _. (with_line before.lines line ≡ Ok after.lines) × (after.database ≡ before.database))
+    (λ _. (with_line before.lines line ≡ Ok after.lines) × (after.database ≡ before.database) × (after.options ≡ before.options))
     (λ refusal. IsRefusal (with_line before.lines line) refusal × (after ≡ before))

@@ -11,12 +11,16 @@ mod keyed_places;
 mod line;
 mod log;
 mod log_index;
+mod options;
 mod recompiling;
 mod session;
 mod shown;
+mod shown_bus;
 mod touching;
 
 pub use can_check::Diagnostic;
+pub use can_decode::Short;
 pub use can_layout::{Meter, Plan};
 pub use dbc_edits::{Change, Edit, Refusal};
+pub use options::Options;
 pub use session::Session;

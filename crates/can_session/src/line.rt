@@ -1,6 +1,6 @@
 //! Retained lines, and texts that take the place of older ones.
 ghost use Rattle.std.specs.Prelude.{◌≡◌, ◌<◌, All, map, length};
-ghost use Rattle.dbc_records.specs.Databases.{Database};
+ghost use Rattle.can_decode.specs.DecodedLines.{Bus};
 ghost use Rattle.can_session.specs.Logs.{bytes_of, IsNumbered, IsDecoded, Completes};
 
 /// A retained line and its decoded text.
@@ -28,7 +28,7 @@ pub(crate) fn exchange(lines: &mut [Line], mut fresh: Vec<Fresh>)
     requires { All (λ text. text.place < length lines.old) fresh.items }
     ensures lines { map bytes_of lines.new ≡ map bytes_of lines.old }
     ensures numbered { All IsNumbered lines.old → All IsNumbered lines.new }
-    ensures decoded { (database : Database) → Completes database lines.old fresh.items → All (IsDecoded database) lines.new }
+    ensures decoded { (bus : Bus) → Completes bus lines.old fresh.items → All (IsDecoded bus) lines.new }
 {
     while let Some(Fresh { place, text }) = fresh.pop() {
         lines[place].decoded = text;

@@ -1,6 +1,6 @@
 //! The retained log.
 ghost use Rattle.std.specs.Prelude.{◌≡◌, ◌<◌, [], ◌∷◌, ◌++◌, IfOk, OnOk, OnErr, All, filter, length, map, nat_le};
-ghost use Rattle.dbc_records.specs.Databases.{Database};
+ghost use Rattle.can_decode.specs.DecodedLines.{Bus};
 ghost use Rattle.can_session.specs.Logs.{bytes_of, IsNumbered, IsDecoded, Completes};
 ghost use Rattle.can_session.specs.Indexes.{is_untouched_at, Covers};
 ghost use Rattle.can_session.specs.States.{most_lines};
@@ -114,7 +114,7 @@ impl Log {
     pub(crate) fn exchange(&mut self, fresh: Vec<Fresh>)
         requires { All (λ text. text.place < length self.old) fresh.items }
         ensures lines { map bytes_of self.new ≡ map bytes_of self.old }
-        ensures decoded { (database : Database) → Completes database self.old fresh.items → All (IsDecoded database) self.new }
+        ensures decoded { (bus : Bus) → Completes bus self.old fresh.items → All (IsDecoded bus) self.new }
     {
         exchange(self.lines.as_mut_slice(), fresh);
     }

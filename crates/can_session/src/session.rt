@@ -10,14 +10,17 @@ ghost use Rattle.edit_reach.specs.Touched.{edit_numbers, line_touched};
 ghost use Rattle.can_session.specs.Acceptance.{numbers_of};
 ghost use Rattle.can_session.specs.Compiled.{count_here, Raised, nothing_made};
 ghost use Rattle.can_session.specs.Logs.{bytes_of, IsDecoded, Completes};
-ghost use Rattle.can_session.specs.States.{Applies, Adds, RaisedBy, Opens};
+ghost use Rattle.can_session.specs.States.{Applies, Adds, RaisedBy, Opens, usual};
 
 use crate::accepted::Accepted;
 use crate::line::Fresh;
 use crate::log::Log;
+use crate::options::Options;
 use crate::shown::Shown;
+use crate::shown_bus::ShownBus;
 use crate::touching::decode_touched;
 use can_check::Diagnostic;
+use can_decode::Short;
 use can_layout::{Meter, Plan};
 use dbc_edits::{Edit, Refusal};
 use dbc_reader::read;
@@ -37,6 +40,7 @@ const LONGEST_LINE: usize = 4_096;
 #[derive(Drop)]
 pub struct Session {
     alloc: Global,
+    options: Options,
     shown: Shown,
     log: Log,
     meter: Meter,
@@ -50,38 +54,41 @@ impl Model for Session {
 
     ghost Value = { Open };
 
-    ghost view = { λ a. record { state = record { database = a.shown; lines = map bytes_of a.log }; meter = a.meter } };
+    ghost view = { λ a. record { state = record { options = a.options; database = a.shown; lines = map bytes_of a.log }; meter = a.meter } };
 
-    ghost invariant = { λ a. AreDecoded a.shown a.log };
+    ghost invariant = { λ a. AreDecoded (record { database = a.shown; short = a.options.short }) a.log };
 }
 
 // What is shown after an accepted edit, and the new texts of the lines that it touches.
 fn made_after(
     alloc: Global,
     accepted: Accepted<'_>,
+    short: Short,
     log: &Log,
     meter: &mut Meter,
 ) -> Result<(Shown, Vec<Fresh>), Memory>
-    requires { All (IsDecoded accepted.before) log.now }
+    requires { All (IsDecoded (record { database = accepted.before; short = short })) log.now }
     ensures shown { IfOk result (λ made. made.0 ≡ accepted.entry.after) }
-    ensures fresh { IfOk result (λ made. Completes accepted.entry.after log.now made.1.items) }
+    ensures fresh { IfOk result (λ made. Completes (record { database = accepted.entry.after; short = short }) log.now made.1.items) }
     ensures made { Raised (count_here (numbers_of accepted.entry) accepted.entry.after) (count_by (line_touched (numbers_of accepted.entry)) (map bytes_of log.now)) meter.old meter.new }
 {
     let remade = accepted.remade(alloc, meter)?;
-    let fresh = decode_touched(alloc, &remade, log, meter)?;
+    let fresh = decode_touched(alloc, &remade, short, log, meter)?;
     Ok((remade.into_shown(), fresh))
 }
 
 // The session of a database.
-fn session_of(alloc: Global, database: Database) -> Result<Session, Memory>
+fn session_of(alloc: Global, database: Database, options: Options) -> Result<Session, Memory>
     ensures database { IfOk result (λ session. session.state.database ≡ database) }
     ensures lines { IfOk result (λ session. session.state.lines ≡ []) }
+    ensures options { IfOk result (λ session. session.state.options ≡ options) }
     ensures made { IfOk result (λ session. Raised (length database.messages) 0 nothing_made session.meter) }
 {
     let mut meter = Meter::new();
     let shown = Shown::of(alloc, database, &mut meter)?;
     Ok(Session {
         alloc,
+        options,
         shown,
         log: Log::new(alloc),
         meter,
@@ -94,13 +101,20 @@ const NO_MEMORY: ReadFault = ReadFault {
 };
 
 impl Session {
-    /// The session of a text's database. Where the text has none, its first fault is answered; that memory ran out is a fault
-    /// of line 0.
+    /// The session of a text's database, in which frames that are shorter than their message are refused. Where the text has no
+    /// database, its first fault is answered; that memory ran out is a fault of line 0.
     pub fn open(alloc: Global, text: &[u8]) -> Result<Session, ReadFault>
-        ensures { Opens text.now result }
+        ensures { Opens text.now usual result }
+    {
+        Session::open_with(alloc, text, Options::default())
+    }
+
+    /// The same, with choices of its own.
+    pub fn open_with(alloc: Global, text: &[u8], options: Options) -> Result<Session, ReadFault>
+        ensures { Opens text.now options result }
     {
         let database = read(alloc, text)?;
-        match session_of(alloc, database) {
+        match session_of(alloc, database, options) {
             Ok(session) => Ok(session),
             Err(Memory) => Err(NO_MEMORY),
         }
@@ -115,7 +129,8 @@ impl Session {
     {
         let accepted = Accepted::of(self.alloc, &self.shown, edit)?;
         // All growths come first.
-        let (shown, fresh) = made_after(self.alloc, accepted, &self.log, &mut self.meter)?;
+        let short = self.options.short;
+        let (shown, fresh) = made_after(self.alloc, accepted, short, &self.log, &mut self.meter)?;
         // From here on nothing takes memory.
         self.shown = shown;
         self.log.exchange(fresh);
@@ -134,9 +149,20 @@ impl Session {
         if line.len() > LONGEST_LINE {
             return Err(Refusal::LongLine);
         }
-        let made = self.shown.line(self.alloc, line, &mut self.meter)?;
+        let bus = ShownBus {
+            shown: &self.shown,
+            short: self.options.short,
+        };
+        let made = bus.line(self.alloc, line, &mut self.meter)?;
         self.log.retain(self.alloc, made)?;
         Ok(())
+    }
+
+    /// What was chosen as the session was opened.
+    pub fn options(&self) -> Options
+        ensures { result ≡ self.now.state.options }
+    {
+        self.options
     }
 
     /// The database.
@@ -184,10 +210,11 @@ impl Session {
         self.log.lines()[n].bytes.as_slice()
     }
 
-    /// The decoded text of the line at a place: what decoding it by itself, with the database as it is, gives.
+    /// The decoded text of the line at a place: what decoding it by itself, with the database as it is and by the session's choice,
+    /// gives.
     pub fn decoded(&self, n: usize) -> &[u8]
         requires { n < length self.now.state.lines }
-        ensures { Some result.now ≡ option_map (decoded_line self.now.state.database) (slice_get self.now.state.lines n) }
+        ensures { Some result.now ≡ option_map (decoded_line self.now.state.options.short self.now.state.database) (slice_get self.now.state.lines n) }
     {
         self.log.lines()[n].decoded.as_slice()
     }

@@ -3,18 +3,14 @@ ghost use Rattle.std.specs.Prelude.{◌≡◌, ◌<◌, IfOk, IfSome, Some, leng
 ghost use Rattle.std.specs.Option.{option_map};
 ghost use Rattle.can_layout.specs.Plans.{plan_of};
 ghost use Rattle.can_layout.specs.Pictures.{picture_of};
-ghost use Rattle.can_layout.specs.Meters.{with_line};
 ghost use Rattle.can_check.specs.AllFaults.{all_faults};
 ghost use Rattle.can_decode.specs.Choices.{line_place};
-ghost use Rattle.can_decode.specs.DecodedLines.{decoded_line};
 ghost use Rattle.can_session.specs.Compiled.{compiled_of, Raised};
-ghost use Rattle.can_session.specs.Logs.{bytes_of, IsNumbered, IsDecoded};
 ghost use Rattle.can_session.specs.Shown.{IsShown};
 
 use crate::compiled::{Compiled, compiled_all};
-use crate::line::Line;
 use can_check::{Diagnostic, all_faults_with};
-use can_decode::{Choices, MessageIndex, ReadLine, decode_frame_at};
+use can_decode::{Choices, MessageIndex, ReadLine};
 use can_layout::{Indexed, Meter, Plan};
 use dbc_records::{Database, Message};
 use dbc_values::Memory;
@@ -149,43 +145,12 @@ impl Shown {
         Choices::by(&self.database, &self.parts.messages).choose(frame)
     }
 
-    // That place, with the plan of the message.
-    fn chosen(&self, line: &ReadLine<'_>) -> Option<(usize, &Plan)>
+    /// The place of the message that the frame of a line goes to, with the plan of that message.
+    pub(crate) fn chosen(&self, line: &ReadLine<'_>) -> Option<(usize, &Plan)>
         ensures place { option_map (λ one. one.0) result ≡ line_place self.now line.now }
         ensures plan { IfSome result (λ one. Some one.1.now ≡ option_map (plan_of self.now) (slice_get self.now.messages one.0)) }
     {
         let place = self.place_of(line)?;
         Some((place, self.plan(place)))
-    }
-
-    /// The decoded text of a line. The meter counts it, also where memory is refused.
-    pub(crate) fn decode(
-        &self,
-        alloc: Global,
-        line: &ReadLine<'_>,
-        meter: &mut Meter,
-    ) -> Result<Vec<u8>, Memory>
-        ensures text { IfOk result (λ text. text.items ≡ decoded_line self.now line.now) }
-        ensures counted { meter.new ≡ with_line meter.old }
-    {
-        decode_frame_at(alloc, &self.database, self.chosen(line), line, meter)
-    }
-
-    /// A line with its decoded text.
-    pub(crate) fn line(&self, alloc: Global, line: &[u8], meter: &mut Meter) -> Result<Line, Memory>
-        ensures bytes { IfOk result (λ made. bytes_of made ≡ line.now) }
-        ensures numbered { IfOk result (λ made. IsNumbered made) }
-        ensures decoded { IfOk result (λ made. IsDecoded self.now made) }
-        ensures lines { Raised 0 1 meter.old meter.new }
-    {
-        let read = ReadLine::of(line);
-        let number = read.number();
-        let bytes = line.to_vec(alloc)?;
-        let decoded = self.decode(alloc, &read, meter)?;
-        Ok(Line {
-            bytes,
-            number,
-            decoded,
-        })
     }
 }

@@ -1,11 +1,13 @@
 -- What a run of `decode` has read and written when it ends, and what the status of a run of any command says.
-use Rattle.std.specs.Prelude.{◌≡◌, ℕ, List, Result, Ok, Err}
+use Rattle.std.specs.Prelude.{◌≡◌, ℕ, Bool, List, Result, Ok, Err, if◌then◌else◌}
 use Rattle.byte_devices.specs.Device.{Unread, Written}
 use Rattle.dbc_records.specs.Databases.{Database}
 use Rattle.dbc_reader.specs.Grammar as grammar
 use Rattle.dbc_reader.specs.Texts.{HasDatabase, HasFirstFault}
 use Rattle.line_stream.specs.LineTexts.{Streams}
-use Rattle.can_decode.specs.DecodedLines.{decoded_line}
+use Rattle.can_decode.specs.declared.short.Short.{Short}
+use Rattle.can_decode.specs.declared.short.Short.TheVariants.{Refuse, Show}
+use Rattle.can_decode.specs.DecodedLines.{Bus, bus_line}
 use Rattle.candesk_calls.specs.declared.fault.RunFault.{RunFault}
 use Rattle.candesk_calls.specs.declared.fault.RunFault.TheVariants as faults
 use Rattle.candesk_words.specs.declared.job.Command.{Command}
@@ -22,20 +24,20 @@ pub record IsUntouched (before after : Unread) (old new : Written) : Type 0 wher
   pub unread : after ≡ before
   pub written : new ≡ old
 
--- The log is decoded with a database. Or it is untouched, and memory ran out.
-abbrev pub Decodes : Database → Unread → Unread → Written → Written → Result ℕ RunFault → Type 0
-Decodes database before after old new (Ok count) = Streams (decoded_line database) before after old new (Ok count)
-Decodes database before after old new (Err (faults.Stream fault)) = Streams (decoded_line database) before after old new (Err fault)
-Decodes database before after old new (Err (faults.Read fault)) = ⊥
-Decodes database before after old new (Err faults.Memory) = IsUntouched before after old new
+-- The log of a bus is decoded. Or it is untouched, and memory ran out.
+abbrev pub Decodes : Bus → Unread → Unread → Written → Written → Result ℕ RunFault → Type 0
+Decodes bus before after old new (Ok count) = Streams (bus_line bus) before after old new (Ok count)
+Decodes bus before after old new (Err (faults.Stream fault)) = Streams (bus_line bus) before after old new (Err fault)
+Decodes bus before after old new (Err (faults.Read fault)) = ⊥
+Decodes bus before after old new (Err faults.Memory) = IsUntouched before after old new
 
--- The text has a database, and the log is decoded with it. Or the log is untouched, and the fault is the first of the text,
+-- The text has a database, and the log is decoded with it, by what is chosen for short frames. Or the log is untouched, and the fault is the first of the text,
 -- or memory ran out.
-abbrev pub Runs : List ℕ → Unread → Unread → Written → Written → Result ℕ RunFault → Type 0
-Runs text before after old new (Ok count) = (database : Database) × HasDatabase text database × Decodes database before after old new (Ok count)
-Runs text before after old new (Err (faults.Stream fault)) = (database : Database) × HasDatabase text database × Decodes database before after old new (Err (faults.Stream fault))
-Runs text before after old new (Err (faults.Read fault)) = IsUntouched before after old new × HasFirstFault grammar.text text fault
-Runs text before after old new (Err faults.Memory) = IsUntouched before after old new
+abbrev pub Runs : List ℕ → Short → Unread → Unread → Written → Written → Result ℕ RunFault → Type 0
+Runs text short before after old new (Ok count) = (database : Database) × HasDatabase text database × Decodes (record { database = database; short = short }) before after old new (Ok count)
+Runs text short before after old new (Err (faults.Stream fault)) = (database : Database) × HasDatabase text database × Decodes (record { database = database; short = short }) before after old new (Err (faults.Stream fault))
+Runs text short before after old new (Err (faults.Read fault)) = IsUntouched before after old new × HasFirstFault grammar.text text fault
+Runs text short before after old new (Err faults.Memory) = IsUntouched before after old new
 
 -- the exit status of an outcome
 abbrev pub status_of : Result ℕ RunFault → ℕ
@@ -48,14 +50,18 @@ status_of (Err (faults.Stream streams.Write)) = device
 status_of (Err (faults.Stream streams.Memory)) = memory
 
 -- the status is that of an outcome with which the log was so decoded
-abbrev pub DecodingEndsWith : List ℕ → Unread → Unread → Written → Written → ℕ → Type 0
-DecodingEndsWith text before after old new status =
-    (outcome : Result ℕ RunFault) × Runs text before after old new outcome × (status ≡ status_of outcome)
+abbrev pub DecodingEndsWith : List ℕ → Short → Unread → Unread → Written → Written → ℕ → Type 0
+DecodingEndsWith text short before after old new status =
+    (outcome : Result ℕ RunFault) × Runs text short before after old new outcome × (status ≡ status_of outcome)
+
+-- what the flag of the command line chooses for short frames
+abbrev pub short_of : Bool → Short
+short_of flag = if flag then Show else Refuse
 
 -- the command ended so; all but `decode` and `session` read nothing from the source
-abbrev pub EndsWith : Command → List ℕ → Unread → Unread → Written → Written → ℕ → Type 0
-EndsWith commands.Check text before after old new status = (after ≡ before) × CheckingEndsWith text old new status
-EndsWith commands.Decode text before after old new status = DecodingEndsWith text before after old new status
-EndsWith commands.Dump text before after old new status = (after ≡ before) × DumpingEndsWith text old new status
-EndsWith commands.Print text before after old new status = (after ≡ before) × PrintingEndsWith text old new status
-EndsWith commands.Session text before after old new status = SessionEndsWith text before after old new status
+abbrev pub EndsWith : Command → Short → List ℕ → Unread → Unread → Written → Written → ℕ → Type 0
+EndsWith commands.Check short text before after old new status = (after ≡ before) × CheckingEndsWith text old new status
+EndsWith commands.Decode short text before after old new status = DecodingEndsWith text short before after old new status
+EndsWith commands.Dump short text before after old new status = (after ≡ before) × DumpingEndsWith text old new status
+EndsWith commands.Print short text before after old new status = (after ≡ before) × PrintingEndsWith text old new status
+EndsWith commands.Session short text before after old new status = SessionEndsWith text (record { short = short }) before after old new status

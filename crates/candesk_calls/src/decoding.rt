@@ -2,7 +2,7 @@
 ghost use Rattle.candesk_calls.specs.Run.{Decodes, Runs};
 
 use crate::fault::RunFault;
-use can_decode::{Decoding, decode_stream_by};
+use can_decode::{Decoding, Short, decode_stream_by};
 use can_layout::Meter;
 use dbc_model::{Memory, Sink, Source};
 use dbc_reader::read;
@@ -30,30 +30,32 @@ fn decode_with<R: Source, W: Sink>(
 fn decode_log<R: Source, W: Sink>(
     alloc: Global,
     database: Database,
+    short: Short,
     source: &mut R,
     sink: &mut W,
 ) -> Result<u64, RunFault>
-    ensures { Decodes database (R.unread source.old) (R.unread source.new) (W.written sink.old) (W.written sink.new) result }
+    ensures { Decodes (record { database = database; short = short }) (R.unread source.old) (R.unread source.new) (W.written sink.old) (W.written sink.new) result }
 {
     let mut meter = Meter::new();
-    match Decoding::of(alloc, database, &mut meter) {
+    match Decoding::of(alloc, database, short, &mut meter) {
         Ok(decoding) => decode_with(alloc, &decoding, &mut meter, source, sink),
         Err(Memory) => Err(RunFault::Memory),
     }
 }
 
 /// Reads the database text, makes the plans of its messages, then reads the log to its end, and writes the decoded line
-/// and an LF for each line of it. It answers how many lines there are, up to `u64::MAX`.
+/// and an LF for each line of it. `short` tells what is said of frames that are shorter than their message. It answers how many lines there are, up to `u64::MAX`.
 pub fn decode_run<R: Source, W: Sink>(
     alloc: Global,
     text: &[u8],
+    short: Short,
     source: &mut R,
     sink: &mut W,
 ) -> Result<u64, RunFault>
-    ensures { Runs text.now (R.unread source.old) (R.unread source.new) (W.written sink.old) (W.written sink.new) result }
+    ensures { Runs text.now short (R.unread source.old) (R.unread source.new) (W.written sink.old) (W.written sink.new) result }
 {
     match read(alloc, text) {
-        Ok(database) => decode_log(alloc, database, source, sink),
+        Ok(database) => decode_log(alloc, database, short, source, sink),
         Err(fault) if fault.cause == Cause::Memory => Err(RunFault::Memory),
         Err(fault) => Err(RunFault::Read(fault)),
     }

@@ -12,6 +12,7 @@ mod printing;
 mod refusing;
 mod running;
 
+pub use can_decode::Short;
 pub use candesk_words::{Command, Job, NoJob, job_of};
 pub use checking::{Verdict, check_run};
 pub use decoding::decode_run;
@@ -21,4 +22,4 @@ pub use line_stream::StreamFault;
 pub use printing::print_run;
 pub use refusing::{refuse, refuse_file};
 pub use running::{run, status};
-pub use session_script::{Session, serve};
+pub use session_script::{Options, Session, serve};

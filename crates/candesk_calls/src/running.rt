@@ -3,8 +3,8 @@ ghost use Rattle.std.specs.Prelude.{◌≡◌, Err};
 ghost use Rattle.candesk_calls.specs.Printing.{status_of_cause, print_status_of, PrintingEndsWith};
 ghost use Rattle.candesk_calls.specs.Dumping.{dump_status_of, DumpingEndsWith};
 ghost use Rattle.candesk_calls.specs.Checking.{check_status_of, CheckingEndsWith};
-ghost use Rattle.candesk_calls.specs.Scripting.{session_status_of, SessionEndsWith};
-ghost use Rattle.candesk_calls.specs.Run.{DecodingEndsWith, EndsWith, status_of};
+ghost use Rattle.candesk_calls.specs.Scripting.{session_status_of};
+ghost use Rattle.candesk_calls.specs.Run.{EndsWith, short_of, status_of};
 
 use crate::checking::{Verdict, check_run};
 use crate::decoding::decode_run;
@@ -12,11 +12,12 @@ use crate::dumping::dump_run;
 use crate::fault::{CheckFault, DumpFault, PrintFault, RunFault};
 use crate::printing::print_run;
 use arrayvec::ArrayString;
+use can_decode::Short;
 use candesk_words::{Command, Job};
 use dbc_model::{Sink, Source, put_all};
 use dbc_tokens::Cause;
 use line_stream::StreamFault;
-use session_script::{SessionFault, session_run};
+use session_script::{Options, SessionFault, session_run};
 use std::alloc::Global;
 use std::fmt::{Display, Write};
 
@@ -115,18 +116,12 @@ fn check<W: Sink, E: Sink>(alloc: Global, text: &[u8], sink: &mut W, errors: &mu
     check_status_of(outcome)
 }
 
-// Decodes, and says the fault.
-fn decode<R: Source, W: Sink, E: Sink>(
-    alloc: Global,
-    text: &[u8],
-    source: &mut R,
-    sink: &mut W,
-    errors: &mut E,
-) -> u8
-    ensures { DecodingEndsWith text.now (R.unread source.old) (R.unread source.new) (W.written sink.old) (W.written sink.new) result }
+// Says the fault of `decode`, if there is one.
+fn decode_ended<E: Sink>(outcome: Result<u64, RunFault>, errors: &mut E) -> u8
+    ensures { result ≡ status_of outcome }
 {
-    match decode_run(alloc, text, source, sink) {
-        Ok(_) => status::DONE,
+    match outcome {
+        Ok(_lines) => status::DONE,
         Err(fault) => {
             report(errors, fault);
             status_of(fault)
@@ -173,22 +168,27 @@ fn session_status_of(fault: SessionFault) -> u8
     }
 }
 
-// Keeps a session, and says the fault.
-fn session<R: Source, W: Sink, E: Sink>(
-    alloc: Global,
-    text: &[u8],
-    source: &mut R,
-    sink: &mut W,
-    errors: &mut E,
-) -> u8
-    ensures { SessionEndsWith text.now (R.unread source.old) (R.unread source.new) (W.written sink.old) (W.written sink.new) result }
+// Says the fault of `session`, if there is one.
+fn session_ended<E: Sink>(outcome: Result<u64, SessionFault>, errors: &mut E) -> u8
+    ensures { result ≡ session_status_of outcome }
 {
-    match session_run(alloc, text, source, sink) {
+    match outcome {
         Ok(_commands) => status::DONE,
         Err(fault) => {
             report(errors, fault);
             session_status_of(fault)
         }
+    }
+}
+
+// What is chosen for short frames.
+fn short_of(job: &Job) -> Short
+    ensures { result ≡ short_of job.now.short }
+{
+    if job.short {
+        Short::Show
+    } else {
+        Short::Refuse
     }
 }
 
@@ -202,13 +202,22 @@ pub fn run<R: Source, W: Sink, E: Sink>(
     sink: &mut W,
     errors: &mut E,
 ) -> u8
-    ensures { EndsWith job.now.command text.now (R.unread source.old) (R.unread source.new) (W.written sink.old) (W.written sink.new) result }
+    ensures { EndsWith job.now.command (short_of job.now.short) text.now (R.unread source.old) (R.unread source.new) (W.written sink.old) (W.written sink.new) result }
 {
     match job.command {
         Command::Check => check(alloc, text, sink, errors),
-        Command::Decode => decode(alloc, text, source, sink, errors),
+        Command::Decode => {
+            let outcome = decode_run(alloc, text, short_of(job), source, sink);
+            decode_ended(outcome, errors)
+        }
         Command::Dump => dump(alloc, text, sink, errors),
         Command::Print => print(alloc, text, sink, errors),
-        Command::Session => session(alloc, text, source, sink, errors),
+        Command::Session => {
+            let options = Options {
+                short: short_of(job),
+            };
+            let outcome = session_run(alloc, text, options, source, sink);
+            session_ended(outcome, errors)
+        }
     }
 }

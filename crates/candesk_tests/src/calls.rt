@@ -38,6 +38,7 @@ fn ends_so(
     let job = Job {
         command,
         file: String::new(alloc),
+        short: false,
     };
     let mut from = source(alloc, limits.0)?;
     let mut to = sink(alloc, limits.1);

@@ -1,8 +1,8 @@
-//! That lines are decoded, in whatever pieces they come, and what is written where a device fails.
+//! That lines are decoded, in whatever pieces they come and by either choice for short frames, and what is written where a device fails.
 
 use crate::reading::database;
 use byte_devices::limp::Limp;
-use can_decode::{StreamFault, decode_line, decode_stream};
+use can_decode::{Short, StreamFault, decode_line, decode_stream};
 use can_layout::{Meter, make_plans};
 use dbc_records::Database;
 use dbc_values::Memory;
@@ -31,7 +31,16 @@ fn decode(
 ) -> Result<Result<u64, StreamFault>, Memory> {
     let mut meter = Meter::new();
     let plans = make_plans(alloc, database, &mut meter)?;
-    Ok(decode_stream(alloc, database, plans.as_slice(), &mut meter, source, sink))
+    let short = Short::Refuse;
+    Ok(decode_stream(
+        alloc,
+        database,
+        plans.as_slice(),
+        &mut meter,
+        source,
+        sink,
+        short,
+    ))
 }
 
 // The log, in pieces of at most so many bytes, of which so many can be read.
@@ -137,19 +146,37 @@ fn failing_devices(rt: HostRuntime) -> Result<(), Fail> {
     Ok(())
 }
 
-// Whether a line is decoded by itself, and counted.
-fn is_line_decoded(alloc: Global, database: &Database) -> Result<bool, Memory> {
+// Lines, what is chosen for short frames, and what is said of them.
+const LINES: [(&[u8], Short, &[u8]); 3] = [
+    (
+        b"(1.0)  c  123#0102 R\r",
+        Short::Refuse,
+        b"(1.0)  c  123#0102 R :: A(S: 1, T: 2)",
+    ),
+    (
+        b"(1.0) c 123#01",
+        Short::Refuse,
+        b"(1.0) c 123#01 :: Wrong data size: 1 instead of 2 bytes",
+    ),
+    (b"(1.0) c 123#01", Short::Show, b"(1.0) c 123#01 :: A(S: 1)"),
+];
+
+// Whether each line is decoded so by itself, and counted.
+fn are_lines_decoded(alloc: Global, database: &Database) -> Result<bool, Memory> {
     let mut meter = Meter::new();
     let plans = make_plans(alloc, database, &mut meter)?;
-    let line = b"(1.0)  c  123#0102 R\r".as_slice();
-    let text = decode_line(alloc, database, plans.as_slice(), line, &mut meter)?;
-    let wanted = b"(1.0)  c  123#0102 R :: A(S: 1, T: 2)".as_slice();
-    Ok(text.as_slice() == wanted && meter.lines() == 1)
+    for (line, short, wanted) in LINES {
+        let text = decode_line(alloc, database, plans.as_slice(), line, &mut meter, short)?;
+        if text.as_slice() != wanted {
+            return Ok(false);
+        }
+    }
+    Ok(meter.lines() == 3)
 }
 
 fn is_decoded_alone(alloc: Global) -> Result<bool, Fail> {
     let database = database(alloc, TWO)?;
-    Ok(is_line_decoded(alloc, &database)?)
+    Ok(are_lines_decoded(alloc, &database)?)
 }
 
 #[test]

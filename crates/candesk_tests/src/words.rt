@@ -7,7 +7,11 @@ use std::test::Fail;
 fn words(rt: HostRuntime) -> Result<(), Fail> {
     let job = job_of(rt.alloc(), ["print", "--", "--f"].as_slice());
     assert!(rt;
-        matches!(&job, Ok(Job { command: Command::Print, file }) if file.as_str() == "--f")
+        matches!(&job, Ok(Job { command: Command::Print, file, short: false }) if file.as_str() == "--f")
+    );
+    let job = job_of(rt.alloc(), ["decode", "--short", "f"].as_slice());
+    assert!(rt;
+        matches!(&job, Ok(Job { command: Command::Decode, file, short: true }) if file.as_str() == "f")
     );
     let version = job_of(rt.alloc(), ["--version"].as_slice());
     assert!(rt; matches!(&version, Err(NoJob::Help(text)) if text.as_str() == "candesk 0.1.0\n"));

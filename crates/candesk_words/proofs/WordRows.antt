@@ -1,17 +1,17 @@
 -- The definitions of words, computed on words that are written out.
-use Rattle.std.proofs.Common.{◌≡◌, [], ◌∷◌, Some, codes, refl}
+use Rattle.std.proofs.Common.{◌≡◌, true, false, [], ◌∷◌, Some, codes, refl}
 use Rattle.clap.specs.Words.{fault_of}
-use Rattle.clap.specs.declared.error.kind.ErrorKind.TheVariants.{DisplayVersion, MissingRequiredArgument, UnknownArgument}
+use Rattle.clap.specs.declared.error.kind.ErrorKind.TheVariants.{ArgumentConflict, DisplayVersion, MissingRequiredArgument, UnknownArgument}
 use Rattle.clap.proofs.OnLiterals.{clap_on_literals}
 use Rattle.candesk_words.proofs.OnLiterals.{words_on_literals}
-use Rattle.candesk_words.specs.declared.job.Command.TheVariants.{Check, Decode, Dump, Print}
+use Rattle.candesk_words.specs.declared.job.Command.TheVariants.{Check, Decode, Dump, Print, Session}
 use Rattle.candesk_words.specs.Words.{command_line, job_named}
 
-check-job : job_named (codes "check" ∷ codes "a" ∷ []) ≡ Some (Check, codes "a")
+check-job : job_named (codes "check" ∷ codes "a" ∷ []) ≡ Some (Check, codes "a", false)
 unfolding clap_on_literals words_on_literals
 check-job = refl
 
-decode-job : job_named (codes "decode" ∷ codes "a" ∷ []) ≡ Some (Decode, codes "a")
+decode-job : job_named (codes "decode" ∷ codes "a" ∷ []) ≡ Some (Decode, codes "a", false)
 unfolding clap_on_literals words_on_literals
 decode-job = refl
 
@@ -19,11 +19,11 @@ decode-has_no_fault : fault_of command_line (codes "decode" ∷ codes "a" ∷ []
 unfolding clap_on_literals words_on_literals
 decode-has_no_fault = refl
 
-print-job : job_named (codes "print" ∷ codes "--" ∷ codes "--a" ∷ []) ≡ Some (Print, codes "--a")
+print-job : job_named (codes "print" ∷ codes "--" ∷ codes "--a" ∷ []) ≡ Some (Print, codes "--a", false)
 unfolding clap_on_literals words_on_literals
 print-job = refl
 
-dump-job : job_named (codes "dump" ∷ codes "a" ∷ []) ≡ Some (Dump, codes "a")
+dump-job : job_named (codes "dump" ∷ codes "a" ∷ []) ≡ Some (Dump, codes "a", false)
 unfolding clap_on_literals words_on_literals
 dump-job = refl
 
@@ -38,3 +38,39 @@ no-version-behind = refl
 no-file : fault_of command_line (codes "print" ∷ []) ≡ MissingRequiredArgument ∷ []
 unfolding clap_on_literals words_on_literals
 no-file = refl
+
+decode-short : job_named (codes "decode" ∷ codes "--short" ∷ codes "a" ∷ []) ≡ Some (Decode, codes "a", true)
+unfolding clap_on_literals words_on_literals
+decode-short = refl
+
+decode-short-has_no_fault : fault_of command_line (codes "decode" ∷ codes "--short" ∷ codes "a" ∷ []) ≡ []
+unfolding clap_on_literals words_on_literals
+decode-short-has_no_fault = refl
+
+session-job : job_named (codes "session" ∷ codes "a" ∷ []) ≡ Some (Session, codes "a", false)
+unfolding clap_on_literals words_on_literals
+session-job = refl
+
+session-short : job_named (codes "session" ∷ codes "a" ∷ codes "--short" ∷ []) ≡ Some (Session, codes "a", true)
+unfolding clap_on_literals words_on_literals
+session-short = refl
+
+check-takes_no_short : fault_of command_line (codes "check" ∷ codes "--short" ∷ codes "a" ∷ []) ≡ UnknownArgument ∷ []
+unfolding clap_on_literals words_on_literals
+check-takes_no_short = refl
+
+dump-takes_no_short : fault_of command_line (codes "dump" ∷ codes "--short" ∷ codes "a" ∷ []) ≡ UnknownArgument ∷ []
+unfolding clap_on_literals words_on_literals
+dump-takes_no_short = refl
+
+print-takes_no_short : fault_of command_line (codes "print" ∷ codes "--short" ∷ codes "a" ∷ []) ≡ UnknownArgument ∷ []
+unfolding clap_on_literals words_on_literals
+print-takes_no_short = refl
+
+short-file : job_named (codes "decode" ∷ codes "--" ∷ codes "--short" ∷ []) ≡ Some (Decode, codes "--short", false)
+unfolding clap_on_literals words_on_literals
+short-file = refl
+
+short-twice : fault_of command_line (codes "decode" ∷ codes "--short" ∷ codes "--short" ∷ codes "a" ∷ []) ≡ ArgumentConflict ∷ []
+unfolding clap_on_literals words_on_literals
+short-twice = refl

@@ -1,8 +1,10 @@
 -- Which words of the command line are which job. How words are read at all, with options, `--` and `help`, is told by the
 -- definitions of clap for a command line with these commands and options.
-use Rattle.std.specs.Prelude.{◌≡◌, ◌≢◌, ⊤, true, List, [], codes, Option, Some, None, option_and_then, option_map, Result, Ok, Err, ◌⊎◌, if◌then◌else◌}
+use Rattle.std.specs.Prelude.{◌≡◌, ◌≢◌, ⊤, Bool, true, false, List, [], codes, Option, Some, None, option_and_then, option_map, Result, Ok, Err, ◌⊎◌, if◌then◌else◌}
+use Rattle.std.specs.Option.{option_map_or}
 use Rattle.std.specs.Str.{bytes_eq}
-use Rattle.clap.specs.Words.{App, Rule, Row, Text, new_app, new_rule, with_rule, with_subcommand, subcommand_of, first_of, fault_of, IsAmong}
+use Rattle.clap.specs.Words.{App, Rule, Row, Text, new_app, new_rule, with_rule, with_subcommand, subcommand_of, first_of, one_of, fault_of, IsAmong}
+use Rattle.clap.specs.declared.builder.action.ArgAction.TheVariants.{SetTrue}
 use Rattle.clap.specs.declared.error.kind.ErrorKind.{ErrorKind}
 use Rattle.clap.specs.declared.error.kind.ErrorKind.TheVariants as kinds
 use Rattle.candesk_words.specs.declared.job.Command.{Command}
@@ -21,18 +23,30 @@ file_rule = record (new_rule (codes "FILE")) { required = true }
 unfoldable pub on_file : Text → App
 on_file name = with_rule (new_app name) file_rule
 
+-- the flag `--short`
+abbrev pub short_rule : Rule
+short_rule = record (new_rule (codes "short")) { long = Some (codes "short"); action = Some SetTrue }
+
+-- a command on a FILE that says what frames say, and takes `--short`
+unfoldable pub on_frames : Text → App
+on_frames name = with_rule (on_file name) short_rule
+
 -- the words before a command, which has to be there: `--help` and `--version` alone
 unfoldable pub before_command : App
 before_command = let app = new_app (codes "candesk") in
     record app { top = record app.top { has_version = true; no_binary_name = true; subcommand_required = true } }
 
 -- one command more
-unfoldable pub with_command : App → Text → App
-with_command line name = with_subcommand line (on_file name).top
+unfoldable pub with_command : App → App → App
+with_command line command = with_subcommand line command.top
 
 unfoldable pub command_line : App
 command_line =
-    with_command (with_command (with_command (with_command (with_command before_command (codes "check")) (codes "decode")) (codes "dump")) (codes "print")) (codes "session")
+    let check = with_command before_command (on_file (codes "check")) in
+    let decode = with_command check (on_frames (codes "decode")) in
+    let dump = with_command decode (on_file (codes "dump")) in
+    let print = with_command dump (on_file (codes "print")) in
+    with_command print (on_frames (codes "session"))
 
 -- ---- jobs
 
@@ -44,13 +58,19 @@ command_named name =
     else (if bytes_eq name (codes "print") then Some commands.Print
     else (if bytes_eq name (codes "session") then Some commands.Session else None))))
 
--- the command and its FILE, from what clap finds in the words
-abbrev pub job_found : Option (Text × List Row) → Option (Command × Text)
+-- whether the flag of this name is there, for which clap finds `true` then and `false` else
+abbrev pub has_flag : Text → List Row → Bool
+has_flag name rows = option_map_or (λ text. bytes_eq text (codes "true")) (one_of name rows) false
+
+-- the command, its FILE and whether `--short` is there, from what clap finds in the words
+abbrev pub job_found : Option (Text × List Row) → Option (Command × Text × Bool)
 job_found None = None
-job_found (Some found) = option_and_then (λ command. option_map (λ file. (command, file)) (first_of (codes "FILE") found.1)) (command_named found.0)
+job_found (Some found) = option_and_then
+    (λ command. option_map (λ file. (command, file, has_flag (codes "short") found.1)) (first_of (codes "FILE") found.1))
+    (command_named found.0)
 
 -- the job that the words name
-abbrev pub job_named : List Text → Option (Command × Text)
+abbrev pub job_named : List Text → Option (Command × Text × Bool)
 job_named words = job_found (subcommand_of command_line words)
 
 -- what is said of words with a fault of this kind
@@ -62,7 +82,7 @@ SaysOf kind reasons.Memory = ⊤
 -- The job is the one that the words name, and they have no fault. Else they have a fault of which this is said, or name
 -- no job, or memory ran out.
 abbrev pub IsJobOf : List Text → Result Job NoJob → Type 0
-IsJobOf words (Ok job) = (fault_of command_line words ≡ []) × (job_named words ≡ Some (job.command, job.file.bytes.items))
+IsJobOf words (Ok job) = (fault_of command_line words ≡ []) × (job_named words ≡ Some (job.command, job.file.bytes.items, job.short))
 IsJobOf words (Err reasons.Memory) = ⊤
 IsJobOf words (Err reasons.Usage) = job_named words ≡ None ⊎ ((kind : ErrorKind) × IsAmong kind (fault_of command_line words) × SaysOf kind reasons.Usage)
 IsJobOf words (Err (reasons.Help text)) = (kind : ErrorKind) × IsAmong kind (fault_of command_line words) × SaysOf kind (reasons.Help text)

@@ -1,7 +1,7 @@
 //! The job that the words name.
 ghost use Rattle.std.specs.Prelude.{◌≡◌, map, Some, None, IfOk, IfErr, ◌⊎◌};
-ghost use Rattle.clap.specs.Words.{kind_of, subcommand_rows_of};
-ghost use Rattle.candesk_words.specs.Words.{command_named, job_found, SaysOf, IsJobOf};
+ghost use Rattle.clap.specs.Words.{kind_of, found_of, rows_of, subcommand_rows_of};
+ghost use Rattle.candesk_words.specs.Words.{command_named, has_flag, job_found, SaysOf, IsJobOf};
 
 use crate::line::command_line;
 use clap::ArgMatches;
@@ -23,13 +23,16 @@ pub enum Command {
     Session,
 }
 
-/// A job: a command, and the path of its database.
+/// A job: a command, the path of its database, and whether `--short` is there.
 #[derive(Debug, Drop)]
 pub struct Job {
     /// What is done.
     pub command: Command,
     /// The path of the database.
     pub file: String,
+    /// Whether what is there of frames that are shorter than their message is shown, as `--short` asks for; false for
+    /// commands without the flag.
+    pub short: bool,
 }
 
 /// Why there is no job.
@@ -81,9 +84,16 @@ fn command_named(name: &str) -> Option<Command>
     }
 }
 
+// Whether the flag of this name is there.
+fn has_flag(found: &ArgMatches<'_>, name: &str) -> bool
+    ensures { result ≡ has_flag name.now (rows_of (found_of found.now)) }
+{
+    found.get_one::<bool>(name).unwrap_or(false)
+}
+
 // The job that the matches name.
 fn job_in(alloc: Global, matches: &ArgMatches<'_>) -> Result<Job, NoJob>
-    ensures ok { IfOk result (λ job. job_found (subcommand_rows_of matches.now) ≡ Some (job.command, job.file.bytes.items)) }
+    ensures ok { IfOk result (λ job. job_found (subcommand_rows_of matches.now) ≡ Some (job.command, job.file.bytes.items, job.short)) }
     ensures err { IfErr result (λ why. (why ≡ NoJob.Memory) ⊎ ((why ≡ NoJob.Usage) × (job_found (subcommand_rows_of matches.now) ≡ None))) }
 {
     let Some((name, found)) = matches.subcommand() else {
@@ -96,11 +106,16 @@ fn job_in(alloc: Global, matches: &ArgMatches<'_>) -> Result<Job, NoJob>
         return Err(NoJob::Usage);
     };
     let file = String::from_str(alloc, file)?;
-    Ok(Job { command, file })
+    let short = has_flag(found, "short");
+    Ok(Job {
+        command,
+        file,
+        short,
+    })
 }
 
 /// Reads the words after the program's name. Options stand before or behind FILE, `--` ends them, `help` is the
-/// word for `--help`, and `--version` and `-V` stand before a command alone.
+/// word for `--help`, and `--version` and `-V` stand before a command alone. `decode` and `session` alone take `--short`.
 pub fn job_of<'a>(alloc: Global, words: &'a [&'a str]) -> Result<Job, NoJob>
     ensures { IsJobOf (map (λ word. word.now) words.now) result }
 {

@@ -2,10 +2,10 @@
 ghost use Rattle.std.specs.Prelude.{◌≡◌, false, codes, IfOk};
 ghost use Rattle.clap.specs.Words.{app_of};
 ghost use Rattle.clap.specs.declared.builder.command.Command.TheViews.{out-Command};
-ghost use Rattle.candesk_words.specs.Words.{before_command, on_file, with_command, command_line};
+ghost use Rattle.candesk_words.specs.Words.{before_command, on_file, on_frames, with_command, command_line};
 
 use crate::notes;
-use clap::{Arg, Command};
+use clap::{Arg, ArgAction, Command};
 use std::alloc::{AllocError, Global};
 
 // What `--version` says behind the program's name.
@@ -45,57 +45,75 @@ fn on_file<'a>(
         .arg(file)
 }
 
-// The command line with one command more.
-#[tactic(auto, unfolding(crate::specs::Words::with_command))]
-fn with_command<'a>(
+// A command that takes a FILE, and `--short`.
+#[tactic(auto, unfolding(crate::specs::Words::on_frames))]
+fn on_frames<'a>(
     alloc: Global,
-    line: Command<'a>,
     name: &'a str,
     about: &'a str,
     notes: &'a str,
 ) -> Result<Command<'a>, AllocError>
-    ensures { IfOk result (λ longer. app_of longer ≡ with_command (app_of line.entry) name.entry.now) }
+    ensures app { IfOk result (λ command. app_of command ≡ on_frames name.entry.now) }
+    ensures local { IfOk result (λ command. (out-Command command).has_globals ≡ false) }
 {
-    let command = on_file(alloc, name, about, notes)?;
+    let short = Arg::new(alloc, "short")
+        .long("short")
+        .action(ArgAction::SetTrue)
+        .help("Show what is there of frames that are shorter than their message");
+    on_file(alloc, name, about, notes)?.arg(short)
+}
+
+// The command line with one command more.
+#[tactic(auto, unfolding(crate::specs::Words::with_command))]
+fn with_command<'a>(line: Command<'a>, command: Command<'a>) -> Result<Command<'a>, AllocError>
+    requires { (out-Command command).has_globals ≡ false }
+    ensures { IfOk result (λ longer. app_of longer ≡ with_command (app_of line.entry) (app_of command.entry)) }
+{
     line.subcommand(command)
 }
 
 fn with_check<'a>(alloc: Global, line: Command<'a>) -> Result<Command<'a>, AllocError>
-    ensures { IfOk result (λ longer. app_of longer ≡ with_command (app_of line.entry) (codes "check")) }
+    ensures { IfOk result (λ longer. app_of longer ≡ with_command (app_of line.entry) (on_file (codes "check"))) }
 {
     let about = "Says what is doubtful in a database on standard output";
-    with_command(alloc, line, "check", about, notes::CHECK)
+    let command = on_file(alloc, "check", about, notes::CHECK)?;
+    with_command(line, command)
 }
 
 fn with_decode<'a>(alloc: Global, line: Command<'a>) -> Result<Command<'a>, AllocError>
-    ensures { IfOk result (λ longer. app_of longer ≡ with_command (app_of line.entry) (codes "decode")) }
+    ensures { IfOk result (λ longer. app_of longer ≡ with_command (app_of line.entry) (on_frames (codes "decode"))) }
 {
     let about = "Decodes a log of `candump -L` on standard input";
-    with_command(alloc, line, "decode", about, notes::DECODE)
+    let command = on_frames(alloc, "decode", about, notes::DECODE)?;
+    with_command(line, command)
 }
 
 fn with_dump<'a>(alloc: Global, line: Command<'a>) -> Result<Command<'a>, AllocError>
-    ensures { IfOk result (λ longer. app_of longer ≡ with_command (app_of line.entry) (codes "dump")) }
+    ensures { IfOk result (λ longer. app_of longer ≡ with_command (app_of line.entry) (on_file (codes "dump"))) }
 {
     let about = "Draws the messages of a database, bit by bit, on standard output";
-    with_command(alloc, line, "dump", about, notes::DUMP)
+    let command = on_file(alloc, "dump", about, notes::DUMP)?;
+    with_command(line, command)
 }
 
 fn with_print<'a>(alloc: Global, line: Command<'a>) -> Result<Command<'a>, AllocError>
-    ensures { IfOk result (λ longer. app_of longer ≡ with_command (app_of line.entry) (codes "print")) }
+    ensures { IfOk result (λ longer. app_of longer ≡ with_command (app_of line.entry) (on_file (codes "print"))) }
 {
     let about = "Prints a database as its canonical text on standard output";
-    with_command(alloc, line, "print", about, notes::PRINT)
+    let command = on_file(alloc, "print", about, notes::PRINT)?;
+    with_command(line, command)
 }
 
 fn with_session<'a>(alloc: Global, line: Command<'a>) -> Result<Command<'a>, AllocError>
-    ensures { IfOk result (λ longer. app_of longer ≡ with_command (app_of line.entry) (codes "session")) }
+    ensures { IfOk result (λ longer. app_of longer ≡ with_command (app_of line.entry) (on_frames (codes "session"))) }
 {
     let about = "Edits a database and retains a log by a script on standard input";
-    with_command(alloc, line, "session", about, notes::SESSION)
+    let command = on_frames(alloc, "session", about, notes::SESSION)?;
+    with_command(line, command)
 }
 
-/// The command line: `candesk check FILE`, and so with `decode`, `dump`, `print` and `session`.
+/// The command line: `candesk check FILE`, and so with `decode`, `dump`, `print` and `session`, of which `decode` and
+/// `session` take `--short` too.
 #[tactic(auto, unfolding(crate::specs::Words::command_line))]
 pub fn command_line<'a>(alloc: Global) -> Result<Command<'a>, AllocError>
     ensures { IfOk result (λ line. app_of line ≡ command_line) }

@@ -13,7 +13,8 @@ Example, of a message whose sender is no node:
 /// Of `decode`.
 pub const DECODE: &str = "\
 Standard input is a log as `candump -L` writes it. Standard output has each of its lines, and behind a line with a data
-frame what the frame says by the database.
+frame what the frame says by the database. A frame that is shorter than its message is refused; with `--short`, what of
+it is there is shown.
 
 Example:
   $ candesk decode examples/wheel.dbc < examples/wheel.log
@@ -48,7 +49,8 @@ Example:
 pub const SESSION: &str = "\
 Standard input is a script, a command a line: edits of the database, lines of a log that are retained, and what to show.
 Standard output has a reply to each: what was asked for and `ok`, or why the command is refused. After each edit all is
-shown as it is by the database as it is then.
+shown as it is by the database as it is then. With `--short`, what is there of frames that are shorter than their
+message is shown too.
 
 Example:
   $ printf 'log (1.5) can0 123#0A01\\nremove-signal 0 Speed\\nshow lines\\n' > wheel.script

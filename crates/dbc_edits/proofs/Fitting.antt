@@ -10,7 +10,7 @@ use Rattle.std.proofs.lemmas.List.{length-map}
 use Rattle.dbc_records.specs.Records.{Signal, names_of, are_distinct, signals_fit, most_signals}
 use Rattle.dbc_edits.proofs.Places.{one_more}
 use Rattle.dbc_edits.specs.Rows.{without}
-use Rattle.dbc_edits.specs.Edits.{is_named, has_named, replaced_by}
+use Rattle.dbc_edits.specs.Edits.{is_named, has_named, replaced_by, with_name}
 
 -- ---- names
 
@@ -140,6 +140,34 @@ set_once signal (first ∷ signals) e =
       | inr f ↦ rw (f, one_more (position_or_len (is_named signal.name) signals), ← set_once signal signals (rest_differ first.name (names_of signals) e)) refl
     ]
 
+-- ---- a new name
+
+kept : (test : List ℕ → Bool) (old new : List ℕ) (signals : List Signal) → test new ≡ false → list_any test (names_of signals) ≡ false → list_any test (names_of (map (with_name old new) signals)) ≡ false
+kept test old new [] e f = refl
+kept test old new (signal ∷ signals) e f =
+    let parts = neither _ _ f in
+    elim (cases_Bool (is_named old signal)) [
+      | inl t ↦ rw t (none _ _ e (kept test old new signals e parts.1))
+      | inr g ↦ rw g (none _ _ parts.0 (kept test old new signals e parts.1))
+    ]
+
+unnamed : (old new : List ℕ) (signals : List Signal) → has_named old signals ≡ false → map (with_name old new) signals ≡ signals
+unnamed old new [] e = refl
+unnamed old new (signal ∷ signals) e = let parts = neither (is_named old signal) (has_named old signals) e in rw (parts.0, unnamed old new signals parts.1) refl
+
+distinct_renamed : (old new : List ℕ) (signals : List Signal) → are_distinct (names_of signals) ≡ true → has_named new signals ≡ false → are_distinct (names_of (map (with_name old new) signals)) ≡ true
+distinct_renamed old new [] e f = refl
+distinct_renamed old new (signal ∷ signals) e f =
+    let parts = neither (is_named new signal) (has_named new signals) f in
+    let differ = first_differs signal.name (names_of signals) e in
+    let rest = rest_differ signal.name (names_of signals) e in
+    elim (cases_Bool (is_named old signal)) [
+      | inl t ↦
+          let gone : has_named old signals ≡ false = sym (named old signals) ∙ rw (← true_same signal.name old t) differ in
+          rw (t, unnamed old new signals gone) (differs _ _ (named new signals ∙ parts.1) rest)
+      | inr g ↦ rw g (differs _ _ (kept (bytes_eq signal.name) old new signals parts.0 differ) (distinct_renamed old new signals rest parts.1))
+    ]
+
 -- ---- the signals of a message
 
 together : (a b : Bool) → a ≡ true → b ≡ true → (a && b) ≡ true
@@ -183,3 +211,7 @@ fits_replaced signal signals fit =
 
 pub fits_set : (signal : Signal) (signals : List Signal) → IsTrue (signals_fit signals) → IsTrue (signals_fit (slice_set signals (position_or_len (is_named signal.name) signals) signal))
 fits_set signal signals fit = rw (replaced signal signals fit) (fits_replaced signal signals fit)
+
+pub fits_renamed : (old new : List ℕ) (signals : List Signal) → IsTrue (signals_fit signals) → has_named new signals ≡ false → IsTrue (signals_fit (map (with_name old new) signals))
+fits_renamed old new signals fit free =
+    fits-of _ (rw (length-map signals (with_name old new)) (fits-few signals fit)) (distinct_renamed old new signals (fits-distinct signals fit) free)

@@ -12,7 +12,7 @@ use Rattle.dbc_edits.specs.declared.edit.Edit.TheVariants as edits
 use Rattle.dbc_edits.specs.declared.refusal.Refusal.{Refusal}
 use Rattle.dbc_edits.specs.declared.refusal.Refusal.TheVariants as refusals
 use Rattle.dbc_edits.specs.Changes.{Change, changed}
-use Rattle.dbc_edits.specs.Rows.{without, with_item, is_of_number, is_of_signal, without_rows, has_row, rows_renumbered, is_values_of, is_mux_of, is_table_of, is_attribute_of}
+use Rattle.dbc_edits.specs.Rows.{without, with_item, is_of_number, is_of_signal, without_rows, has_row, rows_renumbered, rows_renamed, has_row_naming, is_values_of, is_mux_of, is_table_of, is_attribute_of}
 
 -- ---- refusals
 
@@ -105,6 +105,28 @@ signal_changed place signal database =
     refused_if (not (has_named signal.name message.signals)) refusals.NoSignal
     (Ok (with_message place (record message { signals = map (replaced_by signal) message.signals }) database)))
 
+abbrev pub with_name : List ℕ → List ℕ → Signal → Signal
+with_name old new signal = if is_named old signal then record signal { name = new } else signal
+
+-- a message of the number has a signal of one of the two names
+abbrev pub has_either : ℕ → List ℕ → List ℕ → List Message → Bool
+has_either number old new messages = has_signal number old messages || has_signal number new messages
+
+-- the signal and all rows that name it take the new name
+abbrev pub named_anew : ℕ → Message → List ℕ → List ℕ → Database → Database
+named_anew place message old new database =
+    rows_renamed (record { number = message.head.number; old = old; new = new })
+    (with_message place (record message { signals = map (with_name old new) message.signals }) database)
+
+unfoldable pub signal_renamed : ℕ → List ℕ → List ℕ → Database → Result Database Refusal
+signal_renamed place old new database =
+    at_message (slice_get database.messages place) (λ message.
+    refused_if (not (has_named old message.signals)) refusals.NoSignal
+    (refused_if (has_named new message.signals) refusals.SignalExists
+    (refused_if (has_row_naming message.head.number new database) refusals.NameTaken
+    (refused_if (has_either message.head.number old new (remove database.messages place)) refusals.NameShared
+    (Ok (named_anew place message old new database))))))
+
 -- ---- rows of signals
 
 -- what is done where a message of the number has the signal
@@ -166,6 +188,7 @@ edited database (edits.Renumber place number) = message_renumbered place number 
 edited database (edits.AddSignal place at signal) = signal_added place at signal database
 edited database (edits.RemoveSignal place name) = signal_removed place name database
 edited database (edits.ChangeSignal place signal) = signal_changed place signal database
+edited database (edits.RenameSignal place old new) = signal_renamed place old new database
 edited database (edits.SetMux row) = mux_set row database
 edited database (edits.SetValues row) = values_set row database
 edited database (edits.DropMux number signal) = mux_dropped number signal database

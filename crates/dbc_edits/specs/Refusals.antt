@@ -29,6 +29,8 @@ refusal_number refusals.NoRow = 28
 refusal_number refusals.NoDefinition = 29
 refusal_number refusals.LogFull = 30
 refusal_number refusals.LongLine = 31
+refusal_number refusals.NameTaken = 32
+refusal_number refusals.NameShared = 33
 refusal_number refusals.Memory = 90
 
 abbrev pub refusal_word : Refusal → List ℕ
@@ -44,4 +46,6 @@ refusal_word refusals.NoRow = codes "NoRow"
 refusal_word refusals.NoDefinition = codes "NoDefinition"
 refusal_word refusals.LogFull = codes "LogFull"
 refusal_word refusals.LongLine = codes "LongLine"
+refusal_word refusals.NameTaken = codes "NameTaken"
+refusal_word refusals.NameShared = codes "NameShared"
 refusal_word refusals.Memory = codes "Memory"

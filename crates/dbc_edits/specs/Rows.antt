@@ -105,6 +105,60 @@ rows_renumbered old new database = record database {
   muxes = map (mux_renumbered old new) database.muxes;
 }
 
+-- ---- a further name in place of an old one
+
+-- signals of the number take the new name in place of the old one
+pub record Renaming : Type 0 where
+  pub number : ℕ
+  pub old : List ℕ
+  pub new : List ℕ
+
+-- the name of a signal of a number
+abbrev pub name_after : Renaming → ℕ → List ℕ → List ℕ
+name_after renaming number name = if number == renaming.number && bytes_eq name renaming.old then renaming.new else name
+
+abbrev pub target_renamed : Renaming → Target → Target
+target_renamed renaming targets.Whole = targets.Whole
+target_renamed renaming (targets.Node name) = targets.Node name
+target_renamed renaming (targets.Message number) = targets.Message number
+target_renamed renaming (targets.Signal number name) = targets.Signal number (name_after renaming number name)
+
+abbrev pub comment_renamed : Renaming → Comment → Comment
+comment_renamed renaming row = record row { target = target_renamed renaming row.target }
+
+abbrev pub attribute_renamed : Renaming → AttrRow → AttrRow
+attribute_renamed renaming row = record row { target = target_renamed renaming row.target }
+
+abbrev pub values_renamed : Renaming → ValueRow → ValueRow
+values_renamed renaming row = record row { signal = name_after renaming row.number row.signal }
+
+abbrev pub float_renamed : Renaming → FloatRow → FloatRow
+float_renamed renaming row = record row { signal = name_after renaming row.number row.signal }
+
+-- a row names its switch too
+abbrev pub mux_renamed : Renaming → MuxRow → MuxRow
+mux_renamed renaming row =
+    record row { signal = name_after renaming row.number row.signal; switch = name_after renaming row.number row.switch }
+
+-- all rows of the number that name the old signal name the new one; kept statements stay
+unfoldable pub rows_renamed : Renaming → Database → Database
+rows_renamed renaming database = record database {
+  comments = map (comment_renamed renaming) database.comments;
+  attributes = map (attribute_renamed renaming) database.attributes;
+  values = map (values_renamed renaming) database.values;
+  floats = map (float_renamed renaming) database.floats;
+  muxes = map (mux_renamed renaming) database.muxes;
+}
+
+-- a row of the number names the signal as its switch
+abbrev pub is_switched_by : ℕ → List ℕ → MuxRow → Bool
+is_switched_by number name row = row.number == number && bytes_eq row.switch name
+
+-- a row of the number names the signal, as what it speaks of or as its switch
+unfoldable pub has_row_naming : ℕ → List ℕ → Database → Bool
+has_row_naming number name database =
+    has_row (is_of_signal number name) database || list_any (is_switched_by number name) database.muxes
+
 -- ---- the keys by which rows are set and dropped
 
 abbrev pub is_values_of : ℕ → List ℕ → ValueRow → Bool

@@ -24,6 +24,9 @@ pub enum Edit {
     RemoveSignal(usize, Name),
     /// In the message at a place the signal of the same name gives way to this one.
     ChangeSignal(usize, Signal),
+    /// The signal of a name in the message at a place takes another name, and so do all rows of the message's number that name it,
+    /// also as their switch. Kept statements stay.
+    RenameSignal(usize, Name, Name),
     /// The multiplexer row of a signal is set.
     SetMux(MuxRow),
     /// The named values of a signal are set.

@@ -6,6 +6,7 @@ use crate::attributes::{drop_attribute, set_attribute};
 use crate::edit::Edit;
 use crate::messages::{add_message, change_message, remove_message, renumber};
 use crate::refusal::Refusal;
+use crate::renaming::rename_signal;
 use crate::signal_rows::{drop_mux, drop_values, set_mux, set_values};
 use crate::signals::{add_signal, change_signal, remove_signal};
 use crate::tables::{drop_table, set_table};
@@ -27,6 +28,7 @@ pub fn edited(alloc: Global, database: &Database, edit: &Edit) -> Result<Databas
         Edit::AddSignal(place, at, signal) => add_signal(database, *place, *at, signal),
         Edit::RemoveSignal(place, name) => remove_signal(database, *place, name.as_bytes()),
         Edit::ChangeSignal(place, signal) => change_signal(database, *place, signal),
+        Edit::RenameSignal(place, old, new) => rename_signal(database, *place, old, new),
         Edit::SetMux(row) => set_mux(database, row),
         Edit::SetValues(row) => set_values(database, row),
         Edit::DropMux(number, name) => drop_mux(database, *number, name.as_bytes()),

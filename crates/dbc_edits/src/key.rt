@@ -139,6 +139,23 @@ impl<'a> TargetKey for OfSignal<'a> {
     }
 }
 
+/// The multiplexer rows of a number that name a switch.
+#[derive(Drop)]
+pub(crate) struct OfSwitch<'a> {
+    pub(crate) number: u32,
+    pub(crate) name: &'a [u8],
+}
+
+impl<'a> Key<MuxRow> for OfSwitch<'a> {
+    ghost use Rattle.dbc_edits.specs.Rows.{is_switched_by};
+
+    ghost has = { λ key. is_switched_by key.number key.name.now };
+
+    fn has(&self, row: &MuxRow) -> bool {
+        row.number == self.number && same(row.switch.as_bytes(), self.name)
+    }
+}
+
 /// The value tables of a name.
 #[derive(Drop)]
 pub(crate) struct OfTable<'a> {

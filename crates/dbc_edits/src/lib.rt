@@ -1,4 +1,4 @@
-//! Edits of a database: fifteen changes, each one exact step.
+//! Edits of a database: sixteen changes, each one exact step.
 //!
 //! [`edited`] answers the changed database, or why the edit is refused; the database itself stays as it is. What each edit does
 //! is said over whole lists in `specs/Edits.antt`.
@@ -12,6 +12,8 @@ mod editing;
 mod key;
 mod messages;
 mod refusal;
+mod rename;
+mod renaming;
 mod renumbering;
 mod rows;
 mod signal_rows;
@@ -22,3 +24,4 @@ pub use change::Change;
 pub use edit::Edit;
 pub use editing::edited;
 pub use refusal::Refusal;
+pub use renaming::renamed;

@@ -32,6 +32,10 @@ pub enum Refusal {
     LogFull,
     /// The line has too many bytes.
     LongLine,
+    /// A row of the message's number names the new name, as its signal or as its switch.
+    NameTaken,
+    /// Another message of the number has a signal of the old or of the new name.
+    NameShared,
     /// Memory ran out.
     Memory,
 }
@@ -54,6 +58,8 @@ impl Refusal {
             Refusal::NoDefinition => 29,
             Refusal::LogFull => 30,
             Refusal::LongLine => 31,
+            Refusal::NameTaken => 32,
+            Refusal::NameShared => 33,
             Refusal::Memory => 90,
         }
     }
@@ -75,6 +81,8 @@ impl Refusal {
             Refusal::NoDefinition => b"NoDefinition",
             Refusal::LogFull => b"LogFull",
             Refusal::LongLine => b"LongLine",
+            Refusal::NameTaken => b"NameTaken",
+            Refusal::NameShared => b"NameShared",
             Refusal::Memory => b"Memory",
         }
     }

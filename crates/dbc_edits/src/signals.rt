@@ -13,8 +13,8 @@ use crate::rows::{drop_all, has_any, place_of};
 use dbc_records::{Database, Message, Signal};
 use dbc_values::{Copied, List, Memory};
 
-// Whether a signal has the name.
-fn has_named(signals: &[Signal], name: &[u8]) -> bool
+/// Whether a signal has the name.
+pub(crate) fn has_named(signals: &[Signal], name: &[u8]) -> bool
     ensures { result ≡ has_named name.now signals.now }
 {
     has_any(signals, &OfName { name })
@@ -32,8 +32,8 @@ pub(crate) fn has_signal(messages: &[Message], number: u32, name: &[u8]) -> bool
     false
 }
 
-// The message with these signals.
-fn with_signals(message: &Message, signals: List<Signal>) -> Result<Message, Memory>
+/// The message with these signals.
+pub(crate) fn with_signals(message: &Message, signals: List<Signal>) -> Result<Message, Memory>
     requires { IsTrue (signals_fit signals) }
     ensures { IfOk result (λ other. other ≡ record message.now { signals = signals }) }
 {

@@ -12,8 +12,8 @@ use Rattle.dbc_edits.specs.declared.edit.Edit.{Edit}
 use Rattle.dbc_edits.specs.declared.edit.Edit.TheVariants as edits
 use Rattle.dbc_edits.specs.declared.refusal.Refusal.{Refusal}
 use Rattle.dbc_edits.specs.Changes.{Change}
-use Rattle.dbc_edits.specs.Rows.{without, with_item, is_of_number, is_of_signal, values_target, float_target, mux_target, without_rows, renumbered, target_renumbered, attribute_renumbered, values_renumbered, float_renumbered, mux_renumbered, rows_renumbered, is_values_of, is_mux_of, is_attribute_of}
-use Rattle.dbc_edits.specs.Edits.{at_message, refused_if, message_added, has_number, cleared_of_number, message_removed, with_message, message_changed, message_renumbered, signal_added, has_signal, cleared_of_signal, signal_removed, signal_changed, mux_set, values_set, mux_dropped, values_dropped, table_set, table_dropped, attribute_set, attribute_dropped, edited}
+use Rattle.dbc_edits.specs.Rows.{without, with_item, is_of_number, is_of_signal, values_target, float_target, mux_target, without_rows, renumbered, target_renumbered, attribute_renumbered, values_renumbered, float_renumbered, mux_renumbered, rows_renumbered, Renaming, name_after, target_renamed, attribute_renamed, values_renamed, float_renamed, mux_renamed, rows_renamed, is_values_of, is_mux_of, is_attribute_of}
+use Rattle.dbc_edits.specs.Edits.{at_message, refused_if, message_added, has_number, cleared_of_number, message_removed, with_message, message_changed, message_renumbered, signal_added, has_signal, cleared_of_signal, signal_removed, signal_changed, signal_renamed, mux_set, values_set, mux_dropped, values_dropped, table_set, table_dropped, attribute_set, attribute_dropped, edited}
 use Rattle.can_rows.specs.Rows.{rows_of}
 use Rattle.can_rows.specs.Groups.{is_for_message, gives_format, format_row}
 use Rattle.edit_reach.specs.Touched.{is_among, number_at, edit_numbers}
@@ -253,6 +253,50 @@ renumbered_at place new d e ok =
     (with_messages (new ∷ old ∷ []) d _ (filter-set _ d.messages place found.message _ found.stands (rw (eq-eqb old old refl, or_right (new == old) true refl) refl) (rw (eq-eqb new new refl) refl)))
     (rows_moved old new _)))
 
+-- ---- renaming
+
+name_keeps : (r : Renaming) (n m : ℕ) (name : List ℕ) → is_among (r.number ∷ []) n ≡ false → (m == n) ≡ true → name_after r m name ≡ name
+name_keeps r n m name out is =
+    elim (cases_Bool (m == r.number)) [ inl t ↦ absurd (both_ways (m == n) (other r.number n m out t) is) | inr f ↦ rw f refl ]
+
+-- the target of a message names no signal
+message_keeps : (r : Renaming) (n : ℕ) (target : Target) → is_for_message n target ≡ true → target_renamed r target ≡ target
+message_keeps r n targets.Whole is = refl
+message_keeps r n (targets.Node name) is = refl
+message_keeps r n (targets.Message m) is = refl
+message_keeps r n (targets.Signal m name) is = absurd (cc)
+
+message_stays : (r : Renaming) (n : ℕ) (target : Target) → is_for_message n target ≡ false → is_for_message n (target_renamed r target) ≡ false
+message_stays r n targets.Whole isnt = refl
+message_stays r n (targets.Node name) isnt = refl
+message_stays r n (targets.Message m) isnt = isnt
+message_stays r n (targets.Signal m name) isnt = refl
+
+rows_named : (r : Renaming) (d : Database) → SameElsewhere (r.number ∷ []) d (rows_renamed r d)
+unfolding rows_renamed
+rows_named r d = record {
+  messages = refl;
+  rows = λ n out. rows-same d _ n
+      (filter-map _ (values_renamed r) (λ row is. rw (name_keeps r n row.number row.signal out is) refl) (λ row isnt. isnt) d.values)
+      (filter-map _ (float_renamed r) (λ row is. rw (name_keeps r n row.number row.signal out is) refl) (λ row isnt. isnt) d.floats)
+      (filter-map _ (mux_renamed r) (λ row is. rw (name_keeps r n row.number row.signal out is, name_keeps r n row.number row.switch out is) refl) (λ row isnt. isnt) d.muxes);
+  formats = λ n out. formats-same d _ n
+      (filter-map _ (attribute_renamed r) (λ row is. rw (message_keeps r n row.target is) refl) (λ row isnt. message_stays r n row.target isnt) d.attributes);
+  defaults = refl;
+  definitions = refl;
+}
+
+signal_renamed_at : (place : ℕ) (old new : List ℕ) (d e : Database) → signal_renamed place old new d ≡ Ok e → SameElsewhere (number_at place d) d e
+unfolding signal_renamed
+signal_renamed_at place old new d e ok =
+    let found = found_at _ _ e ok in
+    let number : ℕ = found.message.head.number in
+    rw found.stands
+    (subst (SameElsewhere (number ∷ []) d) (Ok-same _ e (passed _ _ _ e (passed _ _ _ e (passed _ _ _ e (passed _ _ _ e found.done)))))
+    (one_then (number ∷ []) d _ _
+    (in_place place found.message _ d found.stands refl)
+    (rows_named _ _)))
+
 -- ---- rows that are set and dropped
 
 values_put : (row : ValueRow) (d : Database) → SameElsewhere (row.number ∷ []) d (record d { values = with_item (is_values_of row.number row.signal) row d.values })
@@ -353,6 +397,7 @@ others d e (edits.Renumber place number) ok = renumbered_at place number d e ok
 others d e (edits.AddSignal place at signal) ok = signal_added_at place at signal d e ok
 others d e (edits.RemoveSignal place name) ok = signal_removed_at place name d e ok
 others d e (edits.ChangeSignal place signal) ok = signal_changed_at place signal d e ok
+others d e (edits.RenameSignal place old new) ok = signal_renamed_at place old new d e ok
 others d e (edits.SetMux row) ok = mux_set_at d e row ok
 others d e (edits.SetValues row) ok = values_set_at d e row ok
 others d e (edits.DropMux k signal) ok = mux_dropped_at d e k signal ok

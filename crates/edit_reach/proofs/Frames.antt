@@ -14,6 +14,7 @@ use Rattle.log_frames.specs.Frames.{Frame, body_of, frame_of, is_data, is_data_k
 use Rattle.log_frames.specs.declared.frame.Kind.{Kind}
 use Rattle.log_frames.specs.declared.frame.Kind.TheVariants as kinds
 use Rattle.can_decode.specs.Choices.{has_number, is_group, in_group, exact_place, group_place, place_of_number, chosen_place}
+use Rattle.can_decode.specs.declared.short.Short.{Short}
 use Rattle.can_decode.specs.DecodedLines.{target_of, text_of_kind, chosen_target, frame_text, body_and_frame, decoded_line}
 use Rattle.edit_reach.specs.Touched.{is_among, may_have_group, concerns, is_touched, line_touched}
 use Rattle.edit_reach.specs.Elsewhere.{is_elsewhere, SameElsewhere}
@@ -35,8 +36,8 @@ plan-same numbers d e m s out = rw (s.rows m.head.number out) refl
 pub picture-same : (numbers : List ℕ) (d e : Database) (m : Message) → SameElsewhere numbers d e → is_among numbers m.head.number ≡ false → picture_of e m ≡ picture_of d m
 picture-same numbers d e m s out = rw (s.rows m.head.number out) refl
 
-target-same : (numbers : List ℕ) (d e : Database) (m : Message) → SameElsewhere numbers d e → is_among numbers m.head.number ≡ false → target_of e m ≡ target_of d m
-target-same numbers d e m s out = rw (plan-same numbers d e m s out, group_number-same numbers d e m.head.number s out) refl
+target-same : (short : Short) (numbers : List ℕ) (d e : Database) (m : Message) → SameElsewhere numbers d e → is_among numbers m.head.number ≡ false → target_of short e m ≡ target_of short d m
+target-same short numbers d e m s out = rw (plan-same numbers d e m s out, group_number-same numbers d e m.head.number s out) refl
 
 -- ---- numbers that concern a frame
 
@@ -143,10 +144,10 @@ map-inside : {X Y Z : Type 0} (f : Y → Z) (g : X → Option Y) (o : Option X) 
 map-inside f g None = refl
 map-inside f g (Some x) = refl
 
-target_by : (d : Database) (frame : Frame) → is_data frame ≡ true → chosen_target d frame ≡ option_map (target_of d) (chosen d (number_of frame))
+target_by : (short : Short) (d : Database) (frame : Frame) → is_data frame ≡ true → chosen_target short d frame ≡ option_map (target_of short d) (chosen d (number_of frame))
 unfolding chosen_target chosen_place
-target_by d frame carries =
-    rw carries (map-inside (target_of d) (slice_get d.messages) (place_of_number d (number_of frame)) ∙ ap (option_map (target_of d)) (message_at_place d (number_of frame)))
+target_by short d frame carries =
+    rw carries (map-inside (target_of short d) (slice_get d.messages) (place_of_number d (number_of frame)) ∙ ap (option_map (target_of short d)) (message_at_place d (number_of frame)))
 
 -- ---- the same message with the same target
 
@@ -174,22 +175,22 @@ chosen-concerns frame d m e =
           group-concerns frame d wide.0 m (find-passes (in_group d (group_number_of frame)) d.messages m wide.1))
     ]
 
-module _ (numbers : List ℕ) (d e : Database) (s : SameElsewhere numbers d e) where
+module _ (short : Short) (numbers : List ℕ) (d e : Database) (s : SameElsewhere numbers d e) where
   chosen-same : (frame : ℕ) → list_any (concerns frame) numbers ≡ false → chosen e frame ≡ chosen d frame
   chosen-same frame none =
       rw (exact-same frame numbers d e none s)
       (ap (option_or (find (has_number frame) d.messages)) (if_same_then (is_extended frame) _ _ _ (grouped-same frame numbers d e none s)))
 
-  chosen_target-same : (frame : Frame) → is_data frame ≡ true → list_any (concerns (number_of frame)) numbers ≡ false → chosen_target e frame ≡ chosen_target d frame
+  chosen_target-same : (frame : Frame) → is_data frame ≡ true → list_any (concerns (number_of frame)) numbers ≡ false → chosen_target short e frame ≡ chosen_target short d frame
   chosen_target-same frame carries none =
-      target_by e frame carries
-      ∙ ap (option_map (target_of e)) (chosen-same (number_of frame) none)
-      ∙ map_same (target_of e) (target_of d) (chosen d (number_of frame)) (λ m is.
-      target-same numbers d e m s (concerned_out (number_of frame) numbers m.head.number none (chosen-concerns (number_of frame) d m is)))
-      ∙ sym (target_by d frame carries)
+      target_by short e frame carries
+      ∙ ap (option_map (target_of short e)) (chosen-same (number_of frame) none)
+      ∙ map_same (target_of short e) (target_of short d) (chosen d (number_of frame)) (λ m is.
+      target-same short numbers d e m s (concerned_out (number_of frame) numbers m.head.number none (chosen-concerns (number_of frame) d m is)))
+      ∙ sym (target_by short d frame carries)
 
-  text-same : (kind : Kind) (frame : Frame) → (is_data_kind kind ≡ true → chosen_target e frame ≡ chosen_target d frame)
-      → text_of_kind kind frame (chosen_target e frame) ≡ text_of_kind kind frame (chosen_target d frame)
+  text-same : (kind : Kind) (frame : Frame) → (is_data_kind kind ≡ true → chosen_target short e frame ≡ chosen_target short d frame)
+      → text_of_kind kind frame (chosen_target short e frame) ≡ text_of_kind kind frame (chosen_target short d frame)
   text-same kinds.Error frame same = refl
   text-same kinds.Remote frame same = refl
   text-same kinds.Classic frame same = rw (same refl) refl
@@ -199,13 +200,13 @@ module _ (numbers : List ℕ) (d e : Database) (s : SameElsewhere numbers d e) w
   unfolding is_touched
   untouched_none frame untouched carries = rw carries at untouched
 
-  frame_text-same : (frame : Frame) → is_touched numbers frame ≡ false → frame_text e frame ≡ frame_text d frame
+  frame_text-same : (frame : Frame) → is_touched numbers frame ≡ false → frame_text short e frame ≡ frame_text short d frame
   frame_text-same frame untouched = text-same frame.kind frame (λ carries. chosen_target-same frame carries (untouched_none frame untouched carries))
 
-  body-same : (body : List ℕ) (o : Option Frame) → option_map_or (is_touched numbers) o false ≡ false → body_and_frame e body o ≡ body_and_frame d body o
+  body-same : (body : List ℕ) (o : Option Frame) → option_map_or (is_touched numbers) o false ≡ false → body_and_frame short e body o ≡ body_and_frame short d body o
   body-same body None untouched = refl
   body-same body (Some frame) untouched = rw (frame_text-same frame untouched) refl
 
-  pub decoded_line-same : (line : List ℕ) → line_touched numbers line ≡ false → decoded_line e line ≡ decoded_line d line
+  pub decoded_line-same : (line : List ℕ) → line_touched numbers line ≡ false → decoded_line short e line ≡ decoded_line short d line
   unfolding line_touched decoded_line
   decoded_line-same line untouched = body-same (body_of line) (frame_of (body_of line)) untouched

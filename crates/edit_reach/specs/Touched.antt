@@ -24,6 +24,7 @@ edit_numbers database (edits.Renumber place number) = number ∷ number_at place
 edit_numbers database (edits.AddSignal place at signal) = number_at place database
 edit_numbers database (edits.RemoveSignal place name) = number_at place database
 edit_numbers database (edits.ChangeSignal place signal) = number_at place database
+edit_numbers database (edits.RenameSignal place old new) = number_at place database
 edit_numbers database (edits.SetMux row) = row.number ∷ []
 edit_numbers database (edits.SetValues row) = row.number ∷ []
 edit_numbers database (edits.DropMux number signal) = number ∷ []

@@ -4,6 +4,7 @@ ghost use Rattle.dbc_records.specs.Records.{Message};
 ghost use Rattle.dbc_records.specs.Databases.{Database};
 ghost use Rattle.can_layout.specs.Plans.{plan_of};
 ghost use Rattle.can_layout.specs.Pictures.{picture_of};
+ghost use Rattle.can_decode.specs.declared.short.Short.{Short};
 ghost use Rattle.can_decode.specs.DecodedLines.{decoded_line};
 ghost use Rattle.dbc_edits.specs.declared.edit.Edit.{Edit};
 ghost use Rattle.dbc_edits.specs.Edits.{edited};
@@ -21,7 +22,7 @@ pub fn untouched_messages_stay()
     ensures picture { (before after : Database) (edit : Edit) (message : Message) → edited before edit ≡ Ok after → is_among (edit_numbers before edit) message.head.number ≡ false → picture_of after message ≡ picture_of before message }
 {}
 
-/// A line whose frame an edit doesn't touch is decoded as before, though places have moved.
+/// A line whose frame an edit doesn't touch is decoded as before, though places have moved, whatever is said of short frames.
 pub fn untouched_lines_stay()
-    ensures { (before after : Database) (edit : Edit) (line : List ℕ) → edited before edit ≡ Ok after → line_touched (edit_numbers before edit) line ≡ false → decoded_line after line ≡ decoded_line before line }
+    ensures { (short : Short) (before after : Database) (edit : Edit) (line : List ℕ) → edited before edit ≡ Ok after → line_touched (edit_numbers before edit) line ≡ false → decoded_line short after line ≡ decoded_line short before line }
 {}

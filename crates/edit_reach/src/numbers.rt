@@ -62,6 +62,7 @@ pub fn edit_numbers(database: &Database, edit: &Edit) -> Numbers
         Edit::AddSignal(place, _, _) => number_at(database, *place),
         Edit::RemoveSignal(place, _) => number_at(database, *place),
         Edit::ChangeSignal(place, _) => number_at(database, *place),
+        Edit::RenameSignal(place, _, _) => number_at(database, *place),
         Edit::SetMux(row) => one(row.number),
         Edit::SetValues(row) => one(row.number),
         Edit::DropMux(number, _) => one(*number),

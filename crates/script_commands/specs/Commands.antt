@@ -94,6 +94,11 @@ with_number sense text = by_pair sense (number_and_rest text)
 abbrev pub by_name : (List ℕ → Edit) → List ℕ → Sense
 by_name edit text = Plain (if is_name text then Some (Change (edit text)) else None)
 
+-- by an old name and a new one, which is all that is left
+abbrev pub by_names : (List ℕ → List ℕ → Edit) → List ℕ → Option (List ℕ) → Sense
+by_names edit old None = Plain None
+by_names edit old (Some new) = Plain (if is_name old && is_name new then Some (Change (edit old new)) else None)
+
 -- by a number, which is all that is left
 abbrev pub by_number : (ℕ → Edit) → List ℕ → Sense
 by_number edit text = Plain (option_map (λ number. Change (edit number)) (number_of text))
@@ -137,6 +142,7 @@ edit_sense verbs.Renumber text = with_number (λ place number. by_number (λ n. 
 edit_sense verbs.AddSignal text = with_number (λ place words. with_number (λ at statement. by_statement verbs.AddSignal place at statement) words) text
 edit_sense verbs.RemoveSignal text = with_number (λ place name. by_name (λ n. edits.RemoveSignal place n) name) text
 edit_sense verbs.ChangeSignal text = with_number (λ place statement. by_statement verbs.ChangeSignal place 0 statement) text
+edit_sense verbs.RenameSignal text = with_number (λ place names. by_names (λ old new. edits.RenameSignal place old new) (word_of names) (rest_of names)) text
 edit_sense verbs.SetMux text = by_statement verbs.SetMux 0 0 text
 edit_sense verbs.SetValues text = by_statement verbs.SetValues 0 0 text
 edit_sense verbs.SetTable text = by_statement verbs.SetTable 0 0 text

@@ -38,6 +38,7 @@ verb_word verbs.Renumber = codes "renumber"
 verb_word verbs.AddSignal = codes "add-signal"
 verb_word verbs.RemoveSignal = codes "remove-signal"
 verb_word verbs.ChangeSignal = codes "change-signal"
+verb_word verbs.RenameSignal = codes "rename-signal"
 verb_word verbs.SetMux = codes "set-mux"
 verb_word verbs.SetValues = codes "set-values"
 verb_word verbs.SetTable = codes "set-table"
@@ -52,8 +53,8 @@ verb_word verbs.Print = codes "print"
 abbrev pub all_verbs : List Verb
 all_verbs =
     verbs.Log ∷ verbs.AddMessage ∷ verbs.RemoveMessage ∷ verbs.ChangeMessage ∷ verbs.Renumber ∷ verbs.AddSignal ∷ verbs.RemoveSignal ∷ verbs.ChangeSignal
-    ∷ verbs.SetMux ∷ verbs.SetValues ∷ verbs.SetTable ∷ verbs.SetAttribute ∷ verbs.DropMux ∷ verbs.DropValues ∷ verbs.DropTable ∷ verbs.DropAttribute
-    ∷ verbs.Show ∷ verbs.Print ∷ []
+    ∷ verbs.RenameSignal ∷ verbs.SetMux ∷ verbs.SetValues ∷ verbs.SetTable ∷ verbs.SetAttribute ∷ verbs.DropMux ∷ verbs.DropValues ∷ verbs.DropTable
+    ∷ verbs.DropAttribute ∷ verbs.Show ∷ verbs.Print ∷ []
 
 -- the verb that a word is
 unfoldable pub verb_of : List ℕ → Option Verb

@@ -153,6 +153,25 @@ fn remove_signal(alloc: Global, text: &[u8]) -> Result<Option<Edit>, Memory>
     }
 }
 
+// A signal takes another name: the place of its message, its name and the new one.
+fn rename_signal(alloc: Global, text: &[u8]) -> Result<Option<Edit>, Memory>
+    ensures { IfOk result (λ edit. HasSense (edit_sense verbs.RenameSignal text.now) (changes edit)) }
+{
+    let Some((place, names)) = number_and_rest(text) else {
+        return Ok(None);
+    };
+    let Some(new) = rest_of(names) else {
+        return Ok(None);
+    };
+    let Some(old) = Name::new(alloc, word_of(names))? else {
+        return Ok(None);
+    };
+    match Name::new(alloc, new)? {
+        Some(new) => Ok(Some(Edit::RenameSignal(place as usize, old, new))),
+        None => Ok(None),
+    }
+}
+
 // Multiplexer rows are dropped: a number and a name.
 fn drop_mux(alloc: Global, text: &[u8]) -> Result<Option<Edit>, Memory>
     ensures { IfOk result (λ edit. HasSense (edit_sense verbs.DropMux text.now) (changes edit)) }
@@ -238,6 +257,7 @@ pub(crate) fn edit_of(alloc: Global, verb: Verb, text: &[u8]) -> Result<Option<E
         Verb::ChangeMessage => change_message(alloc, text),
         Verb::Renumber => Ok(renumber(text)),
         Verb::RemoveSignal => remove_signal(alloc, text),
+        Verb::RenameSignal => rename_signal(alloc, text),
         Verb::DropMux => drop_mux(alloc, text),
         Verb::DropValues => drop_values(alloc, text),
         Verb::DropTable => drop_table(alloc, text),

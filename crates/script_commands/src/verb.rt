@@ -23,6 +23,8 @@ pub enum Verb {
     RemoveSignal,
     /// A signal of a message is changed.
     ChangeSignal,
+    /// A signal of a message takes another name.
+    RenameSignal,
     /// A multiplexer row is set.
     SetMux,
     /// A row of named values is set.
@@ -45,7 +47,7 @@ pub enum Verb {
     Print,
 }
 
-const ALL: [Verb; 18] = [
+const ALL: [Verb; 19] = [
     Verb::Log,
     Verb::AddMessage,
     Verb::RemoveMessage,
@@ -54,6 +56,7 @@ const ALL: [Verb; 18] = [
     Verb::AddSignal,
     Verb::RemoveSignal,
     Verb::ChangeSignal,
+    Verb::RenameSignal,
     Verb::SetMux,
     Verb::SetValues,
     Verb::SetTable,
@@ -80,6 +83,7 @@ impl Verb {
             Verb::AddSignal => b"add-signal",
             Verb::RemoveSignal => b"remove-signal",
             Verb::ChangeSignal => b"change-signal",
+            Verb::RenameSignal => b"rename-signal",
             Verb::SetMux => b"set-mux",
             Verb::SetValues => b"set-values",
             Verb::SetTable => b"set-table",

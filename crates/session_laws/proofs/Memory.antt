@@ -7,7 +7,7 @@ use Rattle.dbc_edits.specs.declared.edit.Edit.{Edit}
 use Rattle.dbc_edits.specs.declared.edit.Edit.TheVariants as edits
 use Rattle.dbc_edits.specs.declared.refusal.Refusal.{Refusal}
 use Rattle.dbc_edits.specs.declared.refusal.Refusal.TheVariants as refusals
-use Rattle.dbc_edits.specs.Edits.{edited, at_message, refused_if, message_added, message_removed, message_changed, message_renumbered, signal_added, signal_removed, signal_changed, mux_set, values_set, mux_dropped, values_dropped, table_set, table_dropped, attribute_set, attribute_dropped}
+use Rattle.dbc_edits.specs.Edits.{edited, at_message, refused_if, message_added, message_removed, message_changed, message_renumbered, signal_added, signal_removed, signal_changed, signal_renamed, mux_set, values_set, mux_dropped, values_dropped, table_set, table_dropped, attribute_set, attribute_dropped}
 use Rattle.can_session.specs.States.{State, most_lines, longest_line, with_line}
 use Rattle.session_laws.specs.Runs.{Change, Retain, with_database, with_lines, unless_stopped, answer_of, OnlyStopped}
 
@@ -27,7 +27,7 @@ refused false refusal otherwise cause h = h
 
 -- an edit that a message's place, a test or two come before
 edited-has-cause : (database : Database) (edit : Edit) → HasCause (edited database edit)
-unfolding message_added message_removed message_changed message_renumbered signal_added signal_removed signal_changed mux_set values_set mux_dropped values_dropped table_set table_dropped attribute_set attribute_dropped
+unfolding message_added message_removed message_changed message_renumbered signal_added signal_removed signal_changed signal_renamed mux_set values_set mux_dropped values_dropped table_set table_dropped attribute_set attribute_dropped
 edited-has-cause database (edits.AddMessage place head) = refused _ refusals.BadPlace _ (λ is. cc) (refused _ refusals.MessagesFull _ (λ is. cc) tt)
 edited-has-cause database (edits.RemoveMessage place) = at-message _ _ (λ message. tt)
 edited-has-cause database (edits.ChangeMessage place change) = at-message _ _ (λ message. tt)
@@ -36,6 +36,9 @@ edited-has-cause database (edits.AddSignal place at signal) =
     at-message _ _ (λ message. refused _ refusals.BadPlace _ (λ is. cc) (refused _ refusals.SignalExists _ (λ is. cc) (refused _ refusals.SignalsFull _ (λ is. cc) tt)))
 edited-has-cause database (edits.RemoveSignal place name) = at-message _ _ (λ message. refused _ refusals.NoSignal _ (λ is. cc) tt)
 edited-has-cause database (edits.ChangeSignal place signal) = at-message _ _ (λ message. refused _ refusals.NoSignal _ (λ is. cc) tt)
+edited-has-cause database (edits.RenameSignal place old new) =
+    at-message _ _ (λ message. refused _ refusals.NoSignal _ (λ is. cc) (refused _ refusals.SignalExists _ (λ is. cc)
+    (refused _ refusals.NameTaken _ (λ is. cc) (refused _ refusals.NameShared _ (λ is. cc) tt))))
 edited-has-cause database (edits.SetMux row) = refused _ refusals.NoMessage _ (λ is. cc) (refused _ refusals.NoSignal _ (λ is. cc) tt)
 edited-has-cause database (edits.SetValues row) = refused _ refusals.NoMessage _ (λ is. cc) (refused _ refusals.NoSignal _ (λ is. cc) tt)
 edited-has-cause database (edits.DropMux number signal) = refused _ refusals.NoRow _ (λ is. cc) tt

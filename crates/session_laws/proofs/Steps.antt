@@ -21,16 +21,16 @@ module _ (command : Command) (before after : State) (reply : Answer) where
 
 -- what is defined as a variable
 database_so : (defined : Result Database Refusal) (before after : State) (reply : Answer)
-    → MatchResult reply (λ _. (defined ≡ Ok after.database) × (after.lines ≡ before.lines)) (λ refusal. IsRefusal defined refusal × (after ≡ before))
+    → MatchResult reply (λ _. (defined ≡ Ok after.database) × (after.lines ≡ before.lines) × (after.options ≡ before.options)) (λ refusal. IsRefusal defined refusal × (after ≡ before))
     → (is_stopped : Bool) × ((reply ≡ answer_of (unless_stopped is_stopped (with_database before defined))) × (after ≡ result_unwrap_or (unless_stopped is_stopped (with_database before defined)) before))
-database_so defined before after (Ok done) is = (false, (rw is.0 refl, rw is.0 (ap (λ lines. record after { lines = lines }) is.1)))
+database_so defined before after (Ok done) is = (false, (rw is.0 refl, rw is.0 (ap (λ lines. record after { lines = lines }) is.1 ∙ ap (λ options. record after { lines = before.lines; options = options }) is.2)))
 database_so (Ok database) before after (Err refusal) is = (true, (ap Err is.0, is.1))
 database_so (Err cause) before after (Err refusal) is = (false, (ap Err is.0, is.1))
 
 lines_so : (defined : Result (List (List ℕ)) Refusal) (before after : State) (reply : Answer)
-    → MatchResult reply (λ _. (defined ≡ Ok after.lines) × (after.database ≡ before.database)) (λ refusal. IsRefusal defined refusal × (after ≡ before))
+    → MatchResult reply (λ _. (defined ≡ Ok after.lines) × (after.database ≡ before.database) × (after.options ≡ before.options)) (λ refusal. IsRefusal defined refusal × (after ≡ before))
     → (is_stopped : Bool) × ((reply ≡ answer_of (unless_stopped is_stopped (with_lines before defined))) × (after ≡ result_unwrap_or (unless_stopped is_stopped (with_lines before defined)) before))
-lines_so defined before after (Ok done) is = (false, (rw is.0 refl, rw is.0 (ap (λ database. record after { database = database }) is.1)))
+lines_so defined before after (Ok done) is = (false, (rw is.0 refl, rw is.0 (ap (λ database. record after { database = database }) is.1 ∙ ap (λ options. record after { database = before.database; options = options }) is.2)))
 lines_so (Ok lines) before after (Err refusal) is = (true, (ap Err is.0, is.1))
 lines_so (Err cause) before after (Err refusal) is = (false, (ap Err is.0, is.1))
 

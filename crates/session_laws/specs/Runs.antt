@@ -8,6 +8,7 @@ use Rattle.dbc_edits.specs.declared.edit.Edit.{Edit}
 use Rattle.dbc_edits.specs.declared.refusal.Refusal.{Refusal}
 use Rattle.dbc_edits.specs.declared.refusal.Refusal.TheVariants as refusals
 use Rattle.dbc_edits.specs.Edits.{edited}
+use Rattle.can_session.specs.declared.options.Options.{Options}
 use Rattle.can_session.specs.States.{State, with_line}
 use Rattle.session_laws.specs.declared.command.Command.{Command as CodedCommand}
 use Rattle.session_laws.specs.declared.command.Command.TheVariants as coded
@@ -81,9 +82,10 @@ pub record Runs (first : State) (commands : List Command) (replies : List Answer
   pub answered : replies ≡ answers first givens
   pub stands : last ≡ run first givens
 
--- so from a text's database, without lines
-abbrev pub RunsText : List ℕ → List Command → List Answer → State → Type 0
-RunsText text commands replies last = (first : Database) × HasDatabase text first × Runs (record { database = first; lines = [] }) commands replies last
+-- so from a text's database, without lines, with the choices
+abbrev pub RunsText : List ℕ → Options → List Command → List Answer → State → Type 0
+RunsText text options commands replies last =
+    (first : Database) × HasDatabase text first × Runs (record { options = options; database = first; lines = [] }) commands replies last
 
 -- no command is refused for want of memory but one that is stopped
 abbrev pub OnlyStopped : Type 0

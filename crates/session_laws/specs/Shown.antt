@@ -7,6 +7,7 @@ use Rattle.can_diagnostics.specs.declared.diagnostic.Diagnostic.{Diagnostic}
 use Rattle.can_check.specs.AllFaults.{all_faults}
 use Rattle.can_layout.specs.Plans.{Plan, plan_of}
 use Rattle.can_layout.specs.Pictures.{picture_of}
+use Rattle.can_decode.specs.declared.short.Short.{Short}
 use Rattle.can_decode.specs.DecodedLines.{decoded_line}
 use Rattle.can_session.specs.States.{State}
 use Rattle.session_laws.specs.declared.showing.Shown.{Shown as Lent}
@@ -17,13 +18,14 @@ pub record Shown : Type 0 where
   pub pictures : List (List ℕ)
   pub texts : List (List ℕ)
 
--- all that is doubtful in a database, the plan and the picture of each message, and the text of each line, decoded by itself
-abbrev pub shown : Database → List (List ℕ) → Shown
-shown database lines = record {
+-- all that is doubtful in a database, the plan and the picture of each message, and the text of each line, decoded by itself, by what
+-- is chosen for short frames
+abbrev pub shown : Short → Database → List (List ℕ) → Shown
+shown short database lines = record {
   diagnostics = all_faults database;
   plans = map (plan_of database) database.messages;
   pictures = map (picture_of database) database.messages;
-  texts = map (decoded_line database) lines;
+  texts = map (decoded_line short database) lines;
 }
 
 -- what is lent of this
@@ -39,4 +41,4 @@ lent all = record {
 pub record FromScratch (state : State) (all : Shown) : Type 0 where
   pub printed : HasDatabase (canonical_text state.database) state.database
   pub alone : (fresh : Database) → HasDatabase (canonical_text state.database) fresh → fresh ≡ state.database
-  pub shown_anew : (fresh : Database) → HasDatabase (canonical_text state.database) fresh → all ≡ shown fresh state.lines
+  pub shown_anew : (fresh : Database) → HasDatabase (canonical_text state.database) fresh → all ≡ shown state.options.short fresh state.lines

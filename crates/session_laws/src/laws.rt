@@ -7,9 +7,9 @@ use can_session::Session;
 use dbc_read::print_laws::printed_database;
 
 /// The canonical text of a session's database has that database and no other; and whatever database that text has, it and the lines
-/// define the same diagnostics, plans, pictures and decoded lines.
+/// define the same diagnostics, plans, pictures and decoded lines, by what is chosen for short frames.
 pub fn shown_from_scratch(session: &Session)
-    ensures { FromScratch session.now.state (shown session.now.state.database session.now.state.lines) }
+    ensures { FromScratch session.now.state (shown session.now.state.options.short session.now.state.database session.now.state.lines) }
 {
     printed_database();
     // opens the database, so that what its fields keep is known

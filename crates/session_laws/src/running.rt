@@ -6,7 +6,7 @@ ghost use Rattle.session_laws.specs.Shown.{shown, FromScratch};
 
 use crate::command::{Command, perform};
 use crate::laws::shown_from_scratch;
-use can_session::{Refusal, Session};
+use can_session::{Options, Refusal, Session};
 use dbc_tokens::{Cause, ReadFault};
 use dbc_values::Memory;
 use std::alloc::Global;
@@ -35,18 +35,19 @@ const NO_MEMORY: ReadFault = ReadFault {
     cause: Cause::Memory,
 };
 
-/// Opens a session on a text, does the commands in it, and answers it with what is answered to each. Where the text has no database,
+/// Opens a session on a text with these choices, does the commands in it, and answers it with what is answered to each. Where the text has no database,
 /// its first fault is answered; that memory ran out for the database or for the answers is a fault of line 0.
 pub fn run_all(
     alloc: Global,
     text: &[u8],
+    options: Options,
     commands: &[Command],
 ) -> Result<(Session, Answers), ReadFault>
-    ensures stands { IfOk result (λ ran. RunsText text.now (map command_of commands.now) ran.1.items ran.0.state) }
-    ensures shows { IfOk result (λ ran. FromScratch ran.0.state (shown ran.0.state.database ran.0.state.lines)) }
+    ensures stands { IfOk result (λ ran. RunsText text.now options (map command_of commands.now) ran.1.items ran.0.state) }
+    ensures shows { IfOk result (λ ran. FromScratch ran.0.state (shown ran.0.state.options.short ran.0.state.database ran.0.state.lines)) }
     ensures fault { IfErr result (λ fault. IsRead text.now (Err fault)) }
 {
-    let mut session = Session::open(alloc, text)?;
+    let mut session = Session::open_with(alloc, text, options)?;
     let Ok(answers) = do_all(alloc, &mut session, commands) else {
         return Err(NO_MEMORY);
     };

@@ -39,7 +39,7 @@ fn of_messages(alloc: Global, session: &Session) -> Result<(Vec<&Plan>, Vec<&[u8
 
 // The decoded texts of the lines.
 fn texts(alloc: Global, session: &Session) -> Result<Vec<&[u8]>, Memory>
-    ensures { IfOk result (λ texts. map (λ text. text.now) texts.items ≡ map (decoded_line session.now.state.database) session.now.state.lines) }
+    ensures { IfOk result (λ texts. map (λ text. text.now) texts.items ≡ map (decoded_line session.now.state.options.short session.now.state.database) session.now.state.lines) }
 {
     let mut texts = Vec::new(alloc);
     for n in 0..session.line_count() {

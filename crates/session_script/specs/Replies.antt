@@ -42,7 +42,7 @@ layout_text database place = option_map_or (λ message. picture_of database mess
 
 -- the decoded text of each line
 abbrev pub decoded_texts : State → List (List ℕ)
-decoded_texts state = map (decoded_line state.database) state.lines
+decoded_texts state = map (decoded_line state.options.short state.database) state.lines
 
 -- each of them on a line, and `ok`
 unfoldable pub lines_text : State → List ℕ

@@ -3,6 +3,7 @@ use Rattle.std.specs.Prelude.{◌≡◌, ℕ, List, [], Result, Ok, Err}
 use Rattle.byte_devices.specs.Device.{Unread, Written}
 use Rattle.dbc_reader.specs.Texts.{HasDatabase, IsRead}
 use Rattle.line_stream.specs.declared.fault.StreamFault.{StreamFault}
+use Rattle.can_session.specs.declared.options.Options.{Options}
 use Rattle.can_session.specs.States.{State}
 use Rattle.session_script.specs.declared.fault.SessionFault.{SessionFault}
 use Rattle.session_script.specs.declared.fault.SessionFault.TheVariants as faults
@@ -14,13 +15,13 @@ ServesSession first last unread left old new (Ok count) = Serves first old unrea
 ServesSession first last unread left old new (Err (faults.Stream fault)) = Serves first old unread left last new (Err fault)
 ServesSession first last unread left old new (Err (faults.Read fault)) = ⊥
 
--- the script was run from the text's database without lines
-abbrev pub ServesText : List ℕ → Unread → Unread → Written → Written → Result ℕ StreamFault → Type 0
-ServesText text unread left old new result =
-    (first last : State) × HasDatabase text first.database × (first.lines ≡ []) × Serves first old unread left last new result
+-- the script was run from the text's database without lines, with the choices
+abbrev pub ServesText : List ℕ → Options → Unread → Unread → Written → Written → Result ℕ StreamFault → Type 0
+ServesText text options unread left old new result =
+    (first last : State) × HasDatabase text first.database × (first.lines ≡ []) × (first.options ≡ options) × Serves first old unread left last new result
 
 -- Or nothing was read and nothing was written, and the fault is the first of the text, or memory ran out.
-abbrev pub RunsScript : List ℕ → Unread → Unread → Written → Written → Result ℕ SessionFault → Type 0
-RunsScript text unread left old new (Ok count) = ServesText text unread left old new (Ok count)
-RunsScript text unread left old new (Err (faults.Stream fault)) = ServesText text unread left old new (Err fault)
-RunsScript text unread left old new (Err (faults.Read fault)) = (left ≡ unread) × (new ≡ old) × IsRead text (Err fault)
+abbrev pub RunsScript : List ℕ → Options → Unread → Unread → Written → Written → Result ℕ SessionFault → Type 0
+RunsScript text options unread left old new (Ok count) = ServesText text options unread left old new (Ok count)
+RunsScript text options unread left old new (Err (faults.Stream fault)) = ServesText text options unread left old new (Err fault)
+RunsScript text options unread left old new (Err (faults.Read fault)) = (left ≡ unread) × (new ≡ old) × IsRead text (Err fault)

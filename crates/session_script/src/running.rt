@@ -4,7 +4,7 @@ ghost use Rattle.session_script.specs.Running.{RunsScript, ServesSession};
 use crate::fault::SessionFault;
 use crate::serving::serve;
 use byte_devices::{Sink, Source};
-use can_session::Session;
+use can_session::{Options, Session};
 use std::alloc::Global;
 
 // Runs the script in a session.
@@ -22,17 +22,18 @@ fn run_in<R: Source, W: Sink>(
     }
 }
 
-/// Reads the database text, opens a session on it, and runs the script to its end. It answers how many commands there are, up to
+/// Reads the database text, opens a session on it with these choices, and runs the script to its end. It answers how many commands there are, up to
 /// `u64::MAX`.
 pub fn session_run<R: Source, W: Sink>(
     alloc: Global,
     text: &[u8],
+    options: Options,
     source: &mut R,
     sink: &mut W,
 ) -> Result<u64, SessionFault>
-    ensures { RunsScript text.now (R.unread source.old) (R.unread source.new) (W.written sink.old) (W.written sink.new) result }
+    ensures { RunsScript text.now options (R.unread source.old) (R.unread source.new) (W.written sink.old) (W.written sink.new) result }
 {
-    match Session::open(alloc, text) {
+    match Session::open_with(alloc, text, options) {
         Ok(mut session) => run_in(alloc, &mut session, source, sink),
         Err(fault) => Err(SessionFault::Read(fault)),
     }

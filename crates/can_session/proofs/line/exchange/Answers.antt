@@ -22,9 +22,9 @@ loop-place-preserved c =
       bytes = map-set_same bytes_of lines fresh.place line line same ∙ c.loop-place.invariant.bytes;
       numbered = λ all. let before = c.loop-place.invariant.numbered all in numbered_still lines fresh.place line place (before fresh.place found place) before;
       within = rw length-set (all_but_last (λ (text : Fresh). text.place < length lines) rest fresh within);
-      completes = λ database completes. one_given database lines line rest fresh same refl (rw split at (c.loop-place.invariant.completes database completes));
+      completes = λ bus completes. one_given bus lines line rest fresh same refl (rw split at (c.loop-place.invariant.completes bus completes));
     }
 
 pub returns-clause-decoded : goal.returns-clause-decoded
-returns-clause-decoded c = λ database completes.
-    all_given database c.loop-place.lines c.loop-place.fresh.items (omega (arith, c.in_default.ensures.cases)) (c.loop-place.invariant.completes database completes)
+returns-clause-decoded c = λ bus completes.
+    all_given bus c.loop-place.lines c.loop-place.fresh.items (omega (arith, c.in_default.ensures.cases)) (c.loop-place.invariant.completes bus completes)

@@ -1,6 +1,6 @@
 use Rattle.std.proofs.Common.{◌≡◌, ◌<◌, length}
 use Rattle.std.specs.Prelude.{map, All}
-use Rattle.dbc_records.specs.Databases.{Database}
+use Rattle.can_decode.specs.DecodedLines.{Bus}
 use Rattle.can_session.specs.declared.line.Fresh.{Fresh}
 use Rattle.can_session.specs.Logs.{bytes_of, IsNumbered, Completes}
 use Rattle.can_session.proofs.line.exchange.Given as goal
@@ -11,7 +11,7 @@ invariant-loop-place l = record {
   bytes : map bytes_of l.lines ≡ map bytes_of l.initial.lines;
   numbered : All IsNumbered l.initial.lines → All IsNumbered l.lines;
   within : All {X = Fresh} (λ text. text.place < length l.lines) l.fresh.items;
-  completes : (database : Database) → Completes database l.initial.lines l.initial.fresh.items → Completes database l.lines l.fresh.items;
+  completes : (bus : Bus) → Completes bus l.initial.lines l.initial.fresh.items → Completes bus l.lines l.fresh.items;
 }
 
 abbrev pub decreases-loop-place : goal.decreases-loop-place

@@ -9,3 +9,7 @@ pub returns-clause-meter : goal.returns-clause-meter
 returns-clause-meter c =
     let accepted = c.in_ok-accepted.ensures in
     rw (← c.self.view_is) (rw accepted.done (rw (accepted.before, accepted.edit) at c.made_after.ensures.made))
+
+pub invariant_of-self-2 : goal.invariant_of-self-2
+invariant_of-self-2 c =
+    c.exchange.ensures.decoded (record { database = c.in_ok-shown.shown; short = c.self.inside.options.short }) (rw c.in_ok-shown.ensures.shown c.in_ok-shown.ensures.fresh)

@@ -1,0 +1,68 @@
+//! Lines that are decoded by what is shown of a database.
+ghost use Rattle.std.specs.Prelude.{◌≡◌, IfOk};
+ghost use Rattle.can_layout.specs.Meters.{with_line};
+ghost use Rattle.can_decode.specs.DecodedLines.{bus_line};
+ghost use Rattle.can_session.specs.Compiled.{Raised};
+ghost use Rattle.can_session.specs.Logs.{bytes_of, IsNumbered, IsDecoded};
+
+use crate::line::Line;
+use crate::shown::Shown;
+use can_decode::{Bus, ReadLine, Short};
+use can_layout::Meter;
+use dbc_values::Memory;
+use std::alloc::Global;
+use std::marker::Model;
+
+/// A bus whose lines are decoded by what is shown of its database.
+#[derive(Drop)]
+pub(crate) struct ShownBus<'a> {
+    /// What is shown of the database.
+    pub shown: &'a Shown,
+    /// What is said of frames that are shorter than their message.
+    pub short: Short,
+}
+
+impl<'a> Model for ShownBus<'a> {
+    ghost use Rattle.can_decode.specs.DecodedLines as lines;
+
+    ghost Value = { lines.Bus };
+
+    ghost view = { λ a. record { database = a.shown.now; short = a.short } };
+}
+
+impl<'a> ShownBus<'a> {
+    /// The decoded text of a line. The meter counts it, also where memory is refused.
+    pub(crate) fn decode(
+        &self,
+        alloc: Global,
+        line: &ReadLine<'_>,
+        meter: &mut Meter,
+    ) -> Result<Vec<u8>, Memory>
+        ensures text { IfOk result (λ text. text.items ≡ bus_line self.now line.now) }
+        ensures counted { meter.new ≡ with_line meter.old }
+    {
+        let bus = Bus {
+            database: self.shown.database(),
+            short: self.short,
+        };
+        bus.decode_frame_at(alloc, self.shown.chosen(line), line, meter)
+    }
+
+    /// A line with its decoded text.
+    pub(crate) fn line(&self, alloc: Global, line: &[u8], meter: &mut Meter) -> Result<Line, Memory>
+        ensures bytes { IfOk result (λ made. bytes_of made ≡ line.now) }
+        ensures numbered { IfOk result (λ made. IsNumbered made) }
+        ensures decoded { IfOk result (λ made. IsDecoded self.now made) }
+        ensures lines { Raised 0 1 meter.old meter.new }
+    {
+        let read = ReadLine::of(line);
+        let number = read.number();
+        let bytes = line.to_vec(alloc)?;
+        let decoded = self.decode(alloc, &read, meter)?;
+        Ok(Line {
+            bytes,
+            number,
+            decoded,
+        })
+    }
+}

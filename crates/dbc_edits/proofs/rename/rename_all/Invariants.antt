@@ -1,0 +1,11 @@
+use Rattle.std.proofs.Common.{◌≡◌}
+use Rattle.std.specs.Prelude.{All}
+use Rattle.dbc_edits.proofs.Changing.{first_changed}
+use Rattle.dbc_edits.proofs.rename.rename_all.Given as goal
+
+-- the items so far are changed
+abbrev pub invariant-loop-place : goal.invariant-loop-place
+invariant-loop-place g l = record {
+  items : l.items ≡ first_changed (g.R.Rename.renamed l.change) l.place l.initial.items;
+  valid : All g.T.Checked.IsValid l.items;
+}
