@@ -1,5 +1,5 @@
 -- The places of the lines that several numbers touch, each once.
-use Rattle.std.proofs.Common.{◌≡◌, ◌<◌, ◌+◌, ℕ, Bool, true, false, not, cond, List, [], ◌∷◌, ◌++◌, length, length-append, get_or, refl, sym, ap, ◌∙◌, inl, inr, arith}
+use Rattle.std.proofs.Common.{◌≡◌, ◌<◌, ◌+◌, ℕ, Bool, true, false, not, cond, List, [], ◌∷◌, ◌++◌, length, length-append, get_or, refl, sym, ◌∙◌, inl, inr, arith}
 use Rattle.std.specs.Prelude.{◌==◌, ◌||◌, ◌&&◌, count_by, filter}
 use Rattle.std.specs.List.{list_any}
 use Rattle.std.proofs.lemmas.Bool.{cases_Bool, both_ways, or_left, or_right}
@@ -7,11 +7,10 @@ use Rattle.std.proofs.lemmas.List.Elements.{All-nil, All-append}
 use Rattle.std.proofs.lemmas.List.Folds.{list_any-append}
 use Rattle.std.proofs.lemmas.List.Sums.{sum_by-cons}
 use Rattle.edit_reach.specs.Touched.{line_touched}
-use Rattle.can_session.specs.declared.log_index.LogIndex.{LogIndex}
-use Rattle.can_session.specs.Indexes.{places_of, IsIndexed, is_untouched_at, Covers}
+use Rattle.can_session.specs.Indexes.{is_untouched_at, Covers}
 use Rattle.can_session.specs.Places.{places_from}
 use Rattle.can_session.proofs.Places.{length-places, within-all, found-place, places_of_all}
-use Rattle.can_session.proofs.Reached.{touched_by_none, touched_more, found_by_key}
+use Rattle.can_session.proofs.Reached.{touched_by_none, touched_more}
 
 pub covers_none : (lines : List (List ℕ)) → Covers [] lines []
 covers_none lines = record {
@@ -36,15 +35,14 @@ passes_one : (b : Bool) → b ≡ true → (b && true) ≡ true
 passes_one true t = refl
 passes_one false t = absurd (cc)
 
-pub covers_more : (earlier : List ℕ) (number : ℕ) (lines : List (List ℕ)) (index : LogIndex) (places : List ℕ)
-    → IsIndexed lines index → Covers earlier lines places
-    → Covers (earlier ++ number ∷ []) lines (places ++ filter (is_untouched_at earlier lines) (places_of number index))
-covers_more earlier number lines index places indexed h =
+pub covers_more : (earlier : List ℕ) (number : ℕ) (lines : List (List ℕ)) (places : List ℕ)
+    → Covers earlier lines places
+    → Covers (earlier ++ number ∷ []) lines (places ++ filter (is_untouched_at earlier lines) (places_from (line_touched (number ∷ [])) 0 lines))
+covers_more earlier number lines places h =
     let one : List ℕ → Bool = line_touched (number ∷ []) in
     let before : List ℕ → Bool = line_touched earlier in
     let both : List ℕ → Bool = λ line. one line && not (before line) in
-    let more : filter (is_untouched_at earlier lines) (places_of number index) ≡ places_from both 0 lines =
-    ap (filter (is_untouched_at earlier lines)) (found_by_key lines index number indexed) ∙ places_of_all one (λ line. not (before line)) lines in
+    let more : filter (is_untouched_at earlier lines) (places_from one 0 lines) ≡ places_from both 0 lines = places_of_all one (λ line. not (before line)) lines in
     rw more (record {
       within = All-append (λ place. place < length lines) places (places_from both 0 lines) h.within (within-all both lines);
       touched = λ k d within touched.

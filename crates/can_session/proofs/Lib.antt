@@ -4,5 +4,7 @@ pub mod Chosen
 pub mod Places
 pub mod Reached
 pub mod Covered
+pub mod Serials
 pub mod Indexed
+pub mod Keeping
 pub mod Raising

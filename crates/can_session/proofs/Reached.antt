@@ -1,7 +1,6 @@
 -- Which lines numbers touch, by the numbers of the lines' data frames.
-use Rattle.std.proofs.Common.{◌≡◌, ℕ, Bool, true, false, not, List, [], ◌∷◌, ◌++◌, refl, sym, ap, ◌∙◌, inl, inr}
+use Rattle.std.proofs.Common.{◌≡◌, ℕ, Bool, true, false, not, List, [], ◌∷◌, ◌++◌, map, refl, sym, ap, ◌∙◌, inl, inr}
 use Rattle.std.specs.Prelude.{◌==◌, ◌||◌, ◌&&◌, Option, Some, None, option_and_then, if◌then◌else◌}
-use Rattle.std.specs.List.{list_any}
 use Rattle.std.specs.Option.{option_map_or}
 use Rattle.std.proofs.lemmas.Bool.{cases_Bool, eqb-true, eq-eqb, and_parts}
 use Rattle.std.proofs.lemmas.List.Folds.{list_any-append}
@@ -12,8 +11,8 @@ use Rattle.can_session.specs.declared.log_index.LogIndex.{LogIndex}
 use Rattle.can_decode.specs.Choices.{number_of_data, data_number}
 use Rattle.can_session.specs.declared.line.Line.{Line}
 use Rattle.can_session.specs.Logs.{bytes_of, IsNumbered}
-use Rattle.can_session.specs.Indexes.{has_number, has_group, places_of, IsIndexed}
-use Rattle.can_session.specs.Places.{places_from}
+use Rattle.can_session.specs.Indexes.{has_number, has_group, serials_of, IsIndexed}
+use Rattle.can_session.specs.Places.{places_from, place_from}
 use Rattle.can_session.proofs.Places.{places_same}
 
 by_frame : (numbers : List ℕ) (frame : Option Frame) → option_map_or (is_touched numbers) frame false ≡ number_touched numbers (option_and_then number_of_data frame)
@@ -89,8 +88,9 @@ pub touched_by_key : (number : ℕ) (line : List ℕ) → line_touched (number �
 touched_by_key number line = touched_by (number ∷ []) line ∙ by_key number (data_number line)
 
 -- the places under the key are those of the lines that the number touches
-pub found_by_key : (lines : List (List ℕ)) (index : LogIndex) (number : ℕ) → IsIndexed lines index → places_of number index ≡ places_from (line_touched (number ∷ [])) 0 lines
-found_by_key lines index number h =
+pub found_by_key : (first : ℕ) (lines : List (List ℕ)) (index : LogIndex) (number : ℕ) → IsIndexed first lines index
+    → map (place_from first) (serials_of number index) ≡ places_from (line_touched (number ∷ [])) 0 lines
+found_by_key first lines index number h =
     elim (cases_Bool (may_have_group number)) [
       | inl t ↦ rw t (h.by_group (group_number_of number) ∙ places_same (has_group (group_number_of number)) (line_touched (number ∷ [])) (λ line. sym (touched_by_key number line ∙ rw t refl)) 0 lines)
       | inr f ↦ rw f (h.by_number number ∙ places_same (has_number number) (line_touched (number ∷ [])) (λ line. sym (touched_by_key number line ∙ rw f refl)) 0 lines)

@@ -1,6 +1,7 @@
 pub use Rattle.dbc_edits.specs.Edits
 pub use Rattle.dbc_edits.specs.Refusals
 pub use Rattle.edit_reach.specs.Touched
+pub mod Counts
 pub mod States
 pub mod Compiled
 pub mod Shown

@@ -1,5 +1,5 @@
 -- What a session is to its callers, and one step of it.
-use Rattle.std.specs.Prelude.{◌≡◌, ℕ, nat_le, nat_lt, List, [], ◌∷◌, ◌++◌, length, count_by, Result, Ok, Err, MatchResult, if◌then◌else◌}
+use Rattle.std.specs.Prelude.{◌≡◌, ℕ, ◌-◌, nat_le, nat_lt, Bool, false, List, [], ◌∷◌, ◌++◌, length, drop, count_by, Result, Ok, Err, MatchResult, if◌then◌else◌}
 use Rattle.dbc_records.specs.Databases.{Database}
 use Rattle.dbc_tokens.specs.declared.fault.ReadFault.{ReadFault}
 use Rattle.dbc_reader.specs.Texts.{HasDatabase, IsRead}
@@ -12,6 +12,9 @@ use Rattle.dbc_edits.specs.Edits.{edited}
 use Rattle.edit_reach.specs.Touched.{line_touched}
 use Rattle.can_decode.specs.declared.short.Short.TheVariants.{Refuse}
 use Rattle.can_session.specs.declared.options.Options.{Options}
+use Rattle.can_session.specs.declared.keep.Keep.{Keep}
+use Rattle.can_session.specs.declared.keep.Keep.TheVariants.{All, Last}
+use Rattle.can_session.specs.Counts.{most_lines}
 use Rattle.can_session.specs.Compiled.{count_here, Raised, nothing_made}
 
 -- what is chosen as the session is opened, and what commands change: the database, and the retained lines in order of arrival
@@ -20,9 +23,9 @@ pub record State : Type 0 where
   pub database : Database
   pub lines : List (List ℕ)
 
--- the choices where nothing else is said: frames that are shorter than their message are refused
+-- the choices where nothing else is said: frames that are shorter than their message are refused, and all lines are retained
 abbrev pub usual : Options
-usual = record { short = Refuse }
+usual = record { short = Refuse; keep = All }
 
 -- what contracts see of a session
 pub record Open : Type 0 where
@@ -59,24 +62,35 @@ RaisedBy defined numbers lines before after =
 
 -- ---- lines
 
--- the most lines that are retained
-abbrev pub most_lines : ℕ
-most_lines = 1048576
-
 -- the most bytes of one
 abbrev pub longest_line : ℕ
 longest_line = 4096
 
+-- so many are retained at most
+abbrev pub most_kept : Keep → ℕ
+most_kept All = most_lines
+most_kept (Last count) = count
+
+-- what is retained of lines: all of them, or the last so many
+abbrev pub kept : {X : Type 0} → Keep → List X → List X
+kept All lines = lines
+kept (Last count) lines = drop (length lines - count) lines
+
+-- whether there is no room for a line more behind so many; where the oldest goes for it there always is
+abbrev pub is_full : Keep → ℕ → Bool
+is_full All lines = nat_le most_lines lines
+is_full (Last count) lines = false
+
 -- the retained lines with one more, or why it is refused
-abbrev pub with_line : List (List ℕ) → List ℕ → Result (List (List ℕ)) Refusal
-with_line lines line =
-    if nat_le most_lines (length lines) then Err refusals.LogFull
+abbrev pub with_line : Keep → List (List ℕ) → List ℕ → Result (List (List ℕ)) Refusal
+with_line keep lines line =
+    if is_full keep (length lines) then Err refusals.LogFull
     else (if nat_lt longest_line (length line) then Err refusals.LongLine
-    else Ok (lines ++ line ∷ []))
+    else Ok (kept keep (lines ++ line ∷ [])))
 
 -- so for a line
 abbrev pub Adds : List ℕ → State → Result (Unit {0}) Refusal → State → Type 0
 Adds line before answer after =
     MatchResult answer
-    (λ _. (with_line before.lines line ≡ Ok after.lines) × (after.database ≡ before.database) × (after.options ≡ before.options))
-    (λ refusal. IsRefusal (with_line before.lines line) refusal × (after ≡ before))
+    (λ _. (with_line before.options.keep before.lines line ≡ Ok after.lines) × (after.database ≡ before.database) × (after.options ≡ before.options))
+    (λ refusal. IsRefusal (with_line before.options.keep before.lines line) refusal × (after ≡ before))

@@ -7,7 +7,8 @@
 
 mod accepted;
 mod compiled;
-mod keyed_places;
+mod keep;
+mod keyed_serials;
 mod line;
 mod log;
 mod log_index;
@@ -22,5 +23,6 @@ pub use can_check::Diagnostic;
 pub use can_decode::Short;
 pub use can_layout::{Meter, Plan};
 pub use dbc_edits::{Change, Edit, Refusal};
+pub use keep::{Keep, LineCount};
 pub use options::Options;
 pub use session::Session;

@@ -3,6 +3,8 @@ ghost use Rattle.std.specs.Prelude.{◌≡◌, ◌<◌, All, map, length};
 ghost use Rattle.can_decode.specs.DecodedLines.{Bus};
 ghost use Rattle.can_session.specs.Logs.{bytes_of, IsNumbered, IsDecoded, Completes};
 
+use std::collections::VecDeque;
+
 /// A retained line and its decoded text.
 #[derive(Drop)]
 pub(crate) struct Line {
@@ -24,11 +26,11 @@ pub(crate) struct Fresh {
 }
 
 /// Gives each text to the line at its place. It takes no memory.
-pub(crate) fn exchange(lines: &mut [Line], mut fresh: Vec<Fresh>)
-    requires { All (λ text. text.place < length lines.old) fresh.items }
-    ensures lines { map bytes_of lines.new ≡ map bytes_of lines.old }
-    ensures numbered { All IsNumbered lines.old → All IsNumbered lines.new }
-    ensures decoded { (bus : Bus) → Completes bus lines.old fresh.items → All (IsDecoded bus) lines.new }
+pub(crate) fn exchange(lines: &mut VecDeque<Line>, mut fresh: Vec<Fresh>)
+    requires { All (λ text. text.place < length lines.old.items) fresh.items }
+    ensures lines { map bytes_of lines.new.items ≡ map bytes_of lines.old.items }
+    ensures numbered { All IsNumbered lines.old.items → All IsNumbered lines.new.items }
+    ensures decoded { (bus : Bus) → Completes bus lines.old.items fresh.items → All (IsDecoded bus) lines.new.items }
 {
     while let Some(Fresh { place, text }) = fresh.pop() {
         lines[place].decoded = text;

@@ -1,24 +1,27 @@
 //! The retained log.
-ghost use Rattle.std.specs.Prelude.{◌≡◌, ◌<◌, [], ◌∷◌, ◌++◌, IfOk, OnOk, OnErr, All, filter, length, map, nat_le};
+ghost use Rattle.std.specs.Prelude.{◌≡◌, ◌<◌, ◌+◌, ◌%◌, ◌^◌, [], ◌∷◌, ◌++◌, IfOk, OnOk, OnErr, All, Some, drop, filter, length, map, slice_get};
 ghost use Rattle.can_decode.specs.DecodedLines.{Bus};
+ghost use Rattle.edit_reach.specs.Touched.{line_touched};
 ghost use Rattle.can_session.specs.Logs.{bytes_of, IsNumbered, IsDecoded, Completes};
+ghost use Rattle.can_session.specs.Places.{places_from};
 ghost use Rattle.can_session.specs.Indexes.{is_untouched_at, Covers};
-ghost use Rattle.can_session.specs.States.{most_lines};
+ghost use Rattle.can_session.specs.Sessions.{IsLog};
 
 use crate::line::{Fresh, Line, exchange};
-use crate::log_index::{LogIndex, retain};
+use crate::log_index::LogIndex;
 use dbc_values::Memory;
 use edit_reach::number_touched;
 use std::alloc::Global;
+use std::collections::VecDeque;
 use std::marker::Model;
 
-// The most lines that are retained.
-const MOST_LINES: usize = 1_048_576;
-
-/// The retained lines in order of arrival, each with the number of its frame, and the index of them. Contracts see the lines.
+/// The retained lines in order of arrival, each with the number of its frame, and the index of them by their serial numbers, which
+/// stay while older lines go. Contracts see the lines.
 #[derive(Drop)]
 pub(crate) struct Log {
-    lines: Vec<Line>,
+    // the serial number of the first line
+    first: usize,
+    lines: VecDeque<Line>,
     index: LogIndex,
 }
 
@@ -31,7 +34,45 @@ impl Model for Log {
 
     ghost view = { λ a. a.lines.items };
 
-    ghost invariant = { λ a. IsLog a.lines.items a.index };
+    ghost invariant = { λ a. IsLog a.first a.lines.items a.index };
+}
+
+// Retains a line, behind the others and in the index. Where memory is refused, the lines are as they were.
+fn retain(
+    alloc: Global,
+    first: usize,
+    lines: &mut VecDeque<Line>,
+    index: &mut LogIndex,
+    line: Line,
+) -> Result<(), Memory>
+    requires log { IsLog first lines.old.items index.old }
+    requires numbered { IsNumbered line }
+    ensures ok { OnOk result (lines.new.items ≡ lines.old.items ++ line ∷ []) }
+    ensures err { OnErr result (lines.new.items ≡ lines.old.items) }
+    ensures log { IsLog first lines.new.items index.new }
+{
+    lines.reserve(1)?;
+    if let Some(number) = line.number {
+        let serial = first.wrapping_add(lines.len());
+        index.add(alloc, number, serial)?;
+    }
+    lines.push_back_reserved(line);
+    Ok(())
+}
+
+// Lets the first line go, out of the lines and of the index, and answers the serial number of the next.
+fn drop_first(first: usize, lines: &mut VecDeque<Line>, index: &mut LogIndex) -> usize
+    requires { IsLog first lines.old.items index.old }
+    ensures lines { lines.new.items ≡ drop 1 lines.old.items }
+    ensures log { IsLog result lines.new.items index.new }
+{
+    let Some(line) = lines.pop_front() else {
+        return first;
+    };
+    if let Some(number) = line.number {
+        index.drop_first(number);
+    }
+    first.wrapping_add(1)
 }
 
 impl Log {
@@ -40,44 +81,62 @@ impl Log {
         ensures { result ≡ [] }
     {
         Log {
-            lines: Vec::new(alloc),
+            first: 0,
+            lines: VecDeque::new(alloc),
             index: LogIndex::new(alloc),
         }
     }
 
-    /// The lines.
-    pub(crate) fn lines(&self) -> &[Line]
-        ensures lines { result.now ≡ self.now }
-        ensures numbered { All IsNumbered result.now }
+    /// How many lines there are.
+    pub(crate) fn len(&self) -> usize
+        ensures { result ≡ length self.now }
     {
-        self.lines.as_slice()
+        self.lines.len()
     }
 
-    /// Whether there is no room for another line.
-    pub(crate) fn is_full(&self) -> bool
-        ensures { result ≡ nat_le most_lines (length self.now) }
+    /// The line at a place.
+    pub(crate) fn line(&self, place: usize) -> &Line
+        requires { place < length self.now }
+        ensures line { Some result.now ≡ slice_get self.now place }
+        ensures numbered { IsNumbered result.now }
     {
-        self.lines.len() >= MOST_LINES
+        &self.lines[place]
     }
 
     /// Retains a line behind the others, and puts it into the index. Where memory is refused, the lines are as they were.
     pub(crate) fn retain(&mut self, alloc: Global, line: Line) -> Result<(), Memory>
-        requires room { length self.old < most_lines }
-        requires numbered { IsNumbered line }
+        requires { IsNumbered line }
         ensures ok { OnOk result (self.new ≡ self.old ++ line ∷ []) }
         ensures err { OnErr result (self.new ≡ self.old) }
     {
-        retain(alloc, &mut self.lines, &mut self.index, line)
+        retain(alloc, self.first, &mut self.lines, &mut self.index, line)
+    }
+
+    /// Lets the first line go.
+    pub(crate) fn drop_first(&mut self)
+        ensures { self.new ≡ drop 1 self.old }
+    {
+        self.first = drop_first(self.first, &mut self.lines, &mut self.index);
+    }
+
+    // The places of the lines that a number touches.
+    fn places_of(&self, alloc: Global, number: u32) -> Result<Vec<usize>, Memory>
+        ensures { IfOk result (λ places. places.items ≡ places_from (line_touched (number ∷ [])) 0 (map bytes_of self.now)) }
+    {
+        match self.index.serials_of(number) {
+            Some(serials) => serials.places(alloc, self.first),
+            None => Ok(Vec::new(alloc)),
+        }
     }
 
     // Whether the line at a place is touched by none of the numbers.
     fn is_untouched_at(&self, numbers: &[u32], place: usize) -> bool
         ensures { result ≡ is_untouched_at numbers.now (map bytes_of self.now) place }
     {
-        let lines = self.lines();
-        match lines.get(place) {
-            Some(line) => !number_touched(numbers, line.number),
-            None => false,
+        if place < self.len() {
+            !number_touched(numbers, self.line(place).number)
+        } else {
+            false
         }
     }
 
@@ -104,8 +163,8 @@ impl Log {
     {
         let mut places = Vec::new(alloc);
         for (at, number) in numbers.iter().enumerate() {
-            let found = self.index.places_of(*number);
-            self.add_places(&mut places, found, &numbers[..at])?;
+            let found = self.places_of(alloc, *number)?;
+            self.add_places(&mut places, found.as_slice(), &numbers[..at])?;
         }
         Ok(places)
     }
@@ -116,6 +175,6 @@ impl Log {
         ensures lines { map bytes_of self.new ≡ map bytes_of self.old }
         ensures decoded { (bus : Bus) → Completes bus self.old fresh.items → All (IsDecoded bus) self.new }
     {
-        exchange(self.lines.as_mut_slice(), fresh);
+        exchange(&mut self.lines, fresh);
     }
 }

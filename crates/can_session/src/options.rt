@@ -2,6 +2,7 @@
 ghost use Rattle.std.specs.Prelude.{◌≡◌};
 ghost use Rattle.can_session.specs.States.{usual};
 
+use crate::keep::Keep;
 use can_decode::Short;
 
 /// What is chosen for a session as it is opened. No command changes it.
@@ -9,6 +10,8 @@ use can_decode::Short;
 pub struct Options {
     /// What is said of frames that are shorter than their message.
     pub short: Short,
+    /// Which lines are retained.
+    pub keep: Keep,
 }
 
 impl Default for Options {
@@ -17,6 +20,7 @@ impl Default for Options {
     {
         Options {
             short: Short::Refuse,
+            keep: Keep::All,
         }
     }
 }

@@ -50,13 +50,13 @@ impl Model for Session {
     ghost use Rattle.std.specs.Prelude.{map};
     ghost use Rattle.can_session.specs.States.{Open};
     ghost use Rattle.can_session.specs.Logs.{bytes_of};
-    ghost use Rattle.can_session.specs.Sessions.{AreDecoded};
+    ghost use Rattle.can_session.specs.Sessions.{IsOpen};
 
     ghost Value = { Open };
 
     ghost view = { λ a. record { state = record { options = a.options; database = a.shown; lines = map bytes_of a.log }; meter = a.meter } };
 
-    ghost invariant = { λ a. AreDecoded (record { database = a.shown; short = a.options.short }) a.log };
+    ghost invariant = { λ a. IsOpen (record { database = a.shown; short = a.options.short }) a.options.keep a.log };
 }
 
 // What is shown after an accepted edit, and the new texts of the lines that it touches.
@@ -109,7 +109,7 @@ impl Session {
         Session::open_with(alloc, text, Options::default())
     }
 
-    /// The same, with choices of its own.
+    /// The same, with the choices that are handed in.
     pub fn open_with(alloc: Global, text: &[u8], options: Options) -> Result<Session, ReadFault>
         ensures { Opens text.now options result }
     {
@@ -137,13 +137,14 @@ impl Session {
         Ok(())
     }
 
-    /// Retains a line, which holds no LF. A refused one changes nothing but the meter: there is room for 1,048,576 lines, of at
-    /// most 4,096 bytes each. Want of memory comes after both.
+    /// Retains a line, which holds no LF, as the session's choice says. A refused one changes nothing but the meter: a line has at
+    /// most 4,096 bytes, and where all lines are retained there is room for 1,048,576. Where the last ones are, the oldest goes for a
+    /// new one, and no log is full. Want of memory comes last.
     pub fn add_line(&mut self, line: &[u8]) -> Result<(), Refusal>
         ensures step { Adds line.now self.old.state result self.new.state }
         ensures meter { Raised 0 1 self.old.meter self.new.meter }
     {
-        if self.log.is_full() {
+        if self.options.keep.is_full(self.log.len()) {
             return Err(Refusal::LogFull);
         }
         if line.len() > LONGEST_LINE {
@@ -155,6 +156,9 @@ impl Session {
         };
         let made = bus.line(self.alloc, line, &mut self.meter)?;
         self.log.retain(self.alloc, made)?;
+        if self.log.len() > self.options.keep.most() {
+            self.log.drop_first();
+        }
         Ok(())
     }
 
@@ -199,7 +203,7 @@ impl Session {
     pub fn line_count(&self) -> usize
         ensures { result ≡ length self.now.state.lines }
     {
-        self.log.lines().len()
+        self.log.len()
     }
 
     /// The line at a place, in order of arrival.
@@ -207,7 +211,7 @@ impl Session {
         requires { n < length self.now.state.lines }
         ensures { Some result.now ≡ slice_get self.now.state.lines n }
     {
-        self.log.lines()[n].bytes.as_slice()
+        self.log.line(n).bytes.as_slice()
     }
 
     /// The decoded text of the line at a place: what decoding it by itself, with the database as it is and by the session's choice,
@@ -216,7 +220,7 @@ impl Session {
         requires { n < length self.now.state.lines }
         ensures { Some result.now ≡ option_map (decoded_line self.now.state.options.short self.now.state.database) (slice_get self.now.state.lines n) }
     {
-        self.log.lines()[n].decoded.as_slice()
+        self.log.line(n).decoded.as_slice()
     }
 
     /// How often plans and pictures were made, and lines decoded.

@@ -6,7 +6,7 @@ ghost use Rattle.can_session.specs.Compiled.{Raised};
 ghost use Rattle.can_session.specs.Logs.{bytes_of, TextsAt, IsTextOf, IsDecoded, Completes};
 
 use crate::accepted::Remade;
-use crate::line::{Fresh, Line};
+use crate::line::Fresh;
 use crate::log::Log;
 use crate::shown_bus::ShownBus;
 use can_decode::{ReadLine, Short};
@@ -19,16 +19,16 @@ use std::alloc::Global;
 fn fresh_at(
     alloc: Global,
     bus: &ShownBus<'_>,
-    lines: &[Line],
+    log: &Log,
     place: usize,
     meter: &mut Meter,
 ) -> Result<Fresh, Memory>
-    requires { place < length lines.now }
+    requires { place < length log.now }
     ensures place { IfOk result (λ fresh. fresh.place ≡ place) }
-    ensures text { IfOk result (λ fresh. IsTextOf bus.now lines.now fresh) }
+    ensures text { IfOk result (λ fresh. IsTextOf bus.now log.now fresh) }
     ensures lines { Raised 0 1 meter.old meter.new }
 {
-    let line = ReadLine::of(lines[place].bytes.as_slice());
+    let line = ReadLine::of(log.line(place).bytes.as_slice());
     let text = bus.decode(alloc, &line, meter)?;
     Ok(Fresh { place, text })
 }
@@ -37,17 +37,17 @@ fn fresh_at(
 fn decode_places(
     alloc: Global,
     bus: &ShownBus<'_>,
-    lines: &[Line],
+    log: &Log,
     places: &[usize],
     meter: &mut Meter,
 ) -> Result<Vec<Fresh>, Memory>
-    requires { All (λ place. place < length lines.now) places.now }
-    ensures texts { IfOk result (λ fresh. TextsAt bus.now lines.now places.now fresh.items) }
+    requires { All (λ place. place < length log.now) places.now }
+    ensures texts { IfOk result (λ fresh. TextsAt bus.now log.now places.now fresh.items) }
     ensures lines { Raised 0 (length places.now) meter.old meter.new }
 {
     let mut fresh = Vec::new(alloc);
     for place in places {
-        fresh.push(fresh_at(alloc, bus, lines, *place, meter)?)?;
+        fresh.push(fresh_at(alloc, bus, log, *place, meter)?)?;
     }
     Ok(fresh)
 }
@@ -70,6 +70,6 @@ pub(crate) fn decode_touched(
         shown: remade.shown(),
         short,
     };
-    let fresh = decode_places(alloc, &bus, log.lines(), places.as_slice(), meter)?;
+    let fresh = decode_places(alloc, &bus, log, places.as_slice(), meter)?;
     Ok(fresh)
 }

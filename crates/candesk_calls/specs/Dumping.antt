@@ -23,7 +23,8 @@ Draws database messages old new (Err (faults.Read fault)) = ⊥
 Draws database messages old new (Err faults.Write) = Broke old new (pictures_text database messages)
 Draws database messages old new (Err faults.Memory) = (count : ℕ) × Wrote old new (pictures_text database (take count messages))
 
--- The text has a database whose pictures were so written. Or nothing was written, and the fault is the first of the text, or says that memory ran out.
+-- The text has a database whose pictures were so written. Or nothing was written, and the fault is the first of the text, or says
+-- that memory ran out.
 abbrev pub DumpsPictures : List ℕ → Written → Written → Result (Unit {0}) DumpFault → Type 0
 DumpsPictures text old new (Ok u) = (database : Database) × HasDatabase text database × Draws database database.messages old new (Ok u)
 DumpsPictures text old new (Err (faults.Read fault)) = (new ≡ old) × IsRead text (Err fault)

@@ -10,6 +10,8 @@ use Rattle.can_decode.specs.declared.short.Short.TheVariants.{Refuse, Show}
 use Rattle.can_decode.specs.DecodedLines.{Bus, bus_line}
 use Rattle.candesk_calls.specs.declared.fault.RunFault.{RunFault}
 use Rattle.candesk_calls.specs.declared.fault.RunFault.TheVariants as faults
+use Rattle.can_session.specs.declared.options.Options.{Options}
+use Rattle.candesk_words.specs.declared.job.Job.{Job}
 use Rattle.candesk_words.specs.declared.job.Command.{Command}
 use Rattle.candesk_words.specs.declared.job.Command.TheVariants as commands
 use Rattle.line_stream.specs.declared.fault.StreamFault.TheVariants as streams
@@ -31,8 +33,8 @@ Decodes bus before after old new (Err (faults.Stream fault)) = Streams (bus_line
 Decodes bus before after old new (Err (faults.Read fault)) = ⊥
 Decodes bus before after old new (Err faults.Memory) = IsUntouched before after old new
 
--- The text has a database, and the log is decoded with it, by what is chosen for short frames. Or the log is untouched, and the fault is the first of the text,
--- or memory ran out.
+-- The text has a database, and the log is decoded with it, by what is chosen for short frames. Or the log is untouched, and the fault
+-- is the first of the text, or memory ran out.
 abbrev pub Runs : List ℕ → Short → Unread → Unread → Written → Written → Result ℕ RunFault → Type 0
 Runs text short before after old new (Ok count) = (database : Database) × HasDatabase text database × Decodes (record { database = database; short = short }) before after old new (Ok count)
 Runs text short before after old new (Err (faults.Stream fault)) = (database : Database) × HasDatabase text database × Decodes (record { database = database; short = short }) before after old new (Err (faults.Stream fault))
@@ -58,10 +60,14 @@ DecodingEndsWith text short before after old new status =
 abbrev pub short_of : Bool → Short
 short_of flag = if flag then Show else Refuse
 
+-- what the options of the command line choose
+abbrev pub options_of : Job → Options
+options_of job = record { short = short_of job.short; keep = job.keep }
+
 -- the command ended so; all but `decode` and `session` read nothing from the source
-abbrev pub EndsWith : Command → Short → List ℕ → Unread → Unread → Written → Written → ℕ → Type 0
-EndsWith commands.Check short text before after old new status = (after ≡ before) × CheckingEndsWith text old new status
-EndsWith commands.Decode short text before after old new status = DecodingEndsWith text short before after old new status
-EndsWith commands.Dump short text before after old new status = (after ≡ before) × DumpingEndsWith text old new status
-EndsWith commands.Print short text before after old new status = (after ≡ before) × PrintingEndsWith text old new status
-EndsWith commands.Session short text before after old new status = SessionEndsWith text (record { short = short }) before after old new status
+abbrev pub EndsWith : Command → Options → List ℕ → Unread → Unread → Written → Written → ℕ → Type 0
+EndsWith commands.Check options text before after old new status = (after ≡ before) × CheckingEndsWith text old new status
+EndsWith commands.Decode options text before after old new status = DecodingEndsWith text options.short before after old new status
+EndsWith commands.Dump options text before after old new status = (after ≡ before) × DumpingEndsWith text old new status
+EndsWith commands.Print options text before after old new status = (after ≡ before) × PrintingEndsWith text old new status
+EndsWith commands.Session options text before after old new status = SessionEndsWith text options before after old new status

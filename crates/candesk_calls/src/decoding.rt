@@ -44,7 +44,8 @@ fn decode_log<R: Source, W: Sink>(
 }
 
 /// Reads the database text, makes the plans of its messages, then reads the log to its end, and writes the decoded line
-/// and an LF for each line of it. `short` tells what is said of frames that are shorter than their message. It answers how many lines there are, up to `u64::MAX`.
+/// and an LF for each line of it. `short` tells what is said of frames that are shorter than their message. It answers how many lines
+/// there are, up to `u64::MAX`.
 pub fn decode_run<R: Source, W: Sink>(
     alloc: Global,
     text: &[u8],

@@ -22,4 +22,4 @@ pub use line_stream::StreamFault;
 pub use printing::print_run;
 pub use refusing::{refuse, refuse_file};
 pub use running::{run, status};
-pub use session_script::{Options, Session, serve};
+pub use session_script::{Keep, LineCount, Options, Session, serve};

@@ -4,7 +4,7 @@ ghost use Rattle.candesk_calls.specs.Printing.{status_of_cause, print_status_of,
 ghost use Rattle.candesk_calls.specs.Dumping.{dump_status_of, DumpingEndsWith};
 ghost use Rattle.candesk_calls.specs.Checking.{check_status_of, CheckingEndsWith};
 ghost use Rattle.candesk_calls.specs.Scripting.{session_status_of};
-ghost use Rattle.candesk_calls.specs.Run.{EndsWith, short_of, status_of};
+ghost use Rattle.candesk_calls.specs.Run.{EndsWith, options_of, status_of};
 
 use crate::checking::{Verdict, check_run};
 use crate::decoding::decode_run;
@@ -181,14 +181,18 @@ fn session_ended<E: Sink>(outcome: Result<u64, SessionFault>, errors: &mut E) ->
     }
 }
 
-// What is chosen for short frames.
-fn short_of(job: &Job) -> Short
-    ensures { result ≡ short_of job.now.short }
+// What the options of the command line choose.
+fn options_of(job: &Job) -> Options
+    ensures { result ≡ options_of job.now }
 {
-    if job.short {
+    let short = if job.short {
         Short::Show
     } else {
         Short::Refuse
+    };
+    Options {
+        short,
+        keep: job.keep,
     }
 }
 
@@ -202,21 +206,18 @@ pub fn run<R: Source, W: Sink, E: Sink>(
     sink: &mut W,
     errors: &mut E,
 ) -> u8
-    ensures { EndsWith job.now.command (short_of job.now.short) text.now (R.unread source.old) (R.unread source.new) (W.written sink.old) (W.written sink.new) result }
+    ensures { EndsWith job.now.command (options_of job.now) text.now (R.unread source.old) (R.unread source.new) (W.written sink.old) (W.written sink.new) result }
 {
     match job.command {
         Command::Check => check(alloc, text, sink, errors),
         Command::Decode => {
-            let outcome = decode_run(alloc, text, short_of(job), source, sink);
+            let outcome = decode_run(alloc, text, options_of(job).short, source, sink);
             decode_ended(outcome, errors)
         }
         Command::Dump => dump(alloc, text, sink, errors),
         Command::Print => print(alloc, text, sink, errors),
         Command::Session => {
-            let options = Options {
-                short: short_of(job),
-            };
-            let outcome = session_run(alloc, text, options, source, sink);
+            let outcome = session_run(alloc, text, options_of(job), source, sink);
             session_ended(outcome, errors)
         }
     }

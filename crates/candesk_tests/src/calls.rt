@@ -2,7 +2,7 @@
 //! databases and logs.
 
 use byte_devices::limp::Limp;
-use candesk_calls::{Command, Job, NoJob, Verdict, check_run, refuse, refuse_file, run, status};
+use candesk_calls::{Command, Job, Keep, NoJob, Verdict, check_run, refuse, refuse_file, run, status};
 use std::alloc::{AllocError, Global};
 use std::test::Fail;
 
@@ -39,6 +39,7 @@ fn ends_so(
         command,
         file: String::new(alloc),
         short: false,
+        keep: Keep::All,
     };
     let mut from = source(alloc, limits.0)?;
     let mut to = sink(alloc, limits.1);

@@ -1,17 +1,18 @@
 -- The definitions of words, computed on words that are written out.
 use Rattle.std.proofs.Common.{◌≡◌, true, false, [], ◌∷◌, Some, codes, refl}
 use Rattle.clap.specs.Words.{fault_of}
-use Rattle.clap.specs.declared.error.kind.ErrorKind.TheVariants.{ArgumentConflict, DisplayVersion, MissingRequiredArgument, UnknownArgument}
+use Rattle.clap.specs.declared.error.kind.ErrorKind.TheVariants.{ArgumentConflict, DisplayVersion, MissingRequiredArgument, UnknownArgument, ValueValidation}
 use Rattle.clap.proofs.OnLiterals.{clap_on_literals}
 use Rattle.candesk_words.proofs.OnLiterals.{words_on_literals}
 use Rattle.candesk_words.specs.declared.job.Command.TheVariants.{Check, Decode, Dump, Print, Session}
+use Rattle.can_session.specs.declared.keep.Keep.TheVariants.{All, Last}
 use Rattle.candesk_words.specs.Words.{command_line, job_named}
 
-check-job : job_named (codes "check" ∷ codes "a" ∷ []) ≡ Some (Check, codes "a", false)
+check-job : job_named (codes "check" ∷ codes "a" ∷ []) ≡ Some (Check, codes "a", false, All)
 unfolding clap_on_literals words_on_literals
 check-job = refl
 
-decode-job : job_named (codes "decode" ∷ codes "a" ∷ []) ≡ Some (Decode, codes "a", false)
+decode-job : job_named (codes "decode" ∷ codes "a" ∷ []) ≡ Some (Decode, codes "a", false, All)
 unfolding clap_on_literals words_on_literals
 decode-job = refl
 
@@ -19,11 +20,11 @@ decode-has_no_fault : fault_of command_line (codes "decode" ∷ codes "a" ∷ []
 unfolding clap_on_literals words_on_literals
 decode-has_no_fault = refl
 
-print-job : job_named (codes "print" ∷ codes "--" ∷ codes "--a" ∷ []) ≡ Some (Print, codes "--a", false)
+print-job : job_named (codes "print" ∷ codes "--" ∷ codes "--a" ∷ []) ≡ Some (Print, codes "--a", false, All)
 unfolding clap_on_literals words_on_literals
 print-job = refl
 
-dump-job : job_named (codes "dump" ∷ codes "a" ∷ []) ≡ Some (Dump, codes "a", false)
+dump-job : job_named (codes "dump" ∷ codes "a" ∷ []) ≡ Some (Dump, codes "a", false, All)
 unfolding clap_on_literals words_on_literals
 dump-job = refl
 
@@ -39,7 +40,7 @@ no-file : fault_of command_line (codes "print" ∷ []) ≡ MissingRequiredArgume
 unfolding clap_on_literals words_on_literals
 no-file = refl
 
-decode-short : job_named (codes "decode" ∷ codes "--short" ∷ codes "a" ∷ []) ≡ Some (Decode, codes "a", true)
+decode-short : job_named (codes "decode" ∷ codes "--short" ∷ codes "a" ∷ []) ≡ Some (Decode, codes "a", true, All)
 unfolding clap_on_literals words_on_literals
 decode-short = refl
 
@@ -47,11 +48,11 @@ decode-short-has_no_fault : fault_of command_line (codes "decode" ∷ codes "--s
 unfolding clap_on_literals words_on_literals
 decode-short-has_no_fault = refl
 
-session-job : job_named (codes "session" ∷ codes "a" ∷ []) ≡ Some (Session, codes "a", false)
+session-job : job_named (codes "session" ∷ codes "a" ∷ []) ≡ Some (Session, codes "a", false, All)
 unfolding clap_on_literals words_on_literals
 session-job = refl
 
-session-short : job_named (codes "session" ∷ codes "a" ∷ codes "--short" ∷ []) ≡ Some (Session, codes "a", true)
+session-short : job_named (codes "session" ∷ codes "a" ∷ codes "--short" ∷ []) ≡ Some (Session, codes "a", true, All)
 unfolding clap_on_literals words_on_literals
 session-short = refl
 
@@ -67,10 +68,26 @@ print-takes_no_short : fault_of command_line (codes "print" ∷ codes "--short" 
 unfolding clap_on_literals words_on_literals
 print-takes_no_short = refl
 
-short-file : job_named (codes "decode" ∷ codes "--" ∷ codes "--short" ∷ []) ≡ Some (Decode, codes "--short", false)
+short-file : job_named (codes "decode" ∷ codes "--" ∷ codes "--short" ∷ []) ≡ Some (Decode, codes "--short", false, All)
 unfolding clap_on_literals words_on_literals
 short-file = refl
 
 short-twice : fault_of command_line (codes "decode" ∷ codes "--short" ∷ codes "--short" ∷ codes "a" ∷ []) ≡ ArgumentConflict ∷ []
 unfolding clap_on_literals words_on_literals
 short-twice = refl
+
+session-keep : job_named (codes "session" ∷ codes "--keep" ∷ codes "2" ∷ codes "a" ∷ []) ≡ Some (Session, codes "a", false, Last 2)
+unfolding clap_on_literals words_on_literals
+session-keep = refl
+
+session-keep-has_no_fault : fault_of command_line (codes "session" ∷ codes "--keep" ∷ codes "2" ∷ codes "a" ∷ []) ≡ []
+unfolding clap_on_literals words_on_literals
+session-keep-has_no_fault = refl
+
+keep-of_none : fault_of command_line (codes "session" ∷ codes "--keep" ∷ codes "0" ∷ codes "a" ∷ []) ≡ ValueValidation ∷ []
+unfolding clap_on_literals words_on_literals
+keep-of_none = refl
+
+decode-takes_no_keep : fault_of command_line (codes "decode" ∷ codes "--keep" ∷ codes "2" ∷ codes "a" ∷ []) ≡ UnknownArgument ∷ []
+unfolding clap_on_literals words_on_literals
+decode-takes_no_keep = refl

@@ -1,10 +1,16 @@
 -- Which words of the command line are which job. How words are read at all, with options, `--` and `help`, is told by the
 -- definitions of clap for a command line with these commands and options.
-use Rattle.std.specs.Prelude.{◌≡◌, ◌≢◌, ⊤, Bool, true, false, List, [], codes, Option, Some, None, option_and_then, option_map, Result, Ok, Err, ◌⊎◌, if◌then◌else◌}
+use Rattle.std.specs.Prelude.{◌≡◌, ◌≢◌, ⊤, ℕ, Bool, true, false, List, [], codes, Option, Some, None, option_and_then, option_map, Result, Ok, Err, ◌⊎◌, if◌then◌else◌}
 use Rattle.std.specs.Option.{option_map_or}
 use Rattle.std.specs.Str.{bytes_eq}
+use Rattle.std.specs.Str.Parse.{digits_value, without_leading_plus}
 use Rattle.clap.specs.Words.{App, Rule, Row, Text, new_app, new_rule, with_rule, with_subcommand, subcommand_of, first_of, one_of, fault_of, IsAmong}
-use Rattle.clap.specs.declared.builder.action.ArgAction.TheVariants.{SetTrue}
+use Rattle.clap.specs.declared.builder.action.ArgAction.TheVariants.{Set, SetTrue}
+use Rattle.clap.specs.declared.builder.value_parser.ValueParser.TheVariants.{Unsigned}
+use Rattle.clap.specs.ValueTests.{is_unsigned_in}
+use Rattle.can_session.specs.Counts.{most_lines}
+use Rattle.can_session.specs.declared.keep.Keep.{Keep}
+use Rattle.can_session.specs.declared.keep.Keep.TheVariants.{All, Last}
 use Rattle.clap.specs.declared.error.kind.ErrorKind.{ErrorKind}
 use Rattle.clap.specs.declared.error.kind.ErrorKind.TheVariants as kinds
 use Rattle.candesk_words.specs.declared.job.Command.{Command}
@@ -31,6 +37,14 @@ short_rule = record (new_rule (codes "short")) { long = Some (codes "short"); ac
 unfoldable pub on_frames : Text → App
 on_frames name = with_rule (on_file name) short_rule
 
+-- `--keep` with a number of lines
+abbrev pub keep_rule : Rule
+keep_rule = record (new_rule (codes "keep")) { long = Some (codes "keep"); action = Some Set; value_names = 1; parser = Some (Unsigned 1 most_lines) }
+
+-- `session`, which takes `--keep` too
+unfoldable pub on_session : App
+on_session = with_rule (on_frames (codes "session")) keep_rule
+
 -- the words before a command, which has to be there: `--help` and `--version` alone
 unfoldable pub before_command : App
 before_command = let app = new_app (codes "candesk") in
@@ -46,7 +60,7 @@ command_line =
     let decode = with_command check (on_frames (codes "decode")) in
     let dump = with_command decode (on_file (codes "dump")) in
     let print = with_command dump (on_file (codes "print")) in
-    with_command print (on_frames (codes "session"))
+    with_command print on_session
 
 -- ---- jobs
 
@@ -62,15 +76,32 @@ command_named name =
 abbrev pub has_flag : Text → List Row → Bool
 has_flag name rows = option_map_or (λ text. bytes_eq text (codes "true")) (one_of name rows) false
 
--- the command, its FILE and whether `--short` is there, from what clap finds in the words
-abbrev pub job_found : Option (Text × List Row) → Option (Command × Text × Bool)
+-- the number of lines that the value of `--keep` spells in decimal, behind a `+` or none; none where that is no number of lines
+abbrev pub count_in : Text → Option ℕ
+count_in text = if is_unsigned_in 1 most_lines text then Some (digits_value 10 (without_leading_plus text)) else None
+
+-- the last so many lines where `--keep` is there, and all lines where it isn't
+abbrev pub keep_found : List Row → Option Keep
+keep_found rows = option_map_or (λ text. option_map (λ count. Last count) (count_in text)) (one_of (codes "keep") rows) (Some All)
+
+-- what a job says: the command, its FILE, whether `--short` is there, and which lines are retained
+abbrev pub Said : Type 0
+Said = Command × Text × Bool × Keep
+
+-- that of the words, from what clap finds in them
+abbrev pub job_found : Option (Text × List Row) → Option Said
 job_found None = None
 job_found (Some found) = option_and_then
-    (λ command. option_map (λ file. (command, file, has_flag (codes "short") found.1)) (first_of (codes "FILE") found.1))
+    (λ command. option_and_then
+    (λ file. option_map (λ keep. (command, file, has_flag (codes "short") found.1, keep)) (keep_found found.1))
+    (first_of (codes "FILE") found.1))
     (command_named found.0)
 
+abbrev pub job_as_found : Job → Said
+job_as_found job = (job.command, job.file.bytes.items, job.short, job.keep)
+
 -- the job that the words name
-abbrev pub job_named : List Text → Option (Command × Text × Bool)
+abbrev pub job_named : List Text → Option Said
 job_named words = job_found (subcommand_of command_line words)
 
 -- what is said of words with a fault of this kind
@@ -82,7 +113,7 @@ SaysOf kind reasons.Memory = ⊤
 -- The job is the one that the words name, and they have no fault. Else they have a fault of which this is said, or name
 -- no job, or memory ran out.
 abbrev pub IsJobOf : List Text → Result Job NoJob → Type 0
-IsJobOf words (Ok job) = (fault_of command_line words ≡ []) × (job_named words ≡ Some (job.command, job.file.bytes.items, job.short))
+IsJobOf words (Ok job) = (fault_of command_line words ≡ []) × (job_named words ≡ Some (job_as_found job))
 IsJobOf words (Err reasons.Memory) = ⊤
 IsJobOf words (Err reasons.Usage) = job_named words ≡ None ⊎ ((kind : ErrorKind) × IsAmong kind (fault_of command_line words) × SaysOf kind reasons.Usage)
 IsJobOf words (Err (reasons.Help text)) = (kind : ErrorKind) × IsAmong kind (fault_of command_line words) × SaysOf kind (reasons.Help text)

@@ -1,9 +1,10 @@
 //! The job that the words name.
 ghost use Rattle.std.specs.Prelude.{◌≡◌, map, Some, None, IfOk, IfErr, ◌⊎◌};
 ghost use Rattle.clap.specs.Words.{kind_of, found_of, rows_of, subcommand_rows_of};
-ghost use Rattle.candesk_words.specs.Words.{command_named, has_flag, job_found, SaysOf, IsJobOf};
+ghost use Rattle.candesk_words.specs.Words.{command_named, has_flag, keep_found, job_found, job_as_found, SaysOf, IsJobOf};
 
 use crate::line::command_line;
+use can_session::{Keep, LineCount};
 use clap::ArgMatches;
 use clap::error::ErrorKind;
 use std::alloc::{AllocError, Global};
@@ -23,7 +24,7 @@ pub enum Command {
     Session,
 }
 
-/// A job: a command, the path of its database, and whether `--short` is there.
+/// A job: a command, the path of its database, and what the options say.
 #[derive(Debug, Drop)]
 pub struct Job {
     /// What is done.
@@ -33,6 +34,8 @@ pub struct Job {
     /// Whether what is there of frames that are shorter than their message is shown, as `--short` asks for; false for
     /// commands without the flag.
     pub short: bool,
+    /// Which lines are retained, as `--keep` asks for; all for commands without the option.
+    pub keep: Keep,
 }
 
 /// Why there is no job.
@@ -91,9 +94,20 @@ fn has_flag(found: &ArgMatches<'_>, name: &str) -> bool
     found.get_one::<bool>(name).unwrap_or(false)
 }
 
+// Which lines `--keep` asks for; none where its value is no number of lines, which clap lets through for no words.
+fn keep_in(found: &ArgMatches<'_>) -> Option<Keep>
+    ensures { result ≡ keep_found (rows_of (found_of found.now)) }
+{
+    match found.try_get_one::<u64>("keep") {
+        Ok(None) => Some(Keep::All),
+        Ok(Some(count)) => Some(Keep::Last(LineCount::new(count)?)),
+        Err(_) => None,
+    }
+}
+
 // The job that the matches name.
 fn job_in(alloc: Global, matches: &ArgMatches<'_>) -> Result<Job, NoJob>
-    ensures ok { IfOk result (λ job. job_found (subcommand_rows_of matches.now) ≡ Some (job.command, job.file.bytes.items, job.short)) }
+    ensures ok { IfOk result (λ job. job_found (subcommand_rows_of matches.now) ≡ Some (job_as_found job)) }
     ensures err { IfErr result (λ why. (why ≡ NoJob.Memory) ⊎ ((why ≡ NoJob.Usage) × (job_found (subcommand_rows_of matches.now) ≡ None))) }
 {
     let Some((name, found)) = matches.subcommand() else {
@@ -105,17 +119,22 @@ fn job_in(alloc: Global, matches: &ArgMatches<'_>) -> Result<Job, NoJob>
     let Some(file) = found.get_str("FILE") else {
         return Err(NoJob::Usage);
     };
+    let Some(keep) = keep_in(found) else {
+        return Err(NoJob::Usage);
+    };
     let file = String::from_str(alloc, file)?;
     let short = has_flag(found, "short");
     Ok(Job {
         command,
         file,
         short,
+        keep,
     })
 }
 
 /// Reads the words after the program's name. Options stand before or behind FILE, `--` ends them, `help` is the
-/// word for `--help`, and `--version` and `-V` stand before a command alone. `decode` and `session` alone take `--short`.
+/// word for `--help`, and `--version` and `-V` stand before a command alone. `decode` and `session` alone take `--short`, and
+/// `session` alone takes `--keep`, with a whole number from 1 to 1,048,576.
 pub fn job_of<'a>(alloc: Global, words: &'a [&'a str]) -> Result<Job, NoJob>
     ensures { IsJobOf (map (λ word. word.now) words.now) result }
 {

@@ -8,4 +8,5 @@ mod job;
 mod line;
 mod notes;
 
+pub use can_session::{Keep, LineCount};
 pub use job::{Command, Job, NoJob, job_of};

@@ -2,14 +2,18 @@
 ghost use Rattle.std.specs.Prelude.{◌≡◌, false, codes, IfOk};
 ghost use Rattle.clap.specs.Words.{app_of};
 ghost use Rattle.clap.specs.declared.builder.command.Command.TheViews.{out-Command};
-ghost use Rattle.candesk_words.specs.Words.{before_command, on_file, on_frames, with_command, command_line};
+ghost use Rattle.candesk_words.specs.Words.{before_command, on_file, on_frames, on_session, with_command, command_line};
 
 use crate::notes;
+use clap::builder::ValueParser;
 use clap::{Arg, ArgAction, Command};
 use std::alloc::{AllocError, Global};
 
 // What `--version` says behind the program's name.
 const VERSION: &str = "0.1.0";
+
+// The most lines that `--keep` may name.
+const MOST_LINES: u64 = 1_048_576;
 
 // The words before a command.
 #[tactic(auto, unfolding(crate::specs::Words::before_command))]
@@ -63,6 +67,25 @@ fn on_frames<'a>(
     on_file(alloc, name, about, notes)?.arg(short)
 }
 
+// `session`, which takes `--keep` too.
+#[tactic(auto, unfolding(crate::specs::Words::on_session))]
+fn on_session<'a>(
+    alloc: Global,
+    about: &'a str,
+    notes: &'a str,
+) -> Result<Command<'a>, AllocError>
+    ensures app { IfOk result (λ command. app_of command ≡ on_session) }
+    ensures local { IfOk result (λ command. (out-Command command).has_globals ≡ false) }
+{
+    let keep = Arg::new(alloc, "keep")
+        .long("keep")
+        .value_name("N")
+        .action(ArgAction::Set)
+        .value_parser(ValueParser::unsigned(1, MOST_LINES))
+        .help("Retain the last N lines, from 1 to 1048576; without it all are retained");
+    on_frames(alloc, "session", about, notes)?.arg(keep)
+}
+
 // The command line with one command more.
 #[tactic(auto, unfolding(crate::specs::Words::with_command))]
 fn with_command<'a>(line: Command<'a>, command: Command<'a>) -> Result<Command<'a>, AllocError>
@@ -105,15 +128,15 @@ fn with_print<'a>(alloc: Global, line: Command<'a>) -> Result<Command<'a>, Alloc
 }
 
 fn with_session<'a>(alloc: Global, line: Command<'a>) -> Result<Command<'a>, AllocError>
-    ensures { IfOk result (λ longer. app_of longer ≡ with_command (app_of line.entry) (on_frames (codes "session"))) }
+    ensures { IfOk result (λ longer. app_of longer ≡ with_command (app_of line.entry) on_session) }
 {
     let about = "Edits a database and retains a log by a script on standard input";
-    let command = on_frames(alloc, "session", about, notes::SESSION)?;
+    let command = on_session(alloc, about, notes::SESSION)?;
     with_command(line, command)
 }
 
 /// The command line: `candesk check FILE`, and so with `decode`, `dump`, `print` and `session`, of which `decode` and
-/// `session` take `--short` too.
+/// `session` take `--short` too, and `session` takes `--keep N`.
 #[tactic(auto, unfolding(crate::specs::Words::command_line))]
 pub fn command_line<'a>(alloc: Global) -> Result<Command<'a>, AllocError>
     ensures { IfOk result (λ line. app_of line ≡ command_line) }

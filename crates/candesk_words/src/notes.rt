@@ -50,7 +50,7 @@ pub const SESSION: &str = "\
 Standard input is a script, a command a line: edits of the database, lines of a log that are retained, and what to show.
 Standard output has a reply to each: what was asked for and `ok`, or why the command is refused. After each edit all is
 shown as it is by the database as it is then. With `--short`, what is there of frames that are shorter than their
-message is shown too.
+message is shown too. With `--keep N` the last N lines are retained, and the oldest goes for a new one.
 
 Example:
   $ printf 'log (1.5) can0 123#0A01\\nremove-signal 0 Speed\\nshow lines\\n' > wheel.script

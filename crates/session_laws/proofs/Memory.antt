@@ -1,6 +1,6 @@
 -- No definition refuses for want of memory.
 use Rattle.std.proofs.Common.{◌≡◌, ℕ, List, Bool, true, false}
-use Rattle.std.specs.Prelude.{Option, Some, None, Result, Ok, Err, MatchResult, nat_le, nat_lt, length, if◌then◌else◌}
+use Rattle.std.specs.Prelude.{Option, Some, None, Result, Ok, Err, MatchResult, nat_lt, length, if◌then◌else◌}
 use Rattle.dbc_records.specs.Records.{Message}
 use Rattle.dbc_records.specs.Databases.{Database}
 use Rattle.dbc_edits.specs.declared.edit.Edit.{Edit}
@@ -8,7 +8,7 @@ use Rattle.dbc_edits.specs.declared.edit.Edit.TheVariants as edits
 use Rattle.dbc_edits.specs.declared.refusal.Refusal.{Refusal}
 use Rattle.dbc_edits.specs.declared.refusal.Refusal.TheVariants as refusals
 use Rattle.dbc_edits.specs.Edits.{edited, at_message, refused_if, message_added, message_removed, message_changed, message_renumbered, signal_added, signal_removed, signal_changed, signal_renamed, mux_set, values_set, mux_dropped, values_dropped, table_set, table_dropped, attribute_set, attribute_dropped}
-use Rattle.can_session.specs.States.{State, most_lines, longest_line, with_line}
+use Rattle.can_session.specs.States.{State, longest_line, is_full, with_line}
 use Rattle.session_laws.specs.Runs.{Change, Retain, with_database, with_lines, unless_stopped, answer_of, OnlyStopped}
 
 -- where it is refused, then for a cause
@@ -63,4 +63,4 @@ lines-answer state (Err cause) h is = h cc
 
 pub only_stopped : OnlyStopped
 only_stopped state (Change edit) = database-answers state (edited state.database edit) (edited-has-cause state.database edit)
-only_stopped state (Retain line) = lines-answer state (with_line state.lines line) (line-has-cause (nat_le most_lines (length state.lines)) (nat_lt longest_line (length line)) _)
+only_stopped state (Retain line) = lines-answer state (with_line state.options.keep state.lines line) (line-has-cause (is_full state.options.keep (length state.lines)) (nat_lt longest_line (length line)) _)

@@ -41,7 +41,7 @@ runs_edit edit before after reply is =
 
 pub runs_line : (line : List ℕ) (before after : State) (reply : Answer) → Adds line before reply after → Runs before (Retain line ∷ []) (reply ∷ []) after
 runs_line line before after reply is =
-    let so = lines_so (with_line before.lines line) before after reply is in
+    let so = lines_so (with_line before.options.keep before.lines line) before after reply is in
     runs_one (Retain line) before after reply so.0 so.1
 
 -- ---- one after another

@@ -45,7 +45,7 @@ with_lines state (Err refusal) = Err refusal
 -- the state that a command defines, the edited database or the line put last, or why it is refused
 abbrev pub defined : State → Command → Result State Refusal
 defined state (Change edit) = with_database state (edited state.database edit)
-defined state (Retain line) = with_lines state (with_line state.lines line)
+defined state (Retain line) = with_lines state (with_line state.options.keep state.lines line)
 
 -- want of memory comes behind all other refusals
 abbrev pub unless_stopped : Bool → Result State Refusal → Result State Refusal

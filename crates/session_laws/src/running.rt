@@ -35,8 +35,8 @@ const NO_MEMORY: ReadFault = ReadFault {
     cause: Cause::Memory,
 };
 
-/// Opens a session on a text with these choices, does the commands in it, and answers it with what is answered to each. Where the text has no database,
-/// its first fault is answered; that memory ran out for the database or for the answers is a fault of line 0.
+/// Opens a session on a text with these choices, does the commands in it, and answers it with what is answered to each. Where the
+/// text has no database, its first fault is answered; that memory ran out for the database or for the answers is a fault of line 0.
 pub fn run_all(
     alloc: Global,
     text: &[u8],

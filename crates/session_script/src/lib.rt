@@ -9,7 +9,7 @@ mod replies;
 mod running;
 mod serving;
 
-pub use can_session::{Edit, Options, Refusal, Session};
+pub use can_session::{Edit, Keep, LineCount, Options, Refusal, Session};
 pub use fault::SessionFault;
 pub use running::session_run;
 pub use script_commands::Verb;

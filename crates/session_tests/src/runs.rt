@@ -1,8 +1,9 @@
 //! Runs of a session: commands, what it replies, and what it shows behind them.
 
 use byte_devices::limp::Limp;
+use can_session::Short;
 use line_stream::StreamFault;
-use session_script::{Session, serve};
+use session_script::{Keep, Options, Session, serve};
 use std::alloc::Global;
 use std::test::Fail;
 
@@ -90,16 +91,30 @@ fn does_all(
     Ok(true)
 }
 
-fn open(alloc: Global, text: &[u8]) -> Result<Session, Fail> {
-    match Session::open(alloc, text) {
+fn open(alloc: Global, text: &[u8], keep: Keep) -> Result<Session, Fail> {
+    let options = Options {
+        short: Short::Refuse,
+        keep,
+    };
+    let opened = match keep {
+        Keep::All => Session::open(alloc, text),
+        Keep::Last(_) => Session::open_with(alloc, text, options),
+    };
+    match opened {
         Ok(session) => Ok(session),
         Err(_) => Err(Fail::from("no database")),
     }
 }
 
-/// Whether a session of the text does the runs so. No other function has a session of its own, and this one hands it on at once:
+/// Whether a session of the text, which retains these lines, does the runs so. No other function has a session of its own, and this one hands it on at once:
 /// whoever has one and leaves in many ways is long in proving.
-pub fn all_done(alloc: Global, text: &[u8], devices: &Devices, runs: &[Run]) -> Result<bool, Fail> {
-    let mut session = open(alloc, text)?;
+pub fn all_done(
+    alloc: Global,
+    text: &[u8],
+    keep: Keep,
+    devices: &Devices,
+    runs: &[Run],
+) -> Result<bool, Fail> {
+    let mut session = open(alloc, text, keep)?;
     does_all(alloc, &mut session, devices, runs)
 }

@@ -3,6 +3,7 @@
 
 use crate::runs::{ALL, Devices, Run, Standing, all_done};
 use line_stream::StreamFault;
+use session_script::Keep;
 use std::test::Fail;
 
 // two messages of one number
@@ -80,7 +81,7 @@ fn scripts(rt: HostRuntime) -> Result<(), Fail> {
                 read,
                 written,
             };
-            assert!(rt; all_done(rt.alloc(), SHARED, &devices, &runs)?);
+            assert!(rt; all_done(rt.alloc(), SHARED, Keep::All, &devices, &runs)?);
         }
     }
     Ok(())

@@ -2,6 +2,7 @@
 //! far as it has to. `scripts/session_rows` tries the refusals over the built program.
 
 use crate::runs::{ALL, Devices, Run, Standing, all_done};
+use session_script::{Keep, LineCount};
 use std::test::Fail;
 
 // Devices that don't fail.
@@ -106,7 +107,7 @@ fn all_edits(rt: HostRuntime) -> Result<(), Fail> {
         },
         made: (13, 12),
     }];
-    assert!(rt; all_done(rt.alloc(), ONE, &SOUND, &runs)?);
+    assert!(rt; all_done(rt.alloc(), ONE, Keep::All, &SOUND, &runs)?);
     Ok(())
 }
 
@@ -199,7 +200,51 @@ fn metered(rt: HostRuntime) -> Result<(), Fail> {
         done(ROW, WITH_ROW, 3, muxed(1, OF_ITS_ROW), (3, 5)),
         done(NO_ROW, WITHOUT_ROW, 2, muxed(0, OF_ITS_TAG), (4, 7)),
     ];
-    assert!(rt; all_done(rt.alloc(), MUXED, &SOUND, &runs)?);
+    assert!(rt; all_done(rt.alloc(), MUXED, Keep::All, &SOUND, &runs)?);
+    Ok(())
+}
+
+// ---- the last lines
+
+const LAST_TWO: &[u8] = b"\
+log (0.0) c 12C#0005
+log (0.0) c 12C#0105
+log (0.0) c 12D#00
+show lines
+";
+
+const LAST_SHOWN: &[u8] = b"\
+ok
+ok
+ok
+(0.0) c 12C#0105 :: X(M: 1, B: 5)
+(0.0) c 12D#00 :: Y()
+ok
+";
+
+const OF_LAST_ROW: &[u8] = b"\
+ok
+ok
+(0.0) c 12C#0105 :: X(M: 1, B: 5)
+(0.0) c 12D#00 :: Y()
+ok
+";
+
+// A row of a switch touches the one line of its message that is still there.
+#[test]
+fn last_lines(rt: HostRuntime) -> Result<(), Fail> {
+    let line = b"(0.0) c 12C#0105".as_slice();
+    let decoded = b"(0.0) c 12C#0105 :: X(M: 1, B: 5)".as_slice();
+    let before = Standing { line, ..muxed(0, decoded) };
+    let after = Standing { line, ..muxed(1, decoded) };
+    let runs = [
+        done(LAST_TWO, LAST_SHOWN, 4, before, (2, 3)),
+        done(ROW, OF_LAST_ROW, 3, after, (3, 4)),
+    ];
+    let Some(count) = LineCount::new(2) else {
+        return Err(Fail::from("no count"));
+    };
+    assert!(rt; all_done(rt.alloc(), MUXED, Keep::Last(count), &SOUND, &runs)?);
     Ok(())
 }
 
@@ -260,6 +305,6 @@ fn exact_before_group(rt: HostRuntime) -> Result<(), Fail> {
         done(OWN, EXACT, 2, standing(2, 0, BY_NUMBER), (2, 3)),
         done(AGAIN, b"ok\n", 1, standing(1, 1, BY_GROUP), (2, 4)),
     ];
-    assert!(rt; all_done(rt.alloc(), GROUP, &SOUND, &runs)?);
+    assert!(rt; all_done(rt.alloc(), GROUP, Keep::All, &SOUND, &runs)?);
     Ok(())
 }

@@ -8,10 +8,10 @@ use Rattle.can_session.proofs.line.exchange.Given as goal
 -- the lines keep their bytes, and the texts that are left complete them
 abbrev pub invariant-loop-place : goal.invariant-loop-place
 invariant-loop-place l = record {
-  bytes : map bytes_of l.lines ≡ map bytes_of l.initial.lines;
-  numbered : All IsNumbered l.initial.lines → All IsNumbered l.lines;
-  within : All {X = Fresh} (λ text. text.place < length l.lines) l.fresh.items;
-  completes : (bus : Bus) → Completes bus l.initial.lines l.initial.fresh.items → Completes bus l.lines l.fresh.items;
+  bytes : map bytes_of l.lines.items ≡ map bytes_of l.initial.lines.items;
+  numbered : All IsNumbered l.initial.lines.items → All IsNumbered l.lines.items;
+  within : All {X = Fresh} (λ text. text.place < length l.lines.items) l.fresh.items;
+  completes : (bus : Bus) → Completes bus l.initial.lines.items l.initial.fresh.items → Completes bus l.lines.items l.fresh.items;
 }
 
 abbrev pub decreases-loop-place : goal.decreases-loop-place

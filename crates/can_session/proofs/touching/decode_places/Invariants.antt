@@ -6,6 +6,6 @@ use Rattle.can_session.proofs.touching.decode_places.Given as goal
 -- the texts of the places so far are made
 abbrev pub invariant-loop-place : goal.invariant-loop-place
 invariant-loop-place l = record {
-  texts : TextsAt l.bus l.lines (take l.place-index l.places) l.fresh.items;
+  texts : TextsAt l.bus l.log (take l.place-index l.places) l.fresh.items;
   lines : Raised 0 l.place-index l.initial.meter l.meter;
 }

@@ -9,7 +9,7 @@ use Rattle.can_session.proofs.touching.decode_touched.Goals as goal
 pub decode_places-requires : goal.decode_places-requires
 decode_places-requires c =
     let covers = c.in_ok-places.ensures in
-    rw (c.as_slice.ensures.value, c.lines.ensures.lines) (λ k d within. omega (arith, covers.within k d within, length-map c.args.log.now bytes_of))
+    rw c.as_slice.ensures.value (λ k d within. omega (arith, covers.within k d within, length-map c.args.log.now bytes_of))
 
 pub returns-in_err-fresh-clause-lines : goal.returns-in_err-fresh-clause-lines
 returns-in_err-fresh-clause-lines c =
@@ -29,4 +29,4 @@ returns-clause-completes c =
     (λ line untouched. c.untouched_lines_stay.ensures short remade.before remade.after remade.edit line c.shown.ensures.done untouched)
     c.requires
     (rw c.numbers.ensures at c.in_ok-places.ensures)
-    (rw (c.as_slice.ensures.value, c.lines.ensures.lines, c.shown.ensures.shown) at c.in_ok-fresh.ensures.texts)
+    (rw (c.as_slice.ensures.value, c.shown.ensures.shown) at c.in_ok-fresh.ensures.texts)

@@ -1,21 +1,15 @@
-use Rattle.std.proofs.Common.{◌≡◌, Some, None, length, refl, sym, subst}
+use Rattle.std.proofs.Common.{◌≡◌, None, refl, arith}
 use Rattle.std.specs.Prelude.{slice_get}
-use Rattle.std.proofs.lemmas.Option.{slice_get_read, slice_get_past}
-use Rattle.can_session.specs.Logs.{IsNumbered}
+use Rattle.std.proofs.lemmas.Option.{slice_get_past}
 use Rattle.can_session.proofs.Places.{line_there}
 use Rattle.can_session.proofs.Reached.{untouched_by_number}
 use Rattle.can_session.proofs.log.Log.is_untouched_at.Goals as goal
 
-pub returns-in-Some : goal.returns-in-Some
-returns-in-Some c =
-    let lines = c.lines-lines.result.now in
-    let found = c.in-Some.ensures.lookup in
-    let there : slice_get lines c.args.place ≡ Some c.in-Some.line.now = slice_get_read lines (length lines) c.args.place c.in-Some.line.now refl found.3.0 found.1 in
-    rw (← c.lines-lines.ensures.lines, line_there lines c.args.place, there, c.number_touched.ensures)
-    (untouched_by_number c.args.numbers.now c.in-Some.line.now (subst IsNumbered (sym found.1) (c.lines-lines.ensures.numbered c.args.place c.in-Some.line.now found.3.0)))
+pub returns-then-place-len : goal.returns-then-place-len
+returns-then-place-len c =
+    rw (line_there c.args.self.now c.args.place, ← c.line.ensures.line, c.number_touched.ensures) (untouched_by_number c.args.numbers.now c.line.result.now c.line.ensures.numbered)
 
-pub returns-in-None : goal.returns-in-None
-returns-in-None c =
-    let lines = c.lines-lines.result.now in
-    let past : slice_get lines c.args.place ≡ None = slice_get_past lines c.args.place c.in-None.ensures.lookup.3 in
-    rw (← c.lines-lines.ensures.lines, line_there lines c.args.place, past) refl
+pub returns-else-place-len : goal.returns-else-place-len
+returns-else-place-len c =
+    let past : slice_get c.args.self.now c.args.place ≡ None = slice_get_past c.args.self.now c.args.place (omega (arith, c.if-place-len.false, c.len.ensures)) in
+    rw (line_there c.args.self.now c.args.place, past) refl

@@ -1,0 +1,90 @@
+//! How many lines are retained.
+ghost use Rattle.std.specs.Prelude.{◌≡◌};
+ghost use Rattle.can_session.specs.declared.keep.Keep.TheVariants.{All};
+ghost use Rattle.can_session.specs.Counts.{count_of};
+ghost use Rattle.can_session.specs.States.{most_kept, is_full};
+
+use std::marker::Model;
+
+// The most lines that are retained where all are.
+const MOST_LINES: u32 = 1_048_576;
+
+/// A number of lines, from 1 to 1,048,576.
+#[derive(Clone, Copy, Debug, PartialEq, Eq)]
+pub struct LineCount {
+    count: u32,
+}
+
+impl Model for LineCount {
+    ghost use Rattle.can_session.specs.Counts as counts;
+    ghost use Rattle.std.specs.Prelude.{ℕ};
+
+    ghost Value = { ℕ };
+
+    ghost view = { λ a. a.count };
+
+    ghost invariant = { λ a. counts.IsCount a.count };
+
+    ghost inverse = { λ count. record { count = count } };
+}
+
+impl LineCount {
+    /// That of a number; none where it is 0 or over 1,048,576.
+    pub fn new(count: u64) -> Option<LineCount>
+        ensures { result ≡ count_of count }
+    {
+        if count == 0 || count > u64::from(MOST_LINES) {
+            return None;
+        }
+        Some(LineCount {
+            count: count as u32,
+        })
+    }
+
+    /// The number.
+    pub fn get(self) -> usize
+        ensures { result ≡ self }
+    {
+        self.count as usize
+    }
+}
+
+/// Which of the lines that were added are retained.
+#[derive(Clone, Copy, Debug, PartialEq, Eq)]
+pub enum Keep {
+    /// All of them. There is room for 1,048,576, and a line more is refused.
+    All,
+    /// The last so many: where there are more, the oldest goes.
+    Last(LineCount),
+}
+
+impl Default for Keep {
+    fn default() -> Keep
+        ensures { result ≡ All }
+    {
+        Keep::All
+    }
+}
+
+impl Keep {
+    /// Whether there is no room for a line more behind so many: of all lines 1,048,576 are the most, and for one of the last ones the
+    /// oldest goes.
+    pub fn is_full(self, lines: usize) -> bool
+        ensures { result ≡ is_full self lines }
+    {
+        match self {
+            Keep::All => lines >= self.most(),
+            Keep::Last(_) => false,
+        }
+    }
+
+    /// How many lines are retained at most.
+    pub fn most(self) -> usize
+        ensures { result ≡ most_kept self }
+    {
+        match self {
+            Keep::All => MOST_LINES as usize,
+            Keep::Last(count) => count.get(),
+        }
+    }
+}
