@@ -91,18 +91,19 @@ fn does_all(
     Ok(true)
 }
 
-fn open(alloc: Global, text: &[u8], keep: Keep) -> Result<Session, Fail> {
+// The session of a text that retains its last lines.
+fn open_bounded(alloc: Global, text: &[u8], keep: Keep) -> Option<Session> {
     let options = Options {
         short: Short::Refuse,
         keep,
     };
-    let opened = match keep {
-        Keep::All => Session::open(alloc, text),
-        Keep::Last(_) => Session::open_with(alloc, text, options),
-    };
-    match opened {
-        Ok(session) => Ok(session),
-        Err(_) => Err(Fail::from("no database")),
+    Session::open_with(alloc, text, options).ok()
+}
+
+fn open(alloc: Global, text: &[u8], keep: Keep) -> Option<Session> {
+    match keep {
+        Keep::All => Session::open(alloc, text).ok(),
+        Keep::Last(_) => open_bounded(alloc, text, keep),
     }
 }
 
@@ -115,6 +116,8 @@ pub fn all_done(
     devices: &Devices,
     runs: &[Run],
 ) -> Result<bool, Fail> {
-    let mut session = open(alloc, text, keep)?;
+    let Some(mut session) = open(alloc, text, keep) else {
+        return Err(Fail::from("no database"));
+    };
     does_all(alloc, &mut session, devices, runs)
 }

@@ -235,8 +235,14 @@ ok
 fn last_lines(rt: HostRuntime) -> Result<(), Fail> {
     let line = b"(0.0) c 12C#0105".as_slice();
     let decoded = b"(0.0) c 12C#0105 :: X(M: 1, B: 5)".as_slice();
-    let before = Standing { line, ..muxed(0, decoded) };
-    let after = Standing { line, ..muxed(1, decoded) };
+    let before = Standing {
+        line,
+        ..muxed(0, decoded)
+    };
+    let after = Standing {
+        line,
+        ..muxed(1, decoded)
+    };
     let runs = [
         done(LAST_TWO, LAST_SHOWN, 4, before, (2, 3)),
         done(ROW, OF_LAST_ROW, 3, after, (3, 4)),
