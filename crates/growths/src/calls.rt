@@ -12,25 +12,6 @@ use dbc_reader::read;
 use dbc_records::Database;
 use std::alloc::Global;
 
-fn call_read<W: Sink>(alloc: Global, text: &[u8], sink: &mut W) {
-    begin(sink);
-    let answer = read(alloc, text);
-    end(sink);
-    match answer {
-        Ok(database) => {
-            say(sink, "ok");
-            show_database(sink, &database);
-        }
-        Err(fault) => say(sink, fault),
-    }
-}
-
-/// Reads a text, and reads it again.
-pub(crate) fn twice_read<W: Sink>(alloc: Global, text: &[u8], sink: &mut W) {
-    call_read(alloc, text, sink);
-    call_read(alloc, text, sink);
-}
-
 fn call_plan<W: Sink>(alloc: Global, database: &Database, place: usize, sink: &mut W)
     requires { place < length database.now.messages }
 {
@@ -177,7 +158,9 @@ fn call_pictures<W: Sink>(alloc: Global, database: &Database, sink: &mut W) {
 }
 
 fn call<W: Sink>(alloc: Global, word: &str, database: &Database, input: &[u8], sink: &mut W) {
+    say(sink, "ok");
     match word {
+        "read" => show_database(sink, database),
         "plans" => call_plans(alloc, database, sink),
         "pictures" => call_pictures(alloc, database, sink),
         "faults" => {
@@ -190,7 +173,7 @@ fn call<W: Sink>(alloc: Global, word: &str, database: &Database, input: &[u8], s
     }
 }
 
-/// Makes the calls of a word with the database of a text: each twice, but for `stream`.
+/// Reads a text, and makes the calls of a word with its database: each twice, but for `stream`.
 pub(crate) fn call_with_database<W: Sink>(
     alloc: Global,
     word: &str,
@@ -198,7 +181,10 @@ pub(crate) fn call_with_database<W: Sink>(
     input: &[u8],
     sink: &mut W,
 ) {
-    match read(alloc, text) {
+    begin(sink);
+    let answer = read(alloc, text);
+    end(sink);
+    match answer {
         Ok(database) => call(alloc, word, &database, input, sink),
         Err(fault) => say(sink, fault),
     }

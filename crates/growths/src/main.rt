@@ -10,9 +10,9 @@ mod saying;
 mod sessions;
 mod showing;
 
-use crate::calls::{call_with_database, twice_read};
-use crate::sessions::{do_commands, serve_script, twice_opened};
-use byte_devices::{FromRead, FromWrite, Sink};
+use crate::calls::call_with_database;
+use crate::sessions::call_with_session;
+use byte_devices::{FromRead, FromWrite, Sink, Source};
 use std::alloc::Global;
 use std::io::Read;
 use std::{env, fs};
@@ -33,26 +33,47 @@ fn input_of(rt: &HostRuntime) -> Option<Vec<u8>> {
     Some(input)
 }
 
-// Makes the calls of a word, where standard input was read before.
-fn call<W: Sink>(alloc: Global, word: &str, text: &[u8], input: &[u8], sink: &mut W) {
+// Makes the calls of a word. What reads or opens, and nothing else, is done twice.
+fn call<R: Source, W: Sink>(
+    alloc: Global,
+    word: &str,
+    text: &[u8],
+    input: &[u8],
+    source: &mut R,
+    sink: &mut W,
+) {
     match word {
-        "read" => twice_read(alloc, text, sink),
-        "open" => twice_opened(alloc, text, sink),
-        "session" => do_commands(alloc, text, input, sink),
+        "read" => {
+            call_with_database(alloc, word, text, input, sink);
+            call_with_database(alloc, word, text, input, sink);
+        }
+        "open" => {
+            call_with_session(alloc, false, text, input, source, sink);
+            call_with_session(alloc, false, text, input, source, sink);
+        }
+        "session" => call_with_session(alloc, false, text, input, source, sink),
+        "serve" => call_with_session(alloc, true, text, input, source, sink),
         _ => call_with_database(alloc, word, text, input, sink),
     }
 }
 
-// Makes the calls of a word. Only `serve` reads standard input while it is called.
+// Standard input is read before the calls, but for that which reads it by itself.
 fn work(rt: &HostRuntime, word: &str, text: &[u8]) -> Option<()> {
-    let mut sink = FromWrite::new(rt.stdout());
-    if word == "serve" {
-        let mut source = FromRead::new(rt.stdin());
-        serve_script(rt.alloc(), text, &mut source, &mut sink);
+    let input = if word == "serve" {
+        Vec::new(rt.alloc())
     } else {
-        let input = input_of(rt)?;
-        call(rt.alloc(), word, text, input.as_slice(), &mut sink);
-    }
+        input_of(rt)?
+    };
+    let mut source = FromRead::new(rt.stdin());
+    let mut sink = FromWrite::new(rt.stdout());
+    call(
+        rt.alloc(),
+        word,
+        text,
+        input.as_slice(),
+        &mut source,
+        &mut sink,
+    );
     Some(())
 }
 

@@ -18,32 +18,12 @@ fn say_answer<W: Sink>(sink: &mut W, answer: Result<(), Refusal>) {
     }
 }
 
-// Opens a session.
-fn open<W: Sink>(alloc: Global, text: &[u8], sink: &mut W) {
-    begin(sink);
-    let opened = Session::open(alloc, text);
-    end(sink);
-    match opened {
-        Ok(session) => {
-            say(sink, "ok");
-            show_session(sink, &session);
-        }
-        Err(fault) => say(sink, fault),
-    }
-}
-
-/// Opens a session, and then another.
-pub(crate) fn twice_opened<W: Sink>(alloc: Global, text: &[u8], sink: &mut W) {
-    open(alloc, text, sink);
-    open(alloc, text, sink);
-}
-
 // Does what a line asks for.
-fn do_command<W: Sink>(session: &mut Session, command: Command<'_>, sink: &mut W) {
+fn do_command<W: Sink>(session: &mut Session, command: &Command<'_>, sink: &mut W) {
     begin(sink);
     let answer = match command {
         Command::Log(line) => session.add_line(line),
-        Command::Change(edit) => session.apply(&edit),
+        Command::Change(edit) => session.apply(edit),
         _ => Ok(()),
     };
     end(sink);
@@ -54,28 +34,20 @@ fn do_command<W: Sink>(session: &mut Session, command: Command<'_>, sink: &mut W
 // Does what a line of the input asks for, where that is an edit or a line of a log.
 fn do_line<W: Sink>(alloc: Global, session: &mut Session, line: &[u8], sink: &mut W) {
     match command_of(alloc, line) {
-        Ok(Some(command)) => do_command(session, command, sink),
+        Ok(Some(command)) => do_command(session, &command, sink),
         Ok(None) => say(sink, "bad command"),
         Err(fault) => say(sink, fault),
     }
 }
 
 fn do_lines<W: Sink>(alloc: Global, session: &mut Session, input: &[u8], sink: &mut W) {
-    show_session(sink, session);
     for line in input.split(|byte| *byte == b'\n') {
         do_line(alloc, session, line, sink);
     }
 }
 
-/// Opens a session and does what each line of the input asks for.
-pub(crate) fn do_commands<W: Sink>(alloc: Global, text: &[u8], input: &[u8], sink: &mut W) {
-    match Session::open(alloc, text) {
-        Ok(mut session) => do_lines(alloc, &mut session, input, sink),
-        Err(fault) => say(sink, fault),
-    }
-}
-
-fn serve_in<R: Source, W: Sink>(
+// Runs a script, as one call.
+fn serve_script<R: Source, W: Sink>(
     alloc: Global,
     session: &mut Session,
     source: &mut R,
@@ -91,15 +63,38 @@ fn serve_in<R: Source, W: Sink>(
     show_session(sink, session);
 }
 
-/// Opens a session and runs a script in it, in one call.
-pub(crate) fn serve_script<R: Source, W: Sink>(
+fn call_in<R: Source, W: Sink>(
     alloc: Global,
-    text: &[u8],
+    serves: bool,
+    session: &mut Session,
+    input: &[u8],
     source: &mut R,
     sink: &mut W,
 ) {
-    match Session::open(alloc, text) {
-        Ok(mut session) => serve_in(alloc, &mut session, source, sink),
+    say(sink, "ok");
+    show_session(sink, session);
+    if serves {
+        serve_script(alloc, session, source, sink);
+    } else if !input.is_empty() {
+        do_lines(alloc, session, input, sink);
+    }
+}
+
+/// Opens a session, and in it runs the script that the source gives, or else does what each line of the input asks for. (It is the one
+/// owner of a session: each costs a proof of its own.)
+pub(crate) fn call_with_session<R: Source, W: Sink>(
+    alloc: Global,
+    serves: bool,
+    text: &[u8],
+    input: &[u8],
+    source: &mut R,
+    sink: &mut W,
+) {
+    begin(sink);
+    let opened = Session::open(alloc, text);
+    end(sink);
+    match opened {
+        Ok(mut session) => call_in(alloc, serves, &mut session, input, source, sink),
         Err(fault) => say(sink, fault),
     }
 }
