@@ -1,0 +1,90 @@
+//! growths: makes calls of candesk's libraries one by one, and tells of each what it answered and all that is lent behind it.
+//!
+//! `growths WORD FILE` reads a database text. Right before a call it writes the line `begin`, and right behind it `end`, so that what is
+//! preloaded can refuse the allocations of one call alone, or fail its reads and writes. It isn't installed, and what it writes is judged
+//! by `scripts/refused_calls` and `scripts/failing_devices`.
+#![tactic(auto)]
+
+mod calls;
+mod saying;
+mod sessions;
+mod showing;
+
+use crate::calls::call_with_database;
+use crate::sessions::call_with_session;
+use byte_devices::{FromRead, FromWrite, Sink, Source};
+use std::alloc::Global;
+use std::io::Read;
+use std::{env, fs};
+
+// The words after the program's name.
+fn words_of(rt: &HostRuntime) -> Option<Vec<String>> {
+    let mut words = Vec::new(rt.alloc());
+    for word in env::args(rt).ok()?.skip(1) {
+        words.push(word).ok()?;
+    }
+    Some(words)
+}
+
+// All of standard input.
+fn input_of(rt: &HostRuntime) -> Option<Vec<u8>> {
+    let mut input = Vec::new(rt.alloc());
+    rt.stdin().read_to_end(&mut input).ok()?;
+    Some(input)
+}
+
+// Makes the calls of a word. What reads or opens, and nothing else, is done twice.
+fn call<R: Source, W: Sink>(
+    alloc: Global,
+    word: &str,
+    text: &[u8],
+    input: &[u8],
+    source: &mut R,
+    sink: &mut W,
+) {
+    match word {
+        "read" => {
+            call_with_database(alloc, word, text, input, sink);
+            call_with_database(alloc, word, text, input, sink);
+        }
+        "open" => {
+            call_with_session(alloc, false, text, input, source, sink);
+            call_with_session(alloc, false, text, input, source, sink);
+        }
+        "session" => call_with_session(alloc, false, text, input, source, sink),
+        "serve" => call_with_session(alloc, true, text, input, source, sink),
+        _ => call_with_database(alloc, word, text, input, sink),
+    }
+}
+
+// Standard input is read before the calls, but for that which reads it by itself.
+fn work(rt: &HostRuntime, word: &str, text: &[u8]) -> Option<()> {
+    let input = if word == "serve" {
+        Vec::new(rt.alloc())
+    } else {
+        input_of(rt)?
+    };
+    let mut source = FromRead::new(rt.stdin());
+    let mut sink = FromWrite::new(rt.stdout());
+    call(
+        rt.alloc(),
+        word,
+        text,
+        input.as_slice(),
+        &mut source,
+        &mut sink,
+    );
+    Some(())
+}
+
+fn run(rt: &HostRuntime) -> Option<()> {
+    let words = words_of(rt)?;
+    let word = words.as_slice().first()?;
+    let file = words.as_slice().get(1)?;
+    let text = fs::read(rt, file.as_str()).ok()?;
+    work(rt, word.as_str(), text.as_slice())
+}
+
+fn main(rt: HostRuntime) {
+    run(&rt);
+}

@@ -1,0 +1,136 @@
+//! All that is lent. It is read and written, and takes no memory.
+ghost use Rattle.std.specs.Prelude.{◌<◌, length};
+
+use crate::saying::{put, put_line, say};
+use byte_devices::Sink;
+use can_check::{Diagnostic, write_lines};
+use can_layout::{Decoder, Link, Meter, Plan, Reading};
+use can_session::Session;
+use dbc_model::print;
+use dbc_records::Database;
+use dbc_values::List;
+
+// What signals are read from, bit and bit about.
+const DATA: [u8; 8] = [0xA5; 8];
+
+const OTHER_DATA: [u8; 8] = [0x5A; 8];
+
+/// How often something was made.
+pub(crate) fn show_meter<W: Sink>(sink: &mut W, meter: &Meter) {
+    let (plans, pictures, lines) = (meter.plans(), meter.pictures(), meter.lines());
+    say(sink, format_args!("meter {plans} {pictures} {lines}"));
+}
+
+/// The canonical text of a database.
+pub(crate) fn show_database<W: Sink>(sink: &mut W, database: &Database) {
+    let _ = print(database, sink);
+}
+
+/// Diagnostics.
+pub(crate) fn show_diagnostics<W: Sink>(sink: &mut W, diagnostics: &[Diagnostic]) {
+    let _ = write_lines(diagnostics, sink);
+}
+
+// A switch above a signal.
+fn show_link<W: Sink>(sink: &mut W, link: &Link) {
+    let switch = link.switch;
+    say(sink, format_args!("below {switch}"));
+    for range in link.ranges.as_slice() {
+        let (first, last) = (range.first, range.last);
+        say(sink, format_args!("from {first} to {last}"));
+    }
+}
+
+// The way up from a signal.
+fn show_chain<W: Sink>(sink: &mut W, chain: &Option<List<Link>>) {
+    match chain {
+        Some(links) => {
+            for link in links.as_slice() {
+                show_link(sink, link);
+            }
+        }
+        None => say(sink, "never"),
+    }
+}
+
+// How values are read.
+fn show_decoder<W: Sink>(sink: &mut W, decoder: &Decoder) {
+    let (signed, scale) = (decoder.signed, decoder.scale);
+    say(sink, format_args!("signed {signed} {scale:?}"));
+    put_line(sink, decoder.unit.as_bytes());
+    for entry in decoder.entries.as_slice() {
+        say(sink, entry.number);
+        put_line(sink, entry.text.as_bytes());
+    }
+}
+
+// How a signal is read.
+fn show_reading<W: Sink>(sink: &mut W, reading: &Reading) {
+    match reading {
+        Reading::Refused(cause) => put_line(sink, cause.word()),
+        Reading::Read(decoder) => show_decoder(sink, decoder),
+    }
+}
+
+// What a signal is in data.
+fn show_value<W: Sink>(sink: &mut W, plan: &Plan, signal: usize, data: &[u8])
+    requires { signal < length plan.now.rows }
+{
+    let present = plan.present(signal, data);
+    let raw = plan.raw(signal, data);
+    let value = plan.raw_value(signal, data);
+    say(
+        sink,
+        format_args!("present {present} raw {raw} value {value}"),
+    );
+}
+
+// What a plan says of a signal.
+fn show_row<W: Sink>(sink: &mut W, plan: &Plan, signal: usize)
+    requires { signal < length plan.now.rows }
+{
+    let row = plan.row(signal);
+    put_line(sink, row.name.as_bytes());
+    let field = row.field;
+    say(sink, format_args!("{field:?}"));
+    show_chain(sink, &row.chain);
+    show_reading(sink, &row.reading);
+    show_value(sink, plan, signal, &DATA);
+    show_value(sink, plan, signal, &OTHER_DATA);
+}
+
+/// All that a plan lends.
+pub(crate) fn show_plan<W: Sink>(sink: &mut W, plan: &Plan) {
+    let size = plan.size();
+    say(sink, format_args!("plan {size}"));
+    for signal in 0..plan.signals() {
+        show_row(sink, plan, signal);
+    }
+}
+
+// The plans and pictures of a session.
+fn show_layouts<W: Sink>(sink: &mut W, session: &Session) {
+    for place in 0..session.database().messages.len() {
+        show_plan(sink, session.plan(place));
+        put(sink, session.picture(place));
+    }
+}
+
+// The lines of a session and their texts.
+fn show_lines<W: Sink>(sink: &mut W, session: &Session) {
+    for n in 0..session.line_count() {
+        put_line(sink, session.line(n));
+        put_line(sink, session.decoded(n));
+    }
+}
+
+/// All that a session lends, the meter last.
+pub(crate) fn show_session<W: Sink>(sink: &mut W, session: &Session) {
+    show_database(sink, session.database());
+    say(sink, "diagnostics");
+    show_diagnostics(sink, session.diagnostics());
+    show_layouts(sink, session);
+    say(sink, "lines");
+    show_lines(sink, session);
+    show_meter(sink, session.meter());
+}
