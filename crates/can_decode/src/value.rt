@@ -3,7 +3,7 @@ ghost use Rattle.std.specs.Prelude.{◌≡◌, ◌<◌, ◌≤◌, ◌++◌, ◌
 ghost use Rattle.dbc_records.specs.Layout.{point_before_last, filled, zeros};
 ghost use Rattle.can_decode.specs.Values.{fewest_places, fixed_text, sign_of, scaled_text, number_text, decoder_text, reading_text};
 
-use can_layout::{Decoder, Reading, first_entry};
+use can_layout::{Decoder, Reading};
 use dbc_values::Memory;
 use itoa::Buffer;
 use ready_texts::{Digits, push_bytes, push_shown};
@@ -154,7 +154,7 @@ fn push_searched(text: &mut Vec<u8>, decoder: &Decoder, raw: i128) -> Result<(),
     requires { unsigned_abs raw ≤ 2 ^ decoder.now.scale.length }
     ensures { OnOk result (text.new.items ≡ text.old.items ++ decoder_text decoder.now raw) }
 {
-    match first_entry(decoder.entries.as_slice(), raw) {
+    match decoder.entry(raw) {
         Some(entry) => push_shown(text, entry.text.as_bytes()),
         None => push_number(text, decoder, raw),
     }

@@ -1,4 +1,5 @@
 pub mod Decoders
+pub mod EntryPlaces
 pub mod Meters
 pub mod Names
 pub mod Placed

@@ -1,9 +1,10 @@
 -- What turns the bits of a signal into its values.
 -- Source: the DBC file format, "Signal Definitions" and "Signal Value Descriptions".
-use Rattle.std.specs.Prelude.{◌≡◌, ℕ, ℤ, pos, Bool, List, [], ◌∷◌, ◌++◌, length, map, codes, Option}
+use Rattle.std.specs.Prelude.{◌≡◌, ℕ, ℤ, pos, Bool, List, [], ◌∷◌, ◌++◌, length, map, codes, Option, Some, None, slice_get}
 use Rattle.std.specs.List.{find, range_with_len}
 use Rattle.std.specs.Option.{option_map}
-use Rattle.std.specs.Ordering.{int_eq}
+use Rattle.std.specs.Ordering.{int_eq, int_cmp}
+use Rattle.std.specs.BTreeMap.{BTreeMap, get}
 use Rattle.ready_texts.specs.Shown.{shown}
 use Rattle.dbc_values.specs.Scales.{Scale}
 use Rattle.dbc_records.specs.Records.{Entry}
@@ -31,6 +32,15 @@ unit_text (b ∷ unit) = codes " " ++ shown (b ∷ unit)
 -- the first entry of a raw value
 abbrev pub first_entry : ℤ → List Entry → Option Entry
 first_entry raw entries = find (λ entry. int_eq entry.number raw) entries
+
+-- the place is that of the first entry of a raw value in a front of entries, or there is none
+abbrev pub IsPlace : List Entry → List Entry → ℤ → Option ℕ → Type 0
+IsPlace entries front raw None = first_entry raw front ≡ None
+IsPlace entries front raw (Some place) = (entry : Entry) × (slice_get entries place ≡ Some entry) × (first_entry raw front ≡ Some entry)
+
+-- each number has the place of its first entry
+abbrev pub IsEntryIndex : BTreeMap ℤ ℕ → List Entry → Type 0
+IsEntryIndex places entries = (raw : ℤ) → IsPlace entries entries raw (get int_cmp places raw)
 
 -- the name of a raw value
 abbrev pub name_of : ℤ → List Entry → Option (List ℕ)

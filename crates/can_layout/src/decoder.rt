@@ -1,8 +1,9 @@
 //! How the values of a signal are read.
 ghost use Rattle.std.specs.Prelude.{◌≡◌, ◌≤◌, ◌^◌, ◌+ℤ◌, ◌*ℤ◌, unsigned_abs, length, IfOk, IfSome, option_map};
 ghost use Rattle.can_bits.specs.Bits.{raw_value};
-ghost use Rattle.can_layout.specs.Decoders.{unit_text, name_of};
+ghost use Rattle.can_layout.specs.Decoders.{unit_text, first_entry, name_of};
 
+use crate::entries::{Places, entry_of, places_of_many};
 use crate::naming::{ready_names, ready_unit};
 use can_bits::Steps;
 use dbc_records::Entry;
@@ -28,10 +29,12 @@ pub struct Decoder {
     unit_text: ReadyText,
     // The names of the first raw values.
     names: Vec<Option<ReadyText>>,
+    // Where the entries are many, their places by their numbers.
+    places: Option<Places>,
 }
 
 impl Model for Decoder {
-    ghost use Rattle.std.specs.Prelude.{◌≡◌};
+    ghost use Rattle.std.specs.Prelude.{◌≡◌, IfSome};
     ghost use Rattle.can_layout.specs.Decoders as decoders;
 
     ghost Value = { decoders.Decoder };
@@ -39,7 +42,8 @@ impl Model for Decoder {
     ghost view = { λ a. record { bits = a.bits; signed = a.signed; scale = a.scale; unit = a.unit; entries = a.entries } };
 
     ghost invariant = { λ a. decoders.IsDecoder (record { bits = a.bits; signed = a.signed; scale = a.scale; unit = a.unit; entries = a.entries })
-        × (a.unit_text ≡ decoders.unit_text a.unit) × decoders.AreNames a.entries a.names.items };
+        × (a.unit_text ≡ decoders.unit_text a.unit) × decoders.AreNames a.entries a.names.items
+        × IfSome a.places (λ places. decoders.IsEntryIndex places a.entries) };
 }
 
 impl Decoder {
@@ -57,6 +61,7 @@ impl Decoder {
     {
         let unit_text = ready_unit(alloc, unit.as_bytes())?;
         let names = ready_names(alloc, entries.as_slice())?;
+        let places = places_of_many(alloc, entries.as_slice())?;
         Ok(Decoder {
             bits,
             signed,
@@ -65,6 +70,7 @@ impl Decoder {
             entries,
             unit_text,
             names,
+            places,
         })
     }
 
@@ -84,6 +90,13 @@ impl Decoder {
         };
         let name = self.names.as_slice().get(place)?;
         Some(name.as_ref())
+    }
+
+    /// The first entry for a raw value. It is found in time with the logarithm of how many entries there are.
+    pub fn entry(&self, raw: i128) -> Option<&Entry>
+        ensures { option_map (λ entry. entry.now) result ≡ first_entry raw self.now.entries }
+    {
+        entry_of(&self.places, self.entries.as_slice(), raw)
     }
 
     /// The raw value in data: in two's complement where the signal is signed. Bits behind the end of the data are 0.

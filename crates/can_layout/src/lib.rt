@@ -8,6 +8,7 @@ mod above;
 mod asking;
 mod decoder;
 mod drawing;
+mod entries;
 pub mod laws;
 mod legend;
 mod link;

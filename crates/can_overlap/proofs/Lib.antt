@@ -1,7 +1,9 @@
 pub mod Cleared
-pub mod Found
+pub mod Entered
+pub mod Gone
 pub mod Marks
 pub mod Meeting
+pub mod Ordered
 pub mod Reach
 pub mod Skips
 pub mod Words

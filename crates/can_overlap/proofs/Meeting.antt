@@ -8,7 +8,7 @@ use Rattle.can_bits.specs.declared.field.Field.{Field}
 use Rattle.can_bits.specs.Bits.{position_of, has_position}
 use Rattle.can_layout.specs.Links.{Link}
 use Rattle.can_layout.specs.declared.walk.Walk.{Walk}
-use Rattle.can_layout.specs.declared.walk.Walk.TheVariants.{Chain, Absent, Loop}
+use Rattle.can_layout.specs.declared.walk.Walk.TheVariants.{Chain, Loop}
 use Rattle.can_overlap.specs.declared.pair.Pair.{Pair}
 use Rattle.can_overlap.specs.declared.places.Places.{Places}
 use Rattle.can_overlap.specs.Places.{has}
@@ -52,6 +52,13 @@ module _ (first : ℕ) (chain : List Link) (words : List ℕ) (from : ℕ) (late
   pub all_met : (n : ℕ) → length later ≤ n → take n (enumerate_from from later) ≡ enumerate_from from later
   all_met n h = let e : length (enumerate_from from later) ≡ length later = length-enumerate_from from later in take_all n (enumerate_from from later) (omega arith)
 
+  -- no place of the set is behind
+  pub none_behind : (found : List Pair) (next : ℕ) → from + length later ≤ next → ((place : ℕ) → from ≤ place → place < next → has words place ≡ false)
+      → found ≡ found ++ met_pairs first chain words from later
+  none_behind found next behind nothing =
+      none_met found (length later) (0, Loop) (λ k low high. nothing (from + k) (omega arith) (omega arith))
+      ∙ ap (λ ys. found ++ flat_map (met_pair first chain words) ys) (all_met (length later) (omega arith))
+
 -- ---- the same as the pairs that are defined
 
 pub chained : (a : Laid) (chain : List Link) → a.walk ≡ Chain chain → (words : List ℕ) (from : ℕ) (fields : List Field) (walks : List Walk) → length walks ≡ length fields
@@ -76,11 +83,6 @@ unchained a never (b ∷ later) =
     ap (λ c. pair_where (share a.field b.field && c) a.place b.place ++ flat_map (pair_of a) later) (never b.walk)
     ∙ ap (λ c. pair_where c a.place b.place ++ flat_map (pair_of a) later) (and-false (share a.field b.field))
     ∙ unchained a never later
-
-pub never_together : (a b : Walk) → ((links : List Link) → a ≡ Chain links → ⊥) → together a b ≡ false
-never_together (Chain links) b other = absurd (other links refl)
-never_together (Absent own) b other = refl
-never_together Loop b other = refl
 
 -- ---- what the rows say of a signal
 

@@ -1,4 +1,5 @@
-pub mod Chains
 pub mod Occupancy
+pub mod Ordered
 pub mod Overlaps
 pub mod Places
+pub mod Ways

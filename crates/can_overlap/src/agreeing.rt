@@ -38,7 +38,8 @@ pub(crate) fn agrees_with(chain: &[Link], link: &Link) -> bool
     chain.iter().all(|x| agree(x, link))
 }
 
-fn all_agree(a: &[Link], b: &[Link]) -> bool
+/// Whether each link of a chain agrees with each of another.
+pub(crate) fn all_agree(a: &[Link], b: &[Link]) -> bool
     ensures { result ≡ all_agree a.now b.now }
 {
     b.iter().all(|y| agrees_with(a, y))

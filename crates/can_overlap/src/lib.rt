@@ -5,14 +5,17 @@
 #![tactic(auto)]
 
 mod agreeing;
-mod chain;
+mod beside;
 mod occupancy;
 mod pair;
 mod pairing;
 mod places;
+mod ranges;
 mod table;
 #[cfg(test)]
 mod tests;
+mod tidy;
+mod ways;
 
 pub use agreeing::together;
 pub use occupancy::{Occupancy, overlaps};

@@ -1,52 +1,56 @@
 //! The pairs of signals that overlap, where a table has their positions.
-ghost use Rattle.std.specs.Prelude.{◌≡◌, ◌+◌, ◌≤◌, ◌<◌, ◌++◌, length, drop, IfOk, OnOk, All, slice_index_or};
+ghost use Rattle.std.specs.Prelude.{◌≡◌, Some, ◌+◌, ◌≤◌, ◌<◌, ◌++◌, length, drop, IfOk, OnOk, All, slice_get};
 ghost use Rattle.std.specs.List.{flat_map};
 ghost use Rattle.can_bits.specs.declared.field.Field.{Field as PlainField};
 ghost use Rattle.can_layout.specs.declared.walk.Walk.{Walk as PlainWalk};
-ghost use Rattle.can_layout.specs.declared.walk.Walk.TheVariants as walks;
-ghost use Rattle.can_overlap.specs.Overlaps.{together, laid_from, pair_of, pair_where, overlapping};
+ghost use Rattle.can_layout.specs.declared.walk.Walk.TheVariants.{Chain};
+ghost use Rattle.can_overlap.specs.Overlaps.{laid_from, pair_of, pair_where, overlapping};
 ghost use Rattle.can_overlap.specs.Occupancy.{laid_at, met_pairs, reach, IsOccupancy};
+ghost use Rattle.can_overlap.specs.Ways.{goes_at, AreNoted};
 
-use crate::chain::{Chain, enter_all};
+use crate::beside::{Beside, goes_with, none_noted};
 use crate::pair::Pair;
 use crate::places::Places;
 use crate::table::met_by;
+use crate::ways::Ways;
 use can_layout::{Field, Link, Walk};
 use dbc_values::Memory;
 use std::alloc::Global;
 
 fn push_pair(
     found: &mut Vec<Pair>,
-    chain: &Chain<'_>,
+    beside: &Beside<'_>,
+    noted: &mut [Option<bool>],
     first: usize,
-    walk: &Walk,
     second: usize,
 ) -> Result<(), Memory>
-    ensures { OnOk result (found.new.items ≡ found.old.items ++ pair_where (together (walks.Chain chain.now) walk.now) first second) }
+    requires { AreNoted beside.now noted.old }
+    ensures found { OnOk result (found.new.items ≡ found.old.items ++ pair_where (goes_at beside.now.links beside.now.walks second) first second) }
+    ensures noted { AreNoted beside.now noted.new }
 {
-    if chain.goes_with(walk) {
+    if goes_with(beside, noted, second) {
         found.push(Pair { first, second })?;
     }
     Ok(())
 }
 
-// Adds the pairs of a signal with later ones. `met` has the places of the signals that have a bit in common with it; the later ones
-// stand from `from` on and have these ways up.
+// Adds the pairs of a signal with later ones. `met` has the places of the signals that have a bit in common with it.
 fn push_met(
     found: &mut Vec<Pair>,
-    chain: &Chain<'_>,
+    beside: &Beside<'_>,
+    noted: &mut [Option<bool>],
     first: usize,
-    later: &[Walk],
     met: &Places,
-    from: usize,
 ) -> Result<(), Memory>
-    requires few { from + length later.now ≤ 999 }
-    ensures { OnOk result (found.new.items ≡ found.old.items ++ met_pairs first chain.now met.now.words from later.now) }
+    requires place { first < length beside.now.walks }
+    requires few { length beside.now.walks ≤ 999 }
+    requires noted { AreNoted beside.now noted.old }
+    ensures { OnOk result (found.new.items ≡ found.old.items ++ met_pairs first beside.now.links met.now.words (first + 1) (drop (first + 1) beside.now.walks)) }
 {
-    let end = from + later.len();
-    let mut next = met.next_from(from);
+    let end = beside.count();
+    let mut next = met.next_from(first + 1);
     while next < end {
-        push_pair(found, chain, first, &later[next - from], next)?;
+        push_pair(found, beside, noted, first, next)?;
         next = met.next_from(next + 1);
     }
     Ok(())
@@ -55,20 +59,23 @@ fn push_met(
 // Adds the pairs of the signal at a place, which has this chain, with the later ones.
 fn push_chained(
     found: &mut Vec<Pair>,
+    ways: &Ways<'_>,
     links: &[Link],
-    places: &mut [usize],
-    walks: &[Walk],
     met: &Places,
     first: usize,
 ) -> Result<(), Memory>
-    requires place { first < length walks.now }
-    requires few { length walks.now ≤ 999 }
-    ensures { OnOk result (found.new.items ≡ found.old.items ++ met_pairs first links.now met.now.words (first + 1) (drop (first + 1) walks.now)) }
+    requires place { first < length ways.now.walks }
+    requires few { length ways.now.walks ≤ 999 }
+    requires chain { slice_get ways.now.walks first ≡ Some (Chain links.now) }
+    ensures { OnOk result (found.new.items ≡ found.old.items ++ met_pairs first links.now met.now.words (first + 1) (drop (first + 1) ways.now.walks)) }
 {
-    enter_all(places, links);
-    let chain = Chain::of(links, places);
-    let (_, later) = walks.split_at(first + 1);
-    push_met(found, &chain, first, later, met, first + 1)?;
+    if met.next_from(first + 1) >= ways.count() {
+        return Ok(());
+    }
+    let alloc = *found.allocator();
+    let beside = Beside::of(alloc, ways, links, first)?;
+    let mut noted = none_noted(alloc, &beside)?;
+    push_met(found, &beside, &mut noted, first, met)?;
     Ok(())
 }
 
@@ -76,25 +83,24 @@ fn push_chained(
 fn push_pairs(
     found: &mut Vec<Pair>,
     rows: &[Places],
-    places: &mut [usize],
     fields: &[Field],
-    walks: &[Walk],
+    ways: &Ways<'_>,
     first: usize,
 ) -> Result<(), Memory>
     requires place { first < length fields.now }
-    requires lengths { length walks.now ≡ length fields.now }
+    requires lengths { length ways.now.walks ≡ length fields.now }
     requires few { length fields.now ≤ 999 }
     requires marked { IsOccupancy fields.now rows.now }
     requires room { All (λ field. reach field ≤ length rows.now) fields.now }
-    ensures { (field : PlainField) (walk : PlainWalk) → OnOk result (found.new.items ≡ found.old.items ++ flat_map (pair_of (laid_at fields.now walks.now first field walk)) (laid_from (first + 1) (drop (first + 1) fields.now) (drop (first + 1) walks.now))) }
+    ensures { (field : PlainField) (walk : PlainWalk) → OnOk result (found.new.items ≡ found.old.items ++ flat_map (pair_of (laid_at fields.now ways.now.walks first field walk)) (laid_from (first + 1) (drop (first + 1) fields.now) (drop (first + 1) ways.now.walks))) }
 {
-    match &walks[first] {
-        Walk::Chain(links) => {
+    match ways.chain_at(first) {
+        Some(links) => {
             let met = met_by(rows, fields[first]);
-            push_chained(found, links.as_slice(), places, walks, &met, first)?;
+            push_chained(found, ways, links, &met, first)?;
             Ok(())
         }
-        _ => Ok(()),
+        None => Ok(()),
     }
 }
 
@@ -111,10 +117,10 @@ pub(crate) fn pairs_in(
     requires room { All (λ field. reach field ≤ length rows.now) fields.now }
     ensures { IfOk result (λ pairs. pairs.items ≡ overlapping fields.now walks.now) }
 {
-    let mut places = vec![in alloc; 0; fields.len()]?;
+    let ways = Ways::of(alloc, walks)?;
     let mut found = Vec::new(alloc);
     for first in 0..fields.len() {
-        push_pairs(&mut found, rows, &mut places, fields, walks, first)?;
+        push_pairs(&mut found, rows, fields, &ways, first)?;
     }
     Ok(found)
 }

@@ -3,6 +3,7 @@ use crate::agreeing::together;
 use crate::occupancy::{Occupancy, overlaps};
 use crate::pair::Pair;
 use crate::places::Places;
+use crate::ranges::{in_order, meet};
 use crate::table::{empty, grow, mark_all};
 use can_layout::{Field, Link, Walk};
 use dbc_records::Range;
@@ -91,5 +92,73 @@ fn ways_up(rt: HostRuntime) -> Result<(), Fail> {
     assert!(rt; !together(&zero, &one));
     assert!(rt; together(&zero, &there(rt.alloc())));
     assert!(rt; !together(&zero, &Walk::Loop));
+    Ok(())
+}
+
+// The link below a switch of a chain. That below the one at place 2 has the numbers from 7 to `last`, between ranges that have none.
+fn link_below(alloc: Global, switch: usize, last: u64) -> Result<Link, Memory> {
+    let mut ranges = List::new(alloc);
+    ranges.push(Range { first: 9, last: 0 })?;
+    let last = if switch == 2 { last } else { 7 };
+    ranges.push(Range { first: 7, last })?;
+    Ok(Link { switch, ranges })
+}
+
+// The way up from the signal at a place, where each is under the one before.
+fn way_of(alloc: Global, place: usize, last: u64) -> Result<Walk, Memory> {
+    let mut links = List::new(alloc);
+    for switch in (0..place).rev() {
+        links.push(link_below(alloc, switch, last)?)?;
+    }
+    Ok(Walk::Chain(links))
+}
+
+// How many pairs are found among five signals on one bit, each under the one before.
+fn pairs_on_a_chain(alloc: Global, last: u64) -> Result<usize, Memory> {
+    let mut occupancy = Occupancy::new(alloc);
+    let fields = [
+        intel(0, 8),
+        intel(0, 8),
+        intel(0, 8),
+        intel(0, 8),
+        intel(0, 8),
+    ];
+    let walks = [
+        way_of(alloc, 0, last)?,
+        way_of(alloc, 1, last)?,
+        way_of(alloc, 2, last)?,
+        way_of(alloc, 3, last)?,
+        way_of(alloc, 4, last)?,
+    ];
+    let found = overlaps(alloc, &mut occupancy, &fields, &walks)?;
+    Ok(found.len())
+}
+
+#[test]
+fn on_a_chain(rt: HostRuntime) -> Result<(), Fail> {
+    let all = pairs_on_a_chain(rt.alloc(), 7)?;
+    assert_eq!(rt; all, 10);
+    let without = pairs_on_a_chain(rt.alloc(), 6)?;
+    assert_eq!(rt; without, 9);
+    Ok(())
+}
+
+fn do_meet(alloc: Global, these: &[Range], those: &[Range]) -> Result<bool, Memory> {
+    let these = in_order(alloc, these)?;
+    let those = in_order(alloc, those)?;
+    Ok(meet(&these, &those))
+}
+
+#[test]
+fn ranges_in_any_order(rt: HostRuntime) -> Result<(), Fail> {
+    let these = [
+        Range { first: 7, last: 9 },
+        Range { first: 4, last: 3 },
+        Range { first: 0, last: 2 },
+    ];
+    let touching = do_meet(rt.alloc(), &these, &[Range { first: 2, last: 6 }])?;
+    assert!(rt; touching);
+    let between = do_meet(rt.alloc(), &these, &[Range { first: 3, last: 6 }])?;
+    assert!(rt; !between);
     Ok(())
 }

@@ -1,15 +1,17 @@
-use Rattle.std.proofs.Common.{◌≡◌, ◌-◌, ◌<◌, ◌≤◌, ◌++◌, take, true}
+use Rattle.std.proofs.Common.{◌≡◌, ◌+◌, ◌-◌, ◌<◌, ◌≤◌, ◌++◌, take, drop, true}
 use Rattle.std.specs.List.{flat_map, enumerate_from}
 use Rattle.can_overlap.specs.Places.{has}
 use Rattle.can_overlap.specs.Occupancy.{met_pair}
+use Rattle.can_overlap.specs.Ways.{AreNoted}
 use Rattle.can_overlap.proofs.pairing.push_met.Given as goal
 
 -- the later signals before `next` are done, and `next` is met
 abbrev pub invariant-loop-next : goal.invariant-loop-next
 invariant-loop-next l = record {
-  forward : l.from ≤ l.next;
+  forward : l.first + 1 ≤ l.next;
   met : l.next < 1024 → has l.met.words l.next ≡ true;
-  done : l.found.items ≡ l.fn.found.items ++ flat_map (met_pair l.first l.chain l.met.words) (take (l.next - l.from) (enumerate_from l.from l.later));
+  noted : AreNoted l.beside l.noted;
+  done : l.found.items ≡ l.fn.found.items ++ flat_map (met_pair l.first l.beside.links l.met.words) (take (l.next - (l.first + 1)) (enumerate_from (l.first + 1) (drop (l.first + 1) l.beside.walks)));
 }
 
 abbrev pub decreases-loop-next : goal.decreases-loop-next

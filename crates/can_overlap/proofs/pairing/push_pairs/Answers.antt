@@ -1,23 +1,23 @@
 use Rattle.std.proofs.Common.{append-nil, ◌≡◌, ℕ, ◌+◌, ◌-◌, ◌<◌, List, ◌++◌, length, get_or, drop, length-drop, false, arith, ap, sym, ◌∙◌}
 use Rattle.std.proofs.lemmas.List.{get_or_default, get_or-drop}
 use Rattle.can_bits.specs.declared.field.Field.{Field}
-use Rattle.can_layout.specs.Links.{Link}
 use Rattle.can_layout.specs.declared.walk.Walk.{Walk}
 use Rattle.can_layout.specs.declared.walk.Walk.TheVariants.{Chain}
 use Rattle.can_overlap.specs.declared.pair.Pair.{Pair}
 use Rattle.can_overlap.specs.Places.{has}
 use Rattle.can_overlap.specs.Overlaps.{laid_from, share, together}
-use Rattle.can_overlap.specs.Occupancy.{laid_at, met_pairs}
-use Rattle.can_overlap.proofs.Meeting.{chained, unchained, never_together, share_from_marks}
+use Rattle.can_overlap.specs.Occupancy.{laid_at}
+use Rattle.can_overlap.proofs.Gone.{chain_there, never_there}
+use Rattle.can_overlap.proofs.Meeting.{chained, unchained, share_from_marks}
 use Rattle.can_overlap.proofs.pairing.push_pairs.Goals as goal
 
-pub returns-in_ok-push_chained-in-Chain : goal.returns-in_ok-push_chained-in-Chain
-returns-in_ok-push_chained-in-Chain c = λ field walk.
+pub returns-in_ok-push_chained-in-Some : goal.returns-in_ok-push_chained-in-Some
+returns-in_ok-push_chained-in-Some c = λ field walk.
     let fields : List Field = c.args.fields.now in
-    let walks : List Walk = c.args.walks.now in
+    let walks : List Walk = c.args.ways.now.walks in
     let first : ℕ = c.args.first in
     let inside : first < length walks = omega (arith, c.requires.place, c.requires.lengths) in
-    let is : get_or walks first walk ≡ Chain c.in-Chain.links = get_or_default walks first walk c.index-walks-first.result inside ∙ sym c.index-walks-first.is ∙ c.in-Chain.is in
+    let is : get_or walks first walk ≡ Chain c.in-Some.links.now = chain_there walks first walk c.in-Some.links.now inside c.in-Some.ensures in
     let left : length (drop (first + 1) fields) ≡ length fields - (first + 1) = length-drop (first + 1) fields in
     let lengths : length (drop (first + 1) walks) ≡ length (drop (first + 1) fields) = length-drop (first + 1) walks ∙ ap (λ (n : ℕ). n - (first + 1)) c.requires.lengths ∙ sym left in
     let shares : (k : ℕ) (d : Field) → k < length (drop (first + 1) fields) → has c.met_by-met.result.words (first + 1 + k) ≡ share (get_or fields first field) (get_or (drop (first + 1) fields) k d) =
@@ -27,17 +27,15 @@ returns-in_ok-push_chained-in-Chain c = λ field walk.
     ∙ share_from_marks fields c.args.rows.now _ (first + 1 + k) d c.requires.marked there
     ∙ ap (λ f. share f (get_or fields (first + 1 + k) d)) (get_or_default fields first _ field c.requires.place)
     ∙ ap (share (get_or fields first field)) (sym (get_or-drop (first + 1) fields k d))) in
-    c.in_ok-push_chained-in-Chain.ensures
-    ∙ ap (λ (links : List Link). c.args.found.now.items ++ met_pairs first links c.met_by-met.result.words (first + 1) (drop (first + 1) walks)) c.as_slice.ensures.value
-    ∙ ap (λ (pairs : List Pair). c.args.found.now.items ++ pairs) (chained (laid_at fields walks first field walk) c.in-Chain.links is c.met_by-met.result.words (first + 1) (drop (first + 1) fields) (drop (first + 1) walks) lengths shares)
+    c.in_ok-push_chained-in-Some.ensures
+    ∙ ap (λ (pairs : List Pair). c.args.found.now.items ++ pairs) (chained (laid_at fields walks first field walk) c.in-Some.links.now is c.met_by-met.result.words (first + 1) (drop (first + 1) fields) (drop (first + 1) walks) lengths shares)
 
-pub returns-in_default : goal.returns-in_default
-returns-in_default c = λ field walk.
+pub returns-in-None : goal.returns-in-None
+returns-in-None c = λ field walk.
     let fields : List Field = c.args.fields.now in
-    let walks : List Walk = c.args.walks.now in
+    let walks : List Walk = c.args.ways.now.walks in
     let first : ℕ = c.args.first in
     let inside : first < length walks = omega (arith, c.requires.place, c.requires.lengths) in
-    let is : get_or walks first walk ≡ c.index-walks-first.result = get_or_default walks first walk c.index-walks-first.result inside ∙ sym c.index-walks-first.is in
-    let never : (other : Walk) → together (get_or walks first walk) other ≡ false = λ other. ap (λ w. together w other) is ∙ never_together c.index-walks-first.result other c.in_default.not-Chain in
+    let never : (other : Walk) → together (get_or walks first walk) other ≡ false = λ other. never_there walks first walk other inside c.in-None.ensures in
     sym (ap (λ (pairs : List Pair). c.args.found.now.items ++ pairs) (unchained (laid_at fields walks first field walk) never (laid_from (first + 1) (drop (first + 1) fields) (drop (first + 1) walks)))
     ∙ append-nil c.args.found.now.items)

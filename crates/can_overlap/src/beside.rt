@@ -1,0 +1,183 @@
+//! One chain beside the ways of its message.
+ghost use Rattle.std.specs.Prelude.{◌≡◌, ℕ, Some, None, IsTrue, IfOk, length, slice_get};
+ghost use Rattle.std.specs.Option.{option_map};
+ghost use Rattle.can_layout.specs.declared.walk.Walk.TheVariants.{Chain};
+ghost use Rattle.can_overlap.specs.Overlaps.{agrees_with};
+ghost use Rattle.can_overlap.specs.Ways.{of_switch, noted_if, goes_at, AreEntered, AreNoted};
+
+use crate::agreeing::{agrees_with, all_agree};
+use crate::tidy::Tidy;
+use crate::ways::Ways;
+use can_layout::Link;
+use dbc_values::Memory;
+use std::alloc::Global;
+use std::marker::Model;
+
+/// A chain beside the ways of its message, with a table of its links by their switches. The table serves where each switch stands
+/// once and each link is kept.
+#[derive(Drop)]
+pub(crate) struct Beside<'a> {
+    ways: &'a Ways<'a>,
+    links: &'a [Link],
+    owners: Vec<usize>,
+    entered: bool,
+}
+
+impl<'a> Model for Beside<'a> {
+    ghost use Rattle.std.specs.Prelude.{IsTrue};
+    ghost use Rattle.can_overlap.specs.Ways.{Beside as Plain, AreEntered};
+
+    ghost Value = { Plain };
+
+    ghost view = { λ beside. record { links = beside.links.now; walks = beside.ways.now.walks } };
+
+    ghost invariant = { λ beside. IsTrue beside.entered → AreEntered beside.ways.now.own beside.owners.items beside.links.now };
+}
+
+fn owner_at(owners: &[usize], switch: usize) -> Option<usize>
+    ensures { result ≡ slice_get owners.now switch }
+{
+    owners.get(switch).copied()
+}
+
+// The link of a switch.
+fn of_switch<'b, 'a>(ways: &'b Ways<'a>, owners: &[usize], switch: usize) -> Option<&'b Tidy<'a>>
+    ensures { option_map (λ tidy. tidy.now) result ≡ of_switch ways.now.own owners.now switch }
+{
+    match owner_at(owners, switch) {
+        Some(owner) => ways.own_at(owner),
+        None => None,
+    }
+}
+
+fn is_free(ways: &Ways<'_>, owners: &[usize], switch: usize) -> bool
+    ensures { IsTrue result → of_switch ways.now.own owners.now switch ≡ None }
+{
+    of_switch(ways, owners, switch).is_none()
+}
+
+// Enters the links of the way at a place into an empty table. It is false where a link isn't kept or a switch stands twice.
+fn enter_all(ways: &Ways<'_>, owners: &mut [usize], links: &[Link], place: usize) -> bool
+    requires empty { (switch : ℕ) → of_switch ways.now.own owners.old switch ≡ None }
+    requires chain { slice_get ways.now.walks place ≡ Some (Chain links.now) }
+    ensures { IsTrue result → AreEntered ways.now.own owners.new links.now }
+{
+    let mut owner = place;
+    for _passed in 0..links.len() {
+        let Some(own) = ways.own_at(owner) else {
+            return false;
+        };
+        let switch = own.switch();
+        if switch >= owners.len() || !is_free(ways, owners, switch) {
+            return false;
+        }
+        owners[switch] = owner;
+        owner = switch;
+    }
+    true
+}
+
+// A table with no entry.
+fn none_entered(alloc: Global, ways: &Ways<'_>, count: usize) -> Result<Vec<usize>, Memory>
+    ensures { IfOk result (λ owners. (switch : ℕ) → of_switch ways.now.own owners.items switch ≡ None) }
+{
+    let owners = vec![in alloc; ways.nowhere(); count]?;
+    Ok(owners)
+}
+
+impl<'a> Beside<'a> {
+    /// The chain of the signal at a place.
+    pub(crate) fn of(
+        alloc: Global,
+        ways: &'a Ways<'a>,
+        links: &'a [Link],
+        place: usize,
+    ) -> Result<Beside<'a>, Memory>
+        requires { slice_get ways.now.walks place ≡ Some (Chain links.now) }
+        ensures { IfOk result (λ beside. beside ≡ record { links = links.now; walks = ways.now.walks }) }
+    {
+        let mut owners = none_entered(alloc, ways, ways.count())?;
+        let entered = enter_all(ways, &mut owners, links, place);
+        Ok(Beside {
+            ways,
+            links,
+            owners,
+            entered,
+        })
+    }
+
+    /// How many ways there are.
+    pub(crate) fn count(&self) -> usize
+        ensures { result ≡ length self.now.walks }
+    {
+        self.ways.count()
+    }
+
+    // Whether a link agrees with each of the chain.
+    fn agrees(&self, link: &Tidy<'_>) -> bool
+        ensures { result ≡ agrees_with self.now.links link.now }
+    {
+        if self.entered {
+            match of_switch(self.ways, &self.owners, link.switch()) {
+                Some(there) => there.agrees(link),
+                None => true,
+            }
+        } else {
+            agrees_with(self.links, link.link())
+        }
+    }
+
+    // Compares each link with each.
+    fn goes_slowly(&self, place: usize) -> bool
+        ensures { result ≡ goes_at self.now.links self.now.walks place }
+    {
+        match self.ways.chain_at(place) {
+            Some(links) => all_agree(self.links, links),
+            None => false,
+        }
+    }
+}
+
+/// Nothing is noted of any way.
+pub(crate) fn none_noted(alloc: Global, beside: &Beside<'_>) -> Result<Vec<Option<bool>>, Memory>
+    ensures { IfOk result (λ noted. AreNoted beside.now noted.items) }
+{
+    let noted = vec![in alloc; None; beside.count()]?;
+    Ok(noted)
+}
+
+fn noted_at(noted: &[Option<bool>], place: usize) -> Option<bool>
+    ensures { result ≡ noted_if (slice_get noted.now place) }
+{
+    match noted.get(place) {
+        Some(noted) => *noted,
+        None => None,
+    }
+}
+
+fn note(noted: &mut [Option<bool>], beside: &Beside<'_>, place: usize, goes: bool)
+    requires noted { AreNoted beside.now noted.old }
+    requires goes { goes ≡ goes_at beside.now.links beside.now.walks place }
+    ensures { AreNoted beside.now noted.new }
+{
+    if place < noted.len() {
+        noted[place] = Some(goes);
+    }
+}
+
+/// Whether a signal with that chain and the one at a place can be there together. What is found on the way up is noted.
+pub(crate) fn goes_with(beside: &Beside<'_>, noted: &mut [Option<bool>], place: usize) -> bool
+    requires { AreNoted beside.now noted.old }
+    ensures goes { result ≡ goes_at beside.now.links beside.now.walks place }
+    ensures noted { AreNoted beside.now noted.new }
+{
+    if let Some(goes) = noted_at(noted, place) {
+        return goes;
+    }
+    let goes = match beside.ways.own_at(place) {
+        Some(own) => beside.agrees(own) && goes_with(beside, noted, own.switch()),
+        None => beside.goes_slowly(place),
+    };
+    note(noted, beside, place, goes);
+    goes
+}
