@@ -8,7 +8,7 @@ ghost use Rattle.can_decode.specs.DecodedLines.{is_refused};
 pub enum Short {
     /// That its data has the wrong size.
     Refuse,
-    /// The signals of which all bits are in the data.
+    /// The signals that are there and have all their bits in the data.
     Show,
 }
 
