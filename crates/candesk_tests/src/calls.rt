@@ -2,7 +2,9 @@
 //! databases and logs.
 
 use byte_devices::limp::Limp;
-use candesk_calls::{Command, Job, Keep, NoJob, Verdict, check_run, refuse, refuse_file, run, status};
+use candesk_calls::{
+    Command, Job, Keep, NoJob, Verdict, check_run, refuse, refuse_file, run, status,
+};
 use std::alloc::{AllocError, Global};
 use std::test::Fail;
 

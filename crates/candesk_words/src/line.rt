@@ -69,11 +69,7 @@ fn on_frames<'a>(
 
 // `session`, which takes `--keep` too.
 #[tactic(auto, unfolding(crate::specs::Words::on_session))]
-fn on_session<'a>(
-    alloc: Global,
-    about: &'a str,
-    notes: &'a str,
-) -> Result<Command<'a>, AllocError>
+fn on_session<'a>(alloc: Global, about: &'a str, notes: &'a str) -> Result<Command<'a>, AllocError>
     ensures app { IfOk result (λ command. app_of command ≡ on_session) }
     ensures local { IfOk result (λ command. (out-Command command).has_globals ≡ false) }
 {
