@@ -11,7 +11,7 @@ mod sessions;
 mod showing;
 
 use crate::calls::call_with_database;
-use crate::sessions::call_with_session;
+use crate::sessions::{Asked, call_with_session};
 use byte_devices::{FromRead, FromWrite, Sink, Source};
 use std::alloc::Global;
 use std::io::Read;
@@ -37,23 +37,21 @@ fn input_of(rt: &HostRuntime) -> Option<Vec<u8>> {
 fn call<R: Source, W: Sink>(
     alloc: Global,
     word: &str,
-    text: &[u8],
-    input: &[u8],
+    asked: Asked<'_>,
     source: &mut R,
     sink: &mut W,
 ) {
     match word {
         "read" => {
-            call_with_database(alloc, word, text, input, sink);
-            call_with_database(alloc, word, text, input, sink);
+            call_with_database(alloc, word, asked.text, asked.input, sink);
+            call_with_database(alloc, word, asked.text, asked.input, sink);
         }
         "open" => {
-            call_with_session(alloc, false, text, input, source, sink);
-            call_with_session(alloc, false, text, input, source, sink);
+            call_with_session(alloc, asked, source, sink);
+            call_with_session(alloc, asked, source, sink);
         }
-        "session" => call_with_session(alloc, false, text, input, source, sink),
-        "serve" => call_with_session(alloc, true, text, input, source, sink),
-        _ => call_with_database(alloc, word, text, input, sink),
+        "session" | "kept" | "serve" => call_with_session(alloc, asked, source, sink),
+        _ => call_with_database(alloc, word, asked.text, asked.input, sink),
     }
 }
 
@@ -66,14 +64,13 @@ fn work(rt: &HostRuntime, word: &str, text: &[u8]) -> Option<()> {
     };
     let mut source = FromRead::new(rt.stdin());
     let mut sink = FromWrite::new(rt.stdout());
-    call(
-        rt.alloc(),
-        word,
+    let asked = Asked {
         text,
-        input.as_slice(),
-        &mut source,
-        &mut sink,
-    );
+        input: input.as_slice(),
+        serves: word == "serve",
+        bounded: word == "kept",
+    };
+    call(rt.alloc(), word, asked, &mut source, &mut sink);
     Some(())
 }
 

@@ -3,7 +3,8 @@
 use crate::saying::{begin, end, say};
 use crate::showing::show_session;
 use byte_devices::{Sink, Source};
-use can_session::{Refusal, Session};
+use can_session::{Keep, LineCount, Options, Refusal, Session, Short};
+use dbc_tokens::ReadFault;
 use script_commands::{Command, command_of};
 use session_script::serve;
 use std::alloc::Global;
@@ -63,20 +64,51 @@ fn serve_script<R: Source, W: Sink>(
     show_session(sink, session);
 }
 
+/// What is asked for in a session.
+#[derive(Clone, Copy)]
+pub(crate) struct Asked<'a> {
+    /// The database text that it is opened on.
+    pub text: &'a [u8],
+    /// The commands, a line each, where no script is served.
+    pub input: &'a [u8],
+    /// Whether the script that the source gives is served.
+    pub serves: bool,
+    /// Whether only the last two lines are retained.
+    pub bounded: bool,
+}
+
 fn call_in<R: Source, W: Sink>(
     alloc: Global,
-    serves: bool,
     session: &mut Session,
-    input: &[u8],
+    asked: Asked<'_>,
     source: &mut R,
     sink: &mut W,
 ) {
     say(sink, "ok");
     show_session(sink, session);
-    if serves {
+    if asked.serves {
         serve_script(alloc, session, source, sink);
-    } else if !input.is_empty() {
-        do_lines(alloc, session, input, sink);
+    } else if !asked.input.is_empty() {
+        do_lines(alloc, session, asked.input, sink);
+    }
+}
+
+fn last_two() -> Keep {
+    match LineCount::new(2) {
+        Some(count) => Keep::Last(count),
+        None => Keep::All,
+    }
+}
+
+fn opened(alloc: Global, asked: Asked<'_>) -> Result<Session, ReadFault> {
+    if asked.bounded {
+        let options = Options {
+            short: Short::Refuse,
+            keep: last_two(),
+        };
+        Session::open_with(alloc, asked.text, options)
+    } else {
+        Session::open(alloc, asked.text)
     }
 }
 
@@ -84,17 +116,15 @@ fn call_in<R: Source, W: Sink>(
 /// owner of a session: each costs a proof of its own.)
 pub(crate) fn call_with_session<R: Source, W: Sink>(
     alloc: Global,
-    serves: bool,
-    text: &[u8],
-    input: &[u8],
+    asked: Asked<'_>,
     source: &mut R,
     sink: &mut W,
 ) {
     begin(sink);
-    let opened = Session::open(alloc, text);
+    let opened = opened(alloc, asked);
     end(sink);
     match opened {
-        Ok(mut session) => call_in(alloc, serves, &mut session, input, source, sink),
+        Ok(mut session) => call_in(alloc, &mut session, asked, source, sink),
         Err(fault) => say(sink, fault),
     }
 }
