@@ -12,6 +12,7 @@ complete -c candesk -n "not __fish_seen_subcommand_from $commands" -a session -d
 complete -c candesk -n "not __fish_seen_subcommand_from $commands" -a help -d 'The help of a command'
 complete -c candesk -n "__fish_seen_subcommand_from help" -a 'check decode dump print session'
 complete -c candesk -n "__fish_seen_subcommand_from check dump print decode session" -s h -l help -d 'Print help'
-complete -c candesk -n "__fish_seen_subcommand_from check dump print decode session" -a "(__fish_complete_suffix .dbc | string match -r '.*(?:\.dbc|/)(?:\t.*)?\$')"
+complete -c candesk -n "__fish_seen_subcommand_from check dump print decode session" \
+    -a "(__fish_complete_suffix .dbc | string match -r '.*(?:\.dbc|/)(?:\t.*)?\$')"
 complete -c candesk -n "__fish_seen_subcommand_from decode session" -l short -d 'Show what is there of short frames'
 complete -c candesk -n "__fish_seen_subcommand_from session" -l keep -x -d 'Retain the last N lines'

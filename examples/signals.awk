@@ -2,7 +2,7 @@
 #
 #     candesk decode FILE < LOG | awk -f signals.awk
 #
-# A value keeps its exact text; a named value, or ?long and its kin, stands as it is shown. (A name of a value that has a comma and a
+# A value keeps its exact text; a named value, or ?long and its kin, stands as it is shown. (A named value that has a comma and a
 # blank in it is cut there: such a text can't be told from two signals.)
 
 function quoted(text) {
