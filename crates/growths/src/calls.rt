@@ -11,6 +11,22 @@ use can_layout::{Meter, Plan, make_plan, make_plans, picture};
 use dbc_reader::read;
 use dbc_records::Database;
 use std::alloc::Global;
+use std::fmt::Display;
+
+// The call has ended: says its answer, and hands on what it made.
+fn told<T: Drop, E: Display + Drop, W: Sink>(sink: &mut W, answer: Result<T, E>) -> Option<T> {
+    end(sink);
+    match answer {
+        Ok(made) => {
+            say(sink, "ok");
+            Some(made)
+        }
+        Err(fault) => {
+            say(sink, fault);
+            None
+        }
+    }
+}
 
 fn call_plan<W: Sink>(alloc: Global, database: &Database, place: usize, sink: &mut W)
     requires { place < length database.now.messages }
@@ -18,13 +34,8 @@ fn call_plan<W: Sink>(alloc: Global, database: &Database, place: usize, sink: &m
     let mut meter = Meter::new();
     begin(sink);
     let answer = make_plan(alloc, database, place, &mut meter);
-    end(sink);
-    match answer {
-        Ok(plan) => {
-            say(sink, "ok");
-            show_plan(sink, &plan);
-        }
-        Err(fault) => say(sink, fault),
+    if let Some(plan) = told(sink, answer) {
+        show_plan(sink, &plan);
     }
     show_meter(sink, &meter);
 }
@@ -35,13 +46,8 @@ fn call_picture<W: Sink>(alloc: Global, database: &Database, place: usize, sink:
     let mut meter = Meter::new();
     begin(sink);
     let answer = picture(alloc, database, place, &mut meter);
-    end(sink);
-    match answer {
-        Ok(picture) => {
-            say(sink, "ok");
-            put(sink, picture.as_slice());
-        }
-        Err(fault) => say(sink, fault),
+    if let Some(picture) = told(sink, answer) {
+        put(sink, picture.as_slice());
     }
     show_meter(sink, &meter);
 }
@@ -49,13 +55,8 @@ fn call_picture<W: Sink>(alloc: Global, database: &Database, place: usize, sink:
 fn call_faults<W: Sink>(alloc: Global, database: &Database, sink: &mut W) {
     begin(sink);
     let answer = all_faults(alloc, database);
-    end(sink);
-    match answer {
-        Ok(found) => {
-            say(sink, "ok");
-            show_diagnostics(sink, found.as_slice());
-        }
-        Err(fault) => say(sink, fault),
+    if let Some(found) = told(sink, answer) {
+        show_diagnostics(sink, found.as_slice());
     }
 }
 
@@ -72,13 +73,8 @@ fn call_decode<W: Sink>(
     let mut meter = Meter::new();
     begin(sink);
     let answer = decode_line(alloc, database, plans, line, &mut meter, Short::Refuse);
-    end(sink);
-    match answer {
-        Ok(text) => {
-            say(sink, "ok");
-            put_line(sink, text.as_slice());
-        }
-        Err(fault) => say(sink, fault),
+    if let Some(text) = told(sink, answer) {
+        put_line(sink, text.as_slice());
     }
     show_meter(sink, &meter);
 }
