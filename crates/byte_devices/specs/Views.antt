@@ -34,7 +34,11 @@ limping_of limp = record { most = limp.most; calls = limp.calls_left; bytes = li
 
 -- as a source: the bytes from its place on
 abbrev pub unread_of_limp : Limp → Unread
-unread_of_limp limp = record { bytes = Some (drop limp.place limp.bytes.items); failures = limp.failures; patience = limp.calls_left }
+unread_of_limp limp = record {
+  bytes = Some (drop limp.place limp.bytes.items);
+  failures = limp.failures;
+  patience = limp.calls_left;
+}
 
 -- as a sink: all its bytes
 abbrev pub written_of_limp : Limp → Written

@@ -1,5 +1,6 @@
 -- A table in which one more field is marked, and the text of a table.
-use Rattle.std.proofs.Common.{◌≡◌, ℕ, zero, suc, ◌+◌, ◌*◌, ◌<◌, Bool, true, false, if◌then◌else◌, List, [], ◌∷◌, ◌++◌, length, map, filter, take, get_or, codes, decimal, append-nil, refl, sym, ap, ◌∙◌, arith}
+use Rattle.std.proofs.Common.{◌≡◌, ℕ, zero, suc, ◌+◌, ◌*◌, ◌<◌, Bool, true, false, if◌then◌else◌, List, [], ◌∷◌, ◌++◌, length, map}
+use Rattle.std.proofs.Common.{filter, take, get_or, codes, decimal, append-nil, refl, sym, ap, ◌∙◌, arith}
 use Rattle.std.specs.List.{flat_map, range_with_len, enumerate_from}
 use Rattle.std.proofs.lemmas.List.{take_more, map-append, flat_map_more}
 use Rattle.std.proofs.lemmas.List.Elements.{filter-append}
@@ -11,12 +12,14 @@ use Rattle.can_bits.specs.Grids.{places_at, cell_text, right, bits_down, byte_li
 use Rattle.can_bits.specs.Cells.{marked, marked_if, shown, cell_of, places_among, cell_at, cells_text, cells_line, IsTable}
 
 -- one more element, with its place
-pub more_placed : {X : Type 0} (xs : List X) (i : ℕ) (d : X) → i < length xs → take (i + 1) (enumerate_from 0 xs) ≡ take i (enumerate_from 0 xs) ++ (i, get_or xs i d) ∷ []
+pub more_placed : {X : Type 0} (xs : List X) (i : ℕ) (d : X) → i < length xs → take (i + 1) (enumerate_from 0 xs)
+    ≡ take i (enumerate_from 0 xs) ++ (i, get_or xs i d) ∷ []
 more_placed xs i d within =
     let long : i < length (enumerate_from 0 xs) = rw (length-enumerate_from 0 xs) within in
     let here : 0 + i ≡ i = omega arith in
     take_more (enumerate_from 0 xs) i (0, d) long
-    ∙ ap (λ p. take i (enumerate_from 0 xs) ++ p ∷ []) (get_or-enumerate_from 0 xs i (0, d) within ∙ ap (λ (k : ℕ). (k, get_or xs i d)) here)
+    ∙ ap (λ p. take i (enumerate_from 0 xs) ++ p ∷ []) (get_or-enumerate_from 0 xs i (0, d) within
+    ∙ ap (λ (k : ℕ). (k, get_or xs i d)) here)
 
 one_more_place : (places : List ℕ) (place : ℕ) → cell_of (places ++ place ∷ []) ≡ marked (cell_of places) place
 one_more_place [] place = refl
@@ -24,11 +27,14 @@ one_more_place (first ∷ []) place = refl
 one_more_place (first ∷ second ∷ others) place = refl
 
 more_places : (placed : List (ℕ × Field)) (place : ℕ) (field : Field) (position : ℕ)
-    → places_among (placed ++ (place, field) ∷ []) position ≡ places_among placed position ++ (if has_position field position then place ∷ [] else [])
+    → places_among (placed ++ (place, field) ∷ []) position ≡ places_among placed position
+    ++ (if has_position field position then place ∷ [] else [])
 more_places placed place field position =
     let has : ℕ × Field → Bool = λ one. has_position one.1 position in
-    let last : map (λ (one : ℕ × Field). one.0) (filter has ((place, field) ∷ [])) ≡ (if has_position field position then place ∷ [] else []) =
-    elim (has_position field position) as (λ b. has_position field position ≡ b → map (λ (one : ℕ × Field). one.0) (filter has ((place, field) ∷ [])) ≡ (if b then place ∷ [] else [])) [
+    let last : map (λ (one : ℕ × Field). one.0) (filter has ((place, field) ∷ [])) ≡ (if has_position field position then place
+    ∷ [] else []) =
+    elim (has_position field position) as (λ b. has_position field position ≡ b
+    → map (λ (one : ℕ × Field). one.0) (filter has ((place, field) ∷ [])) ≡ (if b then place ∷ [] else [])) [
       | true ↦ λ is. rw is refl
       | false ↦ λ is. rw is refl
     ] refl in
@@ -36,12 +42,15 @@ more_places placed place field position =
     ∙ map-append (λ (one : ℕ × Field). one.0) (filter has placed) (filter has ((place, field) ∷ []))
     ∙ ap (λ (places : List ℕ). places_among placed position ++ places) last
 
-cell_once_more : (has : Bool) (places : List ℕ) (place : ℕ) → marked_if has (cell_of places) place ≡ cell_of (places ++ (if has then place ∷ [] else []))
+cell_once_more : (has : Bool) (places : List ℕ) (place : ℕ) → marked_if has (cell_of places) place
+    ≡ cell_of (places ++ (if has then place ∷ [] else []))
 cell_once_more true places place = sym (one_more_place places place)
 cell_once_more false places place = ap cell_of (sym (append-nil places))
 
-pub marked_table : (size : ℕ) (placed : List (ℕ × Field)) (place : ℕ) (field : Field) (cells after : List Cell) → IsTable size placed cells → length after ≡ 8 * size
-    → ((position : ℕ) → position < 8 * size → cell_at after position ≡ marked_if (has_position field position) (cell_at cells position) place) → IsTable size (placed ++ (place, field) ∷ []) after
+pub marked_table : (size : ℕ) (placed : List (ℕ × Field)) (place : ℕ) (field : Field) (cells after : List Cell)
+    → IsTable size placed cells → length after ≡ 8 * size
+    → ((position : ℕ) → position < 8 * size → cell_at after position ≡ marked_if (has_position field position)
+    (cell_at cells position) place) → IsTable size (placed ++ (place, field) ∷ []) after
 marked_table size placed place field cells after is count marks = record {
   count = count;
   each = λ position within.
@@ -72,19 +81,23 @@ each_bit f g same =
     (both_behind (f 1) (g 1) _ _ (same 1 (omega arith))
     (both_behind (f 0) (g 0) _ _ (same 0 (omega arith)) refl)))))))
 
-pub same_line : (size : ℕ) (fields : List Field) (cells : List Cell) (byte : ℕ) → IsTable size (enumerate_from 0 fields) cells → byte < size → cells_line cells byte ≡ byte_line fields byte
+pub same_line : (size : ℕ) (fields : List Field) (cells : List Cell) (byte : ℕ) → IsTable size (enumerate_from 0 fields) cells
+    → byte < size → cells_line cells byte ≡ byte_line fields byte
 unfolding cells_line byte_line places_at
 same_line size fields cells byte is within =
     let bits : cells_text cells byte ≡ flat_map (λ bit. right (cell_text (places_at fields (8 * byte + bit)))) bits_down =
     each_bit _ _ (λ bit small.
     let inside : 8 * byte + bit < 8 * size = omega (arith, within, small) in
-    ap right (ap shown (is.each (8 * byte + bit) inside) ∙ shown_places (places_among (enumerate_from 0 fields) (8 * byte + bit)))) in
+    ap right (ap shown (is.each (8 * byte + bit) inside)
+    ∙ shown_places (places_among (enumerate_from 0 fields) (8 * byte + bit)))) in
     ap (λ (text : List ℕ). right (decimal byte) ++ (codes ":" ++ (text ++ codes "\n"))) bits
 
 -- one more item's text behind those of the items so far
-pub one_more_text : {X : Type 0} (f : X → List ℕ) (old mid new : List ℕ) (xs : List X) (i : ℕ) (d : X) → i < length xs → mid ≡ old ++ flat_map f (take i xs) → new ≡ mid ++ f (get_or xs i d) → new ≡ old ++ flat_map f (take (i + 1) xs)
+pub one_more_text : {X : Type 0} (f : X → List ℕ) (old mid new : List ℕ) (xs : List X) (i : ℕ) (d : X) → i < length xs
+    → mid ≡ old ++ flat_map f (take i xs) → new ≡ mid ++ f (get_or xs i d) → new ≡ old ++ flat_map f (take (i + 1) xs)
 one_more_text f old mid new xs i d within so_far pushed =
-    pushed ∙ ap (λ (text : List ℕ). text ++ f (get_or xs i d)) so_far ∙ flat_map_more f old (take i xs) (get_or xs i d) ∙ ap (λ items. old ++ flat_map f items) (sym (take_more xs i d within))
+    pushed ∙ ap (λ (text : List ℕ). text ++ f (get_or xs i d)) so_far ∙ flat_map_more f old (take i xs) (get_or xs i d)
+    ∙ ap (λ items. old ++ flat_map f items) (sym (take_more xs i d within))
 
 pub range_more : (first n : ℕ) → range_with_len first (n + 1) ≡ range_with_len first n ++ (first + n) ∷ []
 range_more first zero = let here : first + 0 ≡ first = omega arith in rw here refl

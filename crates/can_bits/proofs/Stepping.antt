@@ -11,7 +11,8 @@ step_down m = elim (cases_eq (mirrored m % 8) 0) [
   | inr inner ↦ rw (ne_eqb (mirrored m % 8) 0 inner) (omega (arith, inner))
 ]
 
-pub down_from : (field : Field) (place : ℕ) → field.intel ≡ false → position_of field (place + 1) ≡ next_bit (position_of field place)
+pub down_from : (field : Field) (place : ℕ) → field.intel ≡ false → position_of field (place + 1)
+    ≡ next_bit (position_of field place)
 down_from field place motorola =
     let further : mirrored field.start + (place + 1) ≡ mirrored field.start + place + 1 = omega arith in
     rw (motorola, further) (step_down (mirrored field.start + place))
@@ -33,4 +34,5 @@ next_from field place = elim (cases_Bool field.intel) [
 
 pub all_after : (field : Field) (place : ℕ) → position_of field place ≡ position_after field.intel field.start place
 all_after field zero = first_at field
-all_after field (suc place) = ap (position_of field) (sym (add-one place)) ∙ next_from field place ∙ ap (next_position field.intel) (all_after field place)
+all_after field (suc place) = ap (position_of field) (sym (add-one place)) ∙ next_from field place
+    ∙ ap (next_position field.intel) (all_after field place)

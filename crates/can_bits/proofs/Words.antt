@@ -1,5 +1,6 @@
 -- The bits of eight bytes, as those of one word.
-use Rattle.std.proofs.Common.{rules, ◌⊎◌, ◌≡◌, ℕ, zero, suc, ◌+◌, ◌-◌, ◌*◌, ◌/◌, ◌%◌, ◌^◌, ◌<◌, ◌≤◌, List, length, take, slice_index, bit_and, Bool, true, false, inl, inr, refl, sym, ap, ◌∙◌, arith}
+use Rattle.std.proofs.Common.{rules, ◌⊎◌, ◌≡◌, ℕ, zero, suc, ◌+◌, ◌-◌, ◌*◌, ◌/◌, ◌%◌, ◌^◌, ◌<◌, ◌≤◌, List, length, take}
+use Rattle.std.proofs.Common.{slice_index, bit_and, Bool, true, false, inl, inr, refl, sym, ap, ◌∙◌, arith}
 use Rattle.std.specs.Int.{w64, to_le_bytes, to_be_bytes, from_le_bytes, from_be_bytes}
 use Rattle.std.proofs.lemmas.Nat.{shr-shr, and_mask, le_bytes_8, be_bytes_8}
 use Rattle.std.proofs.lemmas.Bool.{cases_lt}
@@ -61,7 +62,8 @@ module _ (bytes : List ℕ) (small : (i : ℕ) → slice_index bytes i < 256) (e
   small_first : (i : ℕ) → slice_index (take 8 bytes) i < 256
   small_first i = elim (cases_lt i 8) [
     | inl within ↦ let low = small i in rw (first_byte i within) low
-    | inr past ↦ let none : slice_index (take 8 bytes) i ≡ 0 = get_or_past (take 8 bytes) i 0 (omega (arith, past, eight)) in omega (arith, none)
+    | inr past ↦ let none : slice_index (take 8 bytes) i ≡ 0 = get_or_past (take 8 bytes) i 0 (omega (arith, past, eight)) in
+        omega (arith, none)
   ]
 
   intel_bit : (p : ℕ) → p < 64 → bit_of bytes p ≡ from_le_bytes w64 (take 8 bytes) / 2 ^ p % 2
@@ -69,8 +71,10 @@ module _ (bytes : List ℕ) (small : (i : ℕ) → slice_index bytes i < 256) (e
       let n : ℕ = from_le_bytes w64 (take 8 bytes) in
       let same : to_le_bytes w64 n ≡ take 8 bytes = le_bytes_8 (take 8 bytes) n eight small_first refl in
       let byte : slice_index bytes (p / 8) ≡ n / 2 ^ (8 * (p / 8)) % 256 =
-      sym (first_byte (p / 8) (omega arith)) ∙ ap (λ (bs : List ℕ). slice_index bs (p / 8)) (sym same) ∙ lowest_first n (p / 8) (omega arith) in
-      ap (λ (b : ℕ). b / 2 ^ (p % 8) % 2) byte ∙ bit_of_byte n (8 * (p / 8)) (p % 8) (omega arith) ∙ ap (λ (k : ℕ). n / 2 ^ k % 2) (omega arith)
+      sym (first_byte (p / 8) (omega arith)) ∙ ap (λ (bs : List ℕ). slice_index bs (p / 8)) (sym same)
+      ∙ lowest_first n (p / 8) (omega arith) in
+      ap (λ (b : ℕ). b / 2 ^ (p % 8) % 2) byte ∙ bit_of_byte n (8 * (p / 8)) (p % 8) (omega arith)
+      ∙ ap (λ (k : ℕ). n / 2 ^ k % 2) (omega arith)
 
   motorola_bit : (q : ℕ) → q < 64 → bit_of bytes (mirrored q) ≡ from_be_bytes w64 (take 8 bytes) / 2 ^ (63 - q) % 2
   motorola_bit q within =
@@ -78,13 +82,16 @@ module _ (bytes : List ℕ) (small : (i : ℕ) → slice_index bytes i < 256) (e
       let p : ℕ = mirrored q in
       let same : to_be_bytes w64 n ≡ take 8 bytes = be_bytes_8 (take 8 bytes) n eight small_first refl in
       let byte : slice_index bytes (p / 8) ≡ n / 2 ^ (8 * (7 - p / 8)) % 256 =
-      sym (first_byte (p / 8) (omega arith)) ∙ ap (λ (bs : List ℕ). slice_index bs (p / 8)) (sym same) ∙ highest_first n (p / 8) (omega arith) in
-      ap (λ (b : ℕ). b / 2 ^ (p % 8) % 2) byte ∙ bit_of_byte n (8 * (7 - p / 8)) (p % 8) (omega arith) ∙ ap (λ (k : ℕ). n / 2 ^ k % 2) (omega arith)
+      sym (first_byte (p / 8) (omega arith)) ∙ ap (λ (bs : List ℕ). slice_index bs (p / 8)) (sym same)
+      ∙ highest_first n (p / 8) (omega arith) in
+      ap (λ (b : ℕ). b / 2 ^ (p % 8) % 2) byte ∙ bit_of_byte n (8 * (7 - p / 8)) (p % 8) (omega arith)
+      ∙ ap (λ (k : ℕ). n / 2 ^ k % 2) (omega arith)
 
   -- ---- fields
 
   masked : (word shift length : ℕ) → bit_and (word / 2 ^ shift) (2 ^ length - 1) ≡ word / 2 ^ shift % 2 ^ length * 2 ^ 0
-  masked word shift length = and_mask (word / 2 ^ shift) length ∙ (let one : word / 2 ^ shift % 2 ^ length ≡ word / 2 ^ shift % 2 ^ length * 2 ^ 0 = omega arith in one)
+  masked word shift length = and_mask (word / 2 ^ shift) length
+      ∙ (let one : word / 2 ^ shift % 2 ^ length ≡ word / 2 ^ shift % 2 ^ length * 2 ^ 0 = omega arith in one)
 
   intel_window : (field : Field) → field.intel ≡ true → field.start + field.length ≤ 64
       → bit_and (from_le_bytes w64 (take 8 bytes) / 2 ^ field.start) (2 ^ field.length - 1) ≡ unsigned_raw bytes (bits_of field)
@@ -93,11 +100,13 @@ module _ (bytes : List ℕ) (small : (i : ℕ) → slice_index bytes i < 256) (e
       let word : ℕ = from_le_bytes w64 (take 8 bytes) in
       masked word field.start field.length
       ∙ sym (rising (counted bytes) (bit_at field) word 0 field.start 0 field.length (λ j h.
-      let bit : bit_of bytes (field.start + (0 + j)) ≡ word / 2 ^ (field.start + j) % 2 = ap (bit_of bytes) (omega arith) ∙ intel_bit (field.start + j) (omega arith) in
+      let bit : bit_of bytes (field.start + (0 + j)) ≡ word / 2 ^ (field.start + j) % 2 = ap (bit_of bytes) (omega arith)
+      ∙ intel_bit (field.start + j) (omega arith) in
       rw (intel, bit) refl))
 
   motorola_window : (field : Field) → field.intel ≡ false → mirrored field.start + field.length ≤ 64
-      → bit_and (from_be_bytes w64 (take 8 bytes) / 2 ^ (64 - (mirrored field.start + field.length))) (2 ^ field.length - 1) ≡ unsigned_raw bytes (bits_of field)
+      → bit_and (from_be_bytes w64 (take 8 bytes) / 2 ^ (64 - (mirrored field.start + field.length))) (2 ^ field.length - 1)
+      ≡ unsigned_raw bytes (bits_of field)
   unfolding bits_of
   motorola_window field motorola within =
       let word : ℕ = from_be_bytes w64 (take 8 bytes) in
@@ -106,12 +115,15 @@ module _ (bytes : List ℕ) (small : (i : ℕ) → slice_index bytes i < 256) (e
       masked word low field.length
       ∙ sym (falling (counted bytes) (bit_at field) word 0 low 0 field.length (λ j k h.
       let bit : bit_of bytes (mirrored (q + (0 + j))) ≡ word / 2 ^ (low + k) % 2 =
-      ap (λ (m : ℕ). bit_of bytes (mirrored m)) (omega arith) ∙ motorola_bit (q + j) (omega arith) ∙ ap (λ (m : ℕ). word / 2 ^ m % 2) (omega arith) in
+      ap (λ (m : ℕ). bit_of bytes (mirrored m)) (omega arith) ∙ motorola_bit (q + j) (omega arith)
+      ∙ ap (λ (m : ℕ). word / 2 ^ m % 2) (omega arith) in
       let weighs : field.length - 1 - (0 + j) ≡ 0 + k = omega arith in
       rw (motorola, bit, weighs) refl))
 
   pub in_window : (field : Field) (shift mask : ℕ) → mask ≡ 2 ^ field.length - 1
-      → ((field.intel ≡ true) × (shift ≡ field.start) × (field.start + field.length ≤ 64)) ⊎ ((field.intel ≡ false) × (shift ≡ 64 - (mirrored field.start + field.length)) × (mirrored field.start + field.length ≤ 64))
+      → ((field.intel ≡ true) × (shift ≡ field.start) × (field.start + field.length ≤ 64))
+      ⊎ ((field.intel ≡ false) × (shift ≡ 64 - (mirrored field.start + field.length))
+      × (mirrored field.start + field.length ≤ 64))
       → bits_in (take 8 bytes) (record { intel = field.intel; shift = shift; mask = mask }) ≡ unsigned_raw bytes (bits_of field)
   in_window field shift mask ones (inl (intel, at, within)) =
       ap (λ (b : Bool). bit_and (word_of b (take 8 bytes) / 2 ^ shift) mask) intel

@@ -1,7 +1,8 @@
 -- Where the bits of a signal lie in the data of its message, and the number that they are there.
 -- Source: the DBC file format, "Signal Definitions" (start bit, signal size, byte order, value type); the numbering of
 -- bits through a message is that of cantools: bit 0 of byte 0 is 0, its bit 7 is 7, bit 0 of byte 1 is 8.
-use Rattle.std.specs.Prelude.{ℕ, ℤ, pos, ◌+◌, ◌-◌, ◌-ℤ◌, ◌*◌, ◌/◌, ◌%◌, ◌^◌, ◌==◌, ◌&&◌, nat_le, Bool, List, length, map, slice_index, if◌then◌else◌}
+use Rattle.std.specs.Prelude.{ℕ, ℤ, pos, ◌+◌, ◌-◌, ◌-ℤ◌, ◌*◌, ◌/◌, ◌%◌, ◌^◌, ◌==◌, ◌&&◌, nat_le, Bool, List, length, map}
+use Rattle.std.specs.Prelude.{slice_index, if◌then◌else◌}
 use Rattle.std.specs.List.{range_with_len, sum_by, list_any}
 use Rattle.dbc_records.specs.Records.{Signal}
 use Rattle.can_bits.specs.declared.field.Field.{Field}
@@ -69,4 +70,5 @@ is_negative bytes bits = list_any (λ bit. bit.weight == 2 ^ (length bits - 1) &
 -- two's complement in as many bits as there are, where the signal is signed
 unfoldable pub raw_value : List ℕ → Bool → List Bit → ℤ
 raw_value bytes signed bits =
-    if signed && is_negative bytes bits then pos (unsigned_raw bytes bits) -ℤ pos (2 ^ length bits) else pos (unsigned_raw bytes bits)
+    if signed && is_negative bytes bits then pos (unsigned_raw bytes bits) -ℤ pos (2 ^ length bits) else pos
+    (unsigned_raw bytes bits)

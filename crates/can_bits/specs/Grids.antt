@@ -25,7 +25,8 @@ bits_down = 7 ∷ 6 ∷ 5 ∷ 4 ∷ 3 ∷ 2 ∷ 1 ∷ 0 ∷ []
 
 -- `   0:   .   .   *   1   1   1   0   0`
 unfoldable pub byte_line : List Field → ℕ → List ℕ
-byte_line fields byte = right (decimal byte) ++ (codes ":" ++ (flat_map (λ bit. right (cell_text (places_at fields (8 * byte + bit)))) bits_down ++ codes "\n"))
+byte_line fields byte = right (decimal byte)
+    ++ (codes ":" ++ (flat_map (λ bit. right (cell_text (places_at fields (8 * byte + bit)))) bits_down ++ codes "\n"))
 
 -- a line for each byte
 unfoldable pub grid_text : ℕ → List Field → List ℕ

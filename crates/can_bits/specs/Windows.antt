@@ -15,4 +15,5 @@ bits_in first window = bit_and (word_of window.intel first / 2 ^ window.shift) w
 -- whatever the data, if there are eight bytes of it, the field's raw value stands in the window
 pub record IsWindow (field : Field) (window : Window) : Type 0 where
   pub within : window.shift < 64
-  pub same : (bytes : List ℕ) → ((i : ℕ) → slice_index bytes i < 256) → 8 ≤ length bytes → bits_in (take 8 bytes) window ≡ unsigned_raw bytes (bits_of field)
+  pub same : (bytes : List ℕ) → ((i : ℕ) → slice_index bytes i < 256) → 8 ≤ length bytes → bits_in (take 8 bytes) window
+      ≡ unsigned_raw bytes (bits_of field)

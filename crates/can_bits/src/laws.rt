@@ -9,6 +9,7 @@ ghost use Rattle.can_bits.specs.Stepping.{next_bit, position_after};
 pub fn steps_of_positions()
     ensures first { (field : Field) → position_of field 0 ≡ field.start }
     ensures up { (field : Field) (place : ℕ) → field.intel ≡ true → position_of field (place + 1) ≡ position_of field place + 1 }
-    ensures down { (field : Field) (place : ℕ) → field.intel ≡ false → position_of field (place + 1) ≡ next_bit (position_of field place) }
+    ensures down { (field : Field) (place : ℕ) → field.intel ≡ false → position_of field (place + 1)
+        ≡ next_bit (position_of field place) }
     ensures all { (field : Field) (place : ℕ) → position_of field place ≡ position_after field.intel field.start place }
 {}

@@ -30,7 +30,8 @@ impl Table {
     // Only the bits of the field that are in the message are looked at, each once.
     fn mark(&mut self, place: usize, field: Field)
         ensures size { self.new.size ≡ self.old.size }
-        ensures each { (position : ℕ) → position < 8 * self.old.size → cell_at self.new.cells.items position ≡ marked_if (has_position field position) (cell_at self.old.cells.items position) place }
+        ensures each { (position : ℕ) → position < 8 * self.old.size → cell_at self.new.cells.items position
+            ≡ marked_if (has_position field position) (cell_at self.old.cells.items position) place }
     {
         let start = field.passed(0);
         let size = self.size;

@@ -8,7 +8,8 @@ use Rattle.std.proofs.lemmas.List.FromFn.{length-map-range_with_len}
 pub as_many : {X : Type 0} (f : ℕ → X) (items : List X) (count : ℕ) → items ≡ map f (range_with_len 0 count) → length items ≡ count
 as_many f items count is = ap length is ∙ length-map-range_with_len f 0 count
 
-pub any_of_map : {X Y : Type 0} (test : Y → Bool) (g : X → Y) (xs : List X) → list_any test (map g xs) ≡ list_any (λ x. test (g x)) xs
+pub any_of_map : {X Y : Type 0} (test : Y → Bool) (g : X → Y) (xs : List X) → list_any test (map g xs)
+    ≡ list_any (λ x. test (g x)) xs
 any_of_map test g [] = refl
 any_of_map test g (x ∷ xs) = rw (any_of_map test g xs) refl
 

@@ -18,7 +18,8 @@ use Rattle.can_diagnostics.specs.declared.code.Code.TheVariants as codes
 use Rattle.can_diagnostics.specs.declared.diagnostic.Diagnostic.{Diagnostic}
 use Rattle.can_references.specs.Finding.{where_true, stands_in, each_after}
 use Rattle.can_references.specs.HeadFaults.{is_pseudo, head_faults, unknown_nodes}
-use Rattle.can_check.specs.SignalRules.{has_no_switch, is_loop, is_bad_row, lies_outside, is_float, is_long, has_no_scale, is_out_of_range}
+use Rattle.can_check.specs.SignalRules.{has_no_switch, is_loop, is_bad_row, lies_outside, is_float, is_long, has_no_scale}
+use Rattle.can_check.specs.SignalRules.{is_out_of_range}
 
 -- ---- its signals
 
@@ -33,7 +34,8 @@ walk_passes test (Some walk) = test walk
 -- the signals whose ways up, which stand at their places, pass a test
 abbrev pub walks_where : Code → Head → (Walk → Bool) → List Signal → List Walk → List Diagnostic
 walks_where code head test signals walks =
-    flat_map (λ placed. where_true (walk_passes test (slice_get walks placed.0)) (of_signal code head placed.1)) (enumerate_from 0 signals)
+    flat_map (λ placed. where_true (walk_passes test (slice_get walks placed.0)) (of_signal code head placed.1))
+    (enumerate_from 0 signals)
 
 -- a bit of a signal is not in the message
 unfoldable pub outside : Message → List Diagnostic
@@ -86,7 +88,8 @@ unfoldable pub values_out_of_range : SignalRows → Message → List Diagnostic
 values_out_of_range rows m = flat_map (λ signal. flat_map (out_of_range m.head signal) (named rows signal)) m.signals
 
 abbrev pub repeated_value : Head → Signal → List ℤ → ℤ → List Diagnostic
-repeated_value head signal before number = where_true (stands_in int_eq number before) (of_value codes.RepeatedValue head signal number)
+repeated_value head signal before number = where_true (stands_in int_eq number before) (of_value codes.RepeatedValue head signal
+    number)
 
 abbrev pub repeated_among : Head → Signal → List Entry → List Diagnostic
 repeated_among head signal entries = each_after (repeated_value head signal) [] (map (λ entry. entry.number) entries)
@@ -114,7 +117,8 @@ value_faults rows m = values_out_of_range rows m ++ repeated_values rows m
 
 abbrev pub faults_by : Database → SignalRows → Message → List Diagnostic
 faults_by database rows m =
-    head_faults database m ++ (layout_faults rows m (walks_of rows m.signals) ++ (reading_faults rows m ++ (unknown_nodes database m ++ value_faults rows m)))
+    head_faults database m ++ (layout_faults rows m (walks_of rows m.signals)
+    ++ (reading_faults rows m ++ (unknown_nodes database m ++ value_faults rows m)))
 
 unfoldable pub message_faults : Database → Message → List Diagnostic
 message_faults database m = faults_by database (rows_of m.head.number database) m

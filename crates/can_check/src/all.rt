@@ -139,7 +139,8 @@ fn faults_in<L: Lookup>(
 // The diagnostics of the message at a place, by what finds the rows of its database.
 fn faults_at(alloc: Global, indexed: &Indexed<'_>, place: usize) -> Result<Vec<Diagnostic>, Memory>
     requires { place < length indexed.now.messages }
-    ensures { IfOk result (λ found. Some found.items ≡ option_map (message_faults indexed.now) (slice_get indexed.now.messages place)) }
+    ensures { IfOk result (λ found. Some found.items ≡ option_map (message_faults indexed.now) (slice_get indexed.now.messages
+        place)) }
 {
     match Known::of(alloc, indexed) {
         Ok(known) => faults_in(
@@ -158,7 +159,8 @@ pub fn message_faults(
     place: usize,
 ) -> Result<Vec<Diagnostic>, Memory>
     requires { place < length database.now.messages }
-    ensures { IfOk result (λ found. Some found.items ≡ option_map (message_faults database.now) (slice_get database.now.messages place)) }
+    ensures { IfOk result (λ found. Some found.items ≡ option_map (message_faults database.now) (slice_get database.now.messages
+        place)) }
 {
     match Indexed::of(alloc, database) {
         Ok(indexed) => faults_at(alloc, &indexed, place),

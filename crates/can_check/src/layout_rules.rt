@@ -4,7 +4,8 @@ ghost use Rattle.std.specs.List.{flat_map};
 ghost use Rattle.can_bits.specs.Bits.{field_of};
 ghost use Rattle.can_diagnostics.specs.Diagnostics.{of_signal};
 ghost use Rattle.can_references.specs.Finding.{where_true};
-ghost use Rattle.can_check.specs.MessageFaults.{walk_passes, walks_where, outside, pair_between, pair_at, overlaps, no_switch, bad_mux_row, switch_loop, layout_faults};
+ghost use Rattle.can_check.specs.MessageFaults.{walk_passes, walks_where, outside, pair_between, pair_at, overlaps, no_switch};
+ghost use Rattle.can_check.specs.MessageFaults.{bad_mux_row, switch_loop, layout_faults};
 
 use crate::signal_rules::{HasBadRow, LiesOutside, push_where};
 use crate::walk_rules::{HasNoSwitch, IsLoop, WalkTest};
@@ -47,7 +48,8 @@ fn push_between(
     first: Option<&Signal>,
     second: Option<&Signal>,
 ) -> Result<(), Memory>
-    ensures { OnOk result (found.new.items ≡ found.old.items ++ pair_between head.now (option_map (λ signal. signal.now) first.entry) (option_map (λ signal. signal.now) second.entry)) }
+    ensures { OnOk result (found.new.items ≡ found.old.items ++ pair_between head.now (option_map (λ signal. signal.now)
+        first.entry) (option_map (λ signal. signal.now) second.entry)) }
 {
     if let (Some(first), Some(second)) = (first, second) {
         found.push(Diagnostic::of_pair(Code::Overlap, head, first, second)?)?;
@@ -137,7 +139,8 @@ fn push_walks<T: WalkTest>(
     signals: &[Signal],
     walks: &[Walk],
 ) -> Result<(), Memory>
-    ensures { OnOk result (found.new.items ≡ found.old.items ++ walks_where code head.now (T.passes test.now) signals.now walks.now) }
+    ensures { OnOk result (found.new.items ≡ found.old.items ++ walks_where code head.now (T.passes test.now) signals.now
+        walks.now) }
 {
     for (place, signal) in signals.iter().enumerate() {
         push_if(found, passes_at(test, walks, place), code, head, signal)?;

@@ -1,6 +1,7 @@
 //! What is doubtful in a database: all of it, in one list and in a fixed order.
 //!
-//! [`all_faults`] looks at the whole of a database, [`message_faults`] at one message, and [`all_faults_with`] finds rows by an index
+//! [`all_faults`] looks at the whole of a database, [`message_faults`] at one message, and [`all_faults_with`] finds rows by an
+//! index
 //! that is there already. Nothing that is found keeps a database from being used.
 #![tactic(auto)]
 

@@ -2,7 +2,8 @@
 ghost use Rattle.std.specs.Prelude.{◌≡◌, ◌++◌, OnOk, option_map};
 ghost use Rattle.std.specs.List.{list_any};
 ghost use Rattle.can_layout.specs.Plans.{is_float_row};
-ghost use Rattle.can_check.specs.SignalRules.{can_switch, is_empty_range, is_no_switch, is_bad_row, lies_outside, is_float, is_long, has_no_scale};
+ghost use Rattle.can_check.specs.SignalRules.{can_switch, is_empty_range, is_no_switch, is_bad_row, lies_outside, is_float};
+ghost use Rattle.can_check.specs.SignalRules.{is_long, has_no_scale};
 ghost use Rattle.can_check.specs.MessageFaults.{signals_where};
 
 use can_diagnostics::{Code, Diagnostic};

@@ -4,7 +4,8 @@ ghost use Rattle.std.specs.List.{flat_map};
 ghost use Rattle.dbc_records.specs.Records.{entry_fits};
 ghost use Rattle.can_layout.specs.Plans.{entries_of};
 ghost use Rattle.can_check.specs.SignalRules.{in_raw_range, is_out_of_range};
-ghost use Rattle.can_check.specs.MessageFaults.{named, out_of_range, values_out_of_range, repeated_value, repeated_among, repeated_in, repeated_values, value_faults};
+ghost use Rattle.can_check.specs.MessageFaults.{named, out_of_range, values_out_of_range, repeated_value, repeated_among};
+ghost use Rattle.can_check.specs.MessageFaults.{repeated_in, repeated_values, value_faults};
 
 use can_diagnostics::{Code, Diagnostic};
 use can_keys::Integers;
@@ -80,7 +81,8 @@ fn push_all_out_of_range<L: Lookup>(
     head: &Head,
     signals: &[Signal],
 ) -> Result<(), Memory>
-    ensures { OnOk result (found.new.items ≡ found.old.items ++ flat_map (λ signal. flat_map (out_of_range head.now signal) (named rows.now signal)) signals.now) }
+    ensures { OnOk result (found.new.items ≡ found.old.items ++ flat_map (λ signal. flat_map (out_of_range head.now signal)
+        (named rows.now signal)) signals.now) }
 {
     for signal in signals {
         push_out_of_range(found, head, signal, named(rows, signal))?;
@@ -107,7 +109,8 @@ fn push_entry(
     signal: &Signal,
     entry: &Entry,
 ) -> Result<(), Memory>
-    ensures found { OnOk result (found.new.items ≡ found.old.items ++ repeated_value head.now signal.now seen.old entry.now.number) }
+    ensures found { OnOk result (found.new.items ≡ found.old.items ++ repeated_value head.now signal.now seen.old
+        entry.now.number) }
     ensures seen { OnOk result (seen.new ≡ seen.old ++ entry.now.number ∷ []) }
 {
     if !seen.add(entry.number)? {

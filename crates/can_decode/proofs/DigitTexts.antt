@@ -1,5 +1,6 @@
 -- Texts of digits, and the numbers that they write.
-use Rattle.std.proofs.Common.{◌≡◌, ◌≢◌, ℕ, suc, ◌+◌, ◌-◌, ◌*◌, ◌/◌, ◌%◌, ◌^◌, ◌<◌, ◌≤◌, List, [], ◌∷◌, ◌++◌, length, refl, sym, ap, subst, ◌∙◌, add-one, inl, inr, arith}
+use Rattle.std.proofs.Common.{◌≡◌, ◌≢◌, ℕ, suc, ◌+◌, ◌-◌, ◌*◌, ◌/◌, ◌%◌, ◌^◌, ◌<◌, ◌≤◌, List, [], ◌∷◌, ◌++◌, length, refl, sym, ap}
+use Rattle.std.proofs.Common.{subst, ◌∙◌, add-one, inl, inr, arith}
 use Rattle.std.specs.Char.{digit_value}
 use Rattle.std.specs.Str.Parse.{AllDigits, IsNumeral, digits_value, digits_value_after}
 use Rattle.std.proofs.lemmas.Bool.{cases_lt}
@@ -44,8 +45,10 @@ value_behind m [] = omega arith
 value_behind m (d ∷ ds) =
     let n : ℕ = length ds in
     let more : m * 10 ^ n * 10 ≡ m * 10 ^ suc n = tens_more m n ∙ ap (λ (k : ℕ). m * 10 ^ k) (add-one n) in
-    let here : digits_value_after 10 (m * 10 + digit_value d) ds ≡ (m * 10 + digit_value d) * 10 ^ n + digits_value 10 ds = value_behind (m * 10 + digit_value d) ds in
-    let alone : digits_value_after 10 (0 * 10 + digit_value d) ds ≡ (0 * 10 + digit_value d) * 10 ^ n + digits_value 10 ds = value_behind (0 * 10 + digit_value d) ds in
+    let here : digits_value_after 10 (m * 10 + digit_value d) ds ≡ (m * 10 + digit_value d) * 10 ^ n + digits_value 10 ds =
+    value_behind (m * 10 + digit_value d) ds in
+    let alone : digits_value_after 10 (0 * 10 + digit_value d) ds ≡ (0 * 10 + digit_value d) * 10 ^ n + digits_value 10 ds =
+    value_behind (0 * 10 + digit_value d) ds in
     here ∙ omega (arith, more, alone)
 
 pub value_of_both : (xs ys : List ℕ) → digits_value 10 (xs ++ ys) ≡ digits_value 10 xs * 10 ^ length ys + digits_value 10 ys
@@ -62,20 +65,29 @@ same_parts a b r s p r-small s-small same =
     record { above = above; below = omega (arith, product, same) }
 
 same_digit : (c d : ℕ) → digit_value c < 10 → digit_value d < 10 → digit_value c ≡ digit_value d → c ≡ d
-same_digit c d c-small d-small same = omega (arith, same, digit_value_digit c (digit_from_value c c-small), digit_value_digit d (digit_from_value d d-small))
+same_digit c d c-small d-small same = omega (
+  arith,
+  same,
+  digit_value_digit c (digit_from_value c c-small),
+  digit_value_digit d (digit_from_value d d-small),
+)
 
 -- as many digits with one value are the same
-pub same_digits : (xs ys : List ℕ) → AllDigits 10 xs → AllDigits 10 ys → length xs ≡ length ys → digits_value 10 xs ≡ digits_value 10 ys → xs ≡ ys
+pub same_digits : (xs ys : List ℕ) → AllDigits 10 xs → AllDigits 10 ys → length xs ≡ length ys → digits_value 10 xs
+    ≡ digits_value 10 ys → xs ≡ ys
 same_digits [] [] a b many same = refl
 same_digits [] (y ∷ ys) a b many same = absurd (omega arith)
 same_digits (x ∷ xs) [] a b many same = absurd (omega arith)
 same_digits (x ∷ xs) (y ∷ ys) a b many same =
     let fewer : length xs ≡ length ys = omega arith in
-    let p : digits_value 10 (x ∷ xs) ≡ (0 * 10 + digit_value x) * 10 ^ length xs + digits_value 10 xs = value_behind (0 * 10 + digit_value x) xs in
+    let p : digits_value 10 (x ∷ xs) ≡ (0 * 10 + digit_value x) * 10 ^ length xs + digits_value 10 xs =
+    value_behind (0 * 10 + digit_value x) xs in
     let q : digits_value 10 (y ∷ ys) ≡ (0 * 10 + digit_value y) * 10 ^ length xs + digits_value 10 ys =
     value_behind (0 * 10 + digit_value y) ys ∙ ap (λ (k : ℕ). (0 * 10 + digit_value y) * 10 ^ k + digits_value 10 ys) (sym fewer) in
-    let y-small : digits_value 10 ys < 10 ^ length xs = subst (λ (k : ℕ). digits_value 10 ys < 10 ^ k) (sym fewer) (digits_value-lt 10 ys b.1) in
-    let parts = same_parts (0 * 10 + digit_value x) (0 * 10 + digit_value y) (digits_value 10 xs) (digits_value 10 ys) (10 ^ length xs) (digits_value-lt 10 xs a.1) y-small (sym p ∙ same ∙ q) in
+    let y-small : digits_value 10 ys < 10 ^ length xs = subst (λ (k : ℕ). digits_value 10 ys < 10 ^ k) (sym fewer)
+    (digits_value-lt 10 ys b.1) in
+    let parts = same_parts (0 * 10 + digit_value x) (0 * 10 + digit_value y) (digits_value 10 xs) (digits_value 10 ys)
+    (10 ^ length xs) (digits_value-lt 10 xs a.1) y-small (sym p ∙ same ∙ q) in
     let first : x ≡ y = same_digit x y a.0 b.0 (omega (arith, parts.above)) in
     let rest : xs ≡ ys = same_digits xs ys a.1 b.1 fewer parts.below in
     λ i. first i ∷ rest i
@@ -102,13 +114,15 @@ large_by_count (c ∷ d ∷ ds) all first many =
     let some : c ≢ 48 = λ at_zero.
     let none : d ∷ ds ≡ [] = first (d ∷ ds) (ap (λ (k : ℕ). k ∷ (d ∷ ds)) at_zero) in
     absurd (omega (arith, ap (λ (xs : List ℕ). length xs) none)) in
-    let value : digits_value 10 (c ∷ d ∷ ds) ≡ (0 * 10 + digit_value c) * 10 ^ length (d ∷ ds) + digits_value 10 (d ∷ ds) = value_behind (0 * 10 + digit_value c) (d ∷ ds) in
+    let value : digits_value 10 (c ∷ d ∷ ds) ≡ (0 * 10 + digit_value c) * 10 ^ length (d ∷ ds) + digits_value 10 (d ∷ ds) =
+    value_behind (0 * 10 + digit_value c) (d ∷ ds) in
     let least : 1 * 10 ^ length (d ∷ ds) ≤ (0 * 10 + digit_value c) * 10 ^ length (d ∷ ds) =
     mul-le-mul_right (10 ^ length (d ∷ ds)) (omega (arith, digit_above_zero c all.0 some)) in
     let count : 10 ^ (length (c ∷ d ∷ ds) - 1) ≡ 10 ^ length (d ∷ ds) = ap (λ (k : ℕ). 10 ^ k) (omega arith) in
     omega (arith, value, least, count)
 
-not_longer : (xs ys : List ℕ) → IsNumeral 10 xs → IsNumeral 10 ys → NoZeroFirst ys → digits_value 10 xs ≡ digits_value 10 ys → length ys ≤ length xs
+not_longer : (xs ys : List ℕ) → IsNumeral 10 xs → IsNumeral 10 ys → NoZeroFirst ys → digits_value 10 xs ≡ digits_value 10 ys
+    → length ys ≤ length xs
 not_longer xs ys a b first same = elim (cases_lt (length xs) (length ys)) [
   | inl longer ↦
       let large : 10 ^ (length ys - 1) ≤ digits_value 10 ys = large_by_count ys b.1 first (omega (arith, a.0)) in
@@ -119,7 +133,8 @@ not_longer xs ys a b first same = elim (cases_lt (length xs) (length ys)) [
 ]
 
 -- whole numbers without a zero first are the same digits where they are the same number
-pub same_whole : (xs ys : List ℕ) → IsNumeral 10 xs → IsNumeral 10 ys → NoZeroFirst xs → NoZeroFirst ys → digits_value 10 xs ≡ digits_value 10 ys → xs ≡ ys
+pub same_whole : (xs ys : List ℕ) → IsNumeral 10 xs → IsNumeral 10 ys → NoZeroFirst xs → NoZeroFirst ys → digits_value 10 xs
+    ≡ digits_value 10 ys → xs ≡ ys
 same_whole xs ys a b x-first y-first same =
     let up : length ys ≤ length xs = not_longer xs ys a b y-first same in
     let down : length xs ≤ length ys = not_longer ys xs b a x-first (sym same) in
@@ -130,14 +145,17 @@ pub last_digit : (ds : List ℕ) (c : ℕ) → digit_value c < 10 → digits_val
 last_digit ds c small = omega (arith, digits_value_push 10 ds c)
 
 -- digits whose last is no zero write a number that is no multiple of ten
-pub no_zero_last : (whole fraction : List ℕ) → AllDigits 10 fraction → 0 < length fraction → ((front : List ℕ) → fraction ≡ front ++ (48 ∷ []) → ⊥)
+pub no_zero_last : (whole fraction : List ℕ) → AllDigits 10 fraction → 0 < length fraction
+    → ((front : List ℕ) → fraction ≡ front ++ (48 ∷ []) → ⊥)
     → digits_value 10 (whole ++ fraction) % 10 ≢ 0
 no_zero_last whole [] all some last at_zero = absurd (omega arith)
 no_zero_last whole (d ∷ ds) all some last at_zero =
     let h : HasLast (d ∷ ds) = has_last d ds in
     let alone : AllDigits 10 (h.last ∷ []) = all_behind h.front (h.last ∷ []) (subst (AllDigits 10) h.is all) in
-    let joined : whole ++ (d ∷ ds) ≡ (whole ++ h.front) ++ (h.last ∷ []) = ap (λ (xs : List ℕ). whole ++ xs) h.is ∙ sym (append_assoc whole h.front (h.last ∷ [])) in
-    let rest : digits_value 10 (whole ++ (d ∷ ds)) % 10 ≡ digit_value h.last = ap (λ (xs : List ℕ). digits_value 10 xs % 10) joined ∙ last_digit (whole ++ h.front) h.last alone.0 in
+    let joined : whole ++ (d ∷ ds) ≡ (whole ++ h.front) ++ (h.last ∷ []) = ap (λ (xs : List ℕ). whole ++ xs) h.is
+    ∙ sym (append_assoc whole h.front (h.last ∷ [])) in
+    let rest : digits_value 10 (whole ++ (d ∷ ds)) % 10 ≡ digit_value h.last = ap (λ (xs : List ℕ). digits_value 10 xs % 10) joined
+    ∙ last_digit (whole ++ h.front) h.last alone.0 in
     let none : digit_value h.last ≡ 0 = sym rest ∙ at_zero in
     let is-zero : h.last ≡ 48 = omega (arith, none, digit_value_digit h.last (digit_from_value h.last alone.0)) in
     last h.front (h.is ∙ ap (λ (k : ℕ). h.front ++ (k ∷ [])) is-zero)

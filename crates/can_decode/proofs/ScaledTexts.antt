@@ -1,12 +1,14 @@
 -- The text of a scaled value is a decimal of it, with nothing needless in it.
-use Rattle.std.proofs.Common.{◌≡◌, ◌≢◌, ℕ, ℤ, pos, zero, suc, ◌+◌, ◌-◌, ◌*◌, ◌/◌, ◌%◌, ◌^◌, ◌<◌, ◌≤◌, List, [], ◌∷◌, ◌++◌, length, take, drop, get_or, refl, sym, ap, subst, ◌∙◌, add-one, inl, inr, arith}
+use Rattle.std.proofs.Common.{◌≡◌, ◌≢◌, ℕ, ℤ, pos, zero, suc, ◌+◌, ◌-◌, ◌*◌, ◌/◌, ◌%◌, ◌^◌, ◌<◌, ◌≤◌, List, [], ◌∷◌, ◌++◌, length}
+use Rattle.std.proofs.Common.{take, drop, get_or, refl, sym, ap, subst, ◌∙◌, add-one, inl, inr, arith}
 use Rattle.std.specs.Prelude.{◌+ℤ◌, ◌*ℤ◌, unsigned_abs, int_lt, decimal}
 use Rattle.std.specs.Str.Parse.{AllDigits, IsNumeral, digits_value, digits_value_after}
 use Rattle.std.proofs.lemmas.Bool.{cases_eq, cases_lt, eq-eqb, ne_eqb}
 use Rattle.std.proofs.lemmas.Fmt.{decimal_is_IsNumeral_wide, decimal_by_steps_wide}
 use Rattle.std.proofs.lemmas.Int.{ints}
 use Rattle.std.proofs.lemmas.Int.Digits.{digits_value_push}
-use Rattle.std.proofs.lemmas.List.{append_assoc, append-nil, get_or_append_left, length-append, length-drop, length-replicate, length-take-le, nil_from_length, take-append-drop}
+use Rattle.std.proofs.lemmas.List.{append_assoc, append-nil, get_or_append_left, length-append, length-drop, length-replicate}
+use Rattle.std.proofs.lemmas.List.{length-take-le, nil_from_length, take-append-drop}
 use Rattle.std.proofs.lemmas.Nat.{div-add-mod'}
 use Rattle.dbc_records.specs.Layout.{zeros, filled, point_before_last, sign_text}
 use Rattle.dbc_values.specs.Scales.{Scale, IsScale}
@@ -31,7 +33,8 @@ fewest digits (suc places) = elim (cases_eq (digits % 10) 0) [
       let front : digits ≡ digits / 10 * 10 = omega (arith, div-add-mod' digits 10, at_zero) in
       let r : IsFewest (digits / 10) places (fewest_places (digits / 10) places) = fewest (digits / 10) places in
       let fixed : Fixed = fewest_places (digits / 10) places in
-      let more : fixed.digits * 10 ^ places * 10 ≡ fixed.digits * 10 ^ suc places = tens_more fixed.digits places ∙ ap (λ (k : ℕ). fixed.digits * 10 ^ k) (add-one places) in
+      let more : fixed.digits * 10 ^ places * 10 ≡ fixed.digits * 10 ^ suc places = tens_more fixed.digits places
+      ∙ ap (λ (k : ℕ). fixed.digits * 10 ^ k) (add-one places) in
       let turned : digits / 10 * 10 ^ fixed.places * 10 ≡ digits / 10 * 10 * 10 ^ fixed.places = omega arith in
       rw (eq-eqb (digits % 10) 0 at_zero) (record {
         same = sym more ∙ ap (λ (k : ℕ). k * 10) r.same ∙ turned ∙ ap (λ (k : ℕ). k * 10 ^ fixed.places) (sym front);
@@ -43,10 +46,15 @@ fewest digits (suc places) = elim (cases_eq (digits % 10) 0) [
 
 -- ---- the digits of a number
 
-first_above_zero : (n : ℕ) → n < 10 ^ 64 → (0 < length (decimal n)) × (0 < n → 48 < get_or (decimal n) 0 0) × (n ≡ 0 → length (decimal n) ≡ 1)
+first_above_zero : (n : ℕ) → n < 10 ^ 64 → (0 < length (decimal n)) × (0 < n → 48 < get_or (decimal n) 0 0)
+    × (n ≡ 0 → length (decimal n) ≡ 1)
 first_above_zero = decimal_by_steps_wide (λ m ds. (0 < length ds) × (0 < m → 48 < get_or ds 0 0) × (m ≡ 0 → length ds ≡ 1))
     (λ m less. (omega arith, λ some. omega arith, λ none. refl))
-    (λ m ds least h. (omega (arith, length-append ds ((48 + m % 10) ∷ [])), λ some. omega (arith, get_or_append_left ds ((48 + m % 10) ∷ []) 0 0 h.0, h.1 (omega arith)), λ none. absurd (omega arith)))
+    (λ m ds least h. (
+      omega (arith, length-append ds ((48 + m % 10) ∷ [])),
+      λ some. omega (arith, get_or_append_left ds ((48 + m % 10) ∷ []) 0 0 h.0, h.1 (omega arith)),
+      λ none. absurd (omega arith),
+    ))
 
 no_zero_first : (n : ℕ) → n < 10 ^ 64 → NoZeroFirst (decimal n)
 no_zero_first n small rest is =
@@ -98,20 +106,23 @@ with_point : (front fraction : List ℕ) → 0 < length fraction → front ++ (4
 with_point front [] some = absurd (omega arith)
 with_point front (d ∷ ds) some = refl
 
-at_point : (digits places : ℕ) → digits < 10 ^ 64 → 0 < places → IsSplit digits places (point_before_last places (filled places (decimal digits)))
+at_point : (digits places : ℕ) → digits < 10 ^ 64 → 0 < places
+    → IsSplit digits places (point_before_last places (filled places (decimal digits)))
 at_point digits places small some =
     let h = decimal_is_IsNumeral_wide digits small in
     let ds : List ℕ = decimal digits in
     let n : ℕ = places + 1 - length ds in
     let padded : List ℕ = zeros n ++ ds in
-    let many : length (zeros n ++ ds) ≡ n + length ds = length-append (zeros n) ds ∙ ap (λ (k : ℕ). k + length ds) (length-replicate n 48) in
+    let many : length (zeros n ++ ds) ≡ n + length ds = length-append (zeros n) ds
+    ∙ ap (λ (k : ℕ). k + length ds) (length-replicate n 48) in
     let k : ℕ = length padded - places in
     let joined : take k padded ++ drop k padded ≡ padded = take-append-drop k padded in
     let whole-count : length (take k padded) ≡ k = length-take-le k padded (omega arith) in
     let count : length (drop k padded) ≡ places = length-drop k padded ∙ omega (arith, many) in
     let all : AllDigits 10 padded = all_append (zeros n) ds (zeros_all n) h.0.1 in
     let both : AllDigits 10 (take k padded ++ drop k padded) = subst (AllDigits 10) (sym joined) all in
-    let value : digits_value 10 padded ≡ digits = value_append 0 (zeros n) ds ∙ ap (λ (m : ℕ). digits_value_after 10 m ds) (zeros_value n) ∙ h.1 in
+    let value : digits_value 10 padded ≡ digits = value_append 0 (zeros n) ds ∙ ap (λ (m : ℕ). digits_value_after 10 m ds)
+    (zeros_value n) ∙ h.1 in
     record {
       whole = take k padded;
       fraction = drop k padded;
@@ -124,8 +135,10 @@ at_point digits places small some =
         | inl long ↦
             let none : n ≡ 0 = omega (arith, long) in
             let same : padded ≡ ds = ap (λ (m : ℕ). zeros m ++ ds) none in
-            let digits-are : ds ≡ 48 ∷ (rest ++ drop k padded) = sym same ∙ sym joined ∙ ap (λ (xs : List ℕ). xs ++ drop k padded) is in
-            let nothing : length (rest ++ drop k padded) ≡ 0 = ap (λ (xs : List ℕ). length xs) (no_zero_first digits small (rest ++ drop k padded) digits-are) in
+            let digits-are : ds ≡ 48 ∷ (rest ++ drop k padded) = sym same ∙ sym joined ∙ ap (λ (xs : List ℕ). xs ++ drop k padded)
+            is in
+            let nothing : length (rest ++ drop k padded) ≡ 0 =
+            ap (λ (xs : List ℕ). length xs) (no_zero_first digits small (rest ++ drop k padded) digits-are) in
             absurd (omega (arith, nothing, length-append rest (drop k padded), count, some))
         | inr short ↦
             let one : suc (length rest) ≡ k = sym (ap (λ (xs : List ℕ). length xs) is) ∙ whole-count in
@@ -136,16 +149,20 @@ at_point digits places small some =
 split : (fixed : Fixed) → fixed.digits < 10 ^ 64 → IsSplit fixed.digits fixed.places (fixed_text fixed)
 unfolding fixed_text
 split fixed small = elim (cases_eq fixed.places 0) [
-  | inl none ↦ rw (eq-eqb fixed.places 0 none) (subst (λ (places : ℕ). IsSplit fixed.digits places (decimal fixed.digits)) (sym none) (no_point fixed.digits small))
+  | inl none ↦ rw (eq-eqb fixed.places 0 none) (subst (λ (places : ℕ). IsSplit fixed.digits places (decimal fixed.digits))
+      (sym none) (no_point fixed.digits small))
   | inr some ↦ rw (ne_eqb fixed.places 0 some) (at_point fixed.digits fixed.places small (omega (arith, some)))
 ]
 
 -- a zero at the end behind the point would be one at the end of the digits
-ends_so : (digits places : ℕ) (whole fraction front : List ℕ) → digits_value 10 (whole ++ fraction) ≡ digits → length fraction ≡ places
+ends_so : (digits places : ℕ) (whole fraction front : List ℕ) → digits_value 10 (whole ++ fraction) ≡ digits
+    → length fraction ≡ places
     → (places ≢ 0 → digits % 10 ≢ 0) → fraction ≡ front ++ (48 ∷ []) → ⊥
 ends_so digits places whole fraction front value count last is =
-    let joined : whole ++ fraction ≡ (whole ++ front) ++ (48 ∷ []) = ap (λ (xs : List ℕ). whole ++ xs) is ∙ sym (append_assoc whole front (48 ∷ [])) in
-    let digits-are : digits ≡ digits_value 10 (whole ++ front) * 10 + 0 = sym value ∙ ap (digits_value 10) joined ∙ digits_value_push 10 (whole ++ front) 48 in
+    let joined : whole ++ fraction ≡ (whole ++ front) ++ (48 ∷ []) = ap (λ (xs : List ℕ). whole ++ xs) is
+    ∙ sym (append_assoc whole front (48 ∷ [])) in
+    let digits-are : digits ≡ digits_value 10 (whole ++ front) * 10 + 0 = sym value ∙ ap (digits_value 10) joined
+    ∙ digits_value_push 10 (whole ++ front) 48 in
     let long : length fraction ≡ length front + 1 = ap (λ (xs : List ℕ). length xs) is ∙ length-append front (48 ∷ []) in
     last (λ none. absurd (omega (arith, long, count, none))) (omega (arith, digits-are))
 
@@ -162,7 +179,11 @@ scaled_text_is value places small =
         sign = refl;
         number = ap (λ (n : ℕ). n * 10 ^ places) s.value ∙ f.same ∙ ap (λ (n : ℕ). unsigned_abs value * 10 ^ n) (sym s.count);
       };
-      shortest = record { first = s.first; last = λ front is. ends_so fixed.digits fixed.places s.whole s.fraction front s.value s.count f.last is };
+      shortest = record {
+        first = s.first;
+        last = λ front is. ends_so fixed.digits fixed.places s.whole s.fraction front s.value
+            s.count f.last is;
+      };
     }
 
 -- ---- the values of a scale
@@ -170,7 +191,12 @@ scaled_text_is value places small =
 sum_below : (a b : ℤ) → unsigned_abs (a +ℤ b) ≤ unsigned_abs a + unsigned_abs b
 sum_below a b = grind (arith, ints)
 
-pub scaled_text_of_scale : (scale : Scale) (raw : ℤ) → IsScale scale → unsigned_abs raw ≤ 2 ^ scale.length → IsScaledText (scaled scale raw) scale.places (scaled_text (scaled scale raw) scale.places)
+pub scaled_text_of_scale : (scale : Scale) (raw : ℤ) → IsScale scale → unsigned_abs raw ≤ 2 ^ scale.length
+    → IsScaledText (scaled scale raw) scale.places (scaled_text (scaled scale raw) scale.places)
 scaled_text_of_scale scale raw is small =
     scaled_text_is (scaled scale raw) scale.places
-    (omega (arith, product_below scale.factor scale.offset raw scale.length is.reach small, sum_below (scale.factor *ℤ raw) scale.offset))
+    (omega (
+      arith,
+      product_below scale.factor scale.offset raw scale.length is.reach small,
+      sum_below (scale.factor *ℤ raw) scale.offset,
+    ))

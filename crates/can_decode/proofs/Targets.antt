@@ -12,11 +12,22 @@ use Rattle.can_decode.specs.DecodedLines.{target_of}
 -- a group message has a group
 pub has_group : (number : ℕ) (database : Database) → is_some (group_of number database) ≡ is_group_number number database
 unfolding group_of
-has_group number database = elim (is_group_number number database) as (λ group. is_some (if group then Some (group_number_of number) else None) ≡ group) [ true ↦ refl | false ↦ refl ]
+has_group number database = elim (is_group_number number database) as (λ group. is_some (if group then Some (group_number_of number)
+    else None) ≡ group) [ true ↦ refl | false ↦ refl ]
 
-pub target_is : (short : Short) (database : Database) (plans : List Plan) (place : ℕ) (message : Message) (plan : Plan) → plans ≡ map (plan_of database) database.messages → Some message ≡ slice_get database.messages place → Some plan ≡ slice_get plans place
-    → Some (record { message = message; plan = plan; group = is_group_number message.head.number database; short = short }) ≡ option_map (target_of short database) (slice_get database.messages place)
+pub target_is : (short : Short) (database : Database) (plans : List Plan) (place : ℕ) (message : Message) (plan : Plan)
+    → plans ≡ map (plan_of database) database.messages → Some message ≡ slice_get database.messages place
+    → Some plan ≡ slice_get plans place
+    → Some (record { message = message; plan = plan; group = is_group_number message.head.number database; short = short })
+    ≡ option_map (target_of short database) (slice_get database.messages place)
 target_is short database plans place message plan all found planned =
-    let mine : Some plan ≡ Some (plan_of database message) = planned ∙ ap (λ plans. slice_get plans place) all ∙ slice_get-map (plan_of database) database.messages place ∙ ap (λ found. option_map (plan_of database) found) (sym found) in
-    ap (λ found. option_map (λ plan. record { message = message; plan = plan; group = is_group_number message.head.number database; short = short }) found) mine
+    let mine : Some plan ≡ Some (plan_of database message) = planned ∙ ap (λ plans. slice_get plans place) all
+    ∙ slice_get-map (plan_of database) database.messages place ∙ ap (λ found. option_map (plan_of database) found)
+    (sym found) in
+    ap (λ found. option_map (λ plan. record {
+      message = message;
+      plan = plan;
+      group = is_group_number message.head.number database;
+      short = short;
+    }) found) mine
     ∙ ap (λ found. option_map (target_of short database) found) found

@@ -1,5 +1,6 @@
 -- A text has its parts in one way, so it reads as one value.
-use Rattle.std.proofs.Common.{◌≡◌, ℕ, ℤ, pos, ◌<◌, ◌≤◌, Bool, true, false, List, [], ◌∷◌, ◌++◌, length, drop, get_or, refl, sym, ap, subst, ◌∙◌, arith}
+use Rattle.std.proofs.Common.{◌≡◌, ℕ, ℤ, pos, ◌<◌, ◌≤◌, Bool, true, false, List, [], ◌∷◌, ◌++◌, length, drop, get_or, refl, sym, ap}
+use Rattle.std.proofs.Common.{subst, ◌∙◌, arith}
 use Rattle.std.specs.Prelude.{unsigned_abs, int_lt}
 use Rattle.std.specs.Char.{digit_value}
 use Rattle.std.specs.Str.Parse.{AllDigits, IsNumeral}
@@ -47,7 +48,8 @@ no_sign : (w rest tail : List ℕ) → IsNumeral 10 w → 45 ∷ rest ≡ w ++ t
 no_sign [] rest tail a same = absurd (omega (arith, a.0))
 no_sign (x ∷ w) rest tail a same = no_digit 45 x a.1.0 (same_first 45 x rest (w ++ tail) same) (omega arith)
 
-same_signed : (m n : Bool) (w v f g : List ℕ) → IsNumeral 10 w → IsNumeral 10 v → sign_text m ++ (w ++ behind_point f) ≡ sign_text n ++ (v ++ behind_point g)
+same_signed : (m n : Bool) (w v f g : List ℕ) → IsNumeral 10 w → IsNumeral 10 v → sign_text m ++ (w ++ behind_point f) ≡ sign_text n
+    ++ (v ++ behind_point g)
     → (m ≡ n) × (w ++ behind_point f ≡ v ++ behind_point g)
 unfolding sign_text
 same_signed true true w v f g a b same = (refl, same_rest 45 45 (w ++ behind_point f) (v ++ behind_point g) same)
@@ -59,16 +61,21 @@ one_plain : (text : List ℕ) (p q : Plain) → HasParts text p → HasParts tex
 one_plain text p q a b =
     let signed = same_signed p.negative q.negative p.whole q.whole p.fraction q.fraction a.whole b.whole (sym a.is ∙ b.is) in
     let negative : p.negative ≡ q.negative = signed.0 in
-    let body : SameBody p.whole q.whole p.fraction q.fraction = same_body p.whole q.whole p.fraction q.fraction a.whole.1 b.whole.1 signed.1 in
+    let body : SameBody p.whole q.whole p.fraction q.fraction = same_body p.whole q.whole p.fraction q.fraction a.whole.1 b.whole.1
+    signed.1 in
     λ i. record { negative = negative i; whole = body.whole i; fraction = body.fraction i }
 
 same_value : (v w : ℤ) → int_lt v (pos 0) ≡ int_lt w (pos 0) → unsigned_abs v ≡ unsigned_abs w → v ≡ w
 same_value v w sign same = grind (arith, ints)
 
-one_value_of : (plain : Plain) (value other : ℤ) (places : ℕ) → ReadsAs plain value places → ReadsAs plain other places → value ≡ other
+one_value_of : (plain : Plain) (value other : ℤ) (places : ℕ) → ReadsAs plain value places → ReadsAs plain other places
+    → value ≡ other
 one_value_of plain value other places a b =
-    same_value value other (sym a.sign ∙ b.sign) (same_tens (unsigned_abs value) (unsigned_abs other) (length plain.fraction) (sym a.number ∙ b.number))
+    same_value value other (sym a.sign ∙ b.sign) (same_tens (unsigned_abs value) (unsigned_abs other) (length plain.fraction)
+    (sym a.number ∙ b.number))
 
-pub one_value : (value other : ℤ) (places : ℕ) (text : List ℕ) → IsScaledText value places text → IsScaledText other places text → value ≡ other
+pub one_value : (value other : ℤ) (places : ℕ) (text : List ℕ) → IsScaledText value places text → IsScaledText other places text
+    → value ≡ other
 one_value value other places text p q =
-    one_value_of q.plain value other places (subst (λ (plain : Plain). ReadsAs plain value places) (one_plain text p.plain q.plain p.parts q.parts) p.reads) q.reads
+    one_value_of q.plain value other places (subst (λ (plain : Plain). ReadsAs plain value places) (one_plain text p.plain q.plain
+    p.parts q.parts) p.reads) q.reads

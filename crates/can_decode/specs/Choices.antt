@@ -1,7 +1,8 @@
 -- Which message a frame goes to.
 -- Source: the DBC file format, "Message Definitions" (message_id, whose highest bit marks an identifier of 29 bits); SAE
 -- J1939-21, "Parameter Group Numbers". That an exact number goes before a group is the profile of candesk.
-use Rattle.std.specs.Prelude.{◌==◌, ℕ, Bool, false, List, Option, Some, None, position, slice_get, option_map, option_and_then, if◌then◌else◌}
+use Rattle.std.specs.Prelude.{◌==◌, ℕ, Bool, false, List, Option, Some, None, position, slice_get, option_map, option_and_then}
+use Rattle.std.specs.Prelude.{if◌then◌else◌}
 use Rattle.std.specs.Option.{option_or}
 use Rattle.dbc_records.specs.Records.{Message}
 use Rattle.dbc_records.specs.Databases.{Database}
@@ -27,7 +28,8 @@ exact_place database number = position (has_number number) database.messages
 
 -- the first message of the number's group, for a number of 29 bits
 abbrev pub group_place : Database → ℕ → Option ℕ
-group_place database number = if is_extended number then position (in_group database (group_number_of number)) database.messages else None
+group_place database number = if is_extended number then position (in_group database (group_number_of number)) database.messages
+    else None
 
 -- The place of the message that a frame's number goes to. No frame's number is a bad one, so such messages are never
 -- chosen.

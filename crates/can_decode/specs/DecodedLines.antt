@@ -1,7 +1,8 @@
 -- What is written for a line of a log.
 -- Source: cantools, the single-line form of `decode`; SAE J1939-21, "Protocol Data Unit Fields", for what stands in
 -- brackets. What is said of frames without values is the profile of candesk.
-use Rattle.std.specs.Prelude.{ℕ, nat_le, nat_lt, Bool, false, ◌&&◌, ◌||◌, List, [], ◌∷◌, ◌++◌, length, filter, Option, Some, None, slice_get, option_map, option_and_then, codes, decimal, if◌then◌else◌}
+use Rattle.std.specs.Prelude.{ℕ, nat_le, nat_lt, Bool, false, ◌&&◌, ◌||◌, List, [], ◌∷◌, ◌++◌, length, filter, Option, Some, None}
+use Rattle.std.specs.Prelude.{slice_get, option_map, option_and_then, codes, decimal, if◌then◌else◌}
 use Rattle.std.specs.List.{flat_map}
 use Rattle.std.specs.Fmt.{digits}
 use Rattle.dbc_records.specs.Records.{Message}
@@ -51,15 +52,22 @@ pub record Target : Type 0 where
 
 abbrev pub target_of : Short → Database → Message → Target
 target_of short database message =
-    record { message = message; plan = plan_of database message; group = is_group_number message.head.number database; short = short }
+    record {
+      message = message;
+      plan = plan_of database message;
+      group = is_group_number message.head.number database;
+      short = short;
+    }
 
 abbrev pub destination_text : ℕ → List ℕ
-destination_text identifier = if nat_le first_broadcast_format (format_of identifier) then [] else codes " d" ++ decimal (specific_of identifier)
+destination_text identifier = if nat_le first_broadcast_format (format_of identifier) then [] else codes " d"
+    ++ decimal (specific_of identifier)
 
 -- `[p6 s49]`, or `[p3 s0 d255]` where the format has a destination: priority, source and destination of the frame
 unfoldable pub group_text : ℕ → List ℕ
 group_text identifier =
-    codes "[p" ++ (decimal (priority_of identifier) ++ (codes " s" ++ (decimal (source_of identifier) ++ (destination_text identifier ++ codes "]"))))
+    codes "[p" ++ (decimal (priority_of identifier)
+    ++ (codes " s" ++ (decimal (source_of identifier) ++ (destination_text identifier ++ codes "]"))))
 
 abbrev pub bracket_text : ℕ → Bool → List ℕ
 bracket_text identifier group = if group then group_text identifier else []
@@ -76,11 +84,13 @@ abbrev pub join : List (List ℕ) → List ℕ
 join pieces = flat_map (λ piece. piece) pieces
 
 unfoldable pub wrong_size_text : ℕ → ℕ → List ℕ
-wrong_size_text there wanted = join (codes "Wrong data size: " ∷ decimal there ∷ codes " instead of " ∷ decimal wanted ∷ codes " bytes" ∷ [])
+wrong_size_text there wanted = join (codes "Wrong data size: " ∷ decimal there ∷ codes " instead of " ∷ decimal wanted
+    ∷ codes " bytes" ∷ [])
 
 -- the identifier in decimal and in lower case hexadecimal
 unfoldable pub unknown_text : ℕ → List ℕ
-unknown_text identifier = join (codes "Unknown frame id " ∷ decimal identifier ∷ codes " (0x" ∷ digits 16 false identifier ∷ codes ")" ∷ [])
+unknown_text identifier = join (codes "Unknown frame id " ∷ decimal identifier ∷ codes " (0x" ∷ digits 16 false identifier
+    ∷ codes ")" ∷ [])
 
 -- data that is shorter than the message is refused, or what is there is shown
 abbrev pub is_refused : Short → ℕ → ℕ → Bool
@@ -91,7 +101,8 @@ is_refused Show there wanted = false
 abbrev pub data_text : Frame → Option Target → List ℕ
 data_text frame None = unknown_text frame.identifier
 data_text frame (Some target) =
-    if is_refused target.short (length frame.bytes) target.plan.size then wrong_size_text (length frame.bytes) target.plan.size else message_text frame target
+    if is_refused target.short (length frame.bytes) target.plan.size then wrong_size_text (length frame.bytes) target.plan.size else
+    message_text frame target
 
 abbrev pub text_of_kind : Kind → Frame → Option Target → List ℕ
 text_of_kind Error frame target = codes "Error frame"
@@ -104,7 +115,8 @@ text_of_kind Fd frame target = data_text frame target
 -- what a frame of the database's bus goes to
 unfoldable pub chosen_target : Short → Database → Frame → Option Target
 chosen_target short database frame =
-    option_and_then (λ place. option_map (target_of short database) (slice_get database.messages place)) (chosen_place database frame)
+    option_and_then (λ place. option_map (target_of short database) (slice_get database.messages place))
+    (chosen_place database frame)
 
 abbrev pub frame_text : Short → Database → Frame → List ℕ
 frame_text short database frame = text_of_kind frame.kind frame (chosen_target short database frame)

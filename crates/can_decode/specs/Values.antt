@@ -2,7 +2,8 @@
 -- Source: cantools, the single-line form of `decode` (a value and its unit, or the text of a named value); the DBC file
 -- format, "Signal Definitions" (physical value) and "Signal Value Descriptions". That values are written exactly is the
 -- profile of candesk.
-use Rattle.std.specs.Prelude.{ℕ, ℤ, zero, suc, ◌+ℤ◌, ◌*ℤ◌, ◌/◌, ◌%◌, ◌==◌, int_lt, pos, unsigned_abs, List, [], ◌++◌, Option, Some, None, codes, decimal, if◌then◌else◌}
+use Rattle.std.specs.Prelude.{ℕ, ℤ, zero, suc, ◌+ℤ◌, ◌*ℤ◌, ◌/◌, ◌%◌, ◌==◌, int_lt, pos, unsigned_abs, List, [], ◌++◌, Option, Some}
+use Rattle.std.specs.Prelude.{None, codes, decimal, if◌then◌else◌}
 use Rattle.dbc_values.specs.Scales.{Scale}
 use Rattle.dbc_records.specs.Layout.{point_before_last, filled}
 use Rattle.dbc_records.specs.Records.{Entry}
@@ -23,11 +24,15 @@ pub record Fixed : Type 0 where
 -- the same number with the fewest places: no zero stands last behind the point
 abbrev pub fewest_places : ℕ → ℕ → Fixed
 fewest_places digits zero = record { digits = digits; places = 0 }
-fewest_places digits (suc places) = if digits % 10 == 0 then fewest_places (digits / 10) places else record { digits = digits; places = suc places }
+fewest_places digits (suc places) = if digits % 10 == 0 then fewest_places (digits / 10) places else record {
+  digits = digits;
+  places = suc places;
+}
 
 -- at least one digit stands before the point
 unfoldable pub fixed_text : Fixed → List ℕ
-fixed_text fixed = if fixed.places == 0 then decimal fixed.digits else point_before_last fixed.places (filled fixed.places (decimal fixed.digits))
+fixed_text fixed = if fixed.places == 0 then decimal fixed.digits else point_before_last fixed.places
+    (filled fixed.places (decimal fixed.digits))
 
 abbrev pub sign_of : ℤ → List ℕ
 sign_of value = if int_lt value (pos 0) then codes "-" else []

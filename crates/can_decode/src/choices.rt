@@ -47,7 +47,8 @@ impl<'a> Choices<'a> {
 
     // What the group of a number of 29 bits goes to.
     fn of_group(&self, number: u32) -> Option<Choice>
-        ensures { result ≡ (if is_extended number then first_of_group self.now self.now.messages (group_number_of number) else None) }
+        ensures { result ≡ (if is_extended number then first_of_group self.now self.now.messages (group_number_of number) else
+            None) }
     {
         if number >> 31 & 1 == 1 {
             self.index.grouped.get(&group_number(number)).copied()

@@ -60,7 +60,8 @@ fn push_data(
     frame: &Frame,
     target: Option<&Target<'_>>,
 ) -> Result<(), Memory>
-    ensures { OnOk result (text.new.items ≡ text.old.items ++ data_text frame.now (option_map (λ target. target.now) target.entry)) }
+    ensures { OnOk result (text.new.items ≡ text.old.items ++ data_text frame.now (option_map (λ target. target.now)
+        target.entry)) }
 {
     match target {
         None => push_unknown(alloc, text, frame.identifier),
@@ -78,7 +79,8 @@ pub(crate) fn push_frame(
     frame: &Frame,
     target: Option<&Target<'_>>,
 ) -> Result<(), Memory>
-    ensures { OnOk result (text.new.items ≡ text.old.items ++ text_of_kind frame.now.kind frame.now (option_map (λ target. target.now) target.entry)) }
+    ensures { OnOk result (text.new.items ≡ text.old.items ++ text_of_kind frame.now.kind frame.now
+        (option_map (λ target. target.now) target.entry)) }
 {
     match frame.kind {
         Kind::Error => push_bytes(text, b"Error frame"),

@@ -39,8 +39,10 @@ impl<'a> Model for Bus<'a> {
 impl<'a> Bus<'a> {
     // What the message at a place is to a frame: that message, with its plan.
     fn target_with(&self, chosen: Option<(usize, &'a Plan)>) -> Option<Target<'a>>
-        requires { IfSome chosen (λ one. Some one.1.now ≡ option_map (plan_of self.now.database) (slice_get self.now.database.messages one.0)) }
-        ensures { result ≡ option_and_then (λ place. option_map (target_of self.now.short self.now.database) (slice_get self.now.database.messages place)) (option_map (λ one. one.0) chosen.entry) }
+        requires { IfSome chosen (λ one. Some one.1.now ≡ option_map (plan_of self.now.database)
+            (slice_get self.now.database.messages one.0)) }
+        ensures { result ≡ option_and_then (λ place. option_map (target_of self.now.short self.now.database)
+            (slice_get self.now.database.messages place)) (option_map (λ one. one.0) chosen.entry) }
     {
         let (place, plan) = chosen?;
         let message = message_at(self.database, place)?;
@@ -65,7 +67,8 @@ impl<'a> Bus<'a> {
         meter: &mut Meter,
     ) -> Result<Vec<u8>, Memory>
         requires place { option_map (λ one. one.0) chosen ≡ line_place self.now.database line.now }
-        requires plan { IfSome chosen (λ one. Some one.1.now ≡ option_map (plan_of self.now.database) (slice_get self.now.database.messages one.0)) }
+        requires plan { IfSome chosen (λ one. Some one.1.now ≡ option_map (plan_of self.now.database)
+            (slice_get self.now.database.messages one.0)) }
         ensures text { IfOk result (λ text. text.items ≡ bus_line self.now line.now) }
         ensures counted { meter.new ≡ with_line meter.old }
     {
@@ -90,7 +93,8 @@ pub fn decode_at(
     short: Short,
 ) -> Result<Vec<u8>, Memory>
     requires place { option_map (λ one. one.0) chosen ≡ line_place database.now line.now }
-    requires plan { IfSome chosen (λ one. Some one.1.now ≡ option_map (plan_of database.now) (slice_get database.now.messages one.0)) }
+    requires plan { IfSome chosen (λ one. Some one.1.now ≡ option_map (plan_of database.now) (slice_get database.now.messages
+        one.0)) }
     ensures text { IfOk result (λ text. text.items ≡ decoded_line short database.now line.now) }
     ensures counted { meter.new ≡ with_line meter.old }
 {

@@ -52,7 +52,8 @@ impl<'a, C: Choose> Finder<'a, C> {
     // The message of a choice, with its plan.
     fn target_at(&self, choice: Choice) -> Option<Target<'a>>
         requires { choice ≡ choice_at self.now.database choice.place }
-        ensures { result ≡ option_map (target_of self.now.short self.now.database) (slice_get self.now.database.messages choice.place) }
+        ensures { result ≡ option_map (target_of self.now.short self.now.database) (slice_get self.now.database.messages
+            choice.place) }
     {
         let message = message_at(self.database, choice.place)?;
         let plan = plan_at(self.plans, choice.place)?;
@@ -85,7 +86,8 @@ pub(crate) fn push_known(
     frame: &Frame,
     target: Option<&Target<'_>>,
 ) -> Result<(), Memory>
-    ensures { OnOk result (text.new.items ≡ text.old.items ++ (codes " :: " ++ text_of_kind frame.now.kind frame.now (option_map (λ target. target.now) target.entry))) }
+    ensures { OnOk result (text.new.items ≡ text.old.items ++ (codes " :: " ++ text_of_kind frame.now.kind frame.now
+        (option_map (λ target. target.now) target.entry))) }
 {
     push_bytes(text, b" :: ")?;
     push_frame(alloc, text, frame, target)

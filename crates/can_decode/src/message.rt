@@ -2,7 +2,8 @@
 ghost use Rattle.std.specs.Prelude.{◌≡◌, ◌<◌, ◌++◌, false, length, slice_get, OnOk, codes, decimal, if◌then◌else◌};
 ghost use Rattle.std.specs.Option.{option_map_or};
 ghost use Rattle.can_layout.specs.Plans.{label_of};
-ghost use Rattle.can_decode.specs.DecodedLines.{signal_text, further_signal, is_shown, shown_rows, signals_text, destination_text, group_text, bracket_text, message_text};
+ghost use Rattle.can_decode.specs.DecodedLines.{signal_text, further_signal, is_shown, shown_rows, signals_text, destination_text};
+ghost use Rattle.can_decode.specs.DecodedLines.{group_text, bracket_text, message_text};
 
 use crate::j1939::J1939;
 use crate::target::Target;
@@ -42,7 +43,8 @@ fn push_next(
     bytes: &[u8],
 ) -> Result<(), Memory>
     requires { label.now ≡ label_of row.now }
-    ensures { OnOk result (text.new.items ≡ text.old.items ++ (if some then further_signal bytes.now row.now else signal_text bytes.now row.now)) }
+    ensures { OnOk result (text.new.items ≡ text.old.items ++ (if some then further_signal bytes.now row.now else signal_text
+        bytes.now row.now)) }
 {
     push_label(text, some, label, row)?;
     push_reading(text, &row.reading, bytes)
@@ -59,7 +61,8 @@ fn is_shown(plan: &Plan, signal: usize, bytes: &[u8]) -> bool
 
 // The signals that are shown, a comma and a blank between them.
 fn push_signals(text: &mut Vec<u8>, plan: &Plan, bytes: &[u8]) -> Result<(), Memory>
-    ensures { OnOk result (text.new.items ≡ text.old.items ++ signals_text bytes.now (shown_rows bytes.now plan.now plan.now.rows)) }
+    ensures { OnOk result (text.new.items ≡ text.old.items ++ signals_text bytes.now
+        (shown_rows bytes.now plan.now plan.now.rows)) }
 {
     let mut some = false;
     for signal in 0..plan.signals() {

@@ -23,7 +23,8 @@ pub struct MessageIndex {
 
 // Puts a choice at a key, unless one is there.
 fn keep_first(by_key: &mut BTreeMap<u32, Choice>, key: u32, choice: Choice) -> Result<(), Memory>
-    ensures { OnOk result ((other : ℕ) → get nat_cmp by_key.new other ≡ option_or (get nat_cmp by_key.old other) (if key == other then Some choice else None)) }
+    ensures { OnOk result ((other : ℕ) → get nat_cmp by_key.new other ≡ option_or (get nat_cmp by_key.old other)
+        (if key == other then Some choice else None)) }
 {
     by_key.entry(key)?.or_insert(choice);
     Ok(())
@@ -35,7 +36,8 @@ fn keep_first_of_group(
     group: Option<u32>,
     choice: Choice,
 ) -> Result<(), Memory>
-    ensures { OnOk result ((other : ℕ) → get nat_cmp by_group.new other ≡ option_or (get nat_cmp by_group.old other) (if is_group other group then Some choice else None)) }
+    ensures { OnOk result ((other : ℕ) → get nat_cmp by_group.new other ≡ option_or (get nat_cmp by_group.old other)
+        (if is_group other group then Some choice else None)) }
 {
     match group {
         Some(group) => keep_first(by_group, group, choice),

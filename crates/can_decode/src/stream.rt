@@ -76,7 +76,8 @@ fn stream_by<'a, C: Choose, R: Source, W: Sink>(
     source: &mut R,
     sink: &mut W,
 ) -> Result<u64, StreamFault>
-    ensures { (lines : List (List ℕ)) × StreamsLines (bus_line finder.entry) (R.unread source.old) (R.unread source.new) (W.written sink.old) (W.written sink.new) result lines
+    ensures { (lines : List (List ℕ)) × StreamsLines (bus_line finder.entry) (R.unread source.old) (R.unread source.new)
+        (W.written sink.old) (W.written sink.new) result lines
         × (meter.new ≡ counted result lines meter.old) }
 {
     let mut decoded = Decoded {
@@ -93,7 +94,8 @@ fn stream_by<'a, C: Choose, R: Source, W: Sink>(
 /// Reads the source to its end, writes the decoded line and an LF for each line, and answers how many lines there are,
 /// up to `u64::MAX`. `plans` are those of the messages in order. A line has at most 4,096 bytes, its CR counted and its
 /// LF not. Before it pulls again, it has written the texts of all lines that were read whole. The meter counts each line whose
-/// text was made, and the one that memory was wanting for. A fault is a longer line, a read or a write that failed, or want of memory.
+/// text was made, and the one that memory was wanting for. A fault is a longer line, a read or a write that failed, or want of
+/// memory.
 /// `short` tells what is said of frames that are shorter than their message.
 ///
 /// What a number goes to is remembered, and is found by going through the messages. [`decode_stream_by`] has an index.
@@ -107,7 +109,8 @@ pub fn decode_stream<R: Source, W: Sink>(
     short: Short,
 ) -> Result<u64, StreamFault>
     requires { plans.now ≡ map (plan_of database.now) database.now.messages }
-    ensures { (lines : List (List ℕ)) × StreamsLines (decoded_line short database.now) (R.unread source.old) (R.unread source.new) (W.written sink.old) (W.written sink.new) result lines
+    ensures { (lines : List (List ℕ)) × StreamsLines (decoded_line short database.now) (R.unread source.old) (R.unread source.new)
+        (W.written sink.old) (W.written sink.new) result lines
         × (meter.new ≡ counted result lines meter.old) }
 {
     let finder = Finder {
@@ -127,7 +130,8 @@ pub fn decode_stream_by<R: Source, W: Sink>(
     source: &mut R,
     sink: &mut W,
 ) -> Result<u64, StreamFault>
-    ensures { (lines : List (List ℕ)) × StreamsLines (bus_line decoding.now) (R.unread source.old) (R.unread source.new) (W.written sink.old) (W.written sink.new) result lines
+    ensures { (lines : List (List ℕ)) × StreamsLines (bus_line decoding.now) (R.unread source.old) (R.unread source.new)
+        (W.written sink.old) (W.written sink.new) result lines
         × (meter.new ≡ counted result lines meter.old) }
 {
     let choices = decoding.choices();

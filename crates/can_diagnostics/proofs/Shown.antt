@@ -16,10 +16,12 @@ pub blanked-append : (xs ys : List ℕ) → blanked (xs ++ ys) ≡ blanked xs ++
 unfolding blanked
 blanked-append xs ys = map-append shown_byte xs ys
 
-pub blanked_pieces : {X : Type 0} (f : X → List ℕ) (pieces : List X) → blanked (flat_map f pieces) ≡ flat_map (λ piece. blanked (f piece)) pieces
+pub blanked_pieces : {X : Type 0} (f : X → List ℕ) (pieces : List X) → blanked (flat_map f pieces)
+    ≡ flat_map (λ piece. blanked (f piece)) pieces
 unfolding blanked
 blanked_pieces f [] = refl
-blanked_pieces f (piece ∷ pieces) = map-append shown_byte (f piece) (flat_map f pieces) ∙ ap (λ (t : List ℕ). map shown_byte (f piece) ++ t) (blanked_pieces f pieces)
+blanked_pieces f (piece ∷ pieces) = map-append shown_byte (f piece) (flat_map f pieces)
+    ∙ ap (λ (t : List ℕ). map shown_byte (f piece) ++ t) (blanked_pieces f pieces)
 
 pub shown-append : (xs ys : Layout) → shown (xs ++ ys) ≡ shown xs ++ shown ys
 unfolding shown layout_text
@@ -30,12 +32,14 @@ unfolding shown layout_text blanked
 shown-nil = refl
 
 -- a layout goes out behind one that was sent
-pub Shown-then : {W X E : Type 0} (written : W → Written) (a b c : Out W) (r : Result X E) (xs ys : Layout) → Took written a b (shown xs)
+pub Shown-then : {W X E : Type 0} (written : W → Written) (a b c : Out W) (r : Result X E) (xs ys : Layout)
+    → Took written a b (shown xs)
     → Sends written b c r (shown ys) → Sends written a c r (shown (xs ++ ys))
 Shown-then written a b c r xs ys p q = rw (shown-append xs ys) (Sends-after written a b c r (shown xs) (shown ys) p q)
 
 -- a failure in a layout, before another
-pub Shown-broke : {W X E : Type 0} (written : W → Written) (a b : Out W) (r : Result X E) (xs ys : Layout) → IsErr r → Lost written a b (shown xs)
+pub Shown-broke : {W X E : Type 0} (written : W → Written) (a b : Out W) (r : Result X E) (xs ys : Layout) → IsErr r
+    → Lost written a b (shown xs)
     → Sends written a b r (shown (xs ++ ys))
 Shown-broke written a b r xs ys e p = rw (shown-append xs ys) (Sends-stop written a b r (shown xs) (shown ys) e p)
 

@@ -39,9 +39,12 @@ unfoldable pub subject_text : Subject → List ℕ
 subject_text (subjects.Message number message) = join (decimal number ∷ codes " " ∷ message ∷ [])
 subject_text (subjects.Sender number message node) = join (decimal number ∷ codes " " ∷ message ∷ codes " " ∷ node ∷ [])
 subject_text (subjects.Signal number message signal) = join (decimal number ∷ codes " " ∷ message ∷ codes "." ∷ signal ∷ [])
-subject_text (subjects.Pair number message first second) = join (decimal number ∷ codes " " ∷ message ∷ codes "." ∷ first ∷ codes " " ∷ message ∷ codes "." ∷ second ∷ [])
-subject_text (subjects.Receiver number message signal node) = join (decimal number ∷ codes " " ∷ message ∷ codes "." ∷ signal ∷ codes " " ∷ node ∷ [])
-subject_text (subjects.Value number message signal value) = join (decimal number ∷ codes " " ∷ message ∷ codes "." ∷ signal ∷ codes " " ∷ signed_decimal value ∷ [])
+subject_text (subjects.Pair number message first second) = join (decimal number ∷ codes " " ∷ message ∷ codes "." ∷ first
+    ∷ codes " " ∷ message ∷ codes "." ∷ second ∷ [])
+subject_text (subjects.Receiver number message signal node) = join (decimal number ∷ codes " " ∷ message ∷ codes "." ∷ signal
+    ∷ codes " " ∷ node ∷ [])
+subject_text (subjects.Value number message signal value) = join (decimal number ∷ codes " " ∷ message ∷ codes "." ∷ signal
+    ∷ codes " " ∷ signed_decimal value ∷ [])
 subject_text (subjects.Row key) = row_text key
 
 unfoldable pub code_text : Code → List ℕ

@@ -1,6 +1,7 @@
 //! The rows of a database by their kind and key.
 ghost use Rattle.std.specs.Prelude.{◌≡◌, IfOk};
-ghost use Rattle.can_diagnostics.specs.Keys.{key_of_table, key_of_comment, key_of_definition, key_of_default, key_of_attribute, key_of_values, key_of_float, key_of_mux};
+ghost use Rattle.can_diagnostics.specs.Keys.{key_of_table, key_of_comment, key_of_definition, key_of_default, key_of_attribute};
+ghost use Rattle.can_diagnostics.specs.Keys.{key_of_values, key_of_float, key_of_mux};
 
 use dbc_records::{
     AttrDef, AttrDefault, AttrRow, Comment, FloatRow, MuxRow, Object, TableRow, Target, ValueRow,

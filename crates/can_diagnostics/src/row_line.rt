@@ -1,7 +1,8 @@
 //! Rows, named by what is printed of them up to and with their keys.
 ghost use Rattle.std.specs.Prelude.{◌≡◌, ◌++◌, codes};
 ghost use Rattle.byte_devices.specs.Outs.{Sends};
-ghost use Rattle.dbc_records.specs.CanonicalText.{word_layout, spaced_name, spaced_text, spaced_word, target_layout, object_word, object_layout, signal_key};
+ghost use Rattle.dbc_records.specs.CanonicalText.{word_layout, spaced_name, spaced_text, spaced_word, target_layout, object_word};
+ghost use Rattle.dbc_records.specs.CanonicalText.{object_layout, signal_key};
 ghost use Rattle.can_diagnostics.specs.Lines.{shown, row_text};
 
 use crate::row_key::RowKey;
@@ -124,7 +125,8 @@ fn hold_definition<W: Sink>(
     object: Option<Object>,
     name: &Text,
 ) -> Result<(), WriteFault>
-    ensures { Sends W.written out.old out.new result (shown (word_layout (codes "BA_DEF_") ++ (object_layout object ++ spaced_text name.now))) }
+    ensures { Sends W.written out.old out.new result
+        (shown (word_layout (codes "BA_DEF_") ++ (object_layout object ++ spaced_text name.now))) }
 {
     hold_word(out, b"BA_DEF_")?;
     hold_object(out, object)?;
@@ -145,7 +147,8 @@ fn hold_attribute<W: Sink>(
     name: &Text,
     target: &Target,
 ) -> Result<(), WriteFault>
-    ensures { Sends W.written out.old out.new result (shown (word_layout (codes "BA_") ++ (spaced_text name.now ++ target_layout target.now))) }
+    ensures { Sends W.written out.old out.new result
+        (shown (word_layout (codes "BA_") ++ (spaced_text name.now ++ target_layout target.now))) }
 {
     hold_word(out, b"BA_")?;
     hold_spaced_text(out, name)?;

@@ -122,7 +122,8 @@ fn hold_lines<W: Sink>(out: &mut Out<'_, W>, found: &[Diagnostic]) -> Result<(),
 /// out in pieces of up to 64 KiB.
 #[tactic(auto, using(byte_devices::proofs::Outs::flushes))]
 pub fn write_lines<W: Sink>(found: &[Diagnostic], sink: &mut W) -> Result<(), WriteFault>
-    ensures { Prints (W.written sink.old) (W.written sink.new) result (flat_map (λ diagnostic. line_text diagnostic ++ codes "\n") found.now) }
+    ensures { Prints (W.written sink.old) (W.written sink.new) result (flat_map (λ diagnostic. line_text diagnostic ++ codes "\n")
+        found.now) }
 {
     let mut out = Out::new(sink);
     hold_lines(&mut out, found)?;

@@ -22,7 +22,8 @@ any_step false b n is = grind (arith, common_steps)
 -- some pass the test where their number is at least 1
 any_is_one : {X : Type 0} (p : X → Bool) (xs : List X) → list_any p xs ≡ nat_le 1 (count_by p xs)
 any_is_one p [] = refl
-any_is_one p (x ∷ xs) = any_step (p x) (list_any p xs) (count_by p xs) (any_is_one p xs) ∙ ap (nat_le 1) (sym (sum_by-cons (λ y. cond (p y) 1 0) x xs))
+any_is_one p (x ∷ xs) = any_step (p x) (list_any p xs) (count_by p xs) (any_is_one p xs)
+    ∙ ap (nat_le 1) (sym (sum_by-cons (λ y. cond (p y) 1 0) x xs))
 
 count_more : {X : Type 0} (p : X → Bool) (xs : List X) (x : X) → count_by p (xs ++ x ∷ []) ≡ count_by p xs + cond (p x) 1 0
 count_more p xs x = fold-append (λ n y. n + cond (p y) 1 0) 0 xs (x ∷ [])
@@ -45,13 +46,15 @@ or_turned false false = refl
 -- ---- sets
 
 -- the same sets, after a call that failed
-pub AreKeys-same : {K : Type 0} {cmp : K → K → Ordering} (once twice n m : BTreeSet K) (added : List K) → IsUnchanged once n → IsUnchanged twice m → AreKeys cmp once twice added → AreKeys cmp n m added
+pub AreKeys-same : {K : Type 0} {cmp : K → K → Ordering} (once twice n m : BTreeSet K) (added : List K) → IsUnchanged once n
+    → IsUnchanged twice m → AreKeys cmp once twice added → AreKeys cmp n m added
 AreKeys-same {K} {cmp} once twice n m added same_once same_twice are = record {
   has = λ q. ap (list_any (λ k. eq_by_cmp cmp q k)) same_once ∙ are.has q;
   shared = λ q. ap (list_any (λ k. eq_by_cmp cmp q k)) same_twice ∙ are.shared q;
 }
 
-module _ {K : Type 0} {cmp : K → K → Ordering} (o : IsTotalOrder cmp) (key : K) (once twice n : BTreeSet K) (added : List K) (are : AreKeys cmp once twice added) where
+module _ {K : Type 0} {cmp : K → K → Ordering} (o : IsTotalOrder cmp) (key : K) (once twice n : BTreeSet K) (added : List K)
+    (are : AreKeys cmp once twice added) where
   laws : IsEquivalence (eq_by_cmp cmp)
   laws = eq_by_cmp_equiv o
 
@@ -69,21 +72,27 @@ module _ {K : Type 0} {cmp : K → K → Ordering} (o : IsTotalOrder cmp) (key :
   known : nat_le 1 (count_by (eq_by_cmp cmp key) added) ≡ contains cmp once key
   known = sym (are.has key ∙ any_is_one (eq_by_cmp cmp key) added)
 
-  more : (q : K) → nat_le 2 (count_by (eq_by_cmp cmp q) added + cond (eq_by_cmp cmp key q) 1 0) ≡ nat_le 2 (count_by (eq_by_cmp cmp q) (added ++ key ∷ []))
-  more q = ap (λ b. nat_le 2 (count_by (eq_by_cmp cmp q) added + cond b 1 0)) (laws.symm key q) ∙ sym (ap (nat_le 2) (count_more (eq_by_cmp cmp q) added key))
+  more : (q : K) → nat_le 2 (count_by (eq_by_cmp cmp q) added + cond (eq_by_cmp cmp key q) 1 0)
+      ≡ nat_le 2 (count_by (eq_by_cmp cmp q) (added ++ key ∷ []))
+  more q = ap (λ b. nat_le 2 (count_by (eq_by_cmp cmp q) added + cond b 1 0)) (laws.symm key q)
+      ∙ sym (ap (nat_le 2) (count_more (eq_by_cmp cmp q) added key))
 
   -- a key that was not there
   pub AreKeys-first : contains cmp once key ≡ false → Updates cmp once n key true → AreKeys cmp n twice (added ++ key ∷ [])
   AreKeys-first absent updates = record {
     has = has_more updates;
-    shared = λ q. are.shared q ∙ asked_first (eq_by_cmp cmp key q) (count_by (eq_by_cmp cmp q) added) (λ same. ap (nat_le 1) (same_count q same) ∙ known ∙ absent) ∙ more q;
+    shared = λ q. are.shared q ∙ asked_first (eq_by_cmp cmp key q) (count_by (eq_by_cmp cmp q) added)
+        (λ same. ap (nat_le 1) (same_count q same) ∙ known ∙ absent) ∙ more q;
   }
 
   -- a key that was there
-  pub AreKeys-again : (m : BTreeSet K) → contains cmp once key ≡ true → Updates cmp once n key true → Updates cmp twice m key true → AreKeys cmp n m (added ++ key ∷ [])
+  pub AreKeys-again : (m : BTreeSet K) → contains cmp once key ≡ true → Updates cmp once n key true → Updates cmp twice m key true
+      → AreKeys cmp n m (added ++ key ∷ [])
   AreKeys-again m there updates again = record {
     has = has_more updates;
-    shared = λ q. again.0 q ∙ ap (cond (eq_by_cmp cmp key q) true) (are.shared q) ∙ asked_again (eq_by_cmp cmp key q) (count_by (eq_by_cmp cmp q) added) (λ same. ap (nat_le 1) (same_count q same) ∙ known ∙ there) ∙ more q;
+    shared = λ q. again.0 q ∙ ap (cond (eq_by_cmp cmp key q) true) (are.shared q)
+        ∙ asked_again (eq_by_cmp cmp key q) (count_by (eq_by_cmp cmp q) added) (λ same. ap (nat_le 1) (same_count q same) ∙ known
+        ∙ there) ∙ more q;
   }
 
 -- ---- what a set answers

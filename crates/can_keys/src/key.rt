@@ -1,6 +1,7 @@
 //! The keys of rows, with names that are borrowed.
 ghost use Rattle.std.specs.Prelude.{◌≡◌};
-ghost use Rattle.can_diagnostics.specs.Keys.{key_of_table, key_of_comment, key_of_definition, key_of_default, key_of_attribute, key_of_values, key_of_float, key_of_mux};
+ghost use Rattle.can_diagnostics.specs.Keys.{key_of_table, key_of_comment, key_of_definition, key_of_default, key_of_attribute};
+ghost use Rattle.can_diagnostics.specs.Keys.{key_of_values, key_of_float, key_of_mux};
 ghost use Rattle.can_keys.specs.RowKeys.{target_of, row_key};
 
 use dbc_records::{

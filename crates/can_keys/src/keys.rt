@@ -34,9 +34,11 @@ fn mark<K: Ord + Copy>(
     twice: &mut BTreeSet<K>,
     key: K,
 ) -> Result<bool, Memory>
-    ensures keys { OnOk result ((added : List K) → AreKeys K.cmp once.old twice.old added → AreKeys K.cmp once.new twice.new (added ++ key ∷ [])) }
+    ensures keys { OnOk result ((added : List K) → AreKeys K.cmp once.old twice.old added
+        → AreKeys K.cmp once.new twice.new (added ++ key ∷ [])) }
     ensures is_new { IfOk result (λ is_new. is_new ≡ not (contains K.cmp once.old key)) }
-    ensures err { OnErr result ((added : List K) → AreKeys K.cmp once.old twice.old added → AreKeys K.cmp once.new twice.new added) }
+    ensures err { OnErr result ((added : List K) → AreKeys K.cmp once.old twice.old added
+        → AreKeys K.cmp once.new twice.new added) }
 {
     if once.insert(key)? {
         return Ok(true);

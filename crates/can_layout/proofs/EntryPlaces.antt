@@ -1,5 +1,6 @@
 -- One more entry in the places of entries by their numbers, and the entry at a place.
-use Rattle.std.proofs.Common.{◌≡◌, ℕ, ◌+◌, ◌<◌, Bool, true, false, List, [], ◌∷◌, Option, Some, None, length, get_or, take, cond, refl, ap, sym, subst, ◌∙◌}
+use Rattle.std.proofs.Common.{◌≡◌, ℕ, ◌+◌, ◌<◌, Bool, true, false, List, [], ◌∷◌, Option, Some, None, length, get_or, take, cond}
+use Rattle.std.proofs.Common.{refl, ap, sym, subst, ◌∙◌}
 use Rattle.std.specs.Prelude.{ℤ}
 use Rattle.std.specs.List.{slice_get}
 use Rattle.std.specs.Option.{option_or}
@@ -11,25 +12,38 @@ use Rattle.dbc_records.specs.Records.{Entry}
 use Rattle.can_layout.specs.Decoders.{first_entry, IsPlace}
 
 module _ (entries : List Entry) (i : ℕ) (d : Entry) (raw : ℤ) (within : i < length entries) where
-  more : first_entry raw (take (i + 1) entries) ≡ option_or (first_entry raw (take i entries)) (cond (int_eq (get_or entries i d).number raw) (Some (get_or entries i d)) None)
+  more : first_entry raw (take (i + 1) entries) ≡ option_or (first_entry raw (take i entries))
+      (cond (int_eq (get_or entries i d).number raw) (Some (get_or entries i d)) None)
   more =
       ap (first_entry raw) (take_more entries i d within)
       ∙ find-append (λ entry. int_eq entry.number raw) (take i entries) (get_or entries i d ∷ [])
 
   placed : (old : Option ℕ) (is : Bool) → int_eq (get_or entries i d).number raw ≡ is → IsPlace entries (take i entries) raw old
       → IsPlace entries (take (i + 1) entries) raw (option_or old (cond is (Some i) None))
-  placed None true is before =
-      (get_or entries i d, slice_get-get_or entries i d within, more ∙ ap (λ o. option_or o (cond (int_eq (get_or entries i d).number raw) (Some (get_or entries i d)) None)) before ∙ ap (λ b. cond b (Some (get_or entries i d)) None) is)
+  placed None true is before = (
+    get_or entries i d,
+    slice_get-get_or entries i d within,
+    more
+        ∙ ap (λ o. option_or o (cond (int_eq (get_or entries i d).number raw) (Some (get_or entries i d)) None)) before
+        ∙ ap (λ b. cond b (Some (get_or entries i d)) None) is,
+  )
   placed None false is before =
-      more ∙ ap (λ o. option_or o (cond (int_eq (get_or entries i d).number raw) (Some (get_or entries i d)) None)) before ∙ ap (λ b. cond b (Some (get_or entries i d)) None) is
-  placed (Some place) is same before =
-      (before.0, before.1, more ∙ ap (λ o. option_or o (cond (int_eq (get_or entries i d).number raw) (Some (get_or entries i d)) None)) before.2)
+      more ∙ ap (λ o. option_or o (cond (int_eq (get_or entries i d).number raw) (Some (get_or entries i d)) None)) before
+      ∙ ap (λ b. cond b (Some (get_or entries i d)) None) is
+  placed (Some place) is same before = (
+    before.0,
+    before.1,
+    more
+        ∙ ap (λ o. option_or o (cond (int_eq (get_or entries i d).number raw) (Some (get_or entries i d)) None)) before.2,
+  )
 
-  pub one_placed : (old new : Option ℕ) → new ≡ option_or old (cond (int_eq (get_or entries i d).number raw) (Some i) None) → IsPlace entries (take i entries) raw old
+  pub one_placed : (old new : Option ℕ) → new ≡ option_or old (cond (int_eq (get_or entries i d).number raw) (Some i) None)
+      → IsPlace entries (take i entries) raw old
       → IsPlace entries (take (i + 1) entries) raw new
   one_placed old new is before =
       let Here : Option ℕ → Type 0 = λ found. IsPlace entries (take (i + 1) entries) raw found in
       subst Here (sym is) (placed old (int_eq (get_or entries i d).number raw) refl before)
 
-pub entry_there : (entries : List Entry) (raw : ℤ) (place : ℕ) → IsPlace entries entries raw (Some place) → slice_get entries place ≡ first_entry raw entries
+pub entry_there : (entries : List Entry) (raw : ℤ) (place : ℕ) → IsPlace entries entries raw (Some place) → slice_get entries place
+    ≡ first_entry raw entries
 entry_there entries raw place there = there.1 ∙ sym there.2

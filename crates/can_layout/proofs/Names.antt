@@ -1,5 +1,6 @@
 -- The names of the first raw values.
-use Rattle.std.proofs.Common.{◌≡◌, ℕ, true, nat_lt, get_or, Result, Ok, Err, ◌+◌, ◌^◌, ◌<◌, List, [], ◌∷◌, ◌++◌, Option, map, length, sym, ap, ◌∙◌, arith}
+use Rattle.std.proofs.Common.{◌≡◌, ℕ, true, nat_lt, get_or, Result, Ok, Err, ◌+◌, ◌^◌, ◌<◌, List, [], ◌∷◌, ◌++◌, Option, map}
+use Rattle.std.proofs.Common.{length, sym, ap, ◌∙◌, arith}
 use Rattle.std.specs.Prelude.{ℤ, pos, unsigned_abs}
 use Rattle.std.specs.Int.{w64, w128, FitsUnsigned}
 use Rattle.std.specs.Result.{OkIff}
@@ -11,27 +12,33 @@ use Rattle.dbc_records.specs.Records.{Entry}
 use Rattle.can_layout.specs.Decoders.{name_of, AreNames}
 
 -- one more name, found by a number of 128 bits
-pub more_names : (entries : List Entry) (before after : List (Option (List ℕ))) (raw : ℕ) (value : ℤ) (name : Option (List ℕ)) → raw < 2 ^ 8 → after ≡ before ++ name ∷ []
+pub more_names : (entries : List Entry) (before after : List (Option (List ℕ))) (raw : ℕ) (value : ℤ) (name : Option (List ℕ))
+    → raw < 2 ^ 8 → after ≡ before ++ name ∷ []
     → name ≡ name_of (to_z w128 (of_z w128 value)) entries → value ≡ pos raw
-    → before ≡ map (λ raw. name_of (pos raw) entries) (range_with_len 0 raw) → after ≡ map (λ raw. name_of (pos raw) entries) (range_with_len 0 (raw + 1))
+    → before ≡ map (λ raw. name_of (pos raw) entries) (range_with_len 0 raw) → after ≡ map (λ raw. name_of (pos raw) entries)
+    (range_with_len 0 (raw + 1))
 more_names entries before after raw value name small pushed is at so_far =
     let names : ℕ → Option (List ℕ) = λ raw. name_of (pos raw) entries in
-    let kept : to_z w128 (of_z w128 value) ≡ pos raw = ap (λ (z : ℤ). to_z w128 (of_z w128 z)) at ∙ to_z-of_z w128 (pos raw) (omega (arith, ints, small)) in
+    let kept : to_z w128 (of_z w128 value) ≡ pos raw = ap (λ (z : ℤ). to_z w128 (of_z w128 z)) at
+    ∙ to_z-of_z w128 (pos raw) (omega (arith, ints, small)) in
     pushed
     ∙ ap (λ (one : Option (List ℕ)). before ++ one ∷ []) (is ∙ ap (λ (z : ℤ). name_of z entries) kept)
     ∙ ap (λ (all : List (Option (List ℕ))). all ++ names raw ∷ []) so_far
     ∙ sym (map-range_with_len_more names 0 raw raw (omega arith))
 
 -- the raw value that is found among those from 0 on
-place_is : {E : Type 0} (found : Result ℕ E) (place : ℕ) (raw : ℤ) → OkIff found (FitsUnsigned w64 raw) (unsigned_abs raw) → found ≡ Ok place → raw ≡ pos place
+place_is : {E : Type 0} (found : Result ℕ E) (place : ℕ) (raw : ℤ) → OkIff found (FitsUnsigned w64 raw) (unsigned_abs raw)
+    → found ≡ Ok place → raw ≡ pos place
 place_is (Ok other) place raw (fits, is) same =
     let at : other ≡ place = cc in
     omega (arith, ints, fits.0, is, at)
 place_is (Err e) place raw wrong same = absurd (let no : Err e ≡ Ok place = same in cc)
 
 -- a name that is found among them
-pub found_name : {E : Type 0} (entries : List Entry) (names : List (Option (List ℕ))) (raw : ℤ) (found : Result ℕ E) (place : ℕ) (name : Option (List ℕ)) → AreNames entries names
-    → OkIff found (FitsUnsigned w64 raw) (unsigned_abs raw) → found ≡ Ok place → true ≡ nat_lt place (length names) → name ≡ get_or names place name → name ≡ name_of raw entries
+pub found_name : {E : Type 0} (entries : List Entry) (names : List (Option (List ℕ))) (raw : ℤ) (found : Result ℕ E) (place : ℕ)
+    (name : Option (List ℕ)) → AreNames entries names
+    → OkIff found (FitsUnsigned w64 raw) (unsigned_abs raw) → found ≡ Ok place → true ≡ nat_lt place (length names)
+    → name ≡ get_or names place name → name ≡ name_of raw entries
 found_name entries names raw found place name are number same within is =
     let at : raw ≡ pos place = place_is found place raw number same in
     let few : place < length names = grind (arith, within) in

@@ -1,5 +1,6 @@
 -- The way up from a signal, link by link.
-use Rattle.std.proofs.Common.{◌≡◌, ◌==◌, ℕ, zero, suc, ◌-◌, ◌<◌, true, false, List, [], ◌∷◌, ◌++◌, length, refl, ap, sym, ◌∙◌, arith}
+use Rattle.std.proofs.Common.{◌≡◌, ◌==◌, ℕ, zero, suc, ◌-◌, ◌<◌, true, false, List, [], ◌∷◌, ◌++◌, length, refl, ap, sym, ◌∙◌}
+use Rattle.std.proofs.Common.{arith}
 use Rattle.can_layout.specs.Links.{Link}
 use Rattle.can_layout.specs.Walks.{above_at, with_link, walk_above, walk_up}
 use Rattle.can_layout.specs.declared.above.Above.{Above}
@@ -26,7 +27,8 @@ pub links_then-loop : (links : List Link) → links_then links Loop ≡ Loop
 links_then-loop [] = refl
 links_then-loop (link ∷ links) = ap (λ walk. with_link link walk) (links_then-loop links)
 
-pub links_then-push : (links : List Link) (link : Link) (walk : Walk) → links_then (links ++ link ∷ []) walk ≡ links_then links (with_link link walk)
+pub links_then-push : (links : List Link) (link : Link) (walk : Walk) → links_then (links ++ link ∷ []) walk
+    ≡ links_then links (with_link link walk)
 links_then-push [] link walk = refl
 links_then-push (first ∷ links) link walk = ap (λ walk. with_link first walk) (links_then-push links link walk)
 
@@ -38,8 +40,10 @@ module _ (aboves : List Above) where
 
   -- one turn of the code
   module _ (n : ℕ) (place : ℕ) (links : List Link) (walk : Walk) (so_far : walk ≡ links_then links (walk_up n aboves place)) where
-    turn : (above : Above) → 0 < n → above_at aboves place ≡ above → walk ≡ links_then links (walk_above above (walk_up (n - 1) aboves))
-    turn above some is = so_far ∙ ap (λ walk. links_then links walk) (walk_step n place some ∙ ap (λ above. walk_above above (walk_up (n - 1) aboves)) is)
+    turn : (above : Above) → 0 < n → above_at aboves place ≡ above
+        → walk ≡ links_then links (walk_above above (walk_up (n - 1) aboves))
+    turn above some is = so_far ∙ ap (λ walk. links_then links walk) (walk_step n place some
+        ∙ ap (λ above. walk_above above (walk_up (n - 1) aboves)) is)
 
     pub at_top : 0 < n → above_at aboves place ≡ Nothing → Chain links ≡ walk
     at_top some is = sym (turn Nothing some is ∙ links_then-chain links)
@@ -47,7 +51,8 @@ module _ (aboves : List Above) where
     pub at_missing : 0 < n → above_at aboves place ≡ Missing → Absent (length links == 0) ≡ walk
     at_missing some is = sym (turn Missing some is ∙ links_then-absent links)
 
-    pub at_switch : (link : Link) → 0 < n → above_at aboves place ≡ Switch link → walk ≡ links_then (links ++ link ∷ []) (walk_up (n - 1) aboves link.switch)
+    pub at_switch : (link : Link) → 0 < n → above_at aboves place ≡ Switch link → walk ≡ links_then (links ++ link ∷ [])
+        (walk_up (n - 1) aboves link.switch)
     at_switch link some is = turn (Switch link) some is ∙ sym (links_then-push links link (walk_up (n - 1) aboves link.switch))
 
     pub at_end : n ≡ 0 → Loop ≡ walk

@@ -36,7 +36,8 @@ first_entry raw entries = find (λ entry. int_eq entry.number raw) entries
 -- the place is that of the first entry of a raw value in a front of entries, or there is none
 abbrev pub IsPlace : List Entry → List Entry → ℤ → Option ℕ → Type 0
 IsPlace entries front raw None = first_entry raw front ≡ None
-IsPlace entries front raw (Some place) = (entry : Entry) × (slice_get entries place ≡ Some entry) × (first_entry raw front ≡ Some entry)
+IsPlace entries front raw (Some place) = (entry : Entry) × (slice_get entries place ≡ Some entry)
+    × (first_entry raw front ≡ Some entry)
 
 -- each number has the place of its first entry
 abbrev pub IsEntryIndex : BTreeMap ℤ ℕ → List Entry → Type 0

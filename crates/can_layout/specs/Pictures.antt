@@ -20,12 +20,16 @@ use Rattle.can_layout.specs.declared.walk.Walk.TheVariants as walks
 
 -- `Message name number size`
 unfoldable pub title_line : Head → List ℕ
-title_line head = codes "Message " ++ (head.name ++ (codes " " ++ (decimal head.number ++ (codes " " ++ (decimal head.size ++ codes "\n")))))
+title_line head =
+    codes "Message " ++ (head.name ++ (codes " " ++ (decimal head.number ++ (codes " " ++ (decimal head.size ++ codes "\n")))))
 
 -- `start|length@order` and the sign
 unfoldable pub span_text : Signal → List ℕ
 span_text signal =
-    decimal signal.start ++ (codes "|" ++ (decimal signal.length ++ (codes "@" ++ ((if signal.intel then codes "1" else codes "0") ++ (if signal.signed then codes "-" else codes "+")))))
+    decimal signal.start
+    ++ (codes "|"
+    ++ (decimal signal.length ++ (codes "@" ++ ((if signal.intel then codes "1" else codes "0")
+    ++ (if signal.signed then codes "-" else codes "+")))))
 
 abbrev pub cause_word : Cause → List ℕ
 cause_word causes.Outside = codes "outside"
@@ -70,12 +74,14 @@ signal_text place signal = right (decimal place) ++ (codes " " ++ (signal.name +
 
 -- `   2 V 8|8@1+ ?outside when N 3-3,5-6 when M 1-1`
 unfoldable pub legend_line : List Signal → ℕ → Signal → Option Cause → Walk → List ℕ
-legend_line signals place signal cause walk = signal_text place signal ++ (cause_text cause ++ (walk_text signals walk ++ codes "\n"))
+legend_line signals place signal cause walk = signal_text place signal
+    ++ (cause_text cause ++ (walk_text signals walk ++ codes "\n"))
 
 -- a line for each signal, where `aboves` stand above the signals
 abbrev pub legend_text : SignalRows → List Above → ℕ → List Signal → List ℕ
 legend_text rows aboves size signals =
-    flat_map (λ placed. legend_line signals placed.0 placed.1 (cause_of rows size placed.1) (walk_of aboves placed.0)) (enumerate_from 0 signals)
+    flat_map (λ placed. legend_line signals placed.0 placed.1 (cause_of rows size placed.1) (walk_of aboves placed.0))
+    (enumerate_from 0 signals)
 
 -- the title, a line for each byte, and the legend
 unfoldable pub picture_in : SignalRows → Message → List ℕ

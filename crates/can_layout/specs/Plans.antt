@@ -3,7 +3,8 @@
 -- Source: the DBC file format, "Signal Definitions", "Signal Extended Value Type Definitions", "Signal Value Descriptions",
 -- "Extended Multiplexing"; that a signal is read once its switches have their numbers is the decoding of cantools. Which
 -- signals are refused is the profile of candesk.
-use Rattle.std.specs.Prelude.{ℕ, ℤ, pos, nat_le, nat_lt, Bool, false, not, ◌==◌, ◌&&◌, List, [], ◌++◌, length, codes, map, Option, Some, None, slice_get, if◌then◌else◌}
+use Rattle.std.specs.Prelude.{ℕ, ℤ, pos, nat_le, nat_lt, Bool, false, not, ◌==◌, ◌&&◌, List, [], ◌++◌, length, codes, map, Option}
+use Rattle.std.specs.Prelude.{Some, None, slice_get, if◌then◌else◌}
 use Rattle.std.specs.List.{list_any, list_all, enumerate_from}
 use Rattle.std.specs.Option.{option_map, option_and_then}
 use Rattle.dbc_values.specs.Scales.{scale_fits, scale_of, most_raw_bits}
@@ -69,7 +70,12 @@ chain_of walks.Loop = None
 -- the row of the signal at a place, where `aboves` stand above the signals of its message
 abbrev pub row_of : SignalRows → List Above → ℕ → ℕ → Signal → Row
 row_of rows aboves size place signal =
-    record { name = signal.name; field = field_of signal; chain = chain_of (walk_of aboves place); reading = reading_of rows size signal }
+    record {
+      name = signal.name;
+      field = field_of signal;
+      chain = chain_of (walk_of aboves place);
+      reading = reading_of rows size signal;
+    }
 
 -- a row for each signal, in order
 abbrev pub plan_rows : SignalRows → List Above → ℕ → List Signal → List Row
@@ -84,7 +90,11 @@ abbrev pub label_of : Row → List ℕ
 label_of row = codes ", " ++ (row.name ++ codes ": ")
 
 unfoldable pub plan_in : SignalRows → Message → Plan
-plan_in rows message = record { size = message.head.size; rows = plan_rows rows (aboves_of rows message.signals) message.head.size message.signals }
+plan_in rows message = record {
+  size = message.head.size;
+  rows = plan_rows rows (aboves_of rows message.signals) message.head.size
+      message.signals;
+}
 
 abbrev pub plan_of : Database → Message → Plan
 plan_of database message = plan_in (rows_of message.head.number database) message
@@ -92,7 +102,8 @@ plan_of database message = plan_in (rows_of message.head.number database) messag
 -- the signal at a place of the message at a place, with that message
 unfoldable pub signal_at : Database → ℕ → ℕ → Option (Message × Signal)
 signal_at database place signal =
-    option_and_then (λ message. option_map (λ s. (message, s)) (slice_get message.signals signal)) (slice_get database.messages place)
+    option_and_then (λ message. option_map (λ s. (message, s)) (slice_get message.signals signal))
+    (slice_get database.messages place)
 
 -- ---- what a plan finds in data
 

@@ -1,7 +1,8 @@
 -- What stands right above a signal in multiplexing.
 -- Source: the DBC file format, "Signal Definitions" (multiplexer indicator) and "Extended Multiplexing". That a row counts
 -- before the tag is the profile of candesk.
-use Rattle.std.specs.Prelude.{◌==◌, ℕ, Bool, true, false, List, [], ◌∷◌, length, Option, Some, None, map, position, count_by, if◌then◌else◌}
+use Rattle.std.specs.Prelude.{◌==◌, ℕ, Bool, true, false, List, [], ◌∷◌, length, Option, Some, None, map, position, count_by}
+use Rattle.std.specs.Prelude.{if◌then◌else◌}
 use Rattle.std.specs.List.{range_with_len}
 use Rattle.std.specs.Str.{bytes_eq}
 use Rattle.dbc_records.specs.Records.{Signal, MuxRow}
@@ -27,7 +28,8 @@ is_switch (tags.Both n) = false
 
 -- the place of the signal tagged `M`, where exactly one is
 unfoldable pub only_switch : List Signal → Option ℕ
-only_switch signals = if count_by (λ signal. is_switch signal.tag) signals == 1 then position (λ signal. is_switch signal.tag) signals else None
+only_switch signals = if count_by (λ signal. is_switch signal.tag) signals == 1 then position (λ signal. is_switch signal.tag)
+    signals else None
 
 -- the range from a number to itself
 abbrev pub just : ℕ → List Range

@@ -1,6 +1,7 @@
 -- The way up from a multiplexed signal: to its switch, to the switch of that, and so on.
 -- Source: the DBC file format, "Extended Multiplexing": a switch may be switched itself.
-use Rattle.std.specs.Prelude.{◌≡◌, ◌==◌, ℕ, zero, suc, ◌+◌, ◌<◌, Bool, true, false, List, [], ◌∷◌, Option, Some, None, length, slice_get}
+use Rattle.std.specs.Prelude.{◌≡◌, ◌==◌, ℕ, zero, suc, ◌+◌, ◌<◌, Bool, true, false, List, [], ◌∷◌, Option, Some, None, length}
+use Rattle.std.specs.Prelude.{slice_get}
 use Rattle.can_layout.specs.Links.{Link}
 use Rattle.can_layout.specs.declared.above.Above.{Above}
 use Rattle.can_layout.specs.declared.above.Above.TheVariants.{Nothing, Missing, Switch}

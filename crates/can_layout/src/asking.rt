@@ -21,7 +21,8 @@ use std::alloc::Global;
 #[tactic(auto, unfolding(crate::specs::Plans::signal_at))]
 pub fn cause(database: &Database, place: usize, signal: usize) -> Option<Cause>
     requires { IsSome (signal_at database.now place signal) }
-    ensures { Some result ≡ option_map (λ placed. cause_of (rows_of placed.0.head.number database.now) placed.0.head.size placed.1) (signal_at database.now place signal) }
+    ensures { Some result ≡ option_map (λ placed. cause_of (rows_of placed.0.head.number database.now) placed.0.head.size placed.1)
+        (signal_at database.now place signal) }
 {
     let message = &database.messages.as_slice()[place];
     let rows = MessageRows::of(database, message.head.number);
@@ -41,7 +42,8 @@ pub fn chain(
     signal: usize,
 ) -> Result<Walk, Memory>
     requires { IsSome (signal_at database.now place signal) }
-    ensures { IfOk result (λ walk. Some walk ≡ option_map (λ placed. walk_of (aboves_of (rows_of placed.0.head.number database.now) placed.0.signals) signal) (signal_at database.now place signal)) }
+    ensures { IfOk result (λ walk. Some walk ≡ option_map (λ placed. walk_of (aboves_of (rows_of placed.0.head.number database.now)
+        placed.0.signals) signal) (signal_at database.now place signal)) }
 {
     let message = &database.messages.as_slice()[place];
     let rows = MessageRows::of(database, message.head.number);

@@ -41,7 +41,13 @@ impl Model for Decoder {
 
     ghost view = { λ a. record { bits = a.bits; signed = a.signed; scale = a.scale; unit = a.unit; entries = a.entries } };
 
-    ghost invariant = { λ a. decoders.IsDecoder (record { bits = a.bits; signed = a.signed; scale = a.scale; unit = a.unit; entries = a.entries })
+    ghost invariant = { λ a. decoders.IsDecoder (record {
+      bits = a.bits;
+      signed = a.signed;
+      scale = a.scale;
+      unit = a.unit;
+      entries = a.entries;
+    })
         × (a.unit_text ≡ decoders.unit_text a.unit) × decoders.AreNames a.entries a.names.items
         × IfSome a.places (λ places. decoders.IsEntryIndex places a.entries) };
 }
@@ -57,7 +63,13 @@ impl Decoder {
         entries: List<Entry>,
     ) -> Result<Decoder, Memory>
         requires { scale.length ≡ length bits }
-        ensures { IfOk result (λ decoder. decoder ≡ record { bits = bits; signed = signed; scale = scale; unit = unit; entries = entries }) }
+        ensures { IfOk result (λ decoder. decoder ≡ record {
+          bits = bits;
+          signed = signed;
+          scale = scale;
+          unit = unit;
+          entries = entries;
+        }) }
     {
         let unit_text = ready_unit(alloc, unit.as_bytes())?;
         let names = ready_names(alloc, entries.as_slice())?;

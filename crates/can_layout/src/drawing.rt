@@ -40,7 +40,8 @@ pub fn picture(
     meter: &mut Meter,
 ) -> Result<Vec<u8>, Memory>
     requires { place < length database.now.messages }
-    ensures picture { IfOk result (λ picture. Some picture.items ≡ option_map (picture_of database.now) (slice_get database.now.messages place)) }
+    ensures picture { IfOk result (λ picture. Some picture.items ≡ option_map (picture_of database.now)
+        (slice_get database.now.messages place)) }
     ensures counted { meter.new ≡ with_picture meter.old }
 {
     picture_with(alloc, database, &database.messages.as_slice()[place], meter)
@@ -53,7 +54,8 @@ fn pictures_of<L: Lookup>(
     messages: &[Message],
     meter: &mut Meter,
 ) -> Result<Vec<Vec<u8>>, Memory>
-    ensures pictures { IfOk result (λ pictures. map (λ picture. picture.items) pictures.items ≡ map (picture_of (L.whole lookup.now)) messages.now) }
+    ensures pictures { IfOk result (λ pictures. map (λ picture. picture.items) pictures.items
+        ≡ map (picture_of (L.whole lookup.now)) messages.now) }
     ensures counted { OnOk result (meter.new ≡ repeated (length messages.now) with_picture meter.old) }
     ensures at_most { AtMost (length messages.now) with_picture meter.old meter.new }
 {
@@ -70,7 +72,8 @@ pub fn pictures(
     database: &Database,
     meter: &mut Meter,
 ) -> Result<Vec<Vec<u8>>, Memory>
-    ensures pictures { IfOk result (λ pictures. map (λ picture. picture.items) pictures.items ≡ map (picture_of database.now) database.now.messages) }
+    ensures pictures { IfOk result (λ pictures. map (λ picture. picture.items) pictures.items ≡ map (picture_of database.now)
+        database.now.messages) }
     ensures counted { OnOk result (meter.new ≡ repeated (length database.now.messages) with_picture meter.old) }
     ensures at_most { AtMost (length database.now.messages) with_picture meter.old meter.new }
 {

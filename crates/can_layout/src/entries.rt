@@ -19,7 +19,8 @@ pub(crate) type Places = BTreeMap<i128, usize>;
 
 // Puts the place of an entry at its number, unless one is there.
 fn keep_first(places: &mut Places, entry: &Entry, place: usize) -> Result<(), Memory>
-    ensures { OnOk result ((raw : ℤ) → get int_cmp places.new raw ≡ option_or (get int_cmp places.old raw) (if int_eq entry.now.number raw then Some place else None)) }
+    ensures { OnOk result ((raw : ℤ) → get int_cmp places.new raw ≡ option_or (get int_cmp places.old raw)
+        (if int_eq entry.now.number raw then Some place else None)) }
 {
     places.entry(entry.number)?.or_insert(place);
     Ok(())

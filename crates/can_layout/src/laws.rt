@@ -18,6 +18,8 @@ pub fn one_walk()
 /// The plan and the picture of a message read only the message and the rows of its number, so they are the same by two
 /// databases that agree in these.
 pub fn own_rows_alone()
-    ensures plan { (a b : Database) (message : Message) → rows_of message.head.number a ≡ rows_of message.head.number b → plan_of a message ≡ plan_of b message }
-    ensures picture { (a b : Database) (message : Message) → rows_of message.head.number a ≡ rows_of message.head.number b → picture_of a message ≡ picture_of b message }
+    ensures plan { (a b : Database) (message : Message) → rows_of message.head.number a ≡ rows_of message.head.number b
+        → plan_of a message ≡ plan_of b message }
+    ensures picture { (a b : Database) (message : Message) → rows_of message.head.number a ≡ rows_of message.head.number b
+        → picture_of a message ≡ picture_of b message }
 {}

@@ -1,7 +1,8 @@
 //! Decode plans.
 ghost use Rattle.std.specs.Prelude.{◌≡◌, ◌<◌, IfOk, Some, length, map, slice_get};
 ghost use Rattle.std.specs.List.{list_any, list_all};
-ghost use Rattle.can_layout.specs.Plans.{entries_of, reading_of, chain_of, row_of, plan_rows, label_of, plan_in, raw_at, raw_value_at, has_number, is_met, is_present, in_range};
+ghost use Rattle.can_layout.specs.Plans.{entries_of, reading_of, chain_of, row_of, plan_rows, label_of, plan_in, raw_at};
+ghost use Rattle.can_layout.specs.Plans.{raw_value_at, has_number, is_met, is_present, in_range};
 ghost use Rattle.can_rows.specs.Rows.{first_values};
 ghost use Rattle.can_layout.specs.Switches.{aboves_of};
 

@@ -1,7 +1,8 @@
 //! Parts of pictures, appended to a text.
 ghost use Rattle.std.specs.Prelude.{◌≡◌, ◌++◌, OnOk, decimal, codes, slice_get, if◌then◌else◌};
 ghost use Rattle.std.specs.List.{flat_map};
-ghost use Rattle.can_layout.specs.Pictures.{title_line, span_text, cause_text, range_text, further_range, ranges_text, name_of, link_text, walk_text};
+ghost use Rattle.can_layout.specs.Pictures.{title_line, span_text, cause_text, range_text, further_range, ranges_text, name_of};
+ghost use Rattle.can_layout.specs.Pictures.{link_text, walk_text};
 
 use crate::link::Link;
 use crate::refusal::Cause;

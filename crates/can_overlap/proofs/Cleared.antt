@@ -1,5 +1,6 @@
 -- A table whose marks are all taken out again.
-use Rattle.std.proofs.Common.{◌≡◌, ℕ, ◌<◌, ◌≤◌, Bool, true, false, not, ◌&&◌, ltb, List, length, get_or, arith, refl, ap, ◌∙◌, ⊎_elim}
+use Rattle.std.proofs.Common.{◌≡◌, ℕ, ◌<◌, ◌≤◌, Bool, true, false, not, ◌&&◌, ltb, List, length, get_or, arith, refl, ap, ◌∙◌}
+use Rattle.std.proofs.Common.{⊎_elim}
 use Rattle.std.proofs.Math.Bool.{and-false}
 use Rattle.std.specs.List.{list_any}
 use Rattle.std.proofs.lemmas.Bool.{cases_lt}
@@ -20,9 +21,13 @@ none_left fields rows d marked position other =
     let has : Field → Bool = λ field. has_position field position in
     ⊎_elim
     (λ (h : other < length fields).
-    elim (has (get_or fields other d)) as (λ b. has (get_or fields other d) ≡ b → (is_marked rows position other && not (list_any has fields)) ≡ false) [
-      | true ↦ λ is. ap (λ b. is_marked rows position other && not b) (list_any_at has fields other d h is) ∙ and-false (is_marked rows position other)
-      | false ↦ λ is. ap (λ b. b && not (list_any has fields)) (marked position other d ∙ ap (λ b. ltb other (length fields) && b) is ∙ and-false (ltb other (length fields)))
+    elim (has (get_or fields other d)) as (λ b. has (get_or fields other d) ≡ b
+    → (is_marked rows position other && not (list_any has fields)) ≡ false) [
+      | true ↦ λ is. ap (λ b. is_marked rows position other && not b) (list_any_at has fields other d h is)
+          ∙ and-false (is_marked rows position other)
+      | false ↦ λ is. ap (λ b. b && not (list_any has fields)) (marked position other d ∙ ap (λ b. ltb other (length fields) && b)
+          is ∙ and-false (ltb other (length fields)))
     ] refl)
-    (λ (h : length fields ≤ other). ap (λ b. b && not (list_any has fields)) (marked position other d ∙ ap (λ b. b && has (get_or fields other d)) (is_behind other (length fields) h)))
+    (λ (h : length fields ≤ other). ap (λ b. b && not (list_any has fields)) (marked position other d
+    ∙ ap (λ b. b && has (get_or fields other d)) (is_behind other (length fields) h)))
     (cases_lt other (length fields))

@@ -1,5 +1,6 @@
 -- One more link of a chain in the table of its switches.
-use Rattle.std.proofs.Common.{◌≡◌, ℕ, zero, suc, ◌+◌, ◌<◌, Bool, true, false, not, ◌||◌, ◌&&◌, List, [], ◌∷◌, Option, Some, None, length, get_or, set, take, drop, drop-cons, arith, refl, ap, ◌∙◌, sym, ⊎_elim}
+use Rattle.std.proofs.Common.{◌≡◌, ℕ, zero, suc, ◌+◌, ◌<◌, Bool, true, false, not, ◌||◌, ◌&&◌, List, [], ◌∷◌, Option, Some, None}
+use Rattle.std.proofs.Common.{length, get_or, set, take, drop, drop-cons, arith, refl, ap, ◌∙◌, sym, ⊎_elim}
 use Rattle.std.specs.List.{slice_get}
 use Rattle.std.specs.Option.{option_and_then}
 use Rattle.std.proofs.lemmas.Bool.{cases_eq}
@@ -37,7 +38,8 @@ set_same [] switch owner within = absurd (omega arith)
 set_same (x ∷ owners) zero owner within = refl
 set_same (x ∷ owners) (suc switch) owner within = set_same owners switch owner (omega arith)
 
-set_other : (owners : List ℕ) (switch owner other : ℕ) → (other ≡ switch → ⊥) → slice_get (set owners switch owner) other ≡ slice_get owners other
+set_other : (owners : List ℕ) (switch owner other : ℕ) → (other ≡ switch → ⊥) → slice_get (set owners switch owner) other
+    ≡ slice_get owners other
 set_other [] switch owner other apart = refl
 set_other (x ∷ owners) zero owner zero apart = absurd (apart refl)
 set_other (x ∷ owners) zero owner (suc other) apart = refl
@@ -64,7 +66,8 @@ module _ (walks : List Walk) (own : List (Option Link)) (owners : List ℕ) (lin
       → AreEntered own (set owners link.switch owner) (take (i + 1) links)
   one_entered room free before = λ other.
       let more : agrees_with (take (i + 1) links) other ≡ (agrees_with (take i links) other && agree link other) =
-      list_all_more (λ x. agree x other) links i link within ∙ ap (λ x. agrees_with (take i links) other && agree x other) is_link in
+      list_all_more (λ x. agree x other) links i link within ∙ ap (λ x. agrees_with (take i links) other && agree x other)
+      is_link in
       ⊎_elim
       (λ (same : other.switch ≡ link.switch).
       let none : true ≡ agrees_with (take i links) other =
@@ -77,7 +80,8 @@ module _ (walks : List Walk) (own : List (Option Link)) (owners : List ℕ) (lin
       ∙ ap (λ b. b && agree link other) none
       ∙ sym more)
       (λ (apart : other.switch ≡ link.switch → ⊥).
-      ap (λ (one : Option ℕ). agrees_if_there (option_and_then (λ owner. own_at own owner) one) other) (set_other owners link.switch owner other.switch apart)
+      ap (λ (one : Option ℕ). agrees_if_there (option_and_then (λ owner. own_at own owner) one) other)
+      (set_other owners link.switch owner other.switch apart)
       ∙ before other
       ∙ sym (and_true (agrees_with (take i links) other))
       ∙ ap (λ b. agrees_with (take i links) other && b) (sym (other_switch link other (λ e. apart (sym e))))

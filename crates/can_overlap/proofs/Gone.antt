@@ -24,7 +24,8 @@ chain_is (Chain others) links e = ap (λ (all : List Link). Chain all) (ap (link
 chain_is (Absent own) links e = absurd (cc e)
 chain_is Loop links e = absurd (cc e)
 
-pub chain_there : (walks : List Walk) (place : ℕ) (d : Walk) (links : List Link) → place < length walks → Some links ≡ chain_if (slice_get walks place)
+pub chain_there : (walks : List Walk) (place : ℕ) (d : Walk) (links : List Link) → place < length walks
+    → Some links ≡ chain_if (slice_get walks place)
     → get_or walks place d ≡ Chain links
 chain_there walks place d links h e = chain_is (get_or walks place d) links (e ∙ ap chain_if (slice_get-get_or walks place d h))
 

@@ -1,5 +1,6 @@
 -- Rows of marks: what a mark is after one row changes, and after one more position.
-use Rattle.std.proofs.Common.{◌≡◌, ℕ, ◌+◌, ◌<◌, Bool, true, false, not, ◌||◌, ◌&&◌, eqb, List, [], ◌∷◌, length, get_or, set, arith, refl, subst, ap, ◌∙◌, sym, ⊎_elim, eq-eqb}
+use Rattle.std.proofs.Common.{◌≡◌, ℕ, ◌+◌, ◌<◌, Bool, true, false, not, ◌||◌, ◌&&◌, eqb, List, [], ◌∷◌, length, get_or, set, arith}
+use Rattle.std.proofs.Common.{refl, subst, ap, ◌∙◌, sym, ⊎_elim, eq-eqb}
 use Rattle.std.specs.List.{list_any, range_with_len}
 use Rattle.std.proofs.lemmas.Bool.{cases_eq}
 use Rattle.std.proofs.lemmas.List.{get_or-set_same, get_or-set_other}
@@ -47,7 +48,8 @@ pub is_marked-insert : (rows : List Places) (q place : ℕ) (row : Places) → q
 is_marked-insert rows q place row within inserted before held p other known =
     ⊎_elim
     (λ (e : p ≡ q).
-    let old : is_marked rows q other ≡ (before || (held && eqb other place)) = subst (λ (k : ℕ). is_marked rows k other ≡ (before || (held && eqb other place))) e known in
+    let old : is_marked rows q other ≡ (before || (held && eqb other place)) =
+    subst (λ (k : ℕ). is_marked rows k other ≡ (before || (held && eqb other place))) e known in
     rw (e, get_or-set_same rows q row none within, inserted other, old, eq-eqb q q refl) (here before held (eqb other place)))
     (λ (ne : p ≡ q → ⊥).
     let other_way : q ≡ p → ⊥ = λ e. ne (sym e) in

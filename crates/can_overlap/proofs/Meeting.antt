@@ -1,5 +1,6 @@
 -- What a signal and the later ones give, by whether they share a position.
-use Rattle.std.proofs.Common.{append-nil, ◌≡◌, ℕ, suc, ◌+◌, ◌<◌, ◌≤◌, Bool, true, false, ◌&&◌, ltb, List, [], ◌∷◌, ◌++◌, length, get_or, take, take_all, drop, drop-cons, append_assoc, arith, refl, ap, ◌∙◌, sym}
+use Rattle.std.proofs.Common.{append-nil, ◌≡◌, ℕ, suc, ◌+◌, ◌<◌, ◌≤◌, Bool, true, false, ◌&&◌, ltb, List, [], ◌∷◌, ◌++◌, length}
+use Rattle.std.proofs.Common.{get_or, take, take_all, drop, drop-cons, append_assoc, arith, refl, ap, ◌∙◌, sym}
 use Rattle.std.proofs.Math.Bool.{and-false}
 use Rattle.std.specs.List.{flat_map, enumerate_from, list_any, range_with_len}
 use Rattle.std.proofs.lemmas.List.FromFn.{get_or-enumerate_from, length-enumerate_from}
@@ -25,35 +26,45 @@ module _ (first : ℕ) (chain : List Link) (words : List ℕ) (from : ℕ) (late
   within : (k : ℕ) → k < length (enumerate_from from later) → k < length later
   within k h = let e : length (enumerate_from from later) ≡ length later = length-enumerate_from from later in omega arith
 
-  apart : (k : ℕ) (d : ℕ × Walk) → k < length later → has words (from + k) ≡ false → met_pair first chain words (get_or (enumerate_from from later) k d) ≡ []
+  apart : (k : ℕ) (d : ℕ × Walk) → k < length later → has words (from + k) ≡ false
+      → met_pair first chain words (get_or (enumerate_from from later) k d) ≡ []
   apart k d h e = rw (get_or-enumerate_from from later k d h) (rw e refl)
 
   met : (k : ℕ) (d : ℕ × Walk) → k < length later → has words (from + k) ≡ true
-      → met_pair first chain words (get_or (enumerate_from from later) k d) ≡ pair_where (together (Chain chain) (get_or later k d.1)) first (from + k)
+      → met_pair first chain words (get_or (enumerate_from from later) k d)
+      ≡ pair_where (together (Chain chain) (get_or later k d.1)) first (from + k)
   met k d h e = rw (get_or-enumerate_from from later k d h) (rw e refl)
 
   -- before the first place of the set
   pub none_met : (found : List Pair) (n : ℕ) (d : ℕ × Walk) → ((k : ℕ) → k < n → k < length later → has words (from + k) ≡ false)
       → found ≡ found ++ flat_map (met_pair first chain words) (take n (enumerate_from from later))
   none_met found n d nothing =
-      sym (ap (λ ys. found ++ ys) (flat_map-none (met_pair first chain words) (enumerate_from from later) n d (λ k low high. apart k d (within k high) (nothing k low (within k high)))) ∙ append-nil found)
+      sym (ap (λ ys. found ++ ys) (flat_map-none (met_pair first chain words) (enumerate_from from later) n d
+      (λ k low high. apart k d (within k high) (nothing k low (within k high)))) ∙ append-nil found)
 
   -- the place at a is in the set, and those up to b are not
   pub next_met : (found : List Pair) (a b : ℕ) (d : ℕ × Walk) → a < b → a < length later → has words (from + a) ≡ true
       → ((k : ℕ) → a < k → k < b → k < length later → has words (from + k) ≡ false)
-      → (found ++ flat_map (met_pair first chain words) (take a (enumerate_from from later))) ++ pair_where (together (Chain chain) (get_or later a d.1)) first (from + a)
+      → (found ++ flat_map (met_pair first chain words) (take a (enumerate_from from later)))
+      ++ pair_where (together (Chain chain) (get_or later a d.1)) first (from + a)
       ≡ found ++ flat_map (met_pair first chain words) (take b (enumerate_from from later))
   next_met found a b d order h here nothing =
-      let inside : a < length (enumerate_from from later) = let e : length (enumerate_from from later) ≡ length later = length-enumerate_from from later in omega arith in
-      append_assoc found (flat_map (met_pair first chain words) (take a (enumerate_from from later))) (pair_where (together (Chain chain) (get_or later a d.1)) first (from + a))
-      ∙ ap (λ ys. found ++ (flat_map (met_pair first chain words) (take a (enumerate_from from later)) ++ ys)) (sym (met a d h here))
-      ∙ ap (λ ys. found ++ ys) (sym (flat_map-skip (met_pair first chain words) (enumerate_from from later) a b d order inside (λ k low high most. apart k d (within k most) (nothing k low high (within k most)))))
+      let inside : a < length (enumerate_from from later) = let e : length (enumerate_from from later) ≡ length later =
+      length-enumerate_from from later in omega arith in
+      append_assoc found (flat_map (met_pair first chain words) (take a (enumerate_from from later)))
+      (pair_where (together (Chain chain) (get_or later a d.1)) first (from + a))
+      ∙ ap (λ ys. found ++ (flat_map (met_pair first chain words) (take a (enumerate_from from later)) ++ ys))
+      (sym (met a d h here))
+      ∙ ap (λ ys. found ++ ys) (sym (flat_map-skip (met_pair first chain words) (enumerate_from from later) a b d order inside
+      (λ k low high most. apart k d (within k most) (nothing k low high (within k most)))))
 
   pub all_met : (n : ℕ) → length later ≤ n → take n (enumerate_from from later) ≡ enumerate_from from later
-  all_met n h = let e : length (enumerate_from from later) ≡ length later = length-enumerate_from from later in take_all n (enumerate_from from later) (omega arith)
+  all_met n h = let e : length (enumerate_from from later) ≡ length later = length-enumerate_from from later in
+      take_all n (enumerate_from from later) (omega arith)
 
   -- no place of the set is behind
-  pub none_behind : (found : List Pair) (next : ℕ) → from + length later ≤ next → ((place : ℕ) → from ≤ place → place < next → has words place ≡ false)
+  pub none_behind : (found : List Pair) (next : ℕ) → from + length later ≤ next → ((place : ℕ) → from ≤ place → place < next
+      → has words place ≡ false)
       → found ≡ found ++ met_pairs first chain words from later
   none_behind found next behind nothing =
       none_met found (length later) (0, Loop) (λ k low high. nothing (from + k) (omega arith) (omega arith))
@@ -61,7 +72,8 @@ module _ (first : ℕ) (chain : List Link) (words : List ℕ) (from : ℕ) (late
 
 -- ---- the same as the pairs that are defined
 
-pub chained : (a : Laid) (chain : List Link) → a.walk ≡ Chain chain → (words : List ℕ) (from : ℕ) (fields : List Field) (walks : List Walk) → length walks ≡ length fields
+pub chained : (a : Laid) (chain : List Link) → a.walk ≡ Chain chain → (words : List ℕ) (from : ℕ) (fields : List Field)
+    (walks : List Walk) → length walks ≡ length fields
     → ((k : ℕ) (d : Field) → k < length fields → has words (from + k) ≡ share a.field (get_or fields k d))
     → met_pairs a.place chain words from walks ≡ flat_map (pair_of a) (laid_from from fields walks)
 chained a chain is words from [] [] lengths shares = refl
@@ -74,7 +86,8 @@ chained a chain is words from (field ∷ fields) (walk ∷ walks) lengths shares
     chained a chain is words (from + 1) fields walks (omega arith)
     (λ k d h. let on : from + 1 + k ≡ from + suc k = omega arith in ap (has words) on ∙ shares (suc k) d (omega arith)) in
     ap (λ b. pair_where (b && together (Chain chain) walk) a.place from ++ met_pairs a.place chain words (from + 1) walks) head
-    ∙ ap (λ w. pair_where (share a.field field && together w walk) a.place from ++ met_pairs a.place chain words (from + 1) walks) (sym is)
+    ∙ ap (λ w. pair_where (share a.field field && together w walk) a.place from ++ met_pairs a.place chain words (from + 1) walks)
+    (sym is)
     ∙ ap (λ ys. pair_where (share a.field field && together a.walk walk) a.place from ++ ys) rest
 
 pub unchained : (a : Laid) → ((walk : Walk) → together a.walk walk ≡ false) → (later : List Laid) → flat_map (pair_of a) later ≡ []
@@ -94,11 +107,15 @@ is_below : (n m : ℕ) → n < m → ltb n m ≡ true
 is_below n m h = grind (arith, common_steps)
 
 -- a row at one of the signal's positions has the places of the signals that share a position with it
-pub share_from_marks : (fields : List Field) (rows : List Places) (first : Field) (place : ℕ) (d : Field) → IsOccupancy fields rows → place < length fields
-    → list_any (λ bit. is_marked rows (position_of first bit) place) (range_with_len 0 first.length) ≡ share first (get_or fields place d)
+pub share_from_marks : (fields : List Field) (rows : List Places) (first : Field) (place : ℕ) (d : Field) → IsOccupancy fields rows
+    → place < length fields
+    → list_any (λ bit. is_marked rows (position_of first bit) place) (range_with_len 0 first.length)
+    ≡ share first (get_or fields place d)
 share_from_marks fields rows first place d marked h =
-    same_any (λ bit. is_marked rows (position_of first bit) place) (λ bit. has_position (get_or fields place d) (position_of first bit)) (range_with_len 0 first.length)
-    (λ bit. marked (position_of first bit) place d ∙ ap (λ b. b && has_position (get_or fields place d) (position_of first bit)) (is_below place (length fields) h))
+    same_any (λ bit. is_marked rows (position_of first bit) place) (λ bit. has_position (get_or fields place d)
+    (position_of first bit)) (range_with_len 0 first.length)
+    (λ bit. marked (position_of first bit) place d ∙ ap (λ b. b && has_position (get_or fields place d) (position_of first bit))
+    (is_below place (length fields) h))
 
 dropped : {X : Type 0} (xs : List X) (i : ℕ) (d : X) → i < length xs → drop i xs ≡ get_or xs i d ∷ drop (i + 1) xs
 dropped xs i d h = let next : suc i ≡ i + 1 = omega arith in drop-cons xs i d h ∙ ap (λ (k : ℕ). get_or xs i d ∷ drop k xs) next
@@ -110,13 +127,15 @@ for_pairs-step : (fields : List Field) (walks : List Walk) (i : ℕ) (d : Field)
     ++ for_pairs pair_of (laid_from (i + 1) (drop (i + 1) fields) (drop (i + 1) walks))
 for_pairs-step fields walks i d w h other = rw (dropped fields i d h, dropped walks i w other) refl
 
-pub more_pairs : (fields : List Field) (walks : List Walk) (i : ℕ) (d : Field) (w : Walk) (found more all : List Pair) → i < length fields → i < length walks
+pub more_pairs : (fields : List Field) (walks : List Walk) (i : ℕ) (d : Field) (w : Walk) (found more all : List Pair)
+    → i < length fields → i < length walks
     → more ≡ found ++ flat_map (pair_of (laid_at fields walks i d w)) (laid_from (i + 1) (drop (i + 1) fields) (drop (i + 1) walks))
     → found ++ for_pairs pair_of (laid_from i (drop i fields) (drop i walks)) ≡ all
     → more ++ for_pairs pair_of (laid_from (i + 1) (drop (i + 1) fields) (drop (i + 1) walks)) ≡ all
 more_pairs fields walks i d w found more all h other pushed so_far =
     ap (λ (pairs : List Pair). pairs ++ for_pairs pair_of (laid_from (i + 1) (drop (i + 1) fields) (drop (i + 1) walks))) pushed
-    ∙ append_assoc found (flat_map (pair_of (laid_at fields walks i d w)) (laid_from (i + 1) (drop (i + 1) fields) (drop (i + 1) walks))) (for_pairs pair_of (laid_from (i + 1) (drop (i + 1) fields) (drop (i + 1) walks)))
+    ∙ append_assoc found (flat_map (pair_of (laid_at fields walks i d w)) (laid_from (i + 1) (drop (i + 1) fields)
+    (drop (i + 1) walks))) (for_pairs pair_of (laid_from (i + 1) (drop (i + 1) fields) (drop (i + 1) walks)))
     ∙ ap (λ (pairs : List Pair). found ++ pairs) (sym (for_pairs-step fields walks i d w h other))
     ∙ so_far
 

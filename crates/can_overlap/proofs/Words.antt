@@ -1,5 +1,6 @@
 -- Rows of bits: what a bit is after one is set, after two rows are joined, and after a word is shifted down.
-use Rattle.std.proofs.Common.{◌≡◌, ℕ, zero, suc, ◌+◌, ◌-◌, ◌*◌, ◌/◌, ◌%◌, ◌^◌, ◌<◌, ◌≤◌, Bool, true, false, ◌||◌, eqb, max, List, [], length, get_or, set, arith, refl, ap, ◌∙◌, sym, ⊎_elim, eq-eqb}
+use Rattle.std.proofs.Common.{◌≡◌, ℕ, zero, suc, ◌+◌, ◌-◌, ◌*◌, ◌/◌, ◌%◌, ◌^◌, ◌<◌, ◌≤◌, Bool, true, false, ◌||◌, eqb, max, List}
+use Rattle.std.proofs.Common.{[], length, get_or, set, arith, refl, ap, ◌∙◌, sym, ⊎_elim, eq-eqb}
 use Rattle.std.specs.Int.{bit_at, trailing_zeros, w64}
 use Rattle.std.specs.Int.RustNames.{bit_or}
 use Rattle.std.proofs.lemmas.Bool.{cases_eq, cases_lt}
@@ -7,7 +8,8 @@ use Rattle.std.proofs.lemmas.List.{get_or-set_same, get_or-set_other}
 use Rattle.std.proofs.Math.ListN.{replicate}
 use Rattle.std.proofs.lemmas.Nat.{pow-add, shr_le}
 use Rattle.std.proofs.Math.Nat.{div-div-eq-div-mul}
-use Rattle.std.proofs.lemmas.Nat.Bits.{bit_at_or, bit_at-lt, bit_at-zero, bit_at_above, bit_at-trailing_zeros, bit_at_set_same, bit_at_set_other}
+use Rattle.std.proofs.lemmas.Nat.Bits.{bit_at_or, bit_at-lt, bit_at-zero, bit_at_above, bit_at-trailing_zeros, bit_at_set_same}
+use Rattle.std.proofs.lemmas.Nat.Bits.{bit_at_set_other}
 use Rattle.std.proofs.lemmas.Grind.{common_steps}
 use Rattle.can_overlap.specs.Places.{has}
 
@@ -46,21 +48,29 @@ word_insert word bit at within =
     (cases_eq at bit)
 
 pub has-insert : (words : List ℕ) (place other : ℕ) → place / 64 < length words
-    → has (set words (place / 64) (bit_or (get_or words (place / 64) 0) (1 * 2 ^ (place % 64) % 2 ^ 64))) other ≡ (has words other || eqb other place)
+    → has (set words (place / 64) (bit_or (get_or words (place / 64) 0) (1 * 2 ^ (place % 64) % 2 ^ 64))) other
+    ≡ (has words other || eqb other place)
 unfolding has
 has-insert words place other within =
     ⊎_elim
     (λ (row : other / 64 ≡ place / 64).
     let small : place % 64 < 64 = omega arith in
     let same : eqb (other % 64) (place % 64) ≡ eqb other place = grind (arith, common_steps) in
-    rw row (rw get_or-set_same (word_insert (get_or words (place / 64) 0) (place % 64) (other % 64) small ∙ ap (λ b. eqb (bit_at (get_or words (place / 64) 0) (other % 64)) 1 || b) same)))
+    rw row (rw get_or-set_same (word_insert (get_or words (place / 64) 0) (place % 64) (other % 64) small
+    ∙ ap (λ b. eqb (bit_at (get_or words (place / 64) 0) (other % 64)) 1 || b) same)))
     (λ (row : other / 64 ≡ place / 64 → ⊥).
     let apart : other ≡ place → ⊥ = λ e. row (ap (λ n. n / 64) e) in
-    rw (get_or-set_other words (place / 64) (other / 64) (bit_or (get_or words (place / 64) 0) (1 * 2 ^ (place % 64) % 2 ^ 64)) 0 row, eqb-apart other place apart, or_false))
+    rw (
+      get_or-set_other words (place / 64) (other / 64) (bit_or (get_or words (place / 64) 0) (1 * 2 ^ (place % 64) % 2 ^ 64)) 0
+          row,
+      eqb-apart other place apart,
+      or_false,
+    ))
     (cases_eq (other / 64) (place / 64))
 
 -- a row that is joined with another, word by word
-pub has-joined : (a b joined : List ℕ) (place : ℕ) → get_or joined (place / 64) 0 ≡ bit_or (get_or a (place / 64) 0) (get_or b (place / 64) 0)
+pub has-joined : (a b joined : List ℕ) (place : ℕ) → get_or joined (place / 64) 0 ≡ bit_or (get_or a (place / 64) 0)
+    (get_or b (place / 64) 0)
     → has joined place ≡ (has a place || has b place)
 unfolding has
 has-joined a b joined place e = rw e (bit_set-or (get_or a (place / 64) 0) (get_or b (place / 64) 0) (place % 64))
@@ -93,22 +103,27 @@ step_fits : (word bit : ℕ) → word < 2 ^ 64 → 0 < word / 2 ^ bit → bit + 
 step_fits word bit small some =
     let shifted : word / 2 ^ bit < 2 ^ 64 = omega (arith, shr_le word bit) in
     let lowest = bit_at-trailing_zeros w64 (word / 2 ^ bit) some shifted in
-    let set_there : bit_at word (bit + trailing_zeros w64 (word / 2 ^ bit)) ≡ 1 = sym (bit_at-shifted word bit (trailing_zeros w64 (word / 2 ^ bit))) ∙ lowest.1 in
+    let set_there : bit_at word (bit + trailing_zeros w64 (word / 2 ^ bit)) ≡ 1 =
+    sym (bit_at-shifted word bit (trailing_zeros w64 (word / 2 ^ bit))) ∙ lowest.1 in
     ⊎_elim (λ (h : bit + trailing_zeros w64 (word / 2 ^ bit) < 64). h)
     (λ (h : 64 ≤ bit + trailing_zeros w64 (word / 2 ^ bit)).
-    let clear : bit_at word (bit + trailing_zeros w64 (word / 2 ^ bit)) ≡ 0 = bit_at_above word 64 (bit + trailing_zeros w64 (word / 2 ^ bit)) small h in
+    let clear : bit_at word (bit + trailing_zeros w64 (word / 2 ^ bit)) ≡ 0 =
+    bit_at_above word 64 (bit + trailing_zeros w64 (word / 2 ^ bit)) small h in
     absurd (omega arith))
     (cases_lt (bit + trailing_zeros w64 (word / 2 ^ bit)) 64)
 
-pub has-first : (words : List ℕ) (place : ℕ) → get_or words (place / 64) 0 < 2 ^ 64 → 0 < get_or words (place / 64) 0 / 2 ^ (place % 64)
+pub has-first : (words : List ℕ) (place : ℕ) → get_or words (place / 64) 0 < 2 ^ 64
+    → 0 < get_or words (place / 64) 0 / 2 ^ (place % 64)
     → has words (place + trailing_zeros w64 (get_or words (place / 64) 0 / 2 ^ (place % 64))) ≡ true
 has-first words place small some =
     let word : ℕ = get_or words (place / 64) 0 / 2 ^ (place % 64) in
     let shifted : word < 2 ^ 64 = omega (arith, shr_le (get_or words (place / 64) 0) (place % 64)) in
     let within : place % 64 + trailing_zeros w64 word < 64 = step_fits (get_or words (place / 64) 0) (place % 64) small some in
-    rw (has-above words place (trailing_zeros w64 word) within) (eq-eqb (bit_at word (trailing_zeros w64 word)) 1 (bit_at-trailing_zeros w64 word some shifted).1)
+    rw (has-above words place (trailing_zeros w64 word) within) (eq-eqb (bit_at word (trailing_zeros w64 word)) 1
+    (bit_at-trailing_zeros w64 word some shifted).1)
 
-pub has-before : (words : List ℕ) (place other : ℕ) → get_or words (place / 64) 0 < 2 ^ 64 → 0 < get_or words (place / 64) 0 / 2 ^ (place % 64)
+pub has-before : (words : List ℕ) (place other : ℕ) → get_or words (place / 64) 0 < 2 ^ 64
+    → 0 < get_or words (place / 64) 0 / 2 ^ (place % 64)
     → place ≤ other → other < place + trailing_zeros w64 (get_or words (place / 64) 0 / 2 ^ (place % 64)) → has words other ≡ false
 has-before words place other small some low high =
     let word : ℕ = get_or words (place / 64) 0 / 2 ^ (place % 64) in

@@ -22,7 +22,8 @@ IsClear rows = (position place : ℕ) → is_marked rows position place ≡ fals
 -- the row of each position has the places of the fields that have it
 abbrev pub IsOccupancy : List Field → List Places → Type 0
 IsOccupancy fields rows =
-    (position place : ℕ) (d : Field) → is_marked rows position place ≡ (nat_lt place (length fields) && has_position (slice_index_or fields place d) position)
+    (position place : ℕ) (d : Field) → is_marked rows position place
+    ≡ (nat_lt place (length fields) && has_position (slice_index_or fields place d) position)
 
 -- more than each position of a field
 unfoldable pub reach : Field → ℕ
@@ -38,4 +39,8 @@ met_pairs first chain words from walks = flat_map (met_pair first chain words) (
 
 -- the signal at a place
 abbrev pub laid_at : List Field → List Walk → ℕ → Field → Walk → Laid
-laid_at fields walks place field walk = record { place = place; field = slice_index_or fields place field; walk = slice_index_or walks place walk }
+laid_at fields walks place field walk = record {
+  place = place;
+  field = slice_index_or fields place field;
+  walk = slice_index_or walks place walk;
+}

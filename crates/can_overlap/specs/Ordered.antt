@@ -13,7 +13,8 @@ IsOrdered (range ∷ later) = (range.first ≤ range.last) × All (λ next. rang
 
 -- a test that no empty range passes is passed by one of these exactly where it is passed by one of those
 abbrev pub IsTestedLike : List Range → List Range → Type 0
-IsTestedLike these those = (test : Range → Bool) → ((range : Range) → holds_some range ≡ false → test range ≡ false) → list_any test these ≡ list_any test those
+IsTestedLike these those = (test : Range → Bool) → ((range : Range) → holds_some range ≡ false → test range ≡ false)
+    → list_any test these ≡ list_any test those
 
 -- ranges that hold numbers, for others among which may be empty ones
 pub record AreWhole (whole ranges : List Range) : Type 0 where

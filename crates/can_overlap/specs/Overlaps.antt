@@ -57,7 +57,8 @@ pub record Laid : Type 0 where
 
 -- the signals of a message, from a place on
 abbrev pub laid_from : ℕ → List Field → List Walk → List Laid
-laid_from place (field ∷ fields) (walk ∷ walks) = record { place = place; field = field; walk = walk } ∷ laid_from (place + 1) fields walks
+laid_from place (field ∷ fields) (walk ∷ walks) = record { place = place; field = field; walk = walk } ∷ laid_from (place + 1)
+    fields walks
 laid_from place (field ∷ fields) [] = []
 laid_from place [] walks = []
 

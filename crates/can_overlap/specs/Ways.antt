@@ -81,4 +81,5 @@ noted_if (Some noted) = noted
 
 -- what is noted is so
 abbrev pub AreNoted : Beside → List (Option Bool) → Type 0
-AreNoted beside noted = (place : ℕ) (goes : Bool) → noted_if (slice_get noted place) ≡ Some goes → goes_at beside.links beside.walks place ≡ goes
+AreNoted beside noted = (place : ℕ) (goes : Bool) → noted_if (slice_get noted place) ≡ Some goes
+    → goes_at beside.links beside.walks place ≡ goes

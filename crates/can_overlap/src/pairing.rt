@@ -25,7 +25,8 @@ fn push_pair(
     second: usize,
 ) -> Result<(), Memory>
     requires { AreNoted beside.now noted.old }
-    ensures found { OnOk result (found.new.items ≡ found.old.items ++ pair_where (goes_at beside.now.links beside.now.walks second) first second) }
+    ensures found { OnOk result (found.new.items ≡ found.old.items ++ pair_where (goes_at beside.now.links beside.now.walks second)
+        first second) }
     ensures noted { AreNoted beside.now noted.new }
 {
     if goes_with(beside, noted, second) {
@@ -45,7 +46,8 @@ fn push_met(
     requires place { first < length beside.now.walks }
     requires few { length beside.now.walks ≤ 999 }
     requires noted { AreNoted beside.now noted.old }
-    ensures { OnOk result (found.new.items ≡ found.old.items ++ met_pairs first beside.now.links met.now.words (first + 1) (drop (first + 1) beside.now.walks)) }
+    ensures { OnOk result (found.new.items ≡ found.old.items ++ met_pairs first beside.now.links met.now.words (first + 1)
+        (drop (first + 1) beside.now.walks)) }
 {
     let end = beside.count();
     let mut next = met.next_from(first + 1);
@@ -67,7 +69,8 @@ fn push_chained(
     requires place { first < length ways.now.walks }
     requires few { length ways.now.walks ≤ 999 }
     requires chain { slice_get ways.now.walks first ≡ Some (Chain links.now) }
-    ensures { OnOk result (found.new.items ≡ found.old.items ++ met_pairs first links.now met.now.words (first + 1) (drop (first + 1) ways.now.walks)) }
+    ensures { OnOk result (found.new.items ≡ found.old.items ++ met_pairs first links.now met.now.words (first + 1)
+        (drop (first + 1) ways.now.walks)) }
 {
     if met.next_from(first + 1) >= ways.count() {
         return Ok(());
@@ -92,7 +95,9 @@ fn push_pairs(
     requires few { length fields.now ≤ 999 }
     requires marked { IsOccupancy fields.now rows.now }
     requires room { All (λ field. reach field ≤ length rows.now) fields.now }
-    ensures { (field : PlainField) (walk : PlainWalk) → OnOk result (found.new.items ≡ found.old.items ++ flat_map (pair_of (laid_at fields.now ways.now.walks first field walk)) (laid_from (first + 1) (drop (first + 1) fields.now) (drop (first + 1) ways.now.walks))) }
+    ensures { (field : PlainField) (walk : PlainWalk)
+        → OnOk result (found.new.items ≡ found.old.items ++ flat_map (pair_of (laid_at fields.now ways.now.walks first field walk))
+        (laid_from (first + 1) (drop (first + 1) fields.now) (drop (first + 1) ways.now.walks))) }
 {
     match ways.chain_at(first) {
         Some(links) => {

@@ -53,7 +53,8 @@ pub(crate) fn grow(rows: &mut Vec<Places>, fields: &[Field]) -> Result<(), Memor
 fn mark(rows: &mut [Places], field: Field, place: usize)
     requires room { reach field ≤ length rows.old }
     requires few { place < 1024 }
-    ensures { (position other : ℕ) → is_marked rows.new position other ≡ (is_marked rows.old position other || (has_position field position && other == place)) }
+    ensures { (position other : ℕ) → is_marked rows.new position other
+        ≡ (is_marked rows.old position other || (has_position field position && other == place)) }
 {
     for bit in 0..field.length {
         rows[field.position(bit) as usize].insert(place);
@@ -75,7 +76,8 @@ pub(crate) fn mark_all(rows: &mut [Places], fields: &[Field])
 /// The places that stand in the rows of a field's positions.
 pub(crate) fn met_by(rows: &[Places], field: Field) -> Places
     requires { reach field ≤ length rows.now }
-    ensures { (place : ℕ) → has result.words place ≡ list_any (λ bit. is_marked rows.now (position_of field bit) place) (range_with_len 0 field.length) }
+    ensures { (place : ℕ) → has result.words place ≡ list_any (λ bit. is_marked rows.now (position_of field bit) place)
+        (range_with_len 0 field.length) }
 {
     let mut met = Places::new();
     for bit in 0..field.length {
@@ -87,7 +89,8 @@ pub(crate) fn met_by(rows: &[Places], field: Field) -> Places
 // Empties the row of each position of a field.
 fn clear(rows: &mut [Places], field: Field)
     requires { reach field ≤ length rows.old }
-    ensures { (position other : ℕ) → is_marked rows.new position other ≡ (is_marked rows.old position other && not (has_position field position)) }
+    ensures { (position other : ℕ) → is_marked rows.new position other
+        ≡ (is_marked rows.old position other && not (has_position field position)) }
 {
     for bit in 0..field.length {
         rows[field.position(bit) as usize] = Places::new();

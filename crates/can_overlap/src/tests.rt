@@ -95,7 +95,8 @@ fn ways_up(rt: HostRuntime) -> Result<(), Fail> {
     Ok(())
 }
 
-// The link below a switch of a chain. That below the one at place 2 has the numbers from 7 to `last`, between ranges that have none.
+// The link below a switch of a chain. That below the one at place 2 has the numbers from 7 to `last`, between ranges that have
+// none.
 fn link_below(alloc: Global, switch: usize, last: u64) -> Result<Link, Memory> {
     let mut ranges = List::new(alloc);
     ranges.push(Range { first: 9, last: 0 })?;

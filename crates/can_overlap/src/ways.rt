@@ -77,7 +77,8 @@ fn chain_at(walks: &[Walk], place: usize) -> Option<&[Link]>
 
 // The first link of a chain that goes on as the way of the link's switch.
 fn first_step<'a>(walks: &[Walk], links: &'a [Link]) -> Option<&'a Link>
-    ensures { IfSome result (λ link. (above : List PlainLink) × (links.now ≡ link.now ∷ above) × (slice_get walks.now link.now.switch ≡ Some (Chain above))) }
+    ensures { IfSome result (λ link. (above : List PlainLink) × (links.now ≡ link.now ∷ above)
+        × (slice_get walks.now link.now.switch ≡ Some (Chain above))) }
 {
     if links.is_empty() {
         return None;

@@ -25,7 +25,8 @@ bad_identifier m = where_true (is_bad_number m.head.number && not (is_pseudo m.h
 
 -- another message has its number
 unfoldable pub shared_identifier : Database → Message → List Diagnostic
-shared_identifier database m = where_true (is_shared (λ a b. a == b) m.head.number (numbers_of database)) (of_message codes.SharedIdentifier m.head)
+shared_identifier database m = where_true (is_shared (λ a b. a == b) m.head.number (numbers_of database))
+    (of_message codes.SharedIdentifier m.head)
 
 -- another message has its name
 unfoldable pub shared_name : Database → Message → List Diagnostic
@@ -33,7 +34,8 @@ shared_name database m = where_true (is_shared bytes_eq m.head.name (names_of da
 
 abbrev pub in_shared_group : Database → Head → Option ℕ → List Diagnostic
 in_shared_group database head None = []
-in_shared_group database head (Some group) = where_true (is_shared (λ a b. a == b) group (groups_of database)) (of_message codes.SharedGroup head)
+in_shared_group database head (Some group) = where_true (is_shared (λ a b. a == b) group (groups_of database))
+    (of_message codes.SharedGroup head)
 
 -- it and another are group messages of one group
 unfoldable pub shared_group : Database → Message → List Diagnostic
@@ -49,7 +51,8 @@ abbrev pub unknown_sender : Database → Head → List Diagnostic
 unknown_sender database head = where_true (not (is_known_node database head.sender)) (of_sender codes.UnknownNode head)
 
 abbrev pub unknown_receiver : Database → Head → Signal → List ℕ → List Diagnostic
-unknown_receiver database head signal node = where_true (not (is_known_node database node)) (of_receiver codes.UnknownNode head signal node)
+unknown_receiver database head signal node = where_true (not (is_known_node database node)) (of_receiver codes.UnknownNode head
+    signal node)
 
 abbrev pub unknown_receivers : Database → Head → Signal → List Diagnostic
 unknown_receivers database head signal = flat_map (unknown_receiver database head signal) signal.receivers

@@ -46,7 +46,8 @@ is_known_node database name = stands_in bytes_eq name database.nodes || bytes_eq
 -- ---- what is found by keys
 
 -- these are all keys of a database
-pub record IsKnown (database : Database) (numbers : List ℕ) (names : List (List ℕ)) (groups : List ℕ) (signals : List (ℕ × List ℕ)) (nodes defined : List (List ℕ)) : Type 0 where
+pub record IsKnown (database : Database) (numbers : List ℕ) (names : List (List ℕ)) (groups : List ℕ) (signals : List (ℕ × List ℕ))
+    (nodes defined : List (List ℕ)) : Type 0 where
   pub all_numbers : numbers ≡ numbers_of database
   pub all_names : names ≡ names_of database
   pub all_groups : groups ≡ groups_of database

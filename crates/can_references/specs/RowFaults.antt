@@ -7,7 +7,8 @@ use Rattle.dbc_records.specs.Databases.{Database}
 use Rattle.dbc_records.specs.declared.target.Target.{Target}
 use Rattle.dbc_records.specs.declared.target.Target.TheVariants as targets
 use Rattle.can_diagnostics.specs.Diagnostics.{of_row}
-use Rattle.can_diagnostics.specs.Keys.{key_of_table, key_of_comment, key_of_definition, key_of_default, key_of_attribute, key_of_values, key_of_float, key_of_mux, same_key}
+use Rattle.can_diagnostics.specs.Keys.{key_of_table, key_of_comment, key_of_definition, key_of_default, key_of_attribute}
+use Rattle.can_diagnostics.specs.Keys.{key_of_values, key_of_float, key_of_mux, same_key}
 use Rattle.can_diagnostics.specs.declared.code.Code.TheVariants as codes
 use Rattle.can_diagnostics.specs.declared.diagnostic.Diagnostic.{Diagnostic}
 use Rattle.can_diagnostics.specs.declared.row_key.RowKey.{RowKey}

@@ -5,7 +5,8 @@ ghost use Rattle.std.specs.Str.{bytes_eq};
 ghost use Rattle.can_keys.specs.SignalNames.{same_signal};
 ghost use Rattle.can_rows.specs.Groups.{group_of};
 ghost use Rattle.can_references.specs.Finding.{is_shared, stands_in};
-ghost use Rattle.can_references.specs.Known.{numbers_of, names_of, groups_of, signals_in, signals_of, defined_in, perhaps, is_known_node};
+ghost use Rattle.can_references.specs.Known.{numbers_of, names_of, groups_of, signals_in, signals_of, defined_in, perhaps};
+ghost use Rattle.can_references.specs.Known.{is_known_node};
 
 use can_keys::{Names, Numbers, SignalNames};
 use can_rows::{Lookup, group_in};
@@ -63,7 +64,8 @@ fn names_of<'a>(alloc: Global, messages: &'a [Message]) -> Result<Names<'a>, Mem
 
 // The groups of messages of a database whose rows are found by `lookup`.
 fn groups_of<L: Lookup>(alloc: Global, lookup: &L, messages: &[Message]) -> Result<Numbers, Memory>
-    ensures { IfOk result (λ numbers. numbers ≡ flat_map (λ message. perhaps (group_of message.head.number (L.whole lookup.now))) messages.now) }
+    ensures { IfOk result (λ numbers. numbers ≡ flat_map (λ message. perhaps (group_of message.head.number (L.whole lookup.now)))
+        messages.now) }
 {
     let mut numbers = Numbers::new(alloc);
     for message in messages {

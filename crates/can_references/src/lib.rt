@@ -1,7 +1,8 @@
 //! What is doubtful in a database by what its parts say of each other: numbers, names and groups that several messages have, nodes,
 //! messages, signals and definitions that are named and not there, and rows that stand twice.
 //!
-//! [`Known`] is what the whole of a database says, found by keys. With it each call adds the diagnostics of one message or of all rows.
+//! [`Known`] is what the whole of a database says, found by keys. With it each call adds the diagnostics of one message or of all
+//! rows.
 #![tactic(auto)]
 
 mod known;

@@ -1,6 +1,7 @@
 //! What is doubtful of a message by its number and its name.
 ghost use Rattle.std.specs.Prelude.{◌≡◌, ◌++◌, OnOk};
-ghost use Rattle.can_references.specs.HeadFaults.{is_pseudo, bad_identifier, shared_identifier, shared_name, in_shared_group, shared_group, head_faults};
+ghost use Rattle.can_references.specs.HeadFaults.{is_pseudo, bad_identifier, shared_identifier, shared_name, in_shared_group};
+ghost use Rattle.can_references.specs.HeadFaults.{shared_group, head_faults};
 
 use crate::known::Known;
 use can_diagnostics::{Code, Diagnostic};

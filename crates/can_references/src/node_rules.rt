@@ -29,7 +29,8 @@ fn push_unknown_nodes_of<L: Lookup>(
     signal: &Signal,
     nodes: &[Name],
 ) -> Result<(), Memory>
-    ensures { OnOk result (found.new.items ≡ found.old.items ++ flat_map (unknown_receiver known.now head.now signal.now) nodes.now) }
+    ensures { OnOk result (found.new.items ≡ found.old.items ++ flat_map (unknown_receiver known.now head.now signal.now)
+        nodes.now) }
 {
     for node in nodes {
         if !known.is_known_node(node.as_bytes()) {

@@ -3,7 +3,8 @@ ghost use Rattle.std.specs.Prelude.{◌≡◌, [], ◌∷◌, ◌++◌, OnOk, ma
 ghost use Rattle.can_keys.specs.RowKeys.{target_of, row_key};
 ghost use Rattle.can_diagnostics.specs.Diagnostics.{of_row};
 ghost use Rattle.can_references.specs.Finding.{where_true, each_after};
-ghost use Rattle.can_references.specs.RowFaults.{lacks_signal, lacks_target, is_dangling, lacks_definition, is_undefined, row_fault, front_keys, attribute_keys, signal_keys, row_faults};
+ghost use Rattle.can_references.specs.RowFaults.{lacks_signal, lacks_target, is_dangling, lacks_definition, is_undefined};
+ghost use Rattle.can_references.specs.RowFaults.{row_fault, front_keys, attribute_keys, signal_keys, row_faults};
 
 use crate::known::Known;
 use crate::row::Row;
@@ -105,7 +106,8 @@ fn push_rows<'a, L: Lookup, R: Row>(
     seen: &mut RowKeys<'a>,
     rows: &'a [R],
 ) -> Result<(), Memory>
-    ensures found { OnOk result (found.new.items ≡ found.old.items ++ each_after (row_fault known.now) seen.old (map R.key_of rows.now)) }
+    ensures found { OnOk result (found.new.items ≡ found.old.items ++ each_after (row_fault known.now) seen.old
+        (map R.key_of rows.now)) }
     ensures seen { OnOk result (seen.new ≡ seen.old ++ map R.key_of rows.now) }
 {
     for row in rows {
@@ -121,7 +123,8 @@ fn push_front<'a, L: Lookup>(
     seen: &mut RowKeys<'a>,
     database: &'a Database,
 ) -> Result<(), Memory>
-    ensures found { OnOk result (found.new.items ≡ found.old.items ++ each_after (row_fault known.now) seen.old (front_keys database.now)) }
+    ensures found { OnOk result (found.new.items ≡ found.old.items ++ each_after (row_fault known.now) seen.old
+        (front_keys database.now)) }
     ensures seen { OnOk result (seen.new ≡ seen.old ++ front_keys database.now) }
 {
     push_rows(found, known, seen, database.tables.as_slice())?;
@@ -135,7 +138,8 @@ fn push_attributes<'a, L: Lookup>(
     seen: &mut RowKeys<'a>,
     database: &'a Database,
 ) -> Result<(), Memory>
-    ensures found { OnOk result (found.new.items ≡ found.old.items ++ each_after (row_fault known.now) seen.old (attribute_keys database.now)) }
+    ensures found { OnOk result (found.new.items ≡ found.old.items ++ each_after (row_fault known.now) seen.old
+        (attribute_keys database.now)) }
     ensures seen { OnOk result (seen.new ≡ seen.old ++ attribute_keys database.now) }
 {
     push_rows(found, known, seen, database.definitions.as_slice())?;
@@ -150,7 +154,8 @@ fn push_signal_rows<'a, L: Lookup>(
     seen: &mut RowKeys<'a>,
     database: &'a Database,
 ) -> Result<(), Memory>
-    ensures found { OnOk result (found.new.items ≡ found.old.items ++ each_after (row_fault known.now) seen.old (signal_keys database.now)) }
+    ensures found { OnOk result (found.new.items ≡ found.old.items ++ each_after (row_fault known.now) seen.old
+        (signal_keys database.now)) }
     ensures seen { OnOk result (seen.new ≡ seen.old ++ signal_keys database.now) }
 {
     push_rows(found, known, seen, database.values.as_slice())?;

@@ -3,11 +3,13 @@ use Rattle.std.proofs.Common.{◌≡◌, ◌==◌, ◌&&◌, ℕ, true, false, L
 use Rattle.can_rows.specs.Rows.{first_row, first_named}
 
 module _ {R : Type 0} (number_of : R → ℕ) (signal_of : R → List ℕ) (number : ℕ) (name : List ℕ) where
-  pub first_of_number : (rows : List R) → first_named signal_of name (filter (λ row. number_of row == number) rows) ≡ first_row number_of signal_of number name rows
+  pub first_of_number : (rows : List R) → first_named signal_of name (filter (λ row. number_of row == number) rows)
+      ≡ first_row number_of signal_of number name rows
   first_of_number [] = refl
   first_of_number (row ∷ rows) =
       let others : List R = filter (λ row. number_of row == number) rows in
-      elim (number_of row == number) as (λ same. first_named signal_of name (cond same (row ∷ others) others) ≡ cond (same && bytes_eq (signal_of row) name) (Some row) (first_row number_of signal_of number name rows)) [
+      elim (number_of row == number) as (λ same. first_named signal_of name (cond same (row ∷ others) others)
+      ≡ cond (same && bytes_eq (signal_of row) name) (Some row) (first_row number_of signal_of number name rows)) [
         | true ↦ ap (λ o. cond (bytes_eq (signal_of row) name) (Some row) o) (first_of_number rows)
         | false ↦ first_of_number rows
       ]

@@ -1,7 +1,8 @@
 -- Messages that stand for a parameter group of SAE J1939: which they are, and the number of their group.
 -- Source: SAE J1939-21, "Protocol Data Unit Fields" and "Parameter Group Numbers"; that an attribute `VFrameFormat` with the
 -- text `J1939PG` marks such a message is the usage of Vector's tools, as cantools reads it.
-use Rattle.std.specs.Prelude.{ℕ, ℤ, ◌+◌, ◌*◌, ◌/◌, ◌%◌, ◌^◌, ◌==◌, ◌&&◌, not, nat_le, nat_lt, Bool, false, List, [], Option, Some, None, codes, slice_get, pos, negsuc, if◌then◌else◌}
+use Rattle.std.specs.Prelude.{ℕ, ℤ, ◌+◌, ◌*◌, ◌/◌, ◌%◌, ◌^◌, ◌==◌, ◌&&◌, not, nat_le, nat_lt, Bool, false, List, [], Option, Some}
+use Rattle.std.specs.Prelude.{None, codes, slice_get, pos, negsuc, if◌then◌else◌}
 use Rattle.std.specs.List.{find}
 use Rattle.std.specs.Str.{bytes_eq}
 use Rattle.dbc_values.specs.Decimals.{Decimal}
@@ -125,7 +126,8 @@ text_of definition (Some (values.Decimal decimal)) = text_at (texts_of_definitio
 
 -- the text of the attribute for a message number
 unfoldable pub frame_format : ℕ → Database → Option (List ℕ)
-frame_format number database = text_of (format_definition database) (value_or_default (format_row number database) (format_default database))
+frame_format number database = text_of (format_definition database) (value_or_default (format_row number database)
+    (format_default database))
 
 -- ---- group messages
 

@@ -21,7 +21,8 @@ abbrev pub row_at : {R : Type 0} → ℕ → List ℕ → BTreeMap ℕ (BTreeMap
 row_at number name by_number = option_map_or (row_named name) (get nat_cmp by_number number) None
 
 abbrev pub IsIndex : {R : Type 0} → (R → ℕ) → (R → List ℕ) → BTreeMap ℕ (BTreeMap (Bor (List ℕ)) (Bor R)) → List R → Type 0
-IsIndex number_of signal_of by_number rows = (number : ℕ) (name : List ℕ) → row_at number name by_number ≡ first_row number_of signal_of number name rows
+IsIndex number_of signal_of by_number rows = (number : ℕ) (name : List ℕ) → row_at number name by_number ≡ first_row number_of
+    signal_of number name rows
 
 -- what attribute rows have at a message number
 abbrev pub format_at : ℕ → BTreeMap ℕ (Bor AttrRow) → Option AttrRow
@@ -31,7 +32,8 @@ abbrev pub IsFormatIndex : BTreeMap ℕ (Bor AttrRow) → List AttrRow → Type 
 IsFormatIndex by_number rows = (number : ℕ) → format_at number by_number ≡ find (gives_format number) rows
 
 -- the rows of each kind are those of a database, and so are the first default and the first definition of the frame format
-pub record AreOf (database : Database) (values : List ValueRow) (floats : List FloatRow) (muxes : List MuxRow) (formats : List AttrRow) (default : Option (Bor AttrDefault)) (definition : Option (Bor AttrDef)) : Type 0 where
+pub record AreOf (database : Database) (values : List ValueRow) (floats : List FloatRow) (muxes : List MuxRow)
+    (formats : List AttrRow) (default : Option (Bor AttrDefault)) (definition : Option (Bor AttrDef)) : Type 0 where
   pub of_values : values ≡ database.values
   pub of_floats : floats ≡ database.floats
   pub of_muxes : muxes ≡ database.muxes

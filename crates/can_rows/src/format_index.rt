@@ -36,7 +36,8 @@ fn keep_first<'a>(
     by_number: &mut BTreeMap<u32, &'a AttrRow>,
     row: &'a AttrRow,
 ) -> Result<(), Memory>
-    ensures { OnOk result ((number : ℕ) → format_at number by_number.new ≡ option_or (format_at number by_number.old) (if gives_format number row.now then Some row.now else None)) }
+    ensures { OnOk result ((number : ℕ) → format_at number by_number.new ≡ option_or (format_at number by_number.old)
+        (if gives_format number row.now then Some row.now else None)) }
 {
     let Target::Message(number) = &row.target else {
         return Ok(());

@@ -35,7 +35,8 @@ fn keep_first<'a, R: Keyed>(
     by_name: &mut BTreeMap<&'a [u8], &'a R>,
     row: &'a R,
 ) -> Result<(), Memory>
-    ensures { OnOk result ((name : List ℕ) → row_named name by_name.new ≡ option_or (row_named name by_name.old) (if bytes_eq (R.signal_of row.now) name then Some row.now else None)) }
+    ensures { OnOk result ((name : List ℕ) → row_named name by_name.new ≡ option_or (row_named name by_name.old)
+        (if bytes_eq (R.signal_of row.now) name then Some row.now else None)) }
 {
     let name = row.signal();
     if by_name.contains_key(name) {
@@ -50,7 +51,9 @@ fn keep_first_of_key<'a, R: Keyed>(
     by_number: &mut BTreeMap<u32, BTreeMap<&'a [u8], &'a R>>,
     row: &'a R,
 ) -> Result<(), Memory>
-    ensures { OnOk result ((number : ℕ) (name : List ℕ) → row_at number name by_number.new ≡ option_or (row_at number name by_number.old) (if has_key R.number_of R.signal_of number name row.now then Some row.now else None)) }
+    ensures { OnOk result ((number : ℕ) (name : List ℕ) → row_at number name by_number.new
+        ≡ option_or (row_at number name by_number.old) (if has_key R.number_of R.signal_of number name row.now then Some row.now
+        else None)) }
 {
     keep_first(by_number.entry(row.number())?.or_default(), row)
 }
@@ -82,7 +85,8 @@ impl<'a, R: Keyed> Index<'a, R> {
 
     /// The first row of a key.
     pub fn first(&self, number: u32, signal: &[u8]) -> Option<&'a R>
-        ensures { option_map (λ row. row.now) result ≡ first_named R.signal_of signal.now (filter (λ row. R.number_of row == number) self.now) }
+        ensures { option_map (λ row. row.now) result ≡ first_named R.signal_of signal.now (filter (λ row. R.number_of row == number)
+            self.now) }
     {
         row_at(&self.by_number, number, signal)
     }

@@ -31,7 +31,8 @@ impl<'a> Model for Indexed<'a> {
 
     ghost view = { λ indexed. indexed.database.now };
 
-    ghost invariant = { λ indexed. AreOf indexed.database.now indexed.values indexed.floats indexed.muxes indexed.formats indexed.format_default indexed.format_definition };
+    ghost invariant = { λ indexed. AreOf indexed.database.now indexed.values indexed.floats indexed.muxes indexed.formats
+        indexed.format_default indexed.format_definition };
 }
 
 impl<'a> Indexed<'a> {

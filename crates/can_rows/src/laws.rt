@@ -5,7 +5,10 @@ ghost use Rattle.can_rows.specs.Rows.{rows_of, first_values, first_float, first_
 
 /// The first row of a signal among those of its message is the first of all rows with that number and that name.
 pub fn first_of_key()
-    ensures values { (database : Database) (number : ℕ) (name : List ℕ) → first_values name (rows_of number database) ≡ first_row (λ row. row.number) (λ row. row.signal) number name database.values }
-    ensures floats { (database : Database) (number : ℕ) (name : List ℕ) → first_float name (rows_of number database) ≡ first_row (λ row. row.number) (λ row. row.signal) number name database.floats }
-    ensures muxes { (database : Database) (number : ℕ) (name : List ℕ) → first_mux name (rows_of number database) ≡ first_row (λ row. row.number) (λ row. row.signal) number name database.muxes }
+    ensures values { (database : Database) (number : ℕ) (name : List ℕ) → first_values name (rows_of number database)
+        ≡ first_row (λ row. row.number) (λ row. row.signal) number name database.values }
+    ensures floats { (database : Database) (number : ℕ) (name : List ℕ) → first_float name (rows_of number database)
+        ≡ first_row (λ row. row.number) (λ row. row.signal) number name database.floats }
+    ensures muxes { (database : Database) (number : ℕ) (name : List ℕ) → first_mux name (rows_of number database)
+        ≡ first_row (λ row. row.number) (λ row. row.signal) number name database.muxes }
 {}

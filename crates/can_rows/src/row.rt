@@ -92,7 +92,8 @@ impl Attributed for AttrDef {
 
 /// The first row of a key.
 pub fn first_row<'a, R: Keyed>(rows: &'a [R], number: u32, signal: &[u8]) -> Option<&'a R>
-    ensures { option_map (λ row. row.now) result ≡ first_named R.signal_of signal.now (filter (λ row. R.number_of row == number) rows.now) }
+    ensures { option_map (λ row. row.now) result ≡ first_named R.signal_of signal.now (filter (λ row. R.number_of row == number)
+        rows.now) }
 {
     for row in rows {
         if row.number() == number && same(row.signal(), signal) {
@@ -104,7 +105,8 @@ pub fn first_row<'a, R: Keyed>(rows: &'a [R], number: u32, signal: &[u8]) -> Opt
 
 /// The first statement of an attribute.
 pub fn first_attributed<'a, R: Attributed>(statements: &'a [R], name: &[u8]) -> Option<&'a R>
-    ensures { option_map (λ statement. statement.now) result ≡ find (λ statement. bytes_eq (R.attribute_of statement) name.now) statements.now }
+    ensures { option_map (λ statement. statement.now) result ≡ find (λ statement. bytes_eq (R.attribute_of statement) name.now)
+        statements.now }
 {
     for statement in statements {
         if same(statement.attribute(), name) {

@@ -1,5 +1,6 @@
 -- One line more where only some are retained.
-use Rattle.std.proofs.Common.{◌≡◌, ◌<◌, ◌≤◌, ◌+◌, ◌-◌, ℕ, false, List, [], ◌∷◌, ◌++◌, length, Ok, drop, refl, ap, arith, length-append}
+use Rattle.std.proofs.Common.{◌≡◌, ◌<◌, ◌≤◌, ◌+◌, ◌-◌, ℕ, false, List, [], ◌∷◌, ◌++◌, length, Ok, drop, refl, ap, arith}
+use Rattle.std.proofs.Common.{length-append}
 use Rattle.std.proofs.lemmas.Bool.{leb-false, le-ltb}
 use Rattle.can_session.specs.Counts.{most_lines}
 use Rattle.can_session.specs.declared.keep.Keep.{Keep}
@@ -7,7 +8,8 @@ use Rattle.can_session.specs.declared.keep.Keep.TheVariants.{All, Last}
 use Rattle.can_session.specs.States.{most_kept, kept, is_full, longest_line, with_line}
 
 -- with as many as are retained the first goes
-pub one_goes : {X : Type 0} (keep : Keep) (lines : List X) (line : X) → length lines ≤ most_kept keep → is_full keep (length lines) ≡ false
+pub one_goes : {X : Type 0} (keep : Keep) (lines : List X) (line : X) → length lines ≤ most_kept keep → is_full keep (length lines)
+    ≡ false
     → most_kept keep < length lines + 1 → kept keep (lines ++ line ∷ []) ≡ drop 1 (lines ++ line ∷ [])
 one_goes All lines line few room over = let below = leb-false most_lines (length lines) room in absurd (omega (arith, below, over))
 one_goes (Last count) lines line few room over =
@@ -15,13 +17,15 @@ one_goes (Last count) lines line few room over =
     ap (λ n. drop n (lines ++ line ∷ [])) one
 
 -- with fewer none does
-pub none_goes : {X : Type 0} (keep : Keep) (lines : List X) (line : X) → length lines + 1 ≤ most_kept keep → kept keep (lines ++ line ∷ []) ≡ lines ++ line ∷ []
+pub none_goes : {X : Type 0} (keep : Keep) (lines : List X) (line : X) → length lines + 1 ≤ most_kept keep
+    → kept keep (lines ++ line ∷ []) ≡ lines ++ line ∷ []
 none_goes All lines line fits = refl
 none_goes (Last count) lines line fits =
     let none : length (lines ++ line ∷ []) - count ≡ 0 = omega (arith, length-append lines (line ∷ []), fits) in
     ap (λ n. drop n (lines ++ line ∷ [])) none
 
 -- a line that is not too long, where there is room for it
-pub open_with_line : (keep : Keep) (lines : List (List ℕ)) (line : List ℕ) → is_full keep (length lines) ≡ false → length line ≤ longest_line
+pub open_with_line : (keep : Keep) (lines : List (List ℕ)) (line : List ℕ) → is_full keep (length lines) ≡ false
+    → length line ≤ longest_line
     → with_line keep lines line ≡ Ok (kept keep (lines ++ line ∷ []))
 open_with_line keep lines line room short = let fits = le-ltb longest_line (length line) short in rw (room, fits) refl

@@ -14,7 +14,8 @@ fewer_decoded few many before after le h = record {
 }
 
 -- what was made, and then what was decoded
-pub made_then_decoded : (made decoded : ℕ) (before mid after : Meter) → Raised made 0 before mid → Raised 0 decoded mid after → Raised made decoded before after
+pub made_then_decoded : (made decoded : ℕ) (before mid after : Meter) → Raised made 0 before mid → Raised 0 decoded mid after
+    → Raised made decoded before after
 made_then_decoded made decoded before mid after m d = record {
   no_plan_lost = omega (arith, m.no_plan_lost, d.no_plan_lost);
   no_picture_lost = omega (arith, m.no_picture_lost, d.no_picture_lost);

@@ -1,5 +1,6 @@
 -- Serial numbers and places: what a further item has, and what becomes of the others when the first goes.
-use Rattle.std.proofs.Common.{◌≡◌, ◌<◌, ◌+◌, ◌-◌, ◌%◌, ◌^◌, ℕ, Bool, true, false, List, [], ◌∷◌, length, map, drop, refl, sym, ap, ◌∙◌, inl, inr, arith}
+use Rattle.std.proofs.Common.{◌≡◌, ◌<◌, ◌+◌, ◌-◌, ◌%◌, ◌^◌, ℕ, Bool, true, false, List, [], ◌∷◌, length, map, drop, refl, sym, ap}
+use Rattle.std.proofs.Common.{◌∙◌, inl, inr, arith}
 use Rattle.std.proofs.Math.Nat.{mod-add-mod, add-mod_right, mod-eq_of_lt, mod_self}
 use Rattle.std.proofs.lemmas.Bool.{cases_Bool, cases_lt}
 use Rattle.std.proofs.lemmas.List.{drop-map}
@@ -15,7 +16,8 @@ module _ (m first : ℕ) (within : first < m) where
   -- by the next start each place is one less
   next_at : (serial : ℕ) → (serial + (m - (first + 1) % m)) % m ≡ ((serial + (m - first)) % m + (m - 1)) % m
   next_at serial =
-      let back : ((serial + (m - first)) % m + (m - 1)) % m ≡ (serial + (m - first) + (m - 1)) % m = mod-add-mod (serial + (m - first)) m (m - 1) in
+      let back : ((serial + (m - first)) % m + (m - 1)) % m ≡ (serial + (m - first) + (m - 1)) % m =
+      mod-add-mod (serial + (m - first)) m (m - 1) in
       (elim (cases_lt (first + 1) m) [
         | inl later ↦
             let start : (first + 1) % m ≡ first + 1 = mod-eq_of_lt later in
@@ -54,18 +56,23 @@ pub further_place : (first place : ℕ) → first < 2 ^ 64 → place < 2 ^ 64 �
 further_place first place within fits = further_at (2 ^ 64) first within place fits
 
 -- those of items behind the first, once it is gone
-pub rest_places : {X : Type 0} (first : ℕ) (test : X → Bool) (items : List X) (serials : List ℕ) → first < 2 ^ 64 → length items < 2 ^ 64
-    → map (place_from first) serials ≡ places_from test 1 items → map (place_from ((first + 1) % 2 ^ 64)) serials ≡ places_from test 0 items
+pub rest_places : {X : Type 0} (first : ℕ) (test : X → Bool) (items : List X) (serials : List ℕ) → first < 2 ^ 64
+    → length items < 2 ^ 64
+    → map (place_from first) serials ≡ places_from test 1 items → map (place_from ((first + 1) % 2 ^ 64)) serials
+    ≡ places_from test 0 items
 rest_places first test items serials within fits h =
-    map_twice (place_from ((first + 1) % 2 ^ 64)) (place_from first) (λ place. (place + (2 ^ 64 - 1)) % 2 ^ 64) (next_at (2 ^ 64) first within) serials
+    map_twice (place_from ((first + 1) % 2 ^ 64)) (place_from first) (λ place. (place + (2 ^ 64 - 1)) % 2 ^ 64)
+    (next_at (2 ^ 64) first within) serials
     ∙ ap (map (λ place. (place + (2 ^ 64 - 1)) % 2 ^ 64)) h ∙ places_less (2 ^ 64) test 0 items (omega (arith, fits))
 
 -- those of all items that pass, once the first is gone, which is one of them or not
-pub without_first : {X : Type 0} (first : ℕ) (test : X → Bool) (item : X) (items : List X) (before after : List ℕ) → first < 2 ^ 64 → length items < 2 ^ 64
+pub without_first : {X : Type 0} (first : ℕ) (test : X → Bool) (item : X) (items : List X) (before after : List ℕ) → first < 2 ^ 64
+    → length items < 2 ^ 64
     → map (place_from first) before ≡ places_from test 0 (item ∷ items)
     → (passes : Bool) → test item ≡ passes → after ≡ (if passes then drop 1 before else before)
     → map (place_from ((first + 1) % 2 ^ 64)) after ≡ places_from test 0 items
 without_first first test item items before after within fits h true t is =
-    rest_places first test items after within fits (ap (map (place_from first)) is ∙ sym (drop-map (place_from first) 1 before) ∙ ap (drop 1) h ∙ rw t refl)
+    rest_places first test items after within fits (ap (map (place_from first)) is ∙ sym (drop-map (place_from first) 1 before)
+    ∙ ap (drop 1) h ∙ rw t refl)
 without_first first test item items before after within fits h false f is =
     rest_places first test items after within fits (ap (map (place_from first)) is ∙ h ∙ rw f refl)

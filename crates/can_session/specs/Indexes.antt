@@ -1,6 +1,7 @@
 -- The retained lines by the numbers and by the parameter groups of their data frames.
 -- Source: SAE J1939-21, "Parameter Group Numbers", for which frames belong to one group.
-use Rattle.std.specs.Prelude.{◌≡◌, ◌<◌, ◌≤◌, ℕ, Bool, true, false, not, ◌&&◌, ◌==◌, List, [], ◌∷◌, ◌++◌, All, length, count_by, slice_get, MatchOption, map, drop, nat_eq, if◌then◌else◌}
+use Rattle.std.specs.Prelude.{◌≡◌, ◌<◌, ◌≤◌, ℕ, Bool, true, false, not, ◌&&◌, ◌==◌, List, [], ◌∷◌, ◌++◌, All, length, count_by}
+use Rattle.std.specs.Prelude.{slice_get, MatchOption, map, drop, nat_eq, if◌then◌else◌}
 use Rattle.std.specs.List.{list_any, slice_index_or}
 use Rattle.std.specs.Option.{option_map_or}
 use Rattle.std.specs.VecDeque.{deque_len, deque_capacity}
@@ -44,13 +45,15 @@ pub record IsIndexed (first : ℕ) (lines : List (List ℕ)) (index : LogIndex) 
 
 -- the serial numbers under the key of a number that an edit has: its group, where a message of it may have one, or else the number
 abbrev pub serials_of : ℕ → LogIndex → List ℕ
-serials_of number index = if may_have_group number then serials_at (group_number_of number) index.groups else serials_at number index.numbers
+serials_of number index = if may_have_group number then serials_at (group_number_of number) index.groups else serials_at number
+    index.numbers
 
 -- ---- one more line
 
 -- there is room for one more under the key
 abbrev pub HasRoom : {S : Type 0} → ℕ → IndexMap ℕ Serials S → Type 0
-HasRoom key serials = MatchOption (get nat_eq serials key) (0 < spare serials) (λ there. deque_len there.later < deque_capacity there.later)
+HasRoom key serials = MatchOption (get nat_eq serials key) (0 < spare serials) (λ there. deque_len there.later < deque_capacity
+    there.later)
 
 -- there is for a line with a data frame of the number
 pub record HasRoomFor (number : ℕ) (index : LogIndex) : Type 0 where
@@ -63,15 +66,19 @@ pub record SameSerials (before after : LogIndex) : Type 0 where
 
 -- the serial number of a line with a data frame of the number is behind the others
 pub record Puts (number serial : ℕ) (before after : LogIndex) : Type 0 where
-  pub by_number : (other : ℕ) → serials_at other after.numbers ≡ serials_at other before.numbers ++ (if other == number then serial ∷ [] else [])
-  pub by_group : (group : ℕ) → serials_at group after.groups ≡ serials_at group before.groups ++ (if is_extended number && group == group_number_of number then serial ∷ [] else [])
+  pub by_number : (other : ℕ) → serials_at other after.numbers ≡ serials_at other before.numbers ++ (if other == number then serial
+      ∷ [] else [])
+  pub by_group : (group : ℕ) → serials_at group after.groups ≡ serials_at group before.groups
+      ++ (if is_extended number && group == group_number_of number then serial ∷ [] else [])
 
 -- ---- one less
 
 -- the first serial number under the number of a data frame, and under its group, is gone
 pub record Drops (number : ℕ) (before after : LogIndex) : Type 0 where
-  pub by_number : (other : ℕ) → serials_at other after.numbers ≡ (if other == number then drop 1 (serials_at other before.numbers) else serials_at other before.numbers)
-  pub by_group : (group : ℕ) → serials_at group after.groups ≡ (if is_extended number && group == group_number_of number then drop 1 (serials_at group before.groups) else serials_at group before.groups)
+  pub by_number : (other : ℕ) → serials_at other after.numbers ≡ (if other == number then drop 1 (serials_at other before.numbers)
+      else serials_at other before.numbers)
+  pub by_group : (group : ℕ) → serials_at group after.groups ≡ (if is_extended number && group == group_number_of number then drop 1
+      (serials_at group before.groups) else serials_at group before.groups)
 
 -- ---- the lines that numbers touch
 
@@ -82,5 +89,6 @@ is_untouched_at numbers lines place = option_map_or (λ line. not (line_touched 
 -- these are places of lines, with those of all lines that the numbers touch, and they are no more than these
 pub record Covers (numbers : List ℕ) (lines : List (List ℕ)) (places : List ℕ) : Type 0 where
   pub within : All (λ place. place < length lines) places
-  pub touched : (k : ℕ) (d : List ℕ) → k < length lines → line_touched numbers (slice_index_or lines k d) ≡ true → list_any (λ place. place == k) places ≡ true
+  pub touched : (k : ℕ) (d : List ℕ) → k < length lines → line_touched numbers (slice_index_or lines k d) ≡ true
+      → list_any (λ place. place == k) places ≡ true
   pub few : length places ≤ count_by (line_touched numbers) lines

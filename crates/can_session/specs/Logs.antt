@@ -25,7 +25,8 @@ is_for place fresh = list_any (λ text. text.place == place) fresh
 
 -- the text is that of the line at its place
 abbrev pub IsTextOf : Bus → List Line → Fresh → Type 0
-IsTextOf bus lines fresh = (fresh.place < length lines) × ((d : Line) → fresh.text.items ≡ bus_line bus (bytes_of (slice_index_or lines fresh.place d)))
+IsTextOf bus lines fresh = (fresh.place < length lines)
+    × ((d : Line) → fresh.text.items ≡ bus_line bus (bytes_of (slice_index_or lines fresh.place d)))
 
 -- the texts are those of lines, and each other line has its text
 pub record Completes (bus : Bus) (lines : List Line) (fresh : List Fresh) : Type 0 where

@@ -8,7 +8,8 @@ use Rattle.can_decode.specs.Remembering.{IsIndexOf}
 use Rattle.can_session.specs.Compiled.{Compiled, compiled_of}
 
 -- these are the diagnostics of the database, and the plans and pictures of its messages with an index of these
-pub record IsShown (database : Database) (diagnostics : List Diagnostic) (compiled : List Compiled) (messages : MessageIndex) : Type 0 where
+pub record IsShown (database : Database) (diagnostics : List Diagnostic) (compiled : List Compiled) (messages : MessageIndex) : Type
+    0 where
   pub diagnosed : diagnostics ≡ all_faults database
   pub planned : compiled ≡ map (compiled_of database) database.messages
   pub found : IsIndexOf database messages

@@ -1,5 +1,6 @@
 -- What a session is to its callers, and one step of it.
-use Rattle.std.specs.Prelude.{◌≡◌, ℕ, ◌-◌, nat_le, nat_lt, Bool, false, List, [], ◌∷◌, ◌++◌, length, drop, count_by, Result, Ok, Err, MatchResult, if◌then◌else◌}
+use Rattle.std.specs.Prelude.{◌≡◌, ℕ, ◌-◌, nat_le, nat_lt, Bool, false, List, [], ◌∷◌, ◌++◌, length, drop, count_by, Result, Ok}
+use Rattle.std.specs.Prelude.{Err, MatchResult, if◌then◌else◌}
 use Rattle.dbc_records.specs.Databases.{Database}
 use Rattle.dbc_tokens.specs.declared.fault.ReadFault.{ReadFault}
 use Rattle.dbc_reader.specs.Texts.{HasDatabase, IsRead}
@@ -34,11 +35,13 @@ pub record Open : Type 0 where
 
 -- ---- the first state
 
--- The state of a text's database without lines, with the choices, for which at most as many plans and pictures were counted as there
+-- The state of a text's database without lines, with the choices, for which at most as many plans and pictures were counted as
+-- there
 -- are messages. Or the first fault of the text, or memory ran out.
 abbrev pub Opens : List ℕ → Options → Result Open ReadFault → Type 0
 Opens text options (Ok session) =
-    HasDatabase text session.state.database × (session.state.lines ≡ []) × Raised (length session.state.database.messages) 0 nothing_made session.meter
+    HasDatabase text session.state.database × (session.state.lines ≡ []) × Raised (length session.state.database.messages) 0
+    nothing_made session.meter
     × (session.state.options ≡ options)
 Opens text options (Err fault) = IsRead text (Err fault)
 
@@ -92,5 +95,6 @@ with_line keep lines line =
 abbrev pub Adds : List ℕ → State → Result (Unit {0}) Refusal → State → Type 0
 Adds line before answer after =
     MatchResult answer
-    (λ _. (with_line before.options.keep before.lines line ≡ Ok after.lines) × (after.database ≡ before.database) × (after.options ≡ before.options))
+    (λ _. (with_line before.options.keep before.lines line ≡ Ok after.lines) × (after.database ≡ before.database)
+    × (after.options ≡ before.options))
     (λ refusal. IsRefusal (with_line before.options.keep before.lines line) refusal × (after ≡ before))

@@ -67,7 +67,8 @@ impl Default for Keep {
 }
 
 impl Keep {
-    /// Whether there is no room for a line more behind so many: of all lines 1,048,576 are the most, and for one of the last ones the
+    /// Whether there is no room for a line more behind so many: of all lines 1,048,576 are the most, and for one of the last ones
+    /// the
     /// oldest goes.
     pub fn is_full(self, lines: usize) -> bool
         ensures { result ≡ is_full self lines }

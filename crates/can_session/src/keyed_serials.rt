@@ -36,7 +36,8 @@ pub(crate) fn make_room(serials: &mut KeyedSerials, key: u32) -> Result<(), Memo
 /// Puts one behind those under a key, where there is room for it. It takes no memory.
 pub(crate) fn put(alloc: Global, serials: &mut KeyedSerials, key: u32, serial: usize)
     requires { HasRoom key serials.old }
-    ensures { (other : ℕ) → serials_at other serials.new ≡ serials_at other serials.old ++ (if other == key then serial ∷ [] else []) }
+    ensures { (other : ℕ) → serials_at other serials.new ≡ serials_at other serials.old ++ (if other == key then serial
+        ∷ [] else []) }
 {
     if let Some(there) = serials.get_mut(&key) {
         there.later.push_back_reserved(serial);
@@ -52,7 +53,8 @@ pub(crate) fn put(alloc: Global, serials: &mut KeyedSerials, key: u32, serial: u
 // Room for so few is never given back.
 const LEAST_ROOM: usize = 64;
 
-// Gives half the room of a queue back where not even a quarter of it is used. Where there is no memory for the smaller block, all of
+// Gives half the room of a queue back where not even a quarter of it is used. Where there is no memory for the smaller block, all
+// of
 // the room stays.
 fn give_back(queue: &mut VecDeque<usize>)
     ensures { queue.new.items ≡ queue.old.items }
@@ -71,7 +73,8 @@ fn give_back(queue: &mut VecDeque<usize>)
 
 /// Takes out the first under a key, and with the last of them the key. Where memory is refused, only more room is kept.
 pub(crate) fn drop_first(serials: &mut KeyedSerials, key: u32)
-    ensures { (other : ℕ) → serials_at other serials.new ≡ (if other == key then drop 1 (serials_at other serials.old) else serials_at other serials.old) }
+    ensures { (other : ℕ) → serials_at other serials.new ≡ (if other == key then drop 1 (serials_at other serials.old) else
+        serials_at other serials.old) }
 {
     if let Some(there) = serials.get_mut(&key) {
         if let Some(next) = there.later.pop_front() {

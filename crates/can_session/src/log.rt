@@ -1,5 +1,6 @@
 //! The retained log.
-ghost use Rattle.std.specs.Prelude.{◌≡◌, ◌<◌, ◌+◌, ◌%◌, ◌^◌, [], ◌∷◌, ◌++◌, IfOk, OnOk, OnErr, All, Some, drop, filter, length, map, slice_get};
+ghost use Rattle.std.specs.Prelude.{◌≡◌, ◌<◌, ◌+◌, ◌%◌, ◌^◌, [], ◌∷◌, ◌++◌, IfOk, OnOk, OnErr, All, Some, drop, filter, length};
+ghost use Rattle.std.specs.Prelude.{map, slice_get};
 ghost use Rattle.can_decode.specs.DecodedLines.{Bus};
 ghost use Rattle.edit_reach.specs.Touched.{line_touched};
 ghost use Rattle.can_session.specs.Logs.{bytes_of, IsNumbered, IsDecoded, Completes};
@@ -147,7 +148,8 @@ impl Log {
         found: &[usize],
         earlier: &[u32],
     ) -> Result<(), Memory>
-        ensures { OnOk result (places.new.items ≡ places.old.items ++ filter (is_untouched_at earlier.now (map bytes_of self.now)) found.now) }
+        ensures { OnOk result (places.new.items ≡ places.old.items ++ filter (is_untouched_at earlier.now (map bytes_of self.now))
+            found.now) }
     {
         for place in found {
             if self.is_untouched_at(earlier, *place) {

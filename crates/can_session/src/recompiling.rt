@@ -27,7 +27,8 @@ fn is_here(numbers: &[u32], message: &Message) -> bool
 
 // What was compiled of the messages that have none of the numbers, in order.
 fn kept(alloc: Global, numbers: &[u32], before: &Shown) -> Result<Vec<Rc<Compiled>>, Memory>
-    ensures { IfOk result (λ kept. map (λ one. one.value) kept.items ≡ map (compiled_of before.now) (filter (is_elsewhere numbers.now) before.now.messages)) }
+    ensures { IfOk result (λ kept. map (λ one. one.value) kept.items ≡ map (compiled_of before.now)
+        (filter (is_elsewhere numbers.now) before.now.messages)) }
 {
     let mut kept = Vec::new(alloc);
     let mut rest = before.compiled();
@@ -44,7 +45,8 @@ fn kept(alloc: Global, numbers: &[u32], before: &Shown) -> Result<Vec<Rc<Compile
 
 // What was compiled of messages that an edit doesn't touch: of the edited database, too, it is what is compiled of them.
 fn kept_after(alloc: Global, accepted: &Accepted<'_>) -> Result<Vec<Rc<Compiled>>, Memory>
-    ensures { IfOk result (λ kept. map (λ one. one.value) kept.items ≡ map (compiled_of accepted.now.after) (filter (is_elsewhere (numbers_of accepted.now)) accepted.now.after.messages)) }
+    ensures { IfOk result (λ kept. map (λ one. one.value) kept.items ≡ map (compiled_of accepted.now.after)
+        (filter (is_elsewhere (numbers_of accepted.now)) accepted.now.after.messages)) }
 {
     others_stay();
     untouched_messages_stay();
@@ -60,7 +62,8 @@ fn merged<L: Lookup>(
     messages: &[Message],
     meter: &mut Meter,
 ) -> Result<Vec<Rc<Compiled>>, Memory>
-    requires { map (λ one. one.value) kept.now.items ≡ map (compiled_of (L.whole lookup.now)) (filter (is_elsewhere numbers.now) messages.now) }
+    requires { map (λ one. one.value) kept.now.items ≡ map (compiled_of (L.whole lookup.now)) (filter (is_elsewhere numbers.now)
+        messages.now) }
     ensures compiled { IfOk result (λ all. map (λ one. one.value) all.items ≡ map (compiled_of (L.whole lookup.now)) messages.now) }
     ensures made { Raised (count_by (is_here numbers.now) messages.now) 0 meter.old meter.new }
 {
@@ -85,7 +88,8 @@ pub(crate) fn parts_after(
     accepted: &Accepted<'_>,
     meter: &mut Meter,
 ) -> Result<Parts, Memory>
-    ensures parts { IfOk result (λ parts. IsShown accepted.now.after parts.diagnostics.items (map (λ one. one.value) parts.compiled.items) parts.messages) }
+    ensures parts { IfOk result (λ parts. IsShown accepted.now.after parts.diagnostics.items
+        (map (λ one. one.value) parts.compiled.items) parts.messages) }
     ensures made { Raised (count_here (numbers_of accepted.now) accepted.now.after) 0 meter.old meter.new }
 {
     let indexed = Indexed::of(alloc, accepted.after())?;

@@ -54,7 +54,10 @@ impl Model for Session {
 
     ghost Value = { Open };
 
-    ghost view = { λ a. record { state = record { options = a.options; database = a.shown; lines = map bytes_of a.log }; meter = a.meter } };
+    ghost view = { λ a. record {
+      state = record { options = a.options; database = a.shown; lines = map bytes_of a.log };
+      meter = a.meter;
+    } };
 
     ghost invariant = { λ a. IsOpen (record { database = a.shown; short = a.options.short }) a.options.keep a.log };
 }
@@ -69,8 +72,10 @@ fn made_after(
 ) -> Result<(Shown, Vec<Fresh>), Memory>
     requires { All (IsDecoded (record { database = accepted.before; short = short })) log.now }
     ensures shown { IfOk result (λ made. made.0 ≡ accepted.entry.after) }
-    ensures fresh { IfOk result (λ made. Completes (record { database = accepted.entry.after; short = short }) log.now made.1.items) }
-    ensures made { Raised (count_here (numbers_of accepted.entry) accepted.entry.after) (count_by (line_touched (numbers_of accepted.entry)) (map bytes_of log.now)) meter.old meter.new }
+    ensures fresh { IfOk result (λ made. Completes (record { database = accepted.entry.after; short = short }) log.now
+        made.1.items) }
+    ensures made { Raised (count_here (numbers_of accepted.entry) accepted.entry.after)
+        (count_by (line_touched (numbers_of accepted.entry)) (map bytes_of log.now)) meter.old meter.new }
 {
     let remade = accepted.remade(alloc, meter)?;
     let fresh = decode_touched(alloc, &remade, short, log, meter)?;
@@ -125,7 +130,8 @@ impl Session {
     /// decoded again.
     pub fn apply(&mut self, edit: &Edit) -> Result<(), Refusal>
         ensures step { Applies edit.now self.old.state result self.new.state }
-        ensures meter { RaisedBy (edited self.old.state.database edit.now) (edit_numbers self.old.state.database edit.now) self.old.state.lines self.old.meter self.new.meter }
+        ensures meter { RaisedBy (edited self.old.state.database edit.now) (edit_numbers self.old.state.database edit.now)
+            self.old.state.lines self.old.meter self.new.meter }
     {
         let accepted = Accepted::of(self.alloc, &self.shown, edit)?;
         // All growths come first.
@@ -138,7 +144,8 @@ impl Session {
     }
 
     /// Retains a line, which holds no LF, as the session's choice says. A refused one changes nothing but the meter: a line has at
-    /// most 4,096 bytes, and where all lines are retained there is room for 1,048,576. Where the last ones are, the oldest goes for a
+    /// most 4,096 bytes, and where all lines are retained there is room for 1,048,576. Where the last ones are, the oldest goes for
+    /// a
     /// new one, and no log is full. Want of memory comes last.
     pub fn add_line(&mut self, line: &[u8]) -> Result<(), Refusal>
         ensures step { Adds line.now self.old.state result self.new.state }
@@ -186,7 +193,8 @@ impl Session {
     /// The decode plan of the message at a place.
     pub fn plan(&self, place: usize) -> &Plan
         requires { place < length self.now.state.database.messages }
-        ensures { Some result.now ≡ option_map (plan_of self.now.state.database) (slice_get self.now.state.database.messages place) }
+        ensures { Some result.now ≡ option_map (plan_of self.now.state.database) (slice_get self.now.state.database.messages
+            place) }
     {
         self.shown.plan(place)
     }
@@ -194,7 +202,8 @@ impl Session {
     /// The picture of the message at a place.
     pub fn picture(&self, place: usize) -> &[u8]
         requires { place < length self.now.state.database.messages }
-        ensures { Some result.now ≡ option_map (picture_of self.now.state.database) (slice_get self.now.state.database.messages place) }
+        ensures { Some result.now ≡ option_map (picture_of self.now.state.database) (slice_get self.now.state.database.messages
+            place) }
     {
         self.shown.picture(place)
     }
@@ -218,7 +227,8 @@ impl Session {
     /// gives.
     pub fn decoded(&self, n: usize) -> &[u8]
         requires { n < length self.now.state.lines }
-        ensures { Some result.now ≡ option_map (decoded_line self.now.state.options.short self.now.state.database) (slice_get self.now.state.lines n) }
+        ensures { Some result.now ≡ option_map (decoded_line self.now.state.options.short self.now.state.database)
+            (slice_get self.now.state.lines n) }
     {
         self.log.line(n).decoded.as_slice()
     }

@@ -45,7 +45,8 @@ impl Model for Shown {
 
     ghost view = { λ a. a.database };
 
-    ghost invariant = { λ a. IsShown a.database a.parts.diagnostics.items (map (λ one. one.value) a.parts.compiled.items) a.parts.messages };
+    ghost invariant = { λ a. IsShown a.database a.parts.diagnostics.items (map (λ one. one.value) a.parts.compiled.items)
+        a.parts.messages };
 }
 
 /// The messages of a database.
@@ -57,7 +58,8 @@ pub(crate) fn messages_of(database: &Database) -> &[Message]
 
 // What is made of a database, by one index of its rows.
 fn parts_of(alloc: Global, database: &Database, meter: &mut Meter) -> Result<Parts, Memory>
-    ensures parts { IfOk result (λ parts. IsShown database.now parts.diagnostics.items (map (λ one. one.value) parts.compiled.items) parts.messages) }
+    ensures parts { IfOk result (λ parts. IsShown database.now parts.diagnostics.items (map (λ one. one.value) parts.compiled.items)
+        parts.messages) }
     ensures made { Raised (length database.now.messages) 0 meter.old meter.new }
 {
     let indexed = Indexed::of(alloc, database)?;

@@ -61,7 +61,8 @@ pub(crate) fn decode_touched(
     meter: &mut Meter,
 ) -> Result<Vec<Fresh>, Memory>
     requires { All (IsDecoded (record { database = remade.now.before; short = short })) log.now }
-    ensures completes { IfOk result (λ fresh. Completes (record { database = remade.now.after; short = short }) log.now fresh.items) }
+    ensures completes { IfOk result (λ fresh. Completes (record { database = remade.now.after; short = short }) log.now
+        fresh.items) }
     ensures lines { Raised 0 (count_by (line_touched (numbers_of remade.now)) (map bytes_of log.now)) meter.old meter.new }
 {
     untouched_lines_stay();

@@ -13,13 +13,15 @@ use Rattle.candesk_calls.specs.Printing.{Prints, PrintsText}
 
 module _ (text : List ℕ) (database : Database) (read : HasDatabase text database) where
   pub decoded : (short : Short) (before after : Unread) (old new : Written) (result : Result ℕ RunFault)
-      → Decodes (record { database = database; short = short }) before after old new result → Runs text short before after old new result
+      → Decodes (record { database = database; short = short }) before after old new result
+      → Runs text short before after old new result
   decoded short before after old new (Ok count) done = (database, read, done)
   decoded short before after old new (Err (run.Stream fault)) done = (database, read, done)
   decoded short before after old new (Err (run.Read fault)) done = absurd done
   decoded short before after old new (Err run.Memory) done = done
 
-  pub printed : (old new : Written) (result : Result (Unit {0}) PrintFault) → Prints database old new result → PrintsText text old new result
+  pub printed : (old new : Written) (result : Result (Unit {0}) PrintFault) → Prints database old new result
+      → PrintsText text old new result
   printed old new (Ok u) done = (database, read, done)
   printed old new (Err (print.Read fault)) done = absurd done
   printed old new (Err print.Write) done = (database, read, done)

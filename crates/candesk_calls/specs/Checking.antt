@@ -33,9 +33,11 @@ Says found old new (Err faults.Memory) = new ≡ old
 -- The text has a database, and so was said all that is doubtful in it. Or nothing was written, and the fault is the first of the
 -- text, or says that memory ran out.
 abbrev pub ChecksAll : List ℕ → Written → Written → Result Verdict CheckFault → Type 0
-ChecksAll text old new (Ok verdict) = (database : Database) × HasDatabase text database × Says (all_faults database) old new (Ok verdict)
+ChecksAll text old new (Ok verdict) = (database : Database) × HasDatabase text database
+    × Says (all_faults database) old new (Ok verdict)
 ChecksAll text old new (Err (faults.Read fault)) = (new ≡ old) × IsRead text (Err fault)
-ChecksAll text old new (Err faults.Write) = (database : Database) × HasDatabase text database × Says (all_faults database) old new (Err faults.Write)
+ChecksAll text old new (Err faults.Write) = (database : Database) × HasDatabase text database
+    × Says (all_faults database) old new (Err faults.Write)
 ChecksAll text old new (Err faults.Memory) = (database : Database) × HasDatabase text database × (new ≡ old)
 
 -- the exit status of an outcome
@@ -48,4 +50,5 @@ check_status_of (Err faults.Memory) = memory
 
 -- the status is that of an outcome with which the lines were so written
 abbrev pub CheckingEndsWith : List ℕ → Written → Written → ℕ → Type 0
-CheckingEndsWith text old new status = (outcome : Result Verdict CheckFault) × ChecksAll text old new outcome × (status ≡ check_status_of outcome)
+CheckingEndsWith text old new status = (outcome : Result Verdict CheckFault) × ChecksAll text old new outcome
+    × (status ≡ check_status_of outcome)

@@ -26,10 +26,13 @@ Draws database messages old new (Err faults.Memory) = (count : ℕ) × Wrote old
 -- The text has a database whose pictures were so written. Or nothing was written, and the fault is the first of the text, or says
 -- that memory ran out.
 abbrev pub DumpsPictures : List ℕ → Written → Written → Result (Unit {0}) DumpFault → Type 0
-DumpsPictures text old new (Ok u) = (database : Database) × HasDatabase text database × Draws database database.messages old new (Ok u)
+DumpsPictures text old new (Ok u) = (database : Database) × HasDatabase text database × Draws database database.messages old new
+    (Ok u)
 DumpsPictures text old new (Err (faults.Read fault)) = (new ≡ old) × IsRead text (Err fault)
-DumpsPictures text old new (Err faults.Write) = (database : Database) × HasDatabase text database × Draws database database.messages old new (Err faults.Write)
-DumpsPictures text old new (Err faults.Memory) = (database : Database) × HasDatabase text database × Draws database database.messages old new (Err faults.Memory)
+DumpsPictures text old new (Err faults.Write) = (database : Database) × HasDatabase text database
+    × Draws database database.messages old new (Err faults.Write)
+DumpsPictures text old new (Err faults.Memory) = (database : Database) × HasDatabase text database
+    × Draws database database.messages old new (Err faults.Memory)
 
 -- the exit status of an outcome
 abbrev pub dump_status_of : Result (Unit {0}) DumpFault → ℕ
@@ -40,4 +43,5 @@ dump_status_of (Err faults.Memory) = memory
 
 -- the status is that of an outcome with which the pictures were so written
 abbrev pub DumpingEndsWith : List ℕ → Written → Written → ℕ → Type 0
-DumpingEndsWith text old new status = (outcome : Result (Unit {0}) DumpFault) × DumpsPictures text old new outcome × (status ≡ dump_status_of outcome)
+DumpingEndsWith text old new status = (outcome : Result (Unit {0}) DumpFault) × DumpsPictures text old new outcome
+    × (status ≡ dump_status_of outcome)

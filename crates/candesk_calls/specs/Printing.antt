@@ -21,7 +21,8 @@ Prints database old new (Err faults.Write) = Broke old new (canonical_text datab
 abbrev pub PrintsText : List ℕ → Written → Written → Result (Unit {0}) PrintFault → Type 0
 PrintsText text old new (Ok u) = (database : Database) × HasDatabase text database × Prints database old new (Ok u)
 PrintsText text old new (Err (faults.Read fault)) = (new ≡ old) × IsRead text (Err fault)
-PrintsText text old new (Err faults.Write) = (database : Database) × HasDatabase text database × Prints database old new (Err faults.Write)
+PrintsText text old new (Err faults.Write) = (database : Database) × HasDatabase text database
+    × Prints database old new (Err faults.Write)
 
 -- the exit status of a text that is not read
 abbrev pub status_of_cause : Cause → ℕ
@@ -41,4 +42,5 @@ print_status_of (Err faults.Write) = device
 
 -- the status is that of an outcome with which the text was so printed
 abbrev pub PrintingEndsWith : List ℕ → Written → Written → ℕ → Type 0
-PrintingEndsWith text old new status = (outcome : Result (Unit {0}) PrintFault) × PrintsText text old new outcome × (status ≡ print_status_of outcome)
+PrintingEndsWith text old new status = (outcome : Result (Unit {0}) PrintFault) × PrintsText text old new outcome
+    × (status ≡ print_status_of outcome)

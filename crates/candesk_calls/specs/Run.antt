@@ -33,12 +33,16 @@ Decodes bus before after old new (Err (faults.Stream fault)) = Streams (bus_line
 Decodes bus before after old new (Err (faults.Read fault)) = ⊥
 Decodes bus before after old new (Err faults.Memory) = IsUntouched before after old new
 
--- The text has a database, and the log is decoded with it, by what is chosen for short frames. Or the log is untouched, and the fault
+-- The text has a database, and the log is decoded with it, by what is chosen for short frames. Or the log is untouched, and the
+-- fault
 -- is the first of the text, or memory ran out.
 abbrev pub Runs : List ℕ → Short → Unread → Unread → Written → Written → Result ℕ RunFault → Type 0
-Runs text short before after old new (Ok count) = (database : Database) × HasDatabase text database × Decodes (record { database = database; short = short }) before after old new (Ok count)
-Runs text short before after old new (Err (faults.Stream fault)) = (database : Database) × HasDatabase text database × Decodes (record { database = database; short = short }) before after old new (Err (faults.Stream fault))
-Runs text short before after old new (Err (faults.Read fault)) = IsUntouched before after old new × HasFirstFault grammar.text text fault
+Runs text short before after old new (Ok count) = (database : Database) × HasDatabase text database
+    × Decodes (record { database = database; short = short }) before after old new (Ok count)
+Runs text short before after old new (Err (faults.Stream fault)) = (database : Database) × HasDatabase text database
+    × Decodes (record { database = database; short = short }) before after old new (Err (faults.Stream fault))
+Runs text short before after old new (Err (faults.Read fault)) = IsUntouched before after old new
+    × HasFirstFault grammar.text text fault
 Runs text short before after old new (Err faults.Memory) = IsUntouched before after old new
 
 -- the exit status of an outcome

@@ -34,7 +34,8 @@ fn decode_log<R: Source, W: Sink>(
     source: &mut R,
     sink: &mut W,
 ) -> Result<u64, RunFault>
-    ensures { Decodes (record { database = database; short = short }) (R.unread source.old) (R.unread source.new) (W.written sink.old) (W.written sink.new) result }
+    ensures { Decodes (record { database = database; short = short }) (R.unread source.old) (R.unread source.new)
+        (W.written sink.old) (W.written sink.new) result }
 {
     let mut meter = Meter::new();
     match Decoding::of(alloc, database, short, &mut meter) {
@@ -44,7 +45,8 @@ fn decode_log<R: Source, W: Sink>(
 }
 
 /// Reads the database text, makes the plans of its messages, then reads the log to its end, and writes the decoded line
-/// and an LF for each line of it. `short` tells what is said of frames that are shorter than their message. It answers how many lines
+/// and an LF for each line of it. `short` tells what is said of frames that are shorter than their message. It answers how many
+/// lines
 /// there are, up to `u64::MAX`.
 pub fn decode_run<R: Source, W: Sink>(
     alloc: Global,

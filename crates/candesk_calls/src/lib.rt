@@ -1,6 +1,7 @@
 //! The program's calls: what each command does with a database and the standard streams.
 //!
-//! [`job_of`] of `candesk_words` reads the words, [`run`] does a job on the bytes of its file, and [`refuse`] says why there is none.
+//! [`job_of`] of `candesk_words` reads the words, [`run`] does a job on the bytes of its file, and [`refuse`] says why there is
+//! none.
 //! [`run`] stands on [`decode_run`], [`print_run`], [`dump_run`] and [`check_run`], whose contracts say what is written.
 #![tactic(auto)]
 

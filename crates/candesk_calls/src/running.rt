@@ -206,7 +206,8 @@ pub fn run<R: Source, W: Sink, E: Sink>(
     sink: &mut W,
     errors: &mut E,
 ) -> u8
-    ensures { EndsWith job.now.command (options_of job.now) text.now (R.unread source.old) (R.unread source.new) (W.written sink.old) (W.written sink.new) result }
+    ensures { EndsWith job.now.command (options_of job.now) text.now (R.unread source.old) (R.unread source.new)
+        (W.written sink.old) (W.written sink.new) result }
 {
     match job.command {
         Command::Check => check(alloc, text, sink, errors),

@@ -1,4 +1,5 @@
-//! That lines are decoded, in whatever pieces they come and by either choice for short frames, and what is written where a device fails.
+//! That lines are decoded, in whatever pieces they come and by either choice for short frames, and what is written where a device
+//! fails.
 
 use crate::reading::database;
 use byte_devices::limp::Limp;

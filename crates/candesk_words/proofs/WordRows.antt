@@ -1,7 +1,8 @@
 -- The definitions of words, computed on words that are written out.
 use Rattle.std.proofs.Common.{◌≡◌, true, false, [], ◌∷◌, Some, codes, refl}
 use Rattle.clap.specs.Words.{fault_of}
-use Rattle.clap.specs.declared.error.kind.ErrorKind.TheVariants.{ArgumentConflict, DisplayVersion, MissingRequiredArgument, UnknownArgument, ValueValidation}
+use Rattle.clap.specs.declared.error.kind.ErrorKind.TheVariants.{ArgumentConflict, DisplayVersion, MissingRequiredArgument}
+use Rattle.clap.specs.declared.error.kind.ErrorKind.TheVariants.{UnknownArgument, ValueValidation}
 use Rattle.clap.proofs.OnLiterals.{clap_on_literals}
 use Rattle.candesk_words.proofs.OnLiterals.{words_on_literals}
 use Rattle.candesk_words.specs.declared.job.Command.TheVariants.{Check, Decode, Dump, Print, Session}

@@ -1,10 +1,12 @@
 -- Which words of the command line are which job. How words are read at all, with options, `--` and `help`, is told by the
 -- definitions of clap for a command line with these commands and options.
-use Rattle.std.specs.Prelude.{◌≡◌, ◌≢◌, ⊤, ℕ, Bool, true, false, List, [], codes, Option, Some, None, option_and_then, option_map, Result, Ok, Err, ◌⊎◌, if◌then◌else◌}
+use Rattle.std.specs.Prelude.{◌≡◌, ◌≢◌, ⊤, ℕ, Bool, true, false, List, [], codes, Option, Some, None, option_and_then, option_map}
+use Rattle.std.specs.Prelude.{Result, Ok, Err, ◌⊎◌, if◌then◌else◌}
 use Rattle.std.specs.Option.{option_map_or}
 use Rattle.std.specs.Str.{bytes_eq}
 use Rattle.std.specs.Str.Parse.{digits_value, without_leading_plus}
-use Rattle.clap.specs.Words.{App, Rule, Row, Text, new_app, new_rule, with_rule, with_subcommand, subcommand_of, first_of, one_of, fault_of, IsAmong}
+use Rattle.clap.specs.Words.{App, Rule, Row, Text, new_app, new_rule, with_rule, with_subcommand, subcommand_of, first_of, one_of}
+use Rattle.clap.specs.Words.{fault_of, IsAmong}
 use Rattle.clap.specs.declared.builder.action.ArgAction.TheVariants.{Set, SetTrue}
 use Rattle.clap.specs.declared.builder.value_parser.ValueParser.TheVariants.{Unsigned}
 use Rattle.clap.specs.ValueTests.{is_unsigned_in}
@@ -39,7 +41,12 @@ on_frames name = with_rule (on_file name) short_rule
 
 -- `--keep` with a number of lines
 abbrev pub keep_rule : Rule
-keep_rule = record (new_rule (codes "keep")) { long = Some (codes "keep"); action = Some Set; value_names = 1; parser = Some (Unsigned 1 most_lines) }
+keep_rule = record (new_rule (codes "keep")) {
+  long = Some (codes "keep");
+  action = Some Set;
+  value_names = 1;
+  parser = Some (Unsigned 1 most_lines);
+}
 
 -- `session`, which takes `--keep` too
 unfoldable pub on_session : App
@@ -115,5 +122,7 @@ SaysOf kind reasons.Memory = ⊤
 abbrev pub IsJobOf : List Text → Result Job NoJob → Type 0
 IsJobOf words (Ok job) = (fault_of command_line words ≡ []) × (job_named words ≡ Some (job_as_found job))
 IsJobOf words (Err reasons.Memory) = ⊤
-IsJobOf words (Err reasons.Usage) = job_named words ≡ None ⊎ ((kind : ErrorKind) × IsAmong kind (fault_of command_line words) × SaysOf kind reasons.Usage)
-IsJobOf words (Err (reasons.Help text)) = (kind : ErrorKind) × IsAmong kind (fault_of command_line words) × SaysOf kind (reasons.Help text)
+IsJobOf words (Err reasons.Usage) = job_named words ≡ None ⊎ ((kind : ErrorKind) × IsAmong kind (fault_of command_line words)
+    × SaysOf kind reasons.Usage)
+IsJobOf words (Err (reasons.Help text)) = (kind : ErrorKind) × IsAmong kind (fault_of command_line words)
+    × SaysOf kind (reasons.Help text)

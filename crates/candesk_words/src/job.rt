@@ -108,7 +108,8 @@ fn keep_in(found: &ArgMatches<'_>) -> Option<Keep>
 // The job that the matches name.
 fn job_in(alloc: Global, matches: &ArgMatches<'_>) -> Result<Job, NoJob>
     ensures ok { IfOk result (λ job. job_found (subcommand_rows_of matches.now) ≡ Some (job_as_found job)) }
-    ensures err { IfErr result (λ why. (why ≡ NoJob.Memory) ⊎ ((why ≡ NoJob.Usage) × (job_found (subcommand_rows_of matches.now) ≡ None))) }
+    ensures err { IfErr result (λ why. (why ≡ NoJob.Memory)
+        ⊎ ((why ≡ NoJob.Usage) × (job_found (subcommand_rows_of matches.now) ≡ None))) }
 {
     let Some((name, found)) = matches.subcommand() else {
         return Err(NoJob::Usage);

@@ -18,9 +18,11 @@ pub signal_cleared : (place number : ℕ) (name : List ℕ) (message other : Mes
     → number ≡ message.head.number
     → copy ≡ with_message place other database
     → other ≡ record message { signals = without (is_named name) message.signals }
-    → edited ≡ cleared_of_signal message.head.number name (with_message place (record message { signals = without (is_named name) message.signals }) database)
+    → edited ≡ cleared_of_signal message.head.number name
+    (with_message place (record message { signals = without (is_named name) message.signals }) database)
 signal_cleared place number name message other database copy edited e f g h =
-    e ∙ ap (λ n. cleared_of_signal n name copy) f ∙ ap (cleared_of_signal message.head.number name) (g ∙ ap (λ m. with_message place m database) h)
+    e ∙ ap (λ n. cleared_of_signal n name copy) f ∙ ap (cleared_of_signal message.head.number name) (g
+    ∙ ap (λ m. with_message place m database) h)
 
 pub message_gone : (place : ℕ) (database : Database) (message : Message) (edited : Database)
     → slice_get database.messages place ≡ Some message

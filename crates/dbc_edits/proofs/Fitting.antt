@@ -1,5 +1,6 @@
 -- The signals of a message have different names, and still do when one is put in, goes or gives way to another of its name.
-use Rattle.std.proofs.Common.{◌≡◌, ℕ, zero, suc, ◌<◌, ◌≤◌, Bool, true, false, List, [], ◌∷◌, length, map, refl, sym, ◌∙◌, inl, inr, arith}
+use Rattle.std.proofs.Common.{◌≡◌, ℕ, zero, suc, ◌<◌, ◌≤◌, Bool, true, false, List, [], ◌∷◌, length, map, refl, sym, ◌∙◌, inl, inr}
+use Rattle.std.proofs.Common.{arith}
 use Rattle.std.specs.Prelude.{not, ◌||◌, ◌&&◌, insert, slice_set, nat_le, IsTrue}
 use Rattle.std.specs.List.{list_any, position_or_len}
 use Rattle.std.specs.Str.{bytes_eq}
@@ -56,7 +57,8 @@ differs : (a b : Bool) → a ≡ false → b ≡ true → (not a && b) ≡ true
 differs a b e f = rw (e, f) refl
 
 -- what the first of different names says
-first_differs : (name : List ℕ) (names : List (List ℕ)) → are_distinct (name ∷ names) ≡ true → list_any (bytes_eq name) names ≡ false
+first_differs : (name : List ℕ) (names : List (List ℕ)) → are_distinct (name ∷ names) ≡ true → list_any (bytes_eq name) names
+    ≡ false
 first_differs name names e = turned _ (both _ _ e).0
 
 rest_differ : (name : List ℕ) (names : List (List ℕ)) → are_distinct (name ∷ names) ≡ true → are_distinct names ≡ true
@@ -64,14 +66,16 @@ rest_differ name names e = (both _ _ e).1
 
 -- ---- one more
 
-any_inserted : (test : List ℕ → Bool) (signals : List Signal) (at : ℕ) (signal : Signal) → test signal.name ≡ false → list_any test (names_of signals) ≡ false → list_any test (names_of (insert signals at signal)) ≡ false
+any_inserted : (test : List ℕ → Bool) (signals : List Signal) (at : ℕ) (signal : Signal) → test signal.name ≡ false
+    → list_any test (names_of signals) ≡ false → list_any test (names_of (insert signals at signal)) ≡ false
 any_inserted test [] zero signal e f = none _ _ e refl
 any_inserted test [] (suc at) signal e f = none _ _ e refl
 any_inserted test (first ∷ signals) zero signal e f = none _ _ e f
 any_inserted test (first ∷ signals) (suc at) signal e f =
     let parts = neither _ _ f in none _ _ parts.0 (any_inserted test signals at signal e parts.1)
 
-distinct_inserted : (signals : List Signal) (at : ℕ) (signal : Signal) → are_distinct (names_of signals) ≡ true → has_named signal.name signals ≡ false → are_distinct (names_of (insert signals at signal)) ≡ true
+distinct_inserted : (signals : List Signal) (at : ℕ) (signal : Signal) → are_distinct (names_of signals) ≡ true
+    → has_named signal.name signals ≡ false → are_distinct (names_of (insert signals at signal)) ≡ true
 distinct_inserted [] zero signal e f = refl
 distinct_inserted [] (suc at) signal e f = refl
 distinct_inserted (first ∷ signals) zero signal e f = differs _ _ (named signal.name (first ∷ signals) ∙ f) e
@@ -83,7 +87,8 @@ distinct_inserted (first ∷ signals) (suc at) signal e f =
 
 -- ---- some fewer
 
-any_without : (test : List ℕ → Bool) (gone : Signal → Bool) (signals : List Signal) → list_any test (names_of signals) ≡ false → list_any test (names_of (without gone signals)) ≡ false
+any_without : (test : List ℕ → Bool) (gone : Signal → Bool) (signals : List Signal) → list_any test (names_of signals) ≡ false
+    → list_any test (names_of (without gone signals)) ≡ false
 any_without test gone [] e = refl
 any_without test gone (signal ∷ signals) e =
     let parts = neither _ _ e in
@@ -92,13 +97,15 @@ any_without test gone (signal ∷ signals) e =
       | inr f ↦ rw f (none _ _ parts.0 (any_without test gone signals parts.1))
     ]
 
-distinct_without : (gone : Signal → Bool) (signals : List Signal) → are_distinct (names_of signals) ≡ true → are_distinct (names_of (without gone signals)) ≡ true
+distinct_without : (gone : Signal → Bool) (signals : List Signal) → are_distinct (names_of signals) ≡ true
+    → are_distinct (names_of (without gone signals)) ≡ true
 distinct_without gone [] e = refl
 distinct_without gone (signal ∷ signals) e =
     let rest = distinct_without gone signals (rest_differ signal.name (names_of signals) e) in
     elim (cases_Bool (gone signal)) [
       | inl t ↦ rw t rest
-      | inr f ↦ rw f (differs _ _ (any_without (bytes_eq signal.name) gone signals (first_differs signal.name (names_of signals) e)) rest)
+      | inr f ↦ rw f (differs _ _ (any_without (bytes_eq signal.name) gone signals (first_differs signal.name (names_of signals) e))
+          rest)
     ]
 
 shorter : {X : Type 0} (gone : X → Bool) (items : List X) → length (without gone items) ≤ length items
@@ -123,26 +130,35 @@ same_names signal [] = refl
 same_names signal (old ∷ signals) = rw (same_name signal old, same_names signal signals) refl
 
 -- a signal whose name no other has stands alone
-untouched : (signal : Signal) (signals : List Signal) → has_named signal.name signals ≡ false → map (replaced_by signal) signals ≡ signals
+untouched : (signal : Signal) (signals : List Signal) → has_named signal.name signals ≡ false → map (replaced_by signal) signals
+    ≡ signals
 untouched signal [] e = refl
 untouched signal (old ∷ signals) e =
-    let parts = neither (is_named signal.name old) (has_named signal.name signals) e in rw (parts.0, untouched signal signals parts.1) refl
+    let parts = neither (is_named signal.name old) (has_named signal.name signals) e in
+    rw (parts.0, untouched signal signals parts.1) refl
 
-others_differ : (signal first : Signal) (signals : List Signal) → are_distinct (names_of (first ∷ signals)) ≡ true → is_named signal.name first ≡ true → has_named signal.name signals ≡ false
+others_differ : (signal first : Signal) (signals : List Signal) → are_distinct (names_of (first ∷ signals)) ≡ true
+    → is_named signal.name first ≡ true → has_named signal.name signals ≡ false
 others_differ signal first signals e t =
     sym (named signal.name signals) ∙ rw (← true_same first.name signal.name t) (first_differs first.name (names_of signals) e)
 
-set_once : (signal : Signal) (signals : List Signal) → are_distinct (names_of signals) ≡ true → slice_set signals (position_or_len (is_named signal.name) signals) signal ≡ map (replaced_by signal) signals
+set_once : (signal : Signal) (signals : List Signal) → are_distinct (names_of signals) ≡ true
+    → slice_set signals (position_or_len (is_named signal.name) signals) signal ≡ map (replaced_by signal) signals
 set_once signal [] e = refl
 set_once signal (first ∷ signals) e =
     elim (cases_Bool (is_named signal.name first)) [
       | inl t ↦ rw (t, untouched signal signals (others_differ signal first signals e t)) refl
-      | inr f ↦ rw (f, one_more (position_or_len (is_named signal.name) signals), ← set_once signal signals (rest_differ first.name (names_of signals) e)) refl
+      | inr f ↦ rw (
+        f,
+        one_more (position_or_len (is_named signal.name) signals),
+        ← set_once signal signals (rest_differ first.name (names_of signals) e),
+      ) refl
     ]
 
 -- ---- a new name
 
-kept : (test : List ℕ → Bool) (old new : List ℕ) (signals : List Signal) → test new ≡ false → list_any test (names_of signals) ≡ false → list_any test (names_of (map (with_name old new) signals)) ≡ false
+kept : (test : List ℕ → Bool) (old new : List ℕ) (signals : List Signal) → test new ≡ false → list_any test (names_of signals)
+    ≡ false → list_any test (names_of (map (with_name old new) signals)) ≡ false
 kept test old new [] e f = refl
 kept test old new (signal ∷ signals) e f =
     let parts = neither _ _ f in
@@ -153,9 +169,11 @@ kept test old new (signal ∷ signals) e f =
 
 unnamed : (old new : List ℕ) (signals : List Signal) → has_named old signals ≡ false → map (with_name old new) signals ≡ signals
 unnamed old new [] e = refl
-unnamed old new (signal ∷ signals) e = let parts = neither (is_named old signal) (has_named old signals) e in rw (parts.0, unnamed old new signals parts.1) refl
+unnamed old new (signal ∷ signals) e = let parts = neither (is_named old signal) (has_named old signals) e in
+    rw (parts.0, unnamed old new signals parts.1) refl
 
-distinct_renamed : (old new : List ℕ) (signals : List Signal) → are_distinct (names_of signals) ≡ true → has_named new signals ≡ false → are_distinct (names_of (map (with_name old new) signals)) ≡ true
+distinct_renamed : (old new : List ℕ) (signals : List Signal) → are_distinct (names_of signals) ≡ true → has_named new signals
+    ≡ false → are_distinct (names_of (map (with_name old new) signals)) ≡ true
 distinct_renamed old new [] e f = refl
 distinct_renamed old new (signal ∷ signals) e f =
     let parts = neither (is_named new signal) (has_named new signals) f in
@@ -165,7 +183,8 @@ distinct_renamed old new (signal ∷ signals) e f =
       | inl t ↦
           let gone : has_named old signals ≡ false = sym (named old signals) ∙ rw (← true_same signal.name old t) differ in
           rw (t, unnamed old new signals gone) (differs _ _ (named new signals ∙ parts.1) rest)
-      | inr g ↦ rw g (differs _ _ (kept (bytes_eq signal.name) old new signals parts.0 differ) (distinct_renamed old new signals rest parts.1))
+      | inr g ↦ rw g (differs _ _ (kept (bytes_eq signal.name) old new signals parts.0 differ) (distinct_renamed old new signals
+          rest parts.1))
     ]
 
 -- ---- the signals of a message
@@ -179,7 +198,8 @@ few n e = grind arith
 is_few : (n : ℕ) → nat_le n most_signals ≡ true → n ≤ most_signals
 is_few n e = grind arith
 
-fits-of : (signals : List Signal) → length signals ≤ most_signals → are_distinct (names_of signals) ≡ true → IsTrue (signals_fit signals)
+fits-of : (signals : List Signal) → length signals ≤ most_signals → are_distinct (names_of signals) ≡ true
+    → IsTrue (signals_fit signals)
 unfolding signals_fit
 fits-of signals e f = together _ _ (few (length signals) e) f
 
@@ -195,23 +215,33 @@ pub fits_none : IsTrue (signals_fit [])
 unfolding signals_fit
 fits_none = refl
 
-pub fits_inserted : (signals : List Signal) (at : ℕ) (signal : Signal) → IsTrue (signals_fit signals) → at ≤ length signals → length signals < most_signals → has_named signal.name signals ≡ false → IsTrue (signals_fit (insert signals at signal))
+pub fits_inserted : (signals : List Signal) (at : ℕ) (signal : Signal) → IsTrue (signals_fit signals) → at ≤ length signals
+    → length signals < most_signals → has_named signal.name signals ≡ false → IsTrue (signals_fit (insert signals at signal))
 fits_inserted signals at signal fit place room new =
-    fits-of _ (omega (arith, length-insert signals at signal place, room)) (distinct_inserted signals at signal (fits-distinct signals fit) new)
+    fits-of _ (omega (arith, length-insert signals at signal place, room)) (distinct_inserted signals at signal
+    (fits-distinct signals fit) new)
 
-pub fits_without : (gone : Signal → Bool) (signals : List Signal) → IsTrue (signals_fit signals) → IsTrue (signals_fit (without gone signals))
-fits_without gone signals fit = fits-of _ (omega (arith, shorter gone signals, fits-few signals fit)) (distinct_without gone signals (fits-distinct signals fit))
+pub fits_without : (gone : Signal → Bool) (signals : List Signal) → IsTrue (signals_fit signals)
+    → IsTrue (signals_fit (without gone signals))
+fits_without gone signals fit = fits-of _ (omega (arith, shorter gone signals, fits-few signals fit))
+    (distinct_without gone signals (fits-distinct signals fit))
 
-pub replaced : (signal : Signal) (signals : List Signal) → IsTrue (signals_fit signals) → slice_set signals (position_or_len (is_named signal.name) signals) signal ≡ map (replaced_by signal) signals
+pub replaced : (signal : Signal) (signals : List Signal) → IsTrue (signals_fit signals)
+    → slice_set signals (position_or_len (is_named signal.name) signals) signal ≡ map (replaced_by signal) signals
 replaced signal signals fit = set_once signal signals (fits-distinct signals fit)
 
-fits_replaced : (signal : Signal) (signals : List Signal) → IsTrue (signals_fit signals) → IsTrue (signals_fit (map (replaced_by signal) signals))
+fits_replaced : (signal : Signal) (signals : List Signal) → IsTrue (signals_fit signals)
+    → IsTrue (signals_fit (map (replaced_by signal) signals))
 fits_replaced signal signals fit =
-    fits-of _ (rw (length-map signals (replaced_by signal)) (fits-few signals fit)) (rw (same_names signal signals) (fits-distinct signals fit))
+    fits-of _ (rw (length-map signals (replaced_by signal)) (fits-few signals fit)) (rw (same_names signal signals)
+    (fits-distinct signals fit))
 
-pub fits_set : (signal : Signal) (signals : List Signal) → IsTrue (signals_fit signals) → IsTrue (signals_fit (slice_set signals (position_or_len (is_named signal.name) signals) signal))
+pub fits_set : (signal : Signal) (signals : List Signal) → IsTrue (signals_fit signals)
+    → IsTrue (signals_fit (slice_set signals (position_or_len (is_named signal.name) signals) signal))
 fits_set signal signals fit = rw (replaced signal signals fit) (fits_replaced signal signals fit)
 
-pub fits_renamed : (old new : List ℕ) (signals : List Signal) → IsTrue (signals_fit signals) → has_named new signals ≡ false → IsTrue (signals_fit (map (with_name old new) signals))
+pub fits_renamed : (old new : List ℕ) (signals : List Signal) → IsTrue (signals_fit signals) → has_named new signals ≡ false
+    → IsTrue (signals_fit (map (with_name old new) signals))
 fits_renamed old new signals fit free =
-    fits-of _ (rw (length-map signals (with_name old new)) (fits-few signals fit)) (distinct_renamed old new signals (fits-distinct signals fit) free)
+    fits-of _ (rw (length-map signals (with_name old new)) (fits-few signals fit)) (distinct_renamed old new signals
+    (fits-distinct signals fit) free)

@@ -16,7 +16,8 @@ within test (item ∷ items) =
       | inr f ↦ rw f (omega (arith, within test items))
     ]
 
-pub placed : {X : Type 0} (test : X → Bool) (item : X) (items : List X) → insert (without test items) (position_or_len test items) item ≡ with_item test item items
+pub placed : {X : Type 0} (test : X → Bool) (item : X) (items : List X) → insert (without test items) (position_or_len test items)
+    item ≡ with_item test item items
 placed test item [] = refl
 placed test item (first ∷ items) =
     elim (cases_Bool (test first)) [

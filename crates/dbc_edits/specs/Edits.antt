@@ -1,6 +1,7 @@
 -- What an edit does to a database: the refusal of the least number whose condition holds, else the changed database.
 -- Source: what a message, a signal and their rows are is the DBC file format; the edits are those of candesk.
-use Rattle.std.specs.Prelude.{ℕ, Bool, not, ◌&&◌, ◌||◌, ◌==◌, nat_le, nat_lt, List, [], map, length, Option, Some, None, Result, Ok, Err, insert, remove, slice_get, slice_set, if◌then◌else◌}
+use Rattle.std.specs.Prelude.{ℕ, Bool, not, ◌&&◌, ◌||◌, ◌==◌, nat_le, nat_lt, List, [], map, length, Option, Some, None, Result, Ok}
+use Rattle.std.specs.Prelude.{Err, insert, remove, slice_get, slice_set, if◌then◌else◌}
 use Rattle.std.specs.List.{list_any}
 use Rattle.std.specs.Str.{bytes_eq}
 use Rattle.dbc_records.specs.Records.{Head, Signal, Message, ValueRow, MuxRow, TableRow, most_signals}
@@ -12,7 +13,8 @@ use Rattle.dbc_edits.specs.declared.edit.Edit.TheVariants as edits
 use Rattle.dbc_edits.specs.declared.refusal.Refusal.{Refusal}
 use Rattle.dbc_edits.specs.declared.refusal.Refusal.TheVariants as refusals
 use Rattle.dbc_edits.specs.Changes.{Change, changed}
-use Rattle.dbc_edits.specs.Rows.{without, with_item, is_of_number, is_of_signal, without_rows, has_row, rows_renumbered, rows_renamed, has_row_naming, is_values_of, is_mux_of, is_table_of, is_attribute_of}
+use Rattle.dbc_edits.specs.Rows.{without, with_item, is_of_number, is_of_signal, without_rows, has_row, rows_renumbered}
+use Rattle.dbc_edits.specs.Rows.{rows_renamed, has_row_naming, is_values_of, is_mux_of, is_table_of, is_attribute_of}
 
 -- ---- refusals
 
@@ -38,7 +40,8 @@ message_added place head database =
 
 -- the rows of a number go where no message has the number
 abbrev pub cleared_of_number : ℕ → Database → Database
-cleared_of_number number database = if has_number number database.messages then database else without_rows (is_of_number number) database
+cleared_of_number number database = if has_number number database.messages then database else without_rows (is_of_number number)
+    database
 
 unfoldable pub message_removed : ℕ → Database → Result Database Refusal
 message_removed place database =
@@ -171,7 +174,13 @@ unfoldable pub attribute_set : List ℕ → ℕ → AttrValue → Database → R
 attribute_set name number value database =
     refused_if (not (has_number number database.messages)) refusals.NoMessage
     (refused_if (not (list_any (λ definition. bytes_eq definition.name name) database.definitions)) refusals.NoDefinition
-    (Ok (record database { attributes = with_item (is_attribute_of name number) (record { name = name; target = targets.Message number; value = value }) database.attributes })))
+    (Ok (record database {
+      attributes = with_item (is_attribute_of name number) (record {
+        name = name;
+        target = targets.Message number;
+        value = value;
+      }) database.attributes;
+    })))
 
 unfoldable pub attribute_dropped : List ℕ → ℕ → Database → Result Database Refusal
 attribute_dropped name number database =

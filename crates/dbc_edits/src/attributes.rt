@@ -46,7 +46,10 @@ fn with_attribute(
     number: u32,
     value: &AttrValue,
 ) -> Result<Database, Memory>
-    ensures { IfOk result (λ edited. edited ≡ record database.now { attributes = with_item (is_attribute_of name.now number) (record { name = name.now; target = targets.Message number; value = value.now }) database.now.attributes }) }
+    ensures { IfOk result (λ edited. edited ≡ record database.now {
+      attributes = with_item (is_attribute_of name.now number)
+          (record { name = name.now; target = targets.Message number; value = value.now }) database.now.attributes;
+    }) }
 {
     let key = OfAttribute {
         name: name.as_bytes(),

@@ -3,7 +3,8 @@ ghost use Rattle.std.specs.Prelude.{◌≡◌, ◌<◌, ◌≤◌, [], IfOk, len
 ghost use Rattle.dbc_records.specs.Databases.{most_messages};
 ghost use Rattle.dbc_edits.specs.Changes.{changed};
 ghost use Rattle.dbc_edits.specs.Refusals.{IsAnswer};
-ghost use Rattle.dbc_edits.specs.Edits.{has_number, cleared_of_number, with_message, message_added, message_removed, message_changed, message_renumbered};
+ghost use Rattle.dbc_edits.specs.Edits.{has_number, cleared_of_number, with_message, message_added, message_removed};
+ghost use Rattle.dbc_edits.specs.Edits.{message_changed, message_renumbered};
 
 use crate::change::Change;
 use crate::databases::{drop_rows, has_row, with_message};
@@ -91,7 +92,8 @@ fn remove_at(database: &mut Database, place: usize, number: u32)
 // The database without the message at the place, and without the rows of this one's number where no other has it.
 fn removed_at(database: &Database, place: usize, message: &Message) -> Result<Database, Memory>
     requires { place < length database.now.messages }
-    ensures { IfOk result (λ edited. edited ≡ cleared_of_number message.now.head.number (record database.now { messages = remove database.now.messages place })) }
+    ensures { IfOk result (λ edited. edited ≡ cleared_of_number message.now.head.number
+        (record database.now { messages = remove database.now.messages place })) }
 {
     let number = number_of(message);
     let mut edited = database.copy()?;

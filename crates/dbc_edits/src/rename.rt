@@ -32,7 +32,8 @@ pub(crate) trait Rename<T: Checked>: Drop {
 
     /// The item with its new name, or nothing where it keeps the one that it has.
     fn renamed(&self, item: &T) -> Result<Option<T>, Memory>
-        ensures new { IfOk result (λ made. MatchOption made (item.now ≡ renamed self.now item.now) (λ other. other ≡ renamed self.now item.now)) }
+        ensures new { IfOk result (λ made. MatchOption made (item.now ≡ renamed self.now item.now) (λ other. other
+            ≡ renamed self.now item.now)) }
         ensures valid { IfOk result (λ made. IfSome made T.IsValid) };
 }
 
@@ -74,7 +75,8 @@ impl<'a> Renaming<'a> {
 
     // What a row that speaks of it then speaks of, or nothing where that stays.
     fn target_after(&self, target: &Target) -> Result<Option<Target>, Memory>
-        ensures { IfOk result (λ made. MatchOption made (target.now ≡ target_renamed self.now target.now) (λ other. other ≡ target_renamed self.now target.now)) }
+        ensures { IfOk result (λ made. MatchOption made (target.now ≡ target_renamed self.now target.now) (λ other. other
+            ≡ target_renamed self.now target.now)) }
     {
         match target {
             Target::Signal(number, name) if self.takes(*number, name) => {

@@ -36,7 +36,10 @@ fn another_has_signal(messages: &[Message], place: usize, number: u32, name: &[u
 #[tactic(auto, using(crate::proofs::Fitting::fits_renamed))]
 fn with_renamed(message: &Message, renaming: &Renaming<'_>) -> Result<Message, Memory>
     requires { has_named renaming.now.new message.now.signals ≡ false }
-    ensures { IfOk result (λ other. other ≡ record message.now { signals = map (with_name renaming.now.old renaming.now.new) message.now.signals }) }
+    ensures { IfOk result (λ other. other ≡ record message.now {
+      signals = map (with_name renaming.now.old renaming.now.new)
+          message.now.signals;
+    }) }
 {
     let mut signals = message.signals.copy()?;
     rename_all(&mut signals, renaming)?;
@@ -52,7 +55,11 @@ fn renamed_at(
 ) -> Result<Database, Memory>
     requires place { place < length database.now.messages }
     requires free { has_named renaming.now.new message.now.signals ≡ false }
-    ensures { IfOk result (λ edited. edited ≡ rows_renamed renaming.now (with_message place (record message.now { signals = map (with_name renaming.now.old renaming.now.new) message.now.signals }) database.now)) }
+    ensures { IfOk result (λ edited. edited ≡ rows_renamed renaming.now
+        (with_message place (record message.now {
+          signals = map (with_name renaming.now.old renaming.now.new)
+              message.now.signals;
+        }) database.now)) }
 {
     let message = with_renamed(message, renaming)?;
     let mut edited = with_message(database, place, message)?;
@@ -95,7 +102,8 @@ pub(crate) fn rename_signal(
     Ok(edited)
 }
 
-/// The database with the new name of the signal of the old name in the message at the place, and in all rows of the message's number
+/// The database with the new name of the signal of the old name in the message at the place, and in all rows of the message's
+/// number
 /// that name it, also as their switch: what [`Edit::RenameSignal`](crate::Edit::RenameSignal) gives where it isn't refused.
 pub fn renamed(
     database: &Database,

@@ -17,7 +17,8 @@ use dbc_values::{Copied, Memory};
 // Refuses where no message of the number has the signal.
 #[tactic(auto, unfolding(crate::specs::Edits::refused_if))]
 fn find_signal(database: &Database, number: u32, name: &[u8]) -> Result<(), Refusal>
-    ensures { (change : Result PlainDatabase PlainRefusal) → for_signal number name.now database.now change ≡ unless_refused result change }
+    ensures { (change : Result PlainDatabase PlainRefusal) → for_signal number name.now database.now change ≡ unless_refused result
+        change }
 {
     if !has_number(database.messages.as_slice(), number) {
         return Err(Refusal::NoMessage);
@@ -30,7 +31,10 @@ fn find_signal(database: &Database, number: u32, name: &[u8]) -> Result<(), Refu
 
 // The database with the multiplexer row set.
 fn with_mux(database: &Database, key: &OfSignal<'_>, row: &MuxRow) -> Result<Database, Memory>
-    ensures { IfOk result (λ edited. edited ≡ record database.now { muxes = with_item (is_mux_of key.now.number key.now.name.now) row.now database.now.muxes }) }
+    ensures { IfOk result (λ edited. edited ≡ record database.now {
+      muxes = with_item (is_mux_of key.now.number key.now.name.now)
+          row.now database.now.muxes;
+    }) }
 {
     let row = row.copy()?;
     let mut edited = database.copy()?;
@@ -52,7 +56,10 @@ pub(crate) fn set_mux(database: &Database, row: &MuxRow) -> Result<Database, Ref
 
 // The database with the row of named values set.
 fn with_named(database: &Database, key: &OfSignal<'_>, row: &ValueRow) -> Result<Database, Memory>
-    ensures { IfOk result (λ edited. edited ≡ record database.now { values = with_item (is_values_of key.now.number key.now.name.now) row.now database.now.values }) }
+    ensures { IfOk result (λ edited. edited ≡ record database.now {
+      values = with_item (is_values_of key.now.number key.now.name.now)
+          row.now database.now.values;
+    }) }
 {
     let row = row.copy()?;
     let mut edited = database.copy()?;

@@ -3,7 +3,8 @@ ghost use Rattle.std.specs.Prelude.{◌≡◌, IfOk, IsTrue, map, true, false, �
 ghost use Rattle.dbc_records.specs.Records.{signals_fit, most_signals};
 ghost use Rattle.dbc_edits.specs.Rows.{without};
 ghost use Rattle.dbc_edits.specs.Refusals.{IsAnswer};
-ghost use Rattle.dbc_edits.specs.Edits.{is_named, has_named, has_signal, with_message, cleared_of_signal, replaced_by, signal_added, signal_removed, signal_changed};
+ghost use Rattle.dbc_edits.specs.Edits.{is_named, has_named, has_signal, with_message, cleared_of_signal, replaced_by};
+ghost use Rattle.dbc_edits.specs.Edits.{signal_added, signal_removed, signal_changed};
 
 use crate::databases::{drop_rows, with_message};
 use crate::key::{OfName, OfSignal};
@@ -111,7 +112,8 @@ fn removed_at(
     name: &[u8],
 ) -> Result<Database, Memory>
     requires { place < length database.now.messages }
-    ensures { IfOk result (λ edited. edited ≡ cleared_of_signal message.now.head.number name.now (with_message place (record message.now { signals = without (is_named name.now) message.now.signals }) database.now)) }
+    ensures { IfOk result (λ edited. edited ≡ cleared_of_signal message.now.head.number name.now
+        (with_message place (record message.now { signals = without (is_named name.now) message.now.signals }) database.now)) }
 {
     let number = number_of(message);
     let other = without_signal(message, name)?;

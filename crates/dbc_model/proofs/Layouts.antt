@@ -1,5 +1,6 @@
 -- Texts of layouts, one after another.
-use Rattle.std.proofs.Common.{◌≡◌, ℕ, List, [], ◌∷◌, ◌++◌, ◌<◌, ◌≤◌, ◌-◌, length, take, drop, get_or, arith, refl, sym, ap, subst, ◌∙◌}
+use Rattle.std.proofs.Common.{◌≡◌, ℕ, List, [], ◌∷◌, ◌++◌, ◌<◌, ◌≤◌, ◌-◌, length, take, drop, get_or, arith, refl, sym, ap, subst}
+use Rattle.std.proofs.Common.{◌∙◌}
 use Rattle.std.specs.Prelude.{Result}
 use Rattle.std.specs.List.{flat_map}
 use Rattle.std.specs.Result.{IsErr}
@@ -21,10 +22,12 @@ layout_text-nil = refl
 
 pub text_of_items : {X : Type 0} (f : X → Layout) (xs : List X) → layout_text (flat_map f xs) ≡ flat_map (λ x. layout_text (f x)) xs
 text_of_items f [] = layout_text-nil
-text_of_items f (x ∷ xs) = layout_text-append (f x) (flat_map f xs) ∙ ap (λ (t : List ℕ). layout_text (f x) ++ t) (text_of_items f xs)
+text_of_items f (x ∷ xs) = layout_text-append (f x) (flat_map f xs) ∙ ap (λ (t : List ℕ). layout_text (f x) ++ t)
+    (text_of_items f xs)
 
 -- no item
-pub separated-none : {X : Type 0} (first further : X → Layout) (xs : List X) → length xs < 1 → layout_text (separated first further xs) ≡ []
+pub separated-none : {X : Type 0} (first further : X → Layout) (xs : List X) → length xs < 1
+    → layout_text (separated first further xs) ≡ []
 separated-none first further [] few = layout_text-nil
 separated-none first further (x ∷ xs) few = absurd (omega (arith, few))
 
@@ -37,12 +40,15 @@ separated-some first further (y ∷ xs) x d many is =
     ap (λ z. first z ++ flat_map further (take (length (y ∷ xs) - 1) xs)) is ∙ ap (λ zs. first y ++ flat_map further zs) rest
 
 -- a layout goes out behind one that was sent
-pub Sends-then : {W X E : Type 0} (written : W → Written) (a b c : Out W) (r : Result X E) (xs ys : Layout) → Took written a b (layout_text xs)
+pub Sends-then : {W X E : Type 0} (written : W → Written) (a b c : Out W) (r : Result X E) (xs ys : Layout)
+    → Took written a b (layout_text xs)
     → Sends written b c r (layout_text ys) → Sends written a c r (layout_text (xs ++ ys))
-Sends-then written a b c r xs ys p q = rw (layout_text-append xs ys) (Sends-after written a b c r (layout_text xs) (layout_text ys) p q)
+Sends-then written a b c r xs ys p q = rw (layout_text-append xs ys) (Sends-after written a b c r (layout_text xs) (layout_text ys)
+    p q)
 
 -- a failure in a layout, before another
-pub Sends-broke : {W X E : Type 0} (written : W → Written) (a b : Out W) (r : Result X E) (xs ys : Layout) → IsErr r → Lost written a b (layout_text xs)
+pub Sends-broke : {W X E : Type 0} (written : W → Written) (a b : Out W) (r : Result X E) (xs ys : Layout) → IsErr r
+    → Lost written a b (layout_text xs)
     → Sends written a b r (layout_text (xs ++ ys))
 Sends-broke written a b r xs ys e p = rw (layout_text-append xs ys) (Sends-stop written a b r (layout_text xs) (layout_text ys) e p)
 

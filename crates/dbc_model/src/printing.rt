@@ -3,7 +3,9 @@ ghost use Rattle.std.specs.Prelude.{◌≡◌};
 ghost use Rattle.byte_devices.specs.Device.{Prints};
 ghost use Rattle.byte_devices.specs.Outs.{Sends};
 ghost use Rattle.dbc_records.specs.Layout.{layout_text};
-ghost use Rattle.dbc_records.specs.CanonicalText.{version_layout, symbols_title, symbols_layout, timing_title, timing_numbers, perhaps_numbers, timing_layout, nodes_title, nodes_layout, front_layout, attributes_layout, rows_layout, database_layout, canonical_text};
+ghost use Rattle.dbc_records.specs.CanonicalText.{version_layout, symbols_title, symbols_layout, timing_title, timing_numbers};
+ghost use Rattle.dbc_records.specs.CanonicalText.{perhaps_numbers, timing_layout, nodes_title, nodes_layout, front_layout};
+ghost use Rattle.dbc_records.specs.CanonicalText.{attributes_layout, rows_layout, database_layout, canonical_text};
 
 mod attributes;
 mod messages;

@@ -55,27 +55,31 @@ other_way P xs ys rest h = subst P (sym (append_assoc xs ys rest)) h
 pub start_then : {xs ys : Layout} → Start xs → Middle ys → Start (xs ++ ys)
 start_then {xs} {ys} h k = record {
   items = items_both xs ys h.items k.items;
-  apart = λ rest ends apart. other_way (λ l. stand_apart l ≡ true) xs ys rest (h.apart (ys ++ rest) (k.begins rest ends) (k.apart rest ends apart));
+  apart = λ rest ends apart. other_way (λ l. stand_apart l ≡ true) xs ys rest (h.apart (ys ++ rest) (k.begins rest ends)
+      (k.apart rest ends apart));
 }
 
 pub start_close : {xs ys : Layout} → Start xs → Close ys → Line (xs ++ ys)
 start_close {xs} {ys} h k = record {
   items = items_both xs ys h.items k.items;
-  apart = λ rest apart. other_way (λ l. stand_apart l ≡ true) xs ys rest (h.apart (ys ++ rest) (k.begins rest) (k.apart rest apart));
+  apart = λ rest apart. other_way (λ l. stand_apart l ≡ true) xs ys rest (h.apart (ys ++ rest) (k.begins rest)
+      (k.apart rest apart));
 }
 
 pub middle_both : {xs ys : Layout} → Middle xs → Middle ys → Middle (xs ++ ys)
 middle_both {xs} {ys} h k = record {
   items = items_both xs ys h.items k.items;
   begins = λ rest ends. other_way (λ l. ends_item l ≡ true) xs ys rest (h.begins (ys ++ rest) (k.begins rest ends));
-  apart = λ rest ends apart. other_way (λ l. stand_apart l ≡ true) xs ys rest (h.apart (ys ++ rest) (k.begins rest ends) (k.apart rest ends apart));
+  apart = λ rest ends apart. other_way (λ l. stand_apart l ≡ true) xs ys rest (h.apart (ys ++ rest) (k.begins rest ends)
+      (k.apart rest ends apart));
 }
 
 pub middle_close : {xs ys : Layout} → Middle xs → Close ys → Close (xs ++ ys)
 middle_close {xs} {ys} h k = record {
   items = items_both xs ys h.items k.items;
   begins = λ rest. other_way (λ l. ends_item l ≡ true) xs ys rest (h.begins (ys ++ rest) (k.begins rest));
-  apart = λ rest apart. other_way (λ l. stand_apart l ≡ true) xs ys rest (h.apart (ys ++ rest) (k.begins rest) (k.apart rest apart));
+  apart = λ rest apart. other_way (λ l. stand_apart l ≡ true) xs ys rest (h.apart (ys ++ rest) (k.begins rest)
+      (k.apart rest apart));
 }
 
 pub line_both : {xs ys : Layout} → Line xs → Line ys → Line (xs ++ ys)
@@ -93,17 +97,21 @@ middle_none = record { items = tt; begins = λ rest ends. ends; apart = λ rest 
 pub line_none : Line []
 line_none = record { items = tt; apart = λ rest apart. apart }
 
-pub middle_each : {X : Type 0} (P : X → Type 0) (f : X → Layout) → ((x : X) → P x → Middle (f x)) → (xs : List X) → All P xs → Middle (flat_map f xs)
+pub middle_each : {X : Type 0} (P : X → Type 0) (f : X → Layout) → ((x : X) → P x → Middle (f x)) → (xs : List X) → All P xs
+    → Middle (flat_map f xs)
 middle_each P f each [] all = middle_none
 middle_each P f each (x ∷ xs) all = middle_both (each x (All-head P x xs all)) (middle_each P f each xs (All-tail P x xs all))
 
-pub line_each : {X : Type 0} (P : X → Type 0) (f : X → Layout) → ((x : X) → P x → Line (f x)) → (xs : List X) → All P xs → Line (flat_map f xs)
+pub line_each : {X : Type 0} (P : X → Type 0) (f : X → Layout) → ((x : X) → P x → Line (f x)) → (xs : List X) → All P xs
+    → Line (flat_map f xs)
 line_each P f each [] all = line_none
 line_each P f each (x ∷ xs) all = line_both (each x (All-head P x xs all)) (line_each P f each xs (All-tail P x xs all))
 
-pub middle_separated : {X : Type 0} (P : X → Type 0) (first further : X → Layout) → ((x : X) → P x → Middle (first x)) → ((x : X) → P x → Middle (further x)) → (xs : List X) → All P xs → Middle (separated first further xs)
+pub middle_separated : {X : Type 0} (P : X → Type 0) (first further : X → Layout) → ((x : X) → P x → Middle (first x))
+    → ((x : X) → P x → Middle (further x)) → (xs : List X) → All P xs → Middle (separated first further xs)
 middle_separated P first further one more [] all = middle_none
-middle_separated P first further one more (x ∷ xs) all = middle_both (one x (All-head P x xs all)) (middle_each P further more xs (All-tail P x xs all))
+middle_separated P first further one more (x ∷ xs) all = middle_both (one x (All-head P x xs all))
+    (middle_each P further more xs (All-tail P x xs all))
 
 -- ---- small layouts
 
@@ -115,7 +123,8 @@ pub spaced : (item : Item) → IsItem item → Middle (Space ∷ Is item ∷ [])
 spaced item is = record {
   items = (is, tt);
   begins = λ rest ends. refl;
-  apart = λ rest ends apart. both_true (is_closed item || ends_item rest) (stand_apart rest) (or_second (is_closed item) (ends_item rest) ends) apart;
+  apart = λ rest ends apart. both_true (is_closed item || ends_item rest) (stand_apart rest)
+      (or_second (is_closed item) (ends_item rest) ends) apart;
 }
   where
     or_second : (a b : Bool) → b ≡ true → (a || b) ≡ true
@@ -124,7 +133,11 @@ spaced item is = record {
 
 -- a word at the beginning of a line
 pub word_start : (word : List ℕ) → is_word word ≡ true → Start (Is (Word word) ∷ [])
-word_start word is = record { items = (is, tt); apart = λ rest ends apart. both_true (ends_item rest) (stand_apart rest) ends apart }
+word_start word is = record {
+  items = (is, tt);
+  apart = λ rest ends apart. both_true (ends_item rest) (stand_apart rest) ends
+      apart;
+}
 
 -- a mark
 pub mark_middle : (mark : ℕ) → IsItem (Mark mark) → Middle (Is (Mark mark) ∷ [])

@@ -8,7 +8,8 @@ use Rattle.std.specs.List.{flat_map}
 use Rattle.dbc_values.specs.Decimals.{IsDecimal}
 use Rattle.dbc_values.specs.Pieces.{is_piece, is_string}
 use Rattle.dbc_values.specs.Lexical.{quoted, is_text, is_word, is_name, is_number, is_mark}
-use Rattle.dbc_records.specs.Layout.{Item, Word, Mark, Name, Symbol, Text, Whole, Int, Number, Switch, Muxed, Both, Order, Piece, Space, Tab, LineEnd, Is, Layout, item_text, layout_text, items_of, magnitude_text}
+use Rattle.dbc_records.specs.Layout.{Item, Word, Mark, Name, Symbol, Text, Whole, Int, Number, Switch, Muxed, Both, Order, Piece}
+use Rattle.dbc_records.specs.Layout.{Space, Tab, LineEnd, Is, Layout, item_text, layout_text, items_of, magnitude_text}
 use Rattle.dbc_values.specs.Names.{is_symbol}
 use Rattle.dbc_tokens.specs.declared.token.Kind.{Kind}
 use Rattle.dbc_tokens.specs.declared.token.Kind.TheVariants as kinds
@@ -28,7 +29,8 @@ abbrev pub sign_lexemes : Bool → List Lexeme
 sign_lexemes negative = cond negative (lexeme kinds.Mark (codes "-") ∷ []) []
 
 abbrev pub kind_of_piece : List ℕ → Kind
-kind_of_piece bytes = cond (is_string bytes) kinds.Text (cond (is_word bytes) kinds.Word (cond (is_number bytes) kinds.Number kinds.Mark))
+kind_of_piece bytes = cond (is_string bytes) kinds.Text (cond (is_word bytes) kinds.Word (cond (is_number bytes) kinds.Number
+    kinds.Mark))
 
 abbrev pub lexemes : Item → List Lexeme
 lexemes (Word word) = lexeme kinds.Word word ∷ []

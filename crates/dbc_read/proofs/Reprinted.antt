@@ -31,10 +31,18 @@ one_of_text text a b first second =
     ap (λ (x : Database × Cut). x.0) (ok_is (a, End here.0) (b, End there.0) (sym here.1 ∙ there.1))
 
 -- a text that has a database has no fault
-pub no_fault_of : (text : List ℕ) (d : Database) (fault : ReadFault) → HasDatabase text d → HasFirstFault grammar.text text fault → ⊥
+pub no_fault_of : (text : List ℕ) (d : Database) (fault : ReadFault) → HasDatabase text d
+    → HasFirstFault grammar.text text fault → ⊥
 no_fault_of text d fault has found =
-    let same : found.0 ≡ (has.0 ▸▸ End has.1) = cut_unique 1 text found.0 found.1 ∙ sym (cut_unique 1 text (has.0 ▸▸ End has.1) has.2) in
-    let none : first_fault grammar.text nothing_seen found.0 ≡ None = (fault_or_database found.0).1 (has.0, has.1, d, same, has.3) in
+    let same : found.0 ≡ (has.0 ▸▸ End has.1) = cut_unique 1 text found.0 found.1
+    ∙ sym (cut_unique 1 text (has.0 ▸▸ End has.1) has.2) in
+    let none : first_fault grammar.text nothing_seen found.0 ≡ None = (fault_or_database found.0).1 (
+      has.0,
+      has.1,
+      d,
+      same,
+      has.3,
+    ) in
     let both : Some fault ≡ None = sym found.2 ∙ none in
     absurd cc
 
@@ -49,6 +57,7 @@ pub printed_accepted : (d : Database) (fault : ReadFault) → HasFirstFault gram
 printed_accepted d fault found is = no_fault_of (canonical_text d) d fault (canonical_has d is) found
 
 -- so a fault of reading it is want of memory
-pub printed_faultless : (d : Database) (fault : ReadFault) → (fault ≡ memory_fault) ⊎ HasFirstFault grammar.text (canonical_text d) fault → (fault.cause ≡ causes.Memory → ⊥) → IsDatabase d → ⊥
+pub printed_faultless : (d : Database) (fault : ReadFault) → (fault ≡ memory_fault) ⊎ HasFirstFault grammar.text (canonical_text d)
+    fault → (fault.cause ≡ causes.Memory → ⊥) → IsDatabase d → ⊥
 printed_faultless d fault (inl memory) other is = other (ap (λ (f : ReadFault). f.cause) memory)
 printed_faultless d fault (inr found) other is = printed_accepted d fault found is

@@ -28,19 +28,28 @@ apart [] ys tokens h = record { front = []; rest = tokens; parts = refl; first =
 apart (x ∷ xs) ys [] h = elim h [ ]
 apart (x ∷ xs) ys (t ∷ tokens) h =
     let below = apart xs ys tokens h.2 in
-    record { front = t ∷ below.front; rest = below.rest; parts = ap (λ (l : List Token). t ∷ l) below.parts; first = (h.0, h.1, below.first); second = below.second }
+    record {
+      front = t ∷ below.front;
+      rest = below.rest;
+      parts = ap (λ (l : List Token). t ∷ l) below.parts;
+      first = (h.0, h.1, below.first);
+      second = below.second;
+    }
 
 lexemes_both : (xs ys : Layout) → all_lexemes (xs ++ ys) ≡ all_lexemes xs ++ all_lexemes ys
 unfolding items_of
-lexemes_both xs ys = ap (flat_map lexemes) (flat_map-append item_of xs ys) ∙ flat_map-append lexemes (flat_map item_of xs) (flat_map item_of ys)
+lexemes_both xs ys = ap (flat_map lexemes) (flat_map-append item_of xs ys) ∙ flat_map-append lexemes (flat_map item_of xs)
+    (flat_map item_of ys)
 
 -- ---- layouts, one behind the other
 
 pub shows_both : {xs ys : Layout} {ps qs : List Part} → Shows xs ps → Shows ys qs → Shows (xs ++ ys) (ps ++ qs)
 shows_both {xs} {ys} {ps} {qs} h k = record {
   shows = λ tokens have. (
-      let both = apart (all_lexemes xs) (all_lexemes ys) tokens (subst (λ (l : List Lexeme). HaveLexemes l tokens) (lexemes_both xs ys) have) in
-      subst (λ (t : List Token). Spelled (ps ++ qs) t) (sym both.parts) (spelled_both ps qs both.front both.rest (h.shows both.front both.first) (k.shows both.rest both.second)));
+      let both = apart (all_lexemes xs) (all_lexemes ys) tokens (subst (λ (l : List Lexeme). HaveLexemes l tokens)
+      (lexemes_both xs ys) have) in
+      subst (λ (t : List Token). Spelled (ps ++ qs) t) (sym both.parts) (spelled_both ps qs both.front both.rest
+      (h.shows both.front both.first) (k.shows both.rest both.second)));
 }
 
 pub shows_none : Shows [] []
@@ -48,9 +57,11 @@ unfolding items_of
 shows_none = record { shows = λ tokens have. have }
 
 pub shows_as : {xs ys : Layout} {ps qs : List Part} → xs ≡ ys → qs ≡ ps → Shows ys ps → Shows xs qs
-shows_as {xs} {ys} {ps} {qs} same parts h = subst (λ (l : Layout). Shows l qs) (sym same) (subst (λ (p : List Part). Shows ys p) (sym parts) h)
+shows_as {xs} {ys} {ps} {qs} same parts h = subst (λ (l : Layout). Shows l qs) (sym same) (subst (λ (p : List Part). Shows ys p)
+    (sym parts) h)
 
-pub shows_each : {X : Type 0} (P : X → Type 0) {f : X → Layout} {g : X → List Part} → ((x : X) → P x → Shows (f x) (g x)) → (xs : List X) → All P xs → Shows (flat_map f xs) (flat_map g xs)
+pub shows_each : {X : Type 0} (P : X → Type 0) {f : X → Layout} {g : X → List Part} → ((x : X) → P x → Shows (f x) (g x))
+    → (xs : List X) → All P xs → Shows (flat_map f xs) (flat_map g xs)
 shows_each P {f} {g} each [] all = shows_none
 shows_each P {f} {g} each (x ∷ xs) all = shows_both (each x (All-head P x xs all)) (shows_each P each xs (All-tail P x xs all))
 
@@ -74,9 +85,16 @@ unfolding items_of
 lexemes_alone item = append-nil (lexemes item)
 
 -- a part that the tokens of an item say
-pub shows_part : (item : Item) (part : Part) → ((tokens : List Token) → HaveLexemes (lexemes item) tokens → SaysPart part tokens) → Shows (Is item ∷ []) (part ∷ [])
+pub shows_part : (item : Item) (part : Part) → ((tokens : List Token) → HaveLexemes (lexemes item) tokens → SaysPart part tokens)
+    → Shows (Is item ∷ []) (part ∷ [])
 shows_part item part says = record {
-  shows = λ tokens have. (tokens, [], sym (append-nil tokens), says tokens (subst (λ (l : List Lexeme). HaveLexemes l tokens) (lexemes_alone item) have), refl);
+  shows = λ tokens have. (
+    tokens,
+    [],
+    sym (append-nil tokens),
+    says tokens (subst (λ (l : List Lexeme). HaveLexemes l tokens) (lexemes_alone item) have),
+    refl,
+  );
 }
 
 module _ (printed : (item : Item) → IsItem item → Printed item) where
@@ -90,26 +108,36 @@ module _ (printed : (item : Item) → IsItem item → Printed item) where
   pub shows_unsigned : (d : Decimal) → IsDecimal d → d.negative ≡ false → Shows (Is (Number d) ∷ []) (Unsigned d ∷ [])
   shows_unsigned d is positive = shows_part (Number d) (Unsigned d) unsigned
     where
-      from_sign : (t : Token) (negative : Bool) (sign number : List Token) → t ∷ [] ≡ sign ++ number → IsSign negative sign → IsOne (λ bytes. SpellsDecimal negative bytes d) number → IsOne (λ bytes. SpellsDecimal false bytes d) (t ∷ [])
-      from_sign t false sign number same (inl none) one = subst (λ (l : List Token). IsOne (λ bytes. SpellsDecimal false bytes d) l) (sym (same ∙ ap (λ (s : List Token). s ++ number) none)) one
-      from_sign t false sign number same (inr (s, is_sign, plus)) (n, is_number, spells) = absurd (two t s n (same ∙ ap (λ (l : List Token). l ++ number) is_sign ∙ ap (λ (l : List Token). s ∷ l) is_number))
+      from_sign : (t : Token) (negative : Bool) (sign number : List Token) → t ∷ [] ≡ sign ++ number → IsSign negative sign
+          → IsOne (λ bytes. SpellsDecimal negative bytes d) number → IsOne (λ bytes. SpellsDecimal false bytes d) (t ∷ [])
+      from_sign t false sign number same (inl none) one = subst (λ (l : List Token). IsOne (λ bytes. SpellsDecimal false bytes d) l)
+          (sym (same ∙ ap (λ (s : List Token). s ++ number) none)) one
+      from_sign t false sign number same (inr (s, is_sign, plus)) (n, is_number, spells) =
+          absurd (two t s n (same ∙ ap (λ (l : List Token). l ++ number) is_sign ∙ ap (λ (l : List Token). s ∷ l) is_number))
         where
           two : (t s n : Token) → t ∷ [] ≡ s ∷ n ∷ [] → ⊥
           two t s n same = absurd cc
-      from_sign t true sign number same (s, is_sign, minus) (n, is_number, spells) = absurd (two t s n (same ∙ ap (λ (l : List Token). l ++ number) is_sign ∙ ap (λ (l : List Token). s ∷ l) is_number))
+      from_sign t true sign number same (s, is_sign, minus) (n, is_number, spells) =
+          absurd (two t s n (same ∙ ap (λ (l : List Token). l ++ number) is_sign ∙ ap (λ (l : List Token). s ∷ l) is_number))
         where
           two : (t s n : Token) → t ∷ [] ≡ s ∷ n ∷ [] → ⊥
           two t s n same = absurd cc
 
       one_token : (tokens : List Token) → HaveLexemes (lexemes (Number d)) tokens → (t : Token) × (tokens ≡ t ∷ [])
-      one_token [] have = elim (subst (λ (b : Bool). HaveLexemes (lexemes (Number (record d { negative = b }))) []) positive have) [ ]
-      one_token (t ∷ tokens) have = (t, ap (λ (l : List Token). t ∷ l) (subst (λ (b : Bool). HaveLexemes (lexemes (Number (record d { negative = b }))) (t ∷ tokens)) positive have).2)
+      one_token [] have = elim (subst (λ (b : Bool). HaveLexemes (lexemes (Number (record d { negative = b }))) []) positive
+          have) [ ]
+      one_token (t ∷ tokens) have = (
+        t,
+        ap (λ (l : List Token). t ∷ l) (subst (λ (b : Bool). HaveLexemes (lexemes (Number (record d { negative = b })))
+            (t ∷ tokens)) positive have).2,
+      )
 
       unsigned : (tokens : List Token) → HaveLexemes (lexemes (Number d)) tokens → SaysPart (Unsigned d) tokens
       unsigned tokens have =
           let one = one_token tokens have in
           let says = (printed (Number d) is).says tokens have in
-          subst (λ (l : List Token). IsOne (λ bytes. SpellsDecimal false bytes d) l) (sym one.1) (from_sign one.0 says.0 says.1 says.2 (sym one.1 ∙ says.3) says.4 says.5)
+          subst (λ (l : List Token). IsOne (λ bytes. SpellsDecimal false bytes d) l) (sym one.1)
+          (from_sign one.0 says.0 says.1 says.2 (sym one.1 ∙ says.3) says.4 says.5)
 
   -- all items of a layout, as they stand
   pub shows_layout : (layout : Layout) → AreItems layout → Shows layout (of_layout layout)

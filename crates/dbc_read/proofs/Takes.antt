@@ -10,7 +10,8 @@ pub mod Fits
 pub mod Statements
 pub mod Databases
 pub mod Alone
-use Rattle.std.proofs.Common.{◌≡◌, ℕ, Bool, true, false, cond, List, [], ◌∷◌, ◌++◌, Result, Ok, refl, sym, ap, subst, ◌∙◌, append_assoc, append-nil}
+use Rattle.std.proofs.Common.{◌≡◌, ℕ, Bool, true, false, cond, List, [], ◌∷◌, ◌++◌, Result, Ok, refl, sym, ap, subst, ◌∙◌}
+use Rattle.std.proofs.Common.{append_assoc, append-nil}
 use Rattle.std.specs.Prelude.{All}
 use Rattle.std.specs.List.{flat_map}
 use Rattle.std.proofs.lemmas.List.Elements.{All-head, All-tail}
@@ -60,7 +61,8 @@ pub record Allows (parts : List Part) (May Before : Cut → Type 0) : Type 0 whe
 pub takes_value : {A : Type 0} {a : A} → Takes (value a) a [] Anything
 takes_value {A} {a} = record { takes = λ tokens cut spelled may. ap (λ (t : List Token). value a (t ▸▸ cut)) spelled }
 
-and_then-is : {A B : Type 0} (o : Result (A × Cut) ReadFault) (f : A → Reader B) (a : A) (cut : Cut) → o ≡ Ok (a, cut) → and_then o f ≡ f a cut
+and_then-is : {A B : Type 0} (o : Result (A × Cut) ReadFault) (f : A → Reader B) (a : A) (cut : Cut) → o ≡ Ok (a, cut)
+    → and_then o f ≡ f a cut
 and_then-is {A} o f a cut e = ap (λ (o : Result (A × Cut) ReadFault). and_then o f) e
 
 pub takes_then : {A B : Type 0} {r : Reader A} {a : A} {b : B} {xs ys : List Part} {May Before : Cut → Type 0} (f : A → Reader B)
@@ -82,18 +84,27 @@ pub takes_next : {A B : Type 0} {r : Reader A} {a : A} {b : B} {xs ys : List Par
 takes_next {A} {B} {r} {a} {b} {xs} {ys} {May} f h k = takes_then f h allows_anything k
 
 -- where nothing is spelled behind the first
-pub takes_last : {A B : Type 0} {r : Reader A} {a : A} {b : B} {parts : List Part} {May : Cut → Type 0} (f : A → Reader B) → Takes r a parts May → Takes (f a) b [] Anything → Takes (r >>= f) b parts May
+pub takes_last : {A B : Type 0} {r : Reader A} {a : A} {b : B} {parts : List Part} {May : Cut → Type 0} (f : A → Reader B)
+    → Takes r a parts May → Takes (f a) b [] Anything → Takes (r >>= f) b parts May
 takes_last {A} {B} {r} {a} {b} {parts} {May} f h k = record {
-  takes = λ tokens cut spelled may. and_then-is (r (tokens ▸▸ cut)) f a cut (h.takes tokens cut spelled may) ∙ k.takes [] cut refl tt;
+  takes = λ tokens cut spelled may. and_then-is (r (tokens ▸▸ cut)) f a cut (h.takes tokens cut spelled may)
+      ∙ k.takes [] cut refl tt;
 }
 
 -- the same parts by other words
-pub takes_as : {A : Type 0} {r : Reader A} {a : A} {xs ys : List Part} {May : Cut → Type 0} → xs ≡ ys → Takes r a ys May → Takes r a xs May
-takes_as {A} {r} {a} {xs} {ys} {May} same h = record { takes = λ tokens cut spelled may. h.takes tokens cut (subst (λ (parts : List Part). Spelled parts tokens) same spelled) may }
+pub takes_as : {A : Type 0} {r : Reader A} {a : A} {xs ys : List Part} {May : Cut → Type 0} → xs ≡ ys → Takes r a ys May
+    → Takes r a xs May
+takes_as {A} {r} {a} {xs} {ys} {May} same h =
+    record {
+      takes = λ tokens cut spelled may. h.takes tokens cut (subst (λ (parts : List Part). Spelled parts tokens) same spelled)
+          may;
+    }
 
 -- where less may stand behind
-pub takes_where : {A : Type 0} {r : Reader A} {a : A} {parts : List Part} {May Before : Cut → Type 0} → Takes r a parts Before → ((cut : Cut) → May cut → Before cut) → Takes r a parts May
-takes_where {A} {r} {a} {parts} {May} {Before} h weaker = record { takes = λ tokens cut spelled may. h.takes tokens cut spelled (weaker cut may) }
+pub takes_where : {A : Type 0} {r : Reader A} {a : A} {parts : List Part} {May Before : Cut → Type 0} → Takes r a parts Before
+    → ((cut : Cut) → May cut → Before cut) → Takes r a parts May
+takes_where {A} {r} {a} {parts} {May} {Before} h weaker =
+    record { takes = λ tokens cut spelled may. h.takes tokens cut spelled (weaker cut may) }
 
 -- ---- one token
 
@@ -102,14 +113,17 @@ pub alone : (part : Part) (tokens : List Token) → Spelled (part ∷ []) tokens
 alone part tokens (front, rest, parts, says, none) =
     subst (SaysPart part) (sym (parts ∙ ap (λ (t : List Token). front ++ t) none ∙ append-nil front)) says
 
-module _ {A : Type 0} (judge : Token → Result A Cause) (a : A) (P : List ℕ → Type 0) (is : (t : Token) → P t.bytes → judge t ≡ Ok a) where
-  one_token : (tokens : List Token) (cut : Cut) → IsOne P tokens → one judge (tokens ▸▸ cut) ≡ Ok (a, cut)
-  unfolding token_at
-  one_token tokens cut (t, same, so) = ap (λ (ts : List Token). one judge (ts ▸▸ cut)) same ∙ ap (λ (o : Result A Cause). answered t o cut) (is t so)
+module _ {A : Type 0} (judge : Token → Result A Cause) (a : A) (P : List ℕ → Type 0) (is : (t : Token) → P t.bytes → judge t ≡ Ok a)
+  where
+    one_token : (tokens : List Token) (cut : Cut) → IsOne P tokens → one judge (tokens ▸▸ cut) ≡ Ok (a, cut)
+    unfolding token_at
+    one_token tokens cut (t, same, so) = ap (λ (ts : List Token). one judge (ts ▸▸ cut)) same
+        ∙ ap (λ (o : Result A Cause). answered t o cut) (is t so)
 
-  -- a part that is one token
-  pub takes_one : (part : Part) → ((tokens : List Token) → SaysPart part tokens → IsOne P tokens) → Takes (one judge) a (part ∷ []) Anything
-  takes_one part so = record { takes = λ tokens cut spelled may. one_token tokens cut (so tokens (alone part tokens spelled)) }
+    -- a part that is one token
+    pub takes_one : (part : Part) → ((tokens : List Token) → SaysPart part tokens → IsOne P tokens)
+        → Takes (one judge) a (part ∷ []) Anything
+    takes_one part so = record { takes = λ tokens cut spelled may. one_token tokens cut (so tokens (alone part tokens spelled)) }
 
 -- ---- the first token
 
@@ -129,22 +143,35 @@ first_stands test passes part parts P so is tokens cut (front, rest, same, says,
     let first = so front says in
     ap (λ (t : List Token). starts test (t ▸▸ cut)) (same ∙ ap (λ (t : List Token). t ++ rest) first.1) ∙ is first.0 first.2
 
-pub opens_one : {test : Token → Bool} {passes : Bool} {parts : List Part} (part : Part) (P : List ℕ → Type 0) → ((tokens : List Token) → SaysPart part tokens → IsOne P tokens) → ((t : Token) → P t.bytes → test t ≡ passes)
+pub opens_one : {test : Token → Bool} {passes : Bool} {parts : List Part} (part : Part) (P : List ℕ → Type 0)
+    → ((tokens : List Token) → SaysPart part tokens → IsOne P tokens) → ((t : Token) → P t.bytes → test t ≡ passes)
     → Opens test passes (part ∷ parts)
 opens_one {test} {passes} {parts} part P so is = record { opens = first_stands test passes part parts P so is }
 
 pub opens_as : {test : Token → Bool} {passes : Bool} {xs ys : List Part} → xs ≡ ys → Opens test passes ys → Opens test passes xs
-opens_as {test} {passes} {xs} {ys} same h = record { opens = λ tokens cut spelled. h.opens tokens cut (subst (λ (parts : List Part). Spelled parts tokens) same spelled) }
+opens_as {test} {passes} {xs} {ys} same h =
+    record { opens = λ tokens cut spelled. h.opens tokens cut (subst (λ (parts : List Part). Spelled parts tokens) same spelled) }
 
-pub allows_stop : {test : Token → Bool} {parts : List Part} {May : Cut → Type 0} → Opens test false parts → Allows parts May (Stops test)
+pub allows_stop : {test : Token → Bool} {parts : List Part} {May : Cut → Type 0} → Opens test false parts
+    → Allows parts May (Stops test)
 allows_stop {test} {parts} {May} h = record { allows = λ tokens cut spelled may. h.opens tokens cut spelled }
 
 pub allows_as : {xs ys : List Part} {May Before : Cut → Type 0} → xs ≡ ys → Allows ys May Before → Allows xs May Before
-allows_as {xs} {ys} {May} {Before} same h = record { allows = λ tokens cut spelled may. h.allows tokens cut (subst (λ (parts : List Part). Spelled parts tokens) same spelled) may }
+allows_as {xs} {ys} {May} {Before} same h =
+    record {
+      allows = λ tokens cut spelled may. h.allows tokens cut (subst (λ (parts : List Part). Spelled parts tokens) same
+          spelled) may;
+    }
 
 -- two things that may stand there
-pub allows_both : {parts : List Part} {May One Two : Cut → Type 0} → Allows parts May One → Allows parts May Two → Allows parts May (λ cut. One cut × Two cut)
-allows_both {parts} {May} {One} {Two} h k = record { allows = λ tokens cut spelled may. (h.allows tokens cut spelled may, k.allows tokens cut spelled may) }
+pub allows_both : {parts : List Part} {May One Two : Cut → Type 0} → Allows parts May One → Allows parts May Two
+    → Allows parts May (λ cut. One cut × Two cut)
+allows_both {parts} {May} {One} {Two} h k = record {
+  allows = λ tokens cut spelled may. (
+    h.allows tokens cut spelled may,
+    k.allows tokens cut spelled may,
+  );
+}
 
 -- ---- choice
 
@@ -154,18 +181,23 @@ chosen-first b x y z e same = rw e same
 pub chosen-second : {A : Type 0} (b : Bool) (x y z : Result (A × Cut) ReadFault) → b ≡ false → y ≡ z → cond b x y ≡ z
 chosen-second b x y z e same = rw e same
 
-pub takes_first : {A : Type 0} {test : Token → Bool} {r : Reader A} {a : A} {parts : List Part} {May : Cut → Type 0} (s : Reader A) → Opens test true parts → Takes r a parts May → Takes (choose test r s) a parts May
+pub takes_first : {A : Type 0} {test : Token → Bool} {r : Reader A} {a : A} {parts : List Part} {May : Cut → Type 0} (s : Reader A)
+    → Opens test true parts → Takes r a parts May → Takes (choose test r s) a parts May
 takes_first {A} {test} {r} {a} {parts} {May} s opens h = record {
-  takes = λ tokens cut spelled may. chosen-first (starts test (tokens ▸▸ cut)) (r (tokens ▸▸ cut)) (s (tokens ▸▸ cut)) _ (opens.opens tokens cut spelled) (h.takes tokens cut spelled may);
+  takes = λ tokens cut spelled may. chosen-first (starts test (tokens ▸▸ cut)) (r (tokens ▸▸ cut)) (s (tokens ▸▸ cut)) _
+      (opens.opens tokens cut spelled) (h.takes tokens cut spelled may);
 }
 
-pub takes_second : {A : Type 0} {test : Token → Bool} {s : Reader A} {a : A} {parts : List Part} {May : Cut → Type 0} (r : Reader A) → Opens test false parts → Takes s a parts May → Takes (choose test r s) a parts May
+pub takes_second : {A : Type 0} {test : Token → Bool} {s : Reader A} {a : A} {parts : List Part} {May : Cut → Type 0} (r : Reader A)
+    → Opens test false parts → Takes s a parts May → Takes (choose test r s) a parts May
 takes_second {A} {test} {s} {a} {parts} {May} r opens h = record {
-  takes = λ tokens cut spelled may. chosen-second (starts test (tokens ▸▸ cut)) (r (tokens ▸▸ cut)) (s (tokens ▸▸ cut)) _ (opens.opens tokens cut spelled) (h.takes tokens cut spelled may);
+  takes = λ tokens cut spelled may. chosen-second (starts test (tokens ▸▸ cut)) (r (tokens ▸▸ cut)) (s (tokens ▸▸ cut)) _
+      (opens.opens tokens cut spelled) (h.takes tokens cut spelled may);
 }
 
 -- where nothing is spelled, by what stands behind
-pub takes_none : {A : Type 0} {s : Reader A} {a : A} {May : Cut → Type 0} (test : Token → Bool) (r : Reader A) → ((cut : Cut) → May cut → Stops test cut) → Takes s a [] May → Takes (choose test r s) a [] May
+pub takes_none : {A : Type 0} {s : Reader A} {a : A} {May : Cut → Type 0} (test : Token → Bool) (r : Reader A)
+    → ((cut : Cut) → May cut → Stops test cut) → Takes s a [] May → Takes (choose test r s) a [] May
 takes_none {A} {s} {a} {May} test r stops h = record {
   takes = λ tokens cut spelled may. chosen-second (starts test (tokens ▸▸ cut)) (r (tokens ▸▸ cut)) (s (tokens ▸▸ cut)) _
       (ap (λ (t : List Token). starts test (t ▸▸ cut)) spelled ∙ stops cut may) (h.takes tokens cut spelled may);
@@ -179,31 +211,40 @@ all_put put s [] = s
 all_put put s (a ∷ more) = all_put put (put s a) more
 
 -- one turn reads one item, spelled so, and puts it behind those before; behind each item may stand the next, or the end
-module _ {A S : Type 0} (test : Token → Bool) (r : S → Reader S) (shrinks : (s : S) → Shrinks (r s)) (part : A → List Part) (put : S → A → S) (Fits : S → List A → Type 0) (May Last : Cut → Type 0)
+module _ {A S : Type 0} (test : Token → Bool) (r : S → Reader S) (shrinks : (s : S) → Shrinks (r s)) (part : A → List Part) (put : S
+    → A → S) (Fits : S → List A → Type 0) (May Last : Cut → Type 0)
     (turn : (s : S) (a : A) (more : List A) → Fits s (a ∷ more) → Takes (r s) (put s a) (part a) May)
     (fits : (s : S) (a : A) (more : List A) → Fits s (a ∷ more) → Fits (put s a) more)
     (opens : (s : S) (a : A) (more : List A) → Fits s (a ∷ more) → Opens test true (part a))
     (allows : (s : S) (a : A) (more : List A) → Fits s (a ∷ more) → Allows (part a) Anything May)
     (last : (cut : Cut) → Last cut → May cut × Stops test cut) where
-  may_follow : (s : S) (more : List A) (tokens : List Token) (cut : Cut) → Fits s more → Spelled (flat_map part more) tokens → Last cut → May (tokens ▸▸ cut)
+  may_follow : (s : S) (more : List A) (tokens : List Token) (cut : Cut) → Fits s more → Spelled (flat_map part more) tokens
+      → Last cut → May (tokens ▸▸ cut)
   may_follow s [] tokens cut fit spelled end = subst (λ (t : List Token). May (t ▸▸ cut)) (sym spelled) (last cut end).0
   may_follow s (a ∷ more) tokens cut fit spelled end =
       let half = halves (part a) (flat_map part more) tokens spelled in
-      subst May (sym (ap (λ (t : List Token). t ▸▸ cut) half.parts ∙ all_then_twice half.front half.rest cut)) ((allows s a more fit).allows half.front (half.rest ▸▸ cut) half.first tt)
+      subst May (sym (ap (λ (t : List Token). t ▸▸ cut) half.parts ∙ all_then_twice half.front half.rest cut))
+      ((allows s a more fit).allows half.front (half.rest ▸▸ cut) half.first tt)
 
-  all_taken : (s : S) (more : List A) (tokens : List Token) (cut : Cut) → Fits s more → Spelled (flat_map part more) tokens → Last cut → repeated test r s (tokens ▸▸ cut) ≡ Ok (all_put put s more, cut)
+  all_taken : (s : S) (more : List A) (tokens : List Token) (cut : Cut) → Fits s more → Spelled (flat_map part more) tokens
+      → Last cut → repeated test r s (tokens ▸▸ cut) ≡ Ok (all_put put s more, cut)
   all_taken s [] tokens cut fit spelled end =
-      ap (λ (t : List Token). repeated test r s (t ▸▸ cut)) spelled ∙ ends test r shrinks s cut (repeated test r s cut) (last cut end).1 refl
+      ap (λ (t : List Token). repeated test r s (t ▸▸ cut)) spelled ∙ ends test r shrinks s cut (repeated test r s cut)
+      (last cut end).1 refl
   all_taken s (a ∷ more) tokens cut fit spelled end =
       let half = halves (part a) (flat_map part more) tokens spelled in
       let behind = half.rest ▸▸ cut in
       let now = fits s a more fit in
-      let taken = (turn s a more fit).takes half.front behind half.first (may_follow (put s a) more half.rest cut now half.second end) in
-      ap (λ (t : List Token). repeated test r s (t ▸▸ cut)) half.parts ∙ ap (repeated test r s) (all_then_twice half.front half.rest cut)
-      ∙ sym (goes_on test r shrinks s (put s a) (half.front ▸▸ behind) behind (repeated test r s (half.front ▸▸ behind)) ((opens s a more fit).opens half.front behind half.first) taken refl)
+      let taken = (turn s a more fit).takes half.front behind half.first (may_follow (put s a) more half.rest cut now half.second
+      end) in
+      ap (λ (t : List Token). repeated test r s (t ▸▸ cut)) half.parts
+      ∙ ap (repeated test r s) (all_then_twice half.front half.rest cut)
+      ∙ sym (goes_on test r shrinks s (put s a) (half.front ▸▸ behind) behind (repeated test r s (half.front ▸▸ behind))
+      ((opens s a more fit).opens half.front behind half.first) taken refl)
       ∙ all_taken (put s a) more half.rest cut now half.second end
 
-  pub takes_repeated : (s : S) (more : List A) → Fits s more → Takes (repeated test r s) (all_put put s more) (flat_map part more) Last
+  pub takes_repeated : (s : S) (more : List A) → Fits s more → Takes (repeated test r s) (all_put put s more) (flat_map part more)
+      Last
   takes_repeated s more fit = record { takes = λ tokens cut spelled end. all_taken s more tokens cut fit spelled end }
 
 -- ---- lists that grow
@@ -215,8 +256,10 @@ pub all_pushed : {A : Type 0} (list more : List A) → all_put pushed list more 
 all_pushed list [] = sym (append-nil list)
 all_pushed list (a ∷ more) = all_pushed (list ++ a ∷ []) more ∙ append_assoc list (a ∷ []) more
 
-module _ {A : Type 0} (test : Token → Bool) (r : List A → Reader (List A)) (shrinks : (list : List A) → Shrinks (r list)) (part : A → List Part) (P : A → Type 0)
-    (turn : (list : List A) (a : A) → P a → Takes (r list) (list ++ a ∷ []) (part a) Anything) (opens : (a : A) → P a → Opens test true (part a)) where
+module _ {A : Type 0} (test : Token → Bool) (r : List A → Reader (List A)) (shrinks : (list : List A) → Shrinks (r list)) (part : A
+    → List Part) (P : A → Type 0)
+    (turn : (list : List A) (a : A) → P a → Takes (r list) (list ++ a ∷ []) (part a) Anything) (opens : (a : A) → P a
+    → Opens test true (part a)) where
   AllAre : List A → List A → Type 0
   AllAre list more = All P more
 
@@ -224,5 +267,6 @@ module _ {A : Type 0} (test : Token → Bool) (r : List A → Reader (List A)) (
   unfolding AllAre
   takes_list list more are =
       subst (λ (made : List A). Takes (repeated test r list) made (flat_map part more) (Stops test)) (all_pushed list more)
-      (takes_repeated test r shrinks part pushed AllAre Anything (Stops test) (λ list a more are. turn list a (All-head P a more are)) (λ list a more are. All-tail P a more are) (λ list a more are. opens a (All-head P a more are))
+      (takes_repeated test r shrinks part pushed AllAre Anything (Stops test) (λ list a more are. turn list a
+      (All-head P a more are)) (λ list a more are. All-tail P a more are) (λ list a more are. opens a (All-head P a more are))
       (λ list a more are. allows_anything) (λ cut stops. (tt, stops)) list more are)

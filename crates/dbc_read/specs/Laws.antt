@@ -13,10 +13,12 @@ use Rattle.dbc_reader.specs.Texts.{HasDatabase, HasStatement, HasFirstFault}
 
 -- the tokens run to the end of the text, and spell a database
 abbrev pub SpellDatabase : Cut → Type 0
-SpellDatabase cut = (tokens : List Token) × (line : ℕ) × (database : Database) × (cut ≡ (tokens ▸▸ End line)) × Spells tokens database
+SpellDatabase cut = (tokens : List Token) × (line : ℕ) × (database : Database) × (cut ≡ (tokens ▸▸ End line))
+    × Spells tokens database
 
 abbrev pub SpellStatement : Cut → Type 0
-SpellStatement cut = (tokens : List Token) × (line : ℕ) × (statement : Statement) × (cut ≡ (tokens ▸▸ End line)) × SpellsStatement tokens statement
+SpellStatement cut = (tokens : List Token) × (line : ℕ) × (statement : Statement) × (cut ≡ (tokens ▸▸ End line))
+    × SpellsStatement tokens statement
 
 abbrev pub FaultOrDatabase : Type 0
 FaultOrDatabase = (cut : Cut) → (first_fault grammar.text nothing_seen cut ≡ None) ↔ SpellDatabase cut
@@ -42,13 +44,16 @@ NoSuch {A} IsSuch = (a : A) → IsSuch a → ⊥
 
 -- a text has one database and no first fault, or one first fault and no database
 abbrev pub OneReading : Type 0
-OneReading = (text : List ℕ) → (ExactlyOne (HasDatabase text) × NoSuch (HasFirstFault grammar.text text)) ⊎ (ExactlyOne (HasFirstFault grammar.text text) × NoSuch (HasDatabase text))
+OneReading = (text : List ℕ) → (ExactlyOne (HasDatabase text) × NoSuch (HasFirstFault grammar.text text))
+    ⊎ (ExactlyOne (HasFirstFault grammar.text text) × NoSuch (HasDatabase text))
 
 -- a text is one statement and has no first fault as such, or has one first fault and is none
 abbrev pub OneReadingAlone : Type 0
 OneReadingAlone =
-    (text : List ℕ) → (ExactlyOne (HasStatement text) × NoSuch (HasFirstFault grammar.one_statement text)) ⊎ (ExactlyOne (HasFirstFault grammar.one_statement text) × NoSuch (HasStatement text))
+    (text : List ℕ) → (ExactlyOne (HasStatement text) × NoSuch (HasFirstFault grammar.one_statement text))
+    ⊎ (ExactlyOne (HasFirstFault grammar.one_statement text) × NoSuch (HasStatement text))
 
 -- a first fault names a line of the text, and is none of want of memory
 abbrev pub FaultsAreOfTexts : Type 0
-FaultsAreOfTexts = (pattern : Pattern) (text : List ℕ) (fault : ReadFault) → HasFirstFault pattern text fault → (1 ≤ fault.line) × (fault.line ≤ 1 + line_feeds text) × (fault.cause ≢ causes.Memory)
+FaultsAreOfTexts = (pattern : Pattern) (text : List ℕ) (fault : ReadFault) → HasFirstFault pattern text fault → (1 ≤ fault.line)
+    × (fault.line ≤ 1 + line_feeds text) × (fault.cause ≢ causes.Memory)

@@ -13,7 +13,8 @@ use Rattle.dbc_reader.specs.Texts.{HasDatabase}
 -- each such value is printed as a text whose tokens spell it by its form, and spell no other such value
 abbrev pub PrintedUniquely : {A : Type 0} → (A → Type 0) → (A → Layout) → (A → List Part) → Type 0
 PrintedUniquely {A} IsSuch layout form =
-    (a : A) → IsSuch a → (line : ℕ) → (tokens : List Token) × (at : ℕ) × HasTokens line (layout_text (layout a)) (tokens ▸▸ End at) × Spelled (form a) tokens
+    (a : A) → IsSuch a → (line : ℕ) → (tokens : List Token) × (at : ℕ) × HasTokens line (layout_text (layout a)) (tokens ▸▸ End at)
+    × Spelled (form a) tokens
     × ((other : A) → IsSuch other → Spelled (form other) tokens → other ≡ a)
 
 -- the numbers of a bit timing: decimals, and none negative
@@ -23,10 +24,12 @@ IsTiming numbers = IfSome (timing_of (numbers ∷ [])) IsBitTiming × IsTrue (ti
 -- a text that ends in a line feed, and another behind it, have the tokens of both
 abbrev pub LinesJoin : Type 0
 LinesJoin =
-    (line at : ℕ) (text more : List ℕ) (tokens : List Token) (cut : Cut) → HasTokens line (text ++ line_feed ∷ []) (tokens ▸▸ End at) → HasTokens at more cut
+    (line at : ℕ) (text more : List ℕ) (tokens : List Token) (cut : Cut) → HasTokens line (text ++ line_feed ∷ [])
+    (tokens ▸▸ End at) → HasTokens at more cut
     → HasTokens line ((text ++ line_feed ∷ []) ++ more) (tokens ▸▸ cut)
 
 -- the canonical text of a database has that database, and no other
 abbrev pub PrintLaw : Type 0
 PrintLaw =
-    (database : Database) → IsDatabase database → HasDatabase (canonical_text database) database × ((other : Database) → HasDatabase (canonical_text database) other → other ≡ database)
+    (database : Database) → IsDatabase database → HasDatabase (canonical_text database) database
+    × ((other : Database) → HasDatabase (canonical_text database) other → other ≡ database)

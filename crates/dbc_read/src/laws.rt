@@ -1,5 +1,6 @@
 //! Laws of tokens and of reading. The functions do nothing: what they ensure is the law.
-ghost use Rattle.dbc_read.specs.Laws.{FaultOrDatabase, FaultOrStatement, FaultsAreOfTexts, OneDatabase, OneReading, OneReadingAlone, OneStatement};
+ghost use Rattle.dbc_read.specs.Laws.{FaultOrDatabase, FaultOrStatement, FaultsAreOfTexts, OneDatabase, OneReading};
+ghost use Rattle.dbc_read.specs.Laws.{OneReadingAlone, OneStatement};
 
 pub use dbc_tokens::laws::{one_cut, tokens_in_order};
 

@@ -5,8 +5,11 @@ ghost use Rattle.dbc_records.specs.Records.{IsTableRow, IsMessage, IsSignal, IsV
 ghost use Rattle.dbc_records.specs.Comments.{IsComment};
 ghost use Rattle.dbc_records.specs.Attributes.{IsAttrDef, IsAttrDefault, IsAttrRow};
 ghost use Rattle.dbc_records.specs.Kept.{IsKept};
-ghost use Rattle.dbc_records.specs.CanonicalText.{version_layout, symbols_layout, timing_layout, nodes_layout, table_layout, message_layout, signal_layout, comment_layout, definition_layout, default_layout, attribute_layout, values_layout, float_layout, mux_layout, kept_layout};
-ghost use Rattle.dbc_reader.specs.Spelling.{Symbols, Timing, Nodes, Table, OfMessage, OfComment, Definition, Default, Attribute, Values, Float, Mux, OfKept, form, form_alone, version_form, timing_of};
+ghost use Rattle.dbc_records.specs.CanonicalText.{version_layout, symbols_layout, timing_layout, nodes_layout, table_layout};
+ghost use Rattle.dbc_records.specs.CanonicalText.{message_layout, signal_layout, comment_layout, definition_layout, default_layout};
+ghost use Rattle.dbc_records.specs.CanonicalText.{attribute_layout, values_layout, float_layout, mux_layout, kept_layout};
+ghost use Rattle.dbc_reader.specs.Spelling.{Symbols, Timing, Nodes, Table, OfMessage, OfComment, Definition, Default, Attribute};
+ghost use Rattle.dbc_reader.specs.Spelling.{Values, Float, Mux, OfKept, form, form_alone, version_form, timing_of};
 ghost use Rattle.dbc_reader.specs.declared.statement.Statement.TheVariants as statements;
 ghost use Rattle.dbc_read.specs.PrintLaws.{PrintedUniquely, IsTiming, LinesJoin, PrintLaw};
 

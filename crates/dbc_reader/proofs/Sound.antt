@@ -7,14 +7,16 @@ pub mod Messages
 pub mod Adding
 pub mod Databases
 pub mod Statements
-use Rattle.std.proofs.Common.{◌≡◌, ℕ, zero, suc, Bool, true, false, cond, List, [], ◌∷◌, ◌++◌, Result, Ok, Err, refl, sym, ap, subst, ◌∙◌, append_assoc, append-nil}
+use Rattle.std.proofs.Common.{◌≡◌, ℕ, zero, suc, Bool, true, false, cond, List, [], ◌∷◌, ◌++◌, Result, Ok, Err, refl, sym, ap}
+use Rattle.std.proofs.Common.{subst, ◌∙◌, append_assoc, append-nil}
 use Rattle.std.specs.List.{flat_map}
 use Rattle.std.proofs.lemmas.List.Concat.{flat_map-append}
 use Rattle.dbc_tokens.specs.declared.fault.Cause.{Cause}
 use Rattle.dbc_tokens.specs.declared.fault.ReadFault.{ReadFault}
 use Rattle.dbc_tokens.specs.Tokens.{Token, Cut, End, Fault, ◌▸◌}
 use Rattle.dbc_reader.specs.Forms.{Part, SaysPart, Spelled, ◌▸▸◌}
-use Rattle.dbc_reader.specs.Reading.Readers.{Reader, and_then, ◌>>=◌, value, token_at, answered, one, starts, choose, size, turns, repeated}
+use Rattle.dbc_reader.specs.Reading.Readers.{Reader, and_then, ◌>>=◌, value, token_at, answered, one, starts, choose, size, turns}
+use Rattle.dbc_reader.specs.Reading.Readers.{repeated}
 use Rattle.dbc_reader.proofs.Turns.{and_then_ok, ok_is}
 
 pub all_then_twice : (u v : List Token) (cut : Cut) → ((u ++ v) ▸▸ cut) ≡ (u ▸▸ (v ▸▸ cut))
@@ -53,7 +55,8 @@ pub record SoundAt {B : Type 0} (before : List Part) (r : Reader B) (form : B �
 abbrev pub read : {A : Type 0} → A → Result A ReadFault
 read x = Ok x
 
-pub sound_then : {A B : Type 0} {before : List Part} {r : Reader A} {f : A → Reader B} {parts : A → List Part} {form : B → List Part}
+pub sound_then : {A B : Type 0} {before : List Part} {r : Reader A} {f : A → Reader B} {parts : A → List Part} {form : B
+    → List Part}
     → Sound r parts → ((a : A) → SoundAt (before ++ parts a) (f a) form) → SoundAt before (r >>= f) form
 sound_then {A} {B} {before} {r} {f} {parts} {form} h k = record {
   spelt = λ cut y e. (
@@ -71,12 +74,15 @@ sound_value {B} {before} {b} {form} e = record {
 }
 
 pub sound_start : {B : Type 0} {r : Reader B} {form : B → List Part} → SoundAt [] r form → Sound r form
-sound_start {B} {r} {form} h = record { spelt = λ cut x e. (let y = h.spelt cut x e in subst (λ parts. Spelt parts cut x.1) (sym y.1) y.2) }
+sound_start {B} {r} {form} h =
+    record { spelt = λ cut x e. (let y = h.spelt cut x e in subst (λ parts. Spelt parts cut x.1) (sym y.1) y.2) }
 
 -- ---- one token
 
-module _ {A : Type 0} (judge : Token → Result A Cause) (part : A → Part) (says : (t : Token) (a : A) → judge t ≡ Ok a → SaysPart (part a) (t ∷ [])) where
-  answered_spelt : (t : Token) (cut : Cut) (o : Result A Cause) (x : A × Cut) → judge t ≡ o → answered t o cut ≡ Ok x → Spelt (part x.0 ∷ []) (t ▸ cut) x.1
+module _ {A : Type 0} (judge : Token → Result A Cause) (part : A → Part) (says : (t : Token) (a : A) → judge t ≡ Ok a
+    → SaysPart (part a) (t ∷ [])) where
+  answered_spelt : (t : Token) (cut : Cut) (o : Result A Cause) (x : A × Cut) → judge t ≡ o → answered t o cut ≡ Ok x
+      → Spelt (part x.0 ∷ []) (t ▸ cut) x.1
   answered_spelt t cut (Ok a) x is e =
       subst (λ (y : A × Cut). Spelt (part y.0 ∷ []) (t ▸ cut) y.1) (ok_is (a, cut) x e)
       (record { front = t ∷ []; stands = refl; spelled = (t ∷ [], [], refl, says t a is, refl) })
@@ -93,21 +99,25 @@ module _ {A : Type 0} (judge : Token → Result A Cause) (part : A → Part) (sa
 
 -- ---- choice
 
-chosen_spelt : {A : Type 0} {r s : Reader A} {form : A → List Part} → Sound r form → Sound s form → (b : Bool) (cut : Cut) (x : A × Cut) → cond b (r cut) (s cut) ≡ Ok x → Spelt (form x.0) cut x.1
+chosen_spelt : {A : Type 0} {r s : Reader A} {form : A → List Part} → Sound r form → Sound s form → (b : Bool) (cut : Cut) (x : A
+    × Cut) → cond b (r cut) (s cut) ≡ Ok x → Spelt (form x.0) cut x.1
 chosen_spelt h k true cut x e = h.spelt cut x e
 chosen_spelt h k false cut x e = k.spelt cut x e
 
-pub sound_choose : {A : Type 0} (test : Token → Bool) {r s : Reader A} {form : A → List Part} → Sound r form → Sound s form → Sound (choose test r s) form
+pub sound_choose : {A : Type 0} (test : Token → Bool) {r s : Reader A} {form : A → List Part} → Sound r form → Sound s form
+    → Sound (choose test r s) form
 sound_choose {A} test {r} {s} {form} h k = record { spelt = λ cut x e. chosen_spelt h k (starts test cut) cut x e }
 
 -- ---- lists that grow
 
 -- what is read behind these is put behind them
 pub record Grows {A : Type 0} (r : List A → Reader (List A)) (part : A → List Part) : Type 0 where
-  pub spelt : (before : List A) (cut : Cut) (x : List A × Cut) → r before cut ≡ Ok x → (more : List A) × (x.0 ≡ before ++ more) × Spelt (flat_map part more) cut x.1
+  pub spelt : (before : List A) (cut : Cut) (x : List A × Cut) → r before cut ≡ Ok x → (more : List A) × (x.0 ≡ before ++ more)
+      × Spelt (flat_map part more) cut x.1
 
 -- one item more
-pub grows_by_one : {A : Type 0} {one_at : Reader A} {part : A → List Part} → Sound one_at part → Grows (λ before. one_at >>= λ a. value (before ++ a ∷ [])) part
+pub grows_by_one : {A : Type 0} {one_at : Reader A} {part : A → List Part} → Sound one_at part
+    → Grows (λ before. one_at >>= λ a. value (before ++ a ∷ [])) part
 grows_by_one {A} {one_at} {part} h = record {
   spelt = λ before cut x e. (
       let y = and_then_ok (one_at cut) _ x e in
@@ -115,17 +125,22 @@ grows_by_one {A} {one_at} {part} h = record {
       let one = h.spelt cut y.0 y.1 in (
         y.0.0 ∷ [],
         sym (ap (λ (w : List A × Cut). w.0) is),
-        subst (λ (rest : Cut). Spelt (part y.0.0 ++ []) cut rest) (ap (λ (w : List A × Cut). w.1) is) (subst (λ (parts : List Part). Spelt parts cut y.0.1) (sym (append-nil (part y.0.0))) one),
+        subst (λ (rest : Cut). Spelt (part y.0.0 ++ []) cut rest) (ap (λ (w : List A × Cut). w.1) is)
+            (subst (λ (parts : List Part). Spelt parts cut y.0.1) (sym (append-nil (part y.0.0))) one),
       ));
 }
 
 module _ {A : Type 0} (test : Token → Bool) (r : List A → Reader (List A)) (part : A → List Part) (grows : Grows r part) where
-  stays : (before : List A) (cut : Cut) (x : List A × Cut) → read (before, cut) ≡ Ok x → (more : List A) × (x.0 ≡ before ++ more) × Spelt (flat_map part more) cut x.1
+  stays : (before : List A) (cut : Cut) (x : List A × Cut) → read (before, cut) ≡ Ok x → (more : List A) × (x.0 ≡ before ++ more)
+      × Spelt (flat_map part more) cut x.1
   stays before cut x e =
-      subst (λ (y : List A × Cut). (more : List A) × (y.0 ≡ before ++ more) × Spelt (flat_map part more) cut y.1) (ok_is (before, cut) x e) ([], sym (append-nil before), spelt_none cut)
+      subst (λ (y : List A × Cut). (more : List A) × (y.0 ≡ before ++ more) × Spelt (flat_map part more) cut y.1)
+      (ok_is (before, cut) x e) ([], sym (append-nil before), spelt_none cut)
 
-  turn : (n : ℕ) → ((before : List A) (cut : Cut) (x : List A × Cut) → turns n test r before cut ≡ Ok x → (more : List A) × (x.0 ≡ before ++ more) × Spelt (flat_map part more) cut x.1)
-      → (before : List A) (b : Bool) (cut : Cut) (x : List A × Cut) → cond b (and_then (r before cut) (turns n test r)) (Ok (before, cut)) ≡ Ok x → (more : List A) × (x.0 ≡ before ++ more) × Spelt (flat_map part more) cut x.1
+  turn : (n : ℕ) → ((before : List A) (cut : Cut) (x : List A × Cut) → turns n test r before cut ≡ Ok x → (more : List A)
+      × (x.0 ≡ before ++ more) × Spelt (flat_map part more) cut x.1)
+      → (before : List A) (b : Bool) (cut : Cut) (x : List A × Cut) → cond b (and_then (r before cut) (turns n test r))
+      (Ok (before, cut)) ≡ Ok x → (more : List A) × (x.0 ≡ before ++ more) × Spelt (flat_map part more) cut x.1
   turn n below before false cut x e = stays before cut x e
   turn n below before true cut x e =
       let y = and_then_ok (r before cut) (turns n test r) x e in
@@ -136,7 +151,8 @@ module _ {A : Type 0} (test : Token → Bool) (r : List A → Reader (List A)) (
         subst (λ (parts : List Part). Spelt parts cut x.1) (sym (flat_map-append part first.0 rest.0)) (spelt_both first.2 rest.2),
       )
 
-  turns_grow : (n : ℕ) (before : List A) (cut : Cut) (x : List A × Cut) → turns n test r before cut ≡ Ok x → (more : List A) × (x.0 ≡ before ++ more) × Spelt (flat_map part more) cut x.1
+  turns_grow : (n : ℕ) (before : List A) (cut : Cut) (x : List A × Cut) → turns n test r before cut ≡ Ok x → (more : List A)
+      × (x.0 ≡ before ++ more) × Spelt (flat_map part more) cut x.1
   turns_grow zero before cut x e = stays before cut x e
   turns_grow (suc n) before cut x e = turn n (turns_grow n) before (starts test cut) cut x e
 
@@ -146,7 +162,10 @@ module _ {A : Type 0} (test : Token → Bool) (r : List A → Reader (List A)) (
 
 -- a list from nothing
 pub sound_list : {A : Type 0} {r : List A → Reader (List A)} {part : A → List Part} → Grows r part → Sound (r []) (flat_map part)
-sound_list {A} {r} {part} grows = record { spelt = λ cut x e. (let y = grows.spelt [] cut x e in subst (λ (more : List A). Spelt (flat_map part more) cut x.1) (sym y.1) y.2) }
+sound_list {A} {r} {part} grows = record {
+  spelt = λ cut x e. (let y = grows.spelt [] cut x e in
+      subst (λ (more : List A). Spelt (flat_map part more) cut x.1) (sym y.1) y.2);
+}
 
 -- ---- readers by what their tokens are
 
@@ -155,14 +174,25 @@ pub record Reads {A : Type 0} (r : Reader A) (P : A → List Token → Type 0) :
   pub reads : (cut : Cut) (x : A × Cut) → r cut ≡ Ok x → (front : List Token) × (cut ≡ (front ▸▸ x.1)) × P x.0 front
 
 pub sound_reads : {A : Type 0} {r : Reader A} (part : A → Part) → Reads r (λ a. SaysPart (part a)) → Sound r (λ a. part a ∷ [])
-sound_reads {A} {r} part h = record { spelt = λ cut x e. (let y = h.reads cut x e in record { front = y.0; stands = y.1; spelled = (y.0, [], sym (append-nil y.0), y.2, refl) }) }
+sound_reads {A} {r} part h =
+    record {
+      spelt = λ cut x e. (let y = h.reads cut x e in record {
+        front = y.0;
+        stands = y.1;
+        spelled = (y.0, [], sym (append-nil y.0), y.2, refl);
+      });
+    }
 
-pub reads_as : {A : Type 0} {r : Reader A} {P Q : A → List Token → Type 0} → Reads r P → ((a : A) (tokens : List Token) → P a tokens → Q a tokens) → Reads r Q
+pub reads_as : {A : Type 0} {r : Reader A} {P Q : A → List Token → Type 0} → Reads r P → ((a : A) (tokens : List Token) → P a tokens
+    → Q a tokens) → Reads r Q
 reads_as {A} {r} {P} {Q} h k = record { reads = λ cut x e. (let y = h.reads cut x e in (y.0, y.1, k x.0 y.0 y.2)) }
 
-module _ {A : Type 0} (judge : Token → Result A Cause) (P : A → List Token → Type 0) (is : (t : Token) (a : A) → judge t ≡ Ok a → P a (t ∷ [])) where
-  answered_reads : (t : Token) (cut : Cut) (o : Result A Cause) (x : A × Cut) → judge t ≡ o → answered t o cut ≡ Ok x → (front : List Token) × ((t ▸ cut) ≡ (front ▸▸ x.1)) × P x.0 front
-  answered_reads t cut (Ok a) x e f = subst (λ (y : A × Cut). (front : List Token) × ((t ▸ cut) ≡ (front ▸▸ y.1)) × P y.0 front) (ok_is (a, cut) x f) (t ∷ [], refl, is t a e)
+module _ {A : Type 0} (judge : Token → Result A Cause) (P : A → List Token → Type 0) (is : (t : Token) (a : A) → judge t ≡ Ok a
+    → P a (t ∷ [])) where
+  answered_reads : (t : Token) (cut : Cut) (o : Result A Cause) (x : A × Cut) → judge t ≡ o → answered t o cut ≡ Ok x
+      → (front : List Token) × ((t ▸ cut) ≡ (front ▸▸ x.1)) × P x.0 front
+  answered_reads t cut (Ok a) x e f = subst (λ (y : A × Cut). (front : List Token) × ((t ▸ cut) ≡ (front ▸▸ y.1)) × P y.0 front)
+      (ok_is (a, cut) x f) (t ∷ [], refl, is t a e)
   answered_reads t cut (Err cause) x e f = absurd cc
 
   one_reads : (cut : Cut) (x : A × Cut) → one judge cut ≡ Ok x → (front : List Token) × (cut ≡ (front ▸▸ x.1)) × P x.0 front
@@ -175,19 +205,24 @@ module _ {A : Type 0} (judge : Token → Result A Cause) (P : A → List Token �
   reads_one = record { reads = one_reads }
 
 -- one reader behind another
-pub reads_behind : {A B : Type 0} {r : Reader A} {r' : Reader B} {P : A → List Token → Type 0} {Q : B → List Token → Type 0} (S : A → B → List Token → Type 0)
+pub reads_behind : {A B : Type 0} {r : Reader A} {r' : Reader B} {P : A → List Token → Type 0} {Q : B → List Token → Type 0} (S : A
+    → B → List Token → Type 0)
     → Reads r P → Reads r' Q → ((a : A) (b : B) (tokens u v : List Token) → tokens ≡ u ++ v → P a u → Q b v → S a b tokens)
     → Reads (r >>= λ a. r') (λ b tokens. (a : A) × S a b tokens)
 reads_behind {A} {B} {r} {r'} {P} {Q} S h k join = record {
   reads = λ cut y e. (
       let x = and_then_ok (r cut) _ y e in
       let one = h.reads cut x.0 x.1 in
-      let two = k.reads x.0.1 y x.2 in
-      (one.0 ++ two.0, one.1 ∙ ap (λ c. one.0 ▸▸ c) two.1 ∙ sym (all_then_twice one.0 two.0 y.1), (x.0.0, join x.0.0 y.0 (one.0 ++ two.0) one.0 two.0 refl one.2 two.2)));
+      let two = k.reads x.0.1 y x.2 in (
+        one.0 ++ two.0,
+        one.1 ∙ ap (λ c. one.0 ▸▸ c) two.1 ∙ sym (all_then_twice one.0 two.0 y.1),
+        (x.0.0, join x.0.0 y.0 (one.0 ++ two.0) one.0 two.0 refl one.2 two.2),
+      ));
 }
 
 -- a value made of what is read
-pub reads_value : {A B : Type 0} {r : Reader A} {P : A → List Token → Type 0} (f : A → B) → Reads r P → Reads (r >>= λ a. value (f a)) (λ b tokens. (a : A) × (b ≡ f a) × P a tokens)
+pub reads_value : {A B : Type 0} {r : Reader A} {P : A → List Token → Type 0} (f : A → B) → Reads r P
+    → Reads (r >>= λ a. value (f a)) (λ b tokens. (a : A) × (b ≡ f a) × P a tokens)
 reads_value {A} {B} {r} {P} f h = record {
   reads = λ cut y e. (
       let x = and_then_ok (r cut) _ y e in
@@ -202,17 +237,20 @@ abbrev pub first_and : {A : Type 0} → (A → List Part) → (A → List Part) 
 first_and first further [] = []
 first_and first further (x ∷ xs) = first x ++ flat_map further xs
 
-pub sound_first : {A : Type 0} {one_at : Reader A} {more_from : List A → Reader (List A)} {first further : A → List Part} → Sound one_at first → Grows more_from further
+pub sound_first : {A : Type 0} {one_at : Reader A} {more_from : List A → Reader (List A)} {first further : A → List Part}
+    → Sound one_at first → Grows more_from further
     → Sound (one_at >>= λ a. more_from (a ∷ [])) (first_and first further)
 sound_first {A} {one_at} {more_from} {first} {further} h k = record {
   spelt = λ cut y e. (
       let x = and_then_ok (one_at cut) _ y e in
       let more = k.spelt (x.0.0 ∷ []) x.0.1 y x.2 in
-      subst (λ (list : List A). Spelt (first_and first further list) cut y.1) (sym more.1) (spelt_both (h.spelt cut x.0 x.1) more.2));
+      subst (λ (list : List A). Spelt (first_and first further list) cut y.1) (sym more.1) (spelt_both (h.spelt cut x.0 x.1)
+      more.2));
 }
 
 -- two readers that read one part
-pub sound_both : {A B C : Type 0} {before : List Part} (r : Reader A) (f : A → Reader B) {g : B → Reader C} {parts : B → List Part} {form : C → List Part}
+pub sound_both : {A B C : Type 0} {before : List Part} (r : Reader A) (f : A → Reader B) {g : B → Reader C} {parts : B → List Part}
+    {form : C → List Part}
     → Sound (r >>= f) parts → ((b : B) → SoundAt (before ++ parts b) (g b) form) → SoundAt before (r >>= λ a. (f a >>= g)) form
 sound_both {A} {B} {C} {before} r f {g} {parts} {form} h k = record {
   spelt = λ cut y e. (
@@ -224,11 +262,13 @@ sound_both {A} {B} {C} {before} r f {g} {parts} {form} h k = record {
 }
 
 -- a last reader
-pub sound_end : {B : Type 0} {before : List Part} {r : Reader B} {parts form : B → List Part} → Sound r parts → ((b : B) → form b ≡ before ++ parts b) → SoundAt before r form
+pub sound_end : {B : Type 0} {before : List Part} {r : Reader B} {parts form : B → List Part} → Sound r parts
+    → ((b : B) → form b ≡ before ++ parts b) → SoundAt before r form
 sound_end {B} {before} {r} {parts} {form} h same = record { spelt = λ cut x e. (parts x.0, same x.0, h.spelt cut x e) }
 
 -- one item more, behind something
-pub grows_behind : {A M : Type 0} (m : Reader M) (one_at : Reader A) {part : A → List Part} → Sound (m >>= λ _. one_at) part → Grows (λ before. m >>= λ _. (one_at >>= λ a. value (before ++ a ∷ []))) part
+pub grows_behind : {A M : Type 0} (m : Reader M) (one_at : Reader A) {part : A → List Part} → Sound (m >>= λ _. one_at) part
+    → Grows (λ before. m >>= λ _. (one_at >>= λ a. value (before ++ a ∷ []))) part
 grows_behind {A} {M} m one_at {part} h = record {
   spelt = λ before cut y e. (
       let x = and_then_ok (m cut) _ y e in
@@ -237,14 +277,20 @@ grows_behind {A} {M} m one_at {part} h = record {
       let both = h.spelt cut z.0 (ap (λ (o : Result (M × Cut) ReadFault). and_then o (λ _. one_at)) x.1 ∙ z.1) in (
         z.0.0 ∷ [],
         sym (ap (λ (w : List A × Cut). w.0) is),
-        subst (λ (rest : Cut). Spelt (part z.0.0 ++ []) cut rest) (ap (λ (w : List A × Cut). w.1) is) (subst (λ (parts : List Part). Spelt parts cut z.0.1) (sym (append-nil (part z.0.0))) both),
+        subst (λ (rest : Cut). Spelt (part z.0.0 ++ []) cut rest) (ap (λ (w : List A × Cut). w.1) is)
+            (subst (λ (parts : List Part). Spelt parts cut z.0.1) (sym (append-nil (part z.0.0))) both),
       ));
 }
 
 -- one item more, read in view of those before
-pub grows_in_view : {A : Type 0} (one_at : List A → Reader A) {part : A → List Part} → ((before : List A) → Sound (one_at before) part) → Grows (λ before. one_at before >>= λ a. value (before ++ a ∷ [])) part
+pub grows_in_view : {A : Type 0} (one_at : List A → Reader A) {part : A → List Part}
+    → ((before : List A) → Sound (one_at before) part) → Grows (λ before. one_at before >>= λ a. value (before ++ a ∷ [])) part
 grows_in_view {A} one_at {part} h = record { spelt = λ before cut x e. (grows_by_one (h before)).spelt before cut x e }
 
 -- the same parts by other words
-pub sound_same : {A : Type 0} {r : Reader A} {form other : A → List Part} → Sound r form → ((a : A) → form a ≡ other a) → Sound r other
-sound_same {A} {r} {form} {other} h same = record { spelt = λ cut x e. subst (λ (parts : List Part). Spelt parts cut x.1) (same x.0) (h.spelt cut x e) }
+pub sound_same : {A : Type 0} {r : Reader A} {form other : A → List Part} → Sound r form → ((a : A) → form a ≡ other a)
+    → Sound r other
+sound_same {A} {r} {form} {other} h same = record {
+  spelt = λ cut x e. subst (λ (parts : List Part). Spelt parts cut x.1) (same x.0)
+      (h.spelt cut x e);
+}

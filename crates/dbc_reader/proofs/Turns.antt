@@ -2,16 +2,19 @@
 pub mod Lists
 pub mod Signals
 pub mod Statements
-use Rattle.std.proofs.Common.{◌≡◌, ℕ, zero, suc, ◌<◌, ◌≤◌, Bool, true, false, cond, Result, Ok, Err, refl, sym, ap, subst, ◌∙◌, arith}
+use Rattle.std.proofs.Common.{◌≡◌, ℕ, zero, suc, ◌<◌, ◌≤◌, Bool, true, false, cond, Result, Ok, Err, refl, sym, ap, subst, ◌∙◌}
+use Rattle.std.proofs.Common.{arith}
 use Rattle.dbc_tokens.specs.declared.fault.Cause.{Cause}
 use Rattle.dbc_tokens.specs.declared.fault.ReadFault.{ReadFault}
 use Rattle.dbc_reader.specs.declared.stopped.Stopped.{Stopped}
 use Rattle.dbc_reader.specs.declared.stopped.Stopped.TheVariants as stops
 use Rattle.dbc_tokens.specs.Tokens.{Token, Cut, End, Fault, ◌▸◌}
-use Rattle.dbc_reader.specs.Reading.Readers.{Reader, and_then, ◌>>=◌, value, token_at, answered, one, size, starts, turns, repeated, choose, choose_by, Fails}
+use Rattle.dbc_reader.specs.Reading.Readers.{Reader, and_then, ◌>>=◌, value, token_at, answered, one, size, starts, turns, repeated}
+use Rattle.dbc_reader.specs.Reading.Readers.{choose, choose_by, Fails}
 
 -- the value of a step that did not fail
-pub and_then_ok : {A B : Type 0} (r : Result (A × Cut) ReadFault) (f : A → Reader B) (y : B × Cut) → and_then r f ≡ Ok y → (x : A × Cut) × (r ≡ Ok x) × (f x.0 x.1 ≡ Ok y)
+pub and_then_ok : {A B : Type 0} (r : Result (A × Cut) ReadFault) (f : A → Reader B) (y : B × Cut) → and_then r f ≡ Ok y
+    → (x : A × Cut) × (r ≡ Ok x) × (f x.0 x.1 ≡ Ok y)
 and_then_ok (Ok x) f y e = (x, refl, e)
 and_then_ok (Err d) f y e = absurd cc
 
@@ -29,7 +32,8 @@ pub record Shrinks {A : Type 0} (r : Reader A) : Type 0 where
 pub record Keeps {A : Type 0} (r : Reader A) : Type 0 where
   pub less : (cut : Cut) (x : A × Cut) → r cut ≡ Ok x → size x.1 ≤ size cut
 
-answered_shrinks : {A : Type 0} (t : Token) (o : Result A Cause) (cut : Cut) (x : A × Cut) → answered t o cut ≡ Ok x → size x.1 < suc (size cut)
+answered_shrinks : {A : Type 0} (t : Token) (o : Result A Cause) (cut : Cut) (x : A × Cut) → answered t o cut ≡ Ok x
+    → size x.1 < suc (size cut)
 answered_shrinks t (Ok y) cut x e = let same = ok_is (y, cut) x e in rw (← same) (omega arith)
 answered_shrinks t (Err cause) cut x e = absurd cc
 
@@ -52,15 +56,31 @@ pub keeps : {A : Type 0} {r : Reader A} → Shrinks r → Keeps r
 keeps {A} {r} h = record { less = λ cut x e. omega (arith, h.less cut x e) }
 
 pub bind_shrinks : {A B : Type 0} {r : Reader A} {f : A → Reader B} → Shrinks r → ((a : A) → Keeps (f a)) → Shrinks (r >>= f)
-bind_shrinks {A} {B} {r} {f} h k = record { less = λ cut y e. let x = and_then_ok (r cut) f y e in omega (arith, h.less cut x.0 x.1, (k x.0.0).less x.0.1 y x.2) }
+bind_shrinks {A} {B} {r} {f} h k = record {
+  less = λ cut y e. let x = and_then_ok (r cut) f y e in omega (
+    arith,
+    h.less cut x.0 x.1,
+    (k x.0.0).less x.0.1 y x.2,
+  );
+}
 
 pub bind_keeps : {A B : Type 0} {r : Reader A} {f : A → Reader B} → Keeps r → ((a : A) → Keeps (f a)) → Keeps (r >>= f)
-bind_keeps {A} {B} {r} {f} h k = record { less = λ cut y e. let x = and_then_ok (r cut) f y e in omega (arith, h.less cut x.0 x.1, (k x.0.0).less x.0.1 y x.2) }
+bind_keeps {A} {B} {r} {f} h k = record {
+  less = λ cut y e. let x = and_then_ok (r cut) f y e in omega (
+    arith,
+    h.less cut x.0 x.1,
+    (k x.0.0).less x.0.1 y x.2,
+  );
+}
 
 pub after_shrinks : {A B : Type 0} {r : Reader A} {f : A → Reader B} → Keeps r → ((a : A) → Shrinks (f a)) → Shrinks (r >>= f)
-after_shrinks {A} {B} {r} {f} h k = record { less = λ cut y e. let x = and_then_ok (r cut) f y e in omega (arith, h.less cut x.0 x.1, (k x.0.0).less x.0.1 y x.2) }
+after_shrinks {A} {B} {r} {f} h k = record {
+  less = λ cut y e. let x = and_then_ok (r cut) f y e in
+      omega (arith, h.less cut x.0 x.1, (k x.0.0).less x.0.1 y x.2);
+}
 
-chosen_shrinks : {A : Type 0} {r s : Reader A} (b : Bool) (cut : Cut) (x : A × Cut) → Shrinks r → Shrinks s → cond b (r cut) (s cut) ≡ Ok x → size x.1 < size cut
+chosen_shrinks : {A : Type 0} {r s : Reader A} (b : Bool) (cut : Cut) (x : A × Cut) → Shrinks r → Shrinks s → cond b (r cut) (s cut)
+    ≡ Ok x → size x.1 < size cut
 chosen_shrinks true cut x h k e = h.less cut x e
 chosen_shrinks false cut x h k e = k.less cut x e
 
@@ -70,7 +90,8 @@ choose_shrinks {A} test {r} {s} h k = record { less = λ cut x e. chosen_shrinks
 pub choose_by_shrinks : {A : Type 0} (test : Cut → Bool) {r s : Reader A} → Shrinks r → Shrinks s → Shrinks (choose_by test r s)
 choose_by_shrinks {A} test {r} {s} h k = record { less = λ cut x e. chosen_shrinks (test cut) cut x h k e }
 
-chosen_keeps : {A : Type 0} {r s : Reader A} (b : Bool) (cut : Cut) (x : A × Cut) → Keeps r → Keeps s → cond b (r cut) (s cut) ≡ Ok x → size x.1 ≤ size cut
+chosen_keeps : {A : Type 0} {r s : Reader A} (b : Bool) (cut : Cut) (x : A × Cut) → Keeps r → Keeps s → cond b (r cut) (s cut)
+    ≡ Ok x → size x.1 ≤ size cut
 chosen_keeps true cut x h k e = h.less cut x e
 chosen_keeps false cut x h k e = k.less cut x e
 
@@ -79,7 +100,8 @@ choose_keeps {A} test {r} {s} h k = record { less = λ cut x e. chosen_keeps (st
 
 -- ---- turns
 
-and_then_same : {A B : Type 0} (o : Result (A × Cut) ReadFault) (f g : A → Reader B) → ((x : A × Cut) → o ≡ Ok x → f x.0 x.1 ≡ g x.0 x.1) → and_then o f ≡ and_then o g
+and_then_same : {A B : Type 0} (o : Result (A × Cut) ReadFault) (f g : A → Reader B)
+    → ((x : A × Cut) → o ≡ Ok x → f x.0 x.1 ≡ g x.0 x.1) → and_then o f ≡ and_then o g
 and_then_same (Ok x) f g h = h x refl
 and_then_same (Err e) f g h = refl
 
@@ -96,34 +118,41 @@ module _ {S : Type 0} (test : Token → Bool) (r : S → Reader S) (shrinks : (s
   same_fuel (suc n) zero s cut l k = nothing (suc n) s cut (omega arith)
   same_fuel (suc n) (suc m) s cut l k =
       ap (λ o. cond (starts test cut) o (Ok (s, cut)))
-      (and_then_same (r s cut) _ _ (λ x e. same_fuel n m x.0 x.1 (omega (arith, (shrinks s).less cut x e)) (omega (arith, (shrinks s).less cut x e))))
+      (and_then_same (r s cut) _ _ (λ x e. same_fuel n m x.0 x.1 (omega (arith, (shrinks s).less cut x e))
+      (omega (arith, (shrinks s).less cut x e))))
 
-  pub repeated_step : (s : S) (cut : Cut) → repeated test r s cut ≡ cond (starts test cut) (and_then (r s cut) (repeated test r)) (Ok (s, cut))
+  pub repeated_step : (s : S) (cut : Cut) → repeated test r s cut ≡ cond (starts test cut) (and_then (r s cut) (repeated test r))
+      (Ok (s, cut))
   unfolding repeated starts
   repeated_step s (End line) = refl
   repeated_step s (Fault line) = refl
   repeated_step s (t ▸ cut) =
       ap (λ o. cond (test t) o (Ok (s, t ▸ cut)))
-      (and_then_same (r s (t ▸ cut)) _ _ (λ x e. same_fuel (size cut) (size x.1) x.0 x.1 (omega (arith, (shrinks s).less (t ▸ cut) x e)) (omega arith)))
+      (and_then_same (r s (t ▸ cut)) _ _ (λ x e. same_fuel (size cut) (size x.1) x.0 x.1
+      (omega (arith, (shrinks s).less (t ▸ cut) x e)) (omega arith)))
 
-  pub goes_on : (s s' : S) (cut rest : Cut) (total : Result (S × Cut) ReadFault) → starts test cut ≡ true → r s cut ≡ Ok (s', rest) → repeated test r s cut ≡ total → repeated test r s' rest ≡ total
+  pub goes_on : (s s' : S) (cut rest : Cut) (total : Result (S × Cut) ReadFault) → starts test cut ≡ true → r s cut ≡ Ok (s', rest)
+      → repeated test r s cut ≡ total → repeated test r s' rest ≡ total
   goes_on s s' cut rest total t h so_far =
       let one : repeated test r s cut ≡ repeated test r s' rest = repeated_step s cut ∙ rw (t, h) refl in
       sym one ∙ so_far
 
-  pub fails : (e : Stopped) (s : S) (cut : Cut) (total : Result (S × Cut) ReadFault) → starts test cut ≡ true → Fails e (r s cut) → repeated test r s cut ≡ total → Fails e total
+  pub fails : (e : Stopped) (s : S) (cut : Cut) (total : Result (S × Cut) ReadFault) → starts test cut ≡ true → Fails e (r s cut)
+      → repeated test r s cut ≡ total → Fails e total
   fails stops.Memory s cut total t h so_far = tt
   fails (stops.Fault f) s cut total t h so_far =
       let one : repeated test r s cut ≡ Err f = repeated_step s cut ∙ rw (t, h) refl in
       sym so_far ∙ one
 
-  pub ends : (s : S) (cut : Cut) (total : Result (S × Cut) ReadFault) → starts test cut ≡ false → repeated test r s cut ≡ total → total ≡ Ok (s, cut)
+  pub ends : (s : S) (cut : Cut) (total : Result (S × Cut) ReadFault) → starts test cut ≡ false → repeated test r s cut ≡ total
+      → total ≡ Ok (s, cut)
   ends s cut total t so_far =
       let one : repeated test r s cut ≡ Ok (s, cut) = repeated_step s cut ∙ rw t refl in
       sym so_far ∙ one
 
 module _ {S : Type 0} (test : Token → Bool) (r : S → Reader S) (shrinks : (s : S) → Shrinks (r s)) where
-  turn_less : (n : ℕ) → ((s : S) → Keeps (turns n test r s)) → (s : S) (b : Bool) (cut : Cut) (x : S × Cut) → cond b (and_then (r s cut) (turns n test r)) (Ok (s, cut)) ≡ Ok x → size x.1 ≤ size cut
+  turn_less : (n : ℕ) → ((s : S) → Keeps (turns n test r s)) → (s : S) (b : Bool) (cut : Cut) (x : S × Cut)
+      → cond b (and_then (r s cut) (turns n test r)) (Ok (s, cut)) ≡ Ok x → size x.1 ≤ size cut
   turn_less n k s false cut x e = value_less s cut x e
   turn_less n k s true cut x e =
       let y = and_then_ok (r s cut) (turns n test r) x e in
@@ -139,8 +168,11 @@ module _ {S : Type 0} (test : Token → Bool) (r : S → Reader S) (shrinks : (s
 
 -- ---- what turns keep
 
-module _ {S : Type 0} (P : S → Type 0) (test : Token → Bool) (r : S → Reader S) (kept : (s : S) (cut : Cut) (x : S × Cut) → P s → r s cut ≡ Ok x → P x.0) where
-  turn_holds : (n : ℕ) → ((s : S) (cut : Cut) (x : S × Cut) → P s → turns n test r s cut ≡ Ok x → P x.0) → (s : S) (b : Bool) (cut : Cut) (x : S × Cut) → P s → cond b (and_then (r s cut) (turns n test r)) (Ok (s, cut)) ≡ Ok x → P x.0
+module _ {S : Type 0} (P : S → Type 0) (test : Token → Bool) (r : S → Reader S) (kept : (s : S) (cut : Cut) (x : S × Cut) → P s
+    → r s cut ≡ Ok x → P x.0) where
+  turn_holds : (n : ℕ) → ((s : S) (cut : Cut) (x : S × Cut) → P s → turns n test r s cut ≡ Ok x → P x.0)
+      → (s : S) (b : Bool) (cut : Cut) (x : S × Cut) → P s → cond b (and_then (r s cut) (turns n test r)) (Ok (s, cut)) ≡ Ok x
+      → P x.0
   turn_holds n below s false cut x h e = subst (λ (y : S × Cut). P y.0) (ok_is (s, cut) x e) h
   turn_holds n below s true cut x h e =
       let y = and_then_ok (r s cut) (turns n test r) x e in

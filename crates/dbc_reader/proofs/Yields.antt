@@ -16,13 +16,15 @@ pub record Yields {A : Type 0} (r : Reader A) (P : A → Type 0) : Type 0 where
 
 -- ---- one behind another
 
-pub yields_then : {A B : Type 0} {r : Reader A} {f : A → Reader B} {P : A → Type 0} {Q : B → Type 0} → Yields r P → ((a : A) → P a → Yields (f a) Q) → Yields (r >>= f) Q
+pub yields_then : {A B : Type 0} {r : Reader A} {f : A → Reader B} {P : A → Type 0} {Q : B → Type 0} → Yields r P
+    → ((a : A) → P a → Yields (f a) Q) → Yields (r >>= f) Q
 yields_then {A} {B} {r} {f} {P} {Q} h k = record {
   holds = λ cut y e. (let x = and_then_ok (r cut) f y e in (k x.0.0 (h.holds cut x.0 x.1)).holds x.0.1 y x.2);
 }
 
 -- nothing is asked of the first
-pub yields_after : {A B : Type 0} (r : Reader A) {f : A → Reader B} {Q : B → Type 0} → ((a : A) → Yields (f a) Q) → Yields (r >>= f) Q
+pub yields_after : {A B : Type 0} (r : Reader A) {f : A → Reader B} {Q : B → Type 0} → ((a : A) → Yields (f a) Q)
+    → Yields (r >>= f) Q
 yields_after {A} {B} r {f} {Q} k = record {
   holds = λ cut y e. (let x = and_then_ok (r cut) f y e in (k x.0.0).holds x.0.1 y x.2);
 }
@@ -59,34 +61,44 @@ module _ {A : Type 0} (judge : Token → Result A Cause) (P : A → Type 0) (is 
 
 -- ---- choice
 
-chosen_holds : {A : Type 0} {r s : Reader A} {P : A → Type 0} → Yields r P → Yields s P → (b : Bool) (cut : Cut) (x : A × Cut) → cond b (r cut) (s cut) ≡ Ok x → P x.0
+chosen_holds : {A : Type 0} {r s : Reader A} {P : A → Type 0} → Yields r P → Yields s P → (b : Bool) (cut : Cut) (x : A × Cut)
+    → cond b (r cut) (s cut) ≡ Ok x → P x.0
 chosen_holds h k true cut x e = h.holds cut x e
 chosen_holds h k false cut x e = k.holds cut x e
 
-pub yields_choose : {A : Type 0} (test : Token → Bool) {r s : Reader A} {P : A → Type 0} → Yields r P → Yields s P → Yields (choose test r s) P
+pub yields_choose : {A : Type 0} (test : Token → Bool) {r s : Reader A} {P : A → Type 0} → Yields r P → Yields s P
+    → Yields (choose test r s) P
 yields_choose {A} test {r} {s} {P} h k = record { holds = λ cut x e. chosen_holds h k (starts test cut) cut x e }
 
 -- all that is read where the test is true is so
 pub record YieldsWhere {A : Type 0} (test : Cut → Bool) (r : Reader A) (P : A → Type 0) : Type 0 where
   pub holds : (cut : Cut) (x : A × Cut) → test cut ≡ true → r cut ≡ Ok x → P x.0
 
-tested_holds : {A : Type 0} {test : Cut → Bool} {r s : Reader A} {P : A → Type 0} → YieldsWhere test r P → Yields s P → (b : Bool) (cut : Cut) (x : A × Cut) → test cut ≡ b → cond b (r cut) (s cut) ≡ Ok x → P x.0
+tested_holds : {A : Type 0} {test : Cut → Bool} {r s : Reader A} {P : A → Type 0} → YieldsWhere test r P → Yields s P
+    → (b : Bool) (cut : Cut) (x : A × Cut) → test cut ≡ b → cond b (r cut) (s cut) ≡ Ok x → P x.0
 tested_holds h k true cut x is e = h.holds cut x is e
 tested_holds h k false cut x is e = k.holds cut x e
 
-pub yields_choose_by : {A : Type 0} {test : Cut → Bool} {r s : Reader A} {P : A → Type 0} → YieldsWhere test r P → Yields s P → Yields (choose_by test r s) P
+pub yields_choose_by : {A : Type 0} {test : Cut → Bool} {r s : Reader A} {P : A → Type 0} → YieldsWhere test r P → Yields s P
+    → Yields (choose_by test r s) P
 yields_choose_by {A} {test} {r} {s} {P} h k = record { holds = λ cut x e. tested_holds h k (test cut) cut x refl e }
 
-pub yields_then_where : {A B : Type 0} {test : Cut → Bool} {r : Reader A} {f : A → Reader B} {P : A → Type 0} {Q : B → Type 0} → YieldsWhere test r P → ((a : A) → P a → Yields (f a) Q) → YieldsWhere test (r >>= f) Q
+pub yields_then_where : {A B : Type 0} {test : Cut → Bool} {r : Reader A} {f : A → Reader B} {P : A → Type 0} {Q : B → Type 0}
+    → YieldsWhere test r P → ((a : A) → P a → Yields (f a) Q) → YieldsWhere test (r >>= f) Q
 yields_then_where {A} {B} {test} {r} {f} {P} {Q} h k = record {
   holds = λ cut y is e. (let x = and_then_ok (r cut) f y e in (k x.0.0 (h.holds cut x.0 is x.1)).holds x.0.1 y x.2);
 }
 
 -- ---- again and again
 
-pub yields_repeated : {S : Type 0} (P : S → Type 0) (test : Token → Bool) (r : S → Reader S) → ((s : S) → P s → Yields (r s) P) → (s : S) → P s → Yields (repeated test r s) P
-yields_repeated P test r h s is = record { holds = λ cut x e. repeated_holds P test r (λ s cut x is e. (h s is).holds cut x e) s cut x is e }
+pub yields_repeated : {S : Type 0} (P : S → Type 0) (test : Token → Bool) (r : S → Reader S) → ((s : S) → P s → Yields (r s) P)
+    → (s : S) → P s → Yields (repeated test r s) P
+yields_repeated P test r h s is = record {
+  holds = λ cut x e. repeated_holds P test r (λ s cut x is e. (h s is).holds cut x e) s cut
+      x is e;
+}
 
 -- one item more
-pub yields_more : {A : Type 0} {one_at : Reader A} {P : A → Type 0} → Yields one_at P → (xs : List A) → All P xs → Yields (one_at >>= λ a. value (xs ++ a ∷ [])) (All P)
+pub yields_more : {A : Type 0} {one_at : Reader A} {P : A → Type 0} → Yields one_at P → (xs : List A) → All P xs
+    → Yields (one_at >>= λ a. value (xs ++ a ∷ [])) (All P)
 yields_more {A} {one_at} {P} h xs all = yields_then h λ a is. yields_value (All-push P xs a all is)

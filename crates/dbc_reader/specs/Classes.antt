@@ -2,7 +2,8 @@
 -- be asked: strings, words, numbers and marks begin with different bytes.
 -- Source: the DBC file format, "General Definitions", and the sections that use the classes. The bounds, and that whole
 -- numbers are judged by their value, are the profile of candesk.
-use Rattle.std.specs.Prelude.{ℕ, ◌-◌, ◌^◌, nat_le, Bool, true, false, ◌&&◌, ◌==◌, List, [], ◌∷◌, ◌++◌, length, take, codes, Option, Some, None, Result, Ok, Err, if◌then◌else◌}
+use Rattle.std.specs.Prelude.{ℕ, ◌-◌, ◌^◌, nat_le, Bool, true, false, ◌&&◌, ◌==◌, List, [], ◌∷◌, ◌++◌, length, take, codes, Option}
+use Rattle.std.specs.Prelude.{Some, None, Result, Ok, Err, if◌then◌else◌}
 use Rattle.std.specs.Str.{bytes_eq}
 use Rattle.dbc_values.specs.Lexical.{is_kept_word, is_name, is_digits, small_m}
 use Rattle.dbc_values.specs.Numbers.{whole_of_number}
@@ -121,7 +122,8 @@ front bytes = take (length bytes - 1) bytes
 unfoldable pub muxed_of : List ℕ → Result Tag Cause
 muxed_of bytes =
     if is_digits bytes then counted tags.Muxed bytes
-    else (if is_digits (front bytes) && bytes_eq bytes (front bytes ++ codes "M") then counted tags.Both (front bytes) else Err causes.Statement)
+    else (if is_digits (front bytes) && bytes_eq bytes (front bytes ++ codes "M") then counted tags.Both (front bytes) else Err
+    causes.Statement)
 
 -- `M`, `m5`, `m5M`
 unfoldable pub tag_of : List ℕ → Result Tag Cause

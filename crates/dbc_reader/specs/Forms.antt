@@ -8,7 +8,8 @@ use Rattle.dbc_values.specs.Numbers.{mantissa_of, exponent_of, IsWholeNumber}
 use Rattle.dbc_values.specs.Decimals.{Decimal, SpellsDecimal}
 use Rattle.dbc_values.specs.Names.{is_symbol}
 use Rattle.dbc_values.specs.Pieces.{is_piece}
-use Rattle.dbc_records.specs.Layout.{Item, Word, Mark, Name, Symbol, Text, Whole, Int, Number, Switch, Muxed, Both, Order, Piece, Layout, items_of}
+use Rattle.dbc_records.specs.Layout.{Item, Word, Mark, Name, Symbol, Text, Whole, Int, Number, Switch, Muxed, Both, Order, Piece}
+use Rattle.dbc_records.specs.Layout.{Layout, items_of}
 use Rattle.dbc_tokens.specs.Tokens.{Token, Cut, ◌▸◌}
 
 -- ---- one item
@@ -25,7 +26,8 @@ IsSign true tokens = IsOne (λ bytes. bytes ≡ codes "-") tokens
 -- a sign or none, and a number whose bytes are so
 abbrev pub IsSigned : (Bool → List ℕ → Type 0) → List Token → Type 0
 IsSigned AreSo tokens =
-    (negative : Bool) × (sign number : List Token) × (tokens ≡ sign ++ number) × IsSign negative sign × IsOne (AreSo negative) number
+    (negative : Bool) × (sign number : List Token) × (tokens ≡ sign ++ number) × IsSign negative sign
+    × IsOne (AreSo negative) number
 
 -- the bytes are a number whose value is this whole number
 abbrev pub SpellsNumber : List ℕ → ℕ → Type 0
@@ -36,7 +38,8 @@ signed negative n = if negative then neg_ℤ (pos n) else pos n
 
 -- digits behind an `m`, and this behind them
 abbrev pub SpellsTag : List ℕ → ℕ → List ℕ → Type 0
-SpellsTag bytes n behind = (digits : List ℕ) × (bytes ≡ codes "m" ++ (digits ++ behind)) × IsTrue (is_digits digits) × (digits_value 10 digits ≡ n)
+SpellsTag bytes n behind = (digits : List ℕ) × (bytes ≡ codes "m" ++ (digits ++ behind)) × IsTrue (is_digits digits)
+    × (digits_value 10 digits ≡ n)
 
 -- the tokens say the item
 abbrev pub Says : Item → List Token → Type 0

@@ -3,8 +3,10 @@
 -- Source: the DBC file format, the section of each statement.
 use Rattle.std.specs.Prelude.{ℕ, ◌^◌, ◌-◌, true, false, codes}
 use Rattle.dbc_records.specs.Records.{most_bytes, most_bits}
-use Rattle.dbc_values.specs.Lexical.{opening_parenthesis, closing_parenthesis, plus, comma, minus, colon, semicolon, at_sign, opening_bracket, closing_bracket, bar}
-use Rattle.dbc_reader.specs.Pattern.{Word, Mark, Name, Symbol, String, Whole, Number, Order, Tag, Piece, KeptWord, BeginsMessage, BeginsSignal, SignalName, Pattern, Done, ◌⇒◌, Either, Repeat, ◌then◌}
+use Rattle.dbc_values.specs.Lexical.{opening_parenthesis, closing_parenthesis, plus, comma, minus, colon, semicolon, at_sign}
+use Rattle.dbc_values.specs.Lexical.{opening_bracket, closing_bracket, bar}
+use Rattle.dbc_reader.specs.Pattern.{Word, Mark, Name, Symbol, String, Whole, Number, Order, Tag, Piece, KeptWord, BeginsMessage}
+use Rattle.dbc_reader.specs.Pattern.{BeginsSignal, SignalName, Pattern, Done, ◌⇒◌, Either, Repeat, ◌then◌}
 
 -- ---- parts
 
@@ -81,7 +83,8 @@ comment = Word (codes "CM_") ⇒ Either (Word (codes "EV_") ⇒ kept_rest) (targ
 abbrev pub object : Pattern
 object =
     Either (Word (codes "BU_") ⇒ Done)
-    (Either (Word (codes "BO_") ⇒ Done) (Either (Word (codes "SG_") ⇒ Done) (Either (Word (codes "EV_") ⇒ Done) Done Done) Done) Done) Done
+    (Either (Word (codes "BO_") ⇒ Done) (Either (Word (codes "SG_") ⇒ Done) (Either (Word (codes "EV_") ⇒ Done) Done Done) Done)
+    Done) Done
 
 abbrev pub limits : Pattern
 limits = perhaps (decimal then decimal)
@@ -91,7 +94,8 @@ form =
     Either (Word (codes "INT") ⇒ limits)
     (Either (Word (codes "HEX") ⇒ limits)
     (Either (Word (codes "FLOAT") ⇒ limits)
-    (Either (Word (codes "STRING") ⇒ Done) (Word (codes "ENUM") ⇒ String ⇒ Repeat (Mark comma ⇒ String ⇒ Done) Done) Done) Done) Done) Done
+    (Either (Word (codes "STRING") ⇒ Done) (Word (codes "ENUM") ⇒ String ⇒ Repeat (Mark comma ⇒ String ⇒ Done) Done) Done) Done)
+    Done) Done
 
 abbrev pub definition : Pattern
 definition = Word (codes "BA_DEF_") ⇒ (object then String ⇒ (form then statement_end))

@@ -1,6 +1,7 @@
 -- The first fault of a text: a pattern over classes of tokens, what each token leaves of it, and the rules that a token
 -- of a class may break. No text behind the token is looked at.
-use Rattle.std.specs.Prelude.{ℕ, ◌+◌, Bool, true, false, ◌||◌, ◌&&◌, nat_le, if◌then◌else◌, List, [], ◌∷◌, ◌++◌, length, codes, Option, Some, None, Result, Ok, Err}
+use Rattle.std.specs.Prelude.{ℕ, ◌+◌, Bool, true, false, ◌||◌, ◌&&◌, nat_le, if◌then◌else◌, List, [], ◌∷◌, ◌++◌, length, codes}
+use Rattle.std.specs.Prelude.{Option, Some, None, Result, Ok, Err}
 use Rattle.std.specs.List.{list_any}
 use Rattle.std.specs.Str.{bytes_eq}
 use Rattle.dbc_records.specs.Databases.{most_messages}
@@ -9,7 +10,8 @@ use Rattle.dbc_tokens.specs.declared.fault.Cause.{Cause}
 use Rattle.dbc_tokens.specs.declared.fault.Cause.TheVariants as causes
 use Rattle.dbc_tokens.specs.declared.fault.ReadFault.{ReadFault}
 use Rattle.dbc_tokens.specs.Tokens.{Token, Cut, End, Fault, ◌▸◌}
-use Rattle.dbc_reader.specs.Classes.{has_word, has_mark, has_name, has_symbol, has_string, has_piece, has_kept_word, has_number, whole_of, order_of, tag_of}
+use Rattle.dbc_reader.specs.Classes.{has_word, has_mark, has_name, has_symbol, has_string, has_piece, has_kept_word, has_number}
+use Rattle.dbc_reader.specs.Classes.{whole_of, order_of, tag_of}
 
 -- ---- classes of tokens
 
@@ -52,14 +54,18 @@ judged_so (Ok x) seen = Ok seen
 judged_so (Err cause) seen = Err cause
 
 abbrev pub one_message_more : Seen → Result Seen Cause
-one_message_more seen = if nat_le most_messages seen.messages then Err causes.MessagesFull else Ok (record { messages = seen.messages + 1; signals = [] })
+one_message_more seen = if nat_le most_messages seen.messages then Err causes.MessagesFull else Ok
+    (record { messages = seen.messages + 1; signals = [] })
 
 abbrev pub one_signal_more : Seen → Result Seen Cause
 one_signal_more seen = if nat_le most_signals (length seen.signals) then Err causes.SignalsFull else Ok seen
 
 abbrev pub one_name_more : List ℕ → Seen → Result Seen Cause
 one_name_more name seen =
-    if list_any (bytes_eq name) seen.signals then Err causes.RepeatedSignal else Ok (record seen { signals = seen.signals ++ name ∷ [] })
+    if list_any (bytes_eq name) seen.signals then Err causes.RepeatedSignal else Ok (record seen {
+      signals = seen.signals ++ name
+          ∷ [];
+    })
 
 -- What a token does where one of the class may stand: it is none of the class (a fault of the statement), it breaks a
 -- rule, or this is seen from then on.

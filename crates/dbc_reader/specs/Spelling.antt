@@ -6,14 +6,18 @@ use Rattle.std.specs.Prelude.{◌≡◌, ◌≤◌, ℕ, List, [], ◌∷◌, �
 use Rattle.std.specs.List.{flat_map}
 use Rattle.dbc_values.specs.Lexical.{comma, colon, semicolon}
 use Rattle.dbc_values.specs.Decimals.{Decimal}
-use Rattle.dbc_records.specs.Records.{IsHead, IsSignal, IsTableRow, IsValueRow, IsMuxRow, Signal, Message, TableRow, ValueRow, FloatRow, MuxRow}
+use Rattle.dbc_records.specs.Records.{IsHead, IsSignal, IsTableRow, IsValueRow, IsMuxRow, Signal, Message, TableRow, ValueRow}
+use Rattle.dbc_records.specs.Records.{FloatRow, MuxRow}
 use Rattle.dbc_records.specs.Comments.{Comment}
 use Rattle.dbc_records.specs.Attributes.{AttrDef, AttrDefault, AttrRow, IsAttrRow}
 use Rattle.dbc_records.specs.declared.target.Target.TheVariants as targets
 use Rattle.dbc_records.specs.Kept.{Kept}
 use Rattle.dbc_records.specs.Databases.{Database, IsDatabase}
 use Rattle.dbc_records.specs.Layout.{Mark, Name, Whole}
-use Rattle.dbc_records.specs.CanonicalText.{version_layout, symbols_layout, timing_title, nodes_layout, table_layout, head_layout, signal_name_layout, tag_layout, place_layout, scale_layout, limits_layout, spaced_text, comment_layout, definition_layout, default_layout, attribute_layout, values_layout, float_key, mux_layout, kept_layout}
+use Rattle.dbc_records.specs.CanonicalText.{version_layout, symbols_layout, timing_title, nodes_layout, table_layout, head_layout}
+use Rattle.dbc_records.specs.CanonicalText.{signal_name_layout, tag_layout, place_layout, scale_layout, limits_layout, spaced_text}
+use Rattle.dbc_records.specs.CanonicalText.{comment_layout, definition_layout, default_layout, attribute_layout, values_layout}
+use Rattle.dbc_records.specs.CanonicalText.{float_key, mux_layout, kept_layout}
 use Rattle.dbc_reader.specs.declared.statement.Statement.{Statement}
 use Rattle.dbc_reader.specs.declared.statement.Statement.TheVariants as statements
 use Rattle.dbc_tokens.specs.Tokens.{Token}
@@ -40,7 +44,8 @@ pub data AnyStatement : Type 0 where
 abbrev pub timing_form : Option (Decimal × Decimal × Decimal) → List Part
 timing_form None = of_layout timing_title
 timing_form (Some numbers) =
-    of_layout timing_title ++ (Unsigned numbers.0 ∷ Is (Mark colon) ∷ Unsigned numbers.1 ∷ Is (Mark comma) ∷ Unsigned numbers.2 ∷ [])
+    of_layout timing_title ++ (Unsigned numbers.0 ∷ Is (Mark colon) ∷ Unsigned numbers.1 ∷ Is (Mark comma) ∷ Unsigned numbers.2
+    ∷ [])
 
 -- a comma may stand before each receiver but the first
 abbrev pub receivers_form : List (List ℕ) → List Part
@@ -49,7 +54,9 @@ receivers_form (name ∷ names) = Is (Name name) ∷ flat_map (λ further. Perha
 
 abbrev pub signal_form : Signal → List Part
 signal_form signal =
-    of_layout (signal_name_layout signal ++ (tag_layout signal.tag ++ (place_layout signal ++ (scale_layout signal ++ (limits_layout signal ++ spaced_text signal.unit)))))
+    of_layout (signal_name_layout signal
+    ++ (tag_layout signal.tag
+    ++ (place_layout signal ++ (scale_layout signal ++ (limits_layout signal ++ spaced_text signal.unit)))))
     ++ receivers_form signal.receivers
 
 -- the form of each statement: the items of its printed line, but for marks that may be missing

@@ -14,7 +14,8 @@ abbrev pub HasDatabase : List ℕ → Database → Type 0
 HasDatabase text database = (tokens : List Token) × (line : ℕ) × HasTokens 1 text (tokens ▸▸ End line) × Spells tokens database
 
 abbrev pub HasStatement : List ℕ → Statement → Type 0
-HasStatement text statement = (tokens : List Token) × (line : ℕ) × HasTokens 1 text (tokens ▸▸ End line) × SpellsStatement tokens statement
+HasStatement text statement = (tokens : List Token) × (line : ℕ) × HasTokens 1 text (tokens ▸▸ End line)
+    × SpellsStatement tokens statement
 
 -- this is the first fault of the text's tokens against the pattern
 abbrev pub HasFirstFault : Pattern → List ℕ → ReadFault → Type 0

@@ -5,7 +5,9 @@ ghost use Rattle.dbc_records.specs.Comments.{IsTarget};
 ghost use Rattle.dbc_reader.specs.Reading.Cursors.{left_at, behind, with_word};
 ghost use Rattle.dbc_reader.specs.Reading.Readers.{GivesTo, starts};
 ghost use Rattle.dbc_reader.specs.Reading.Parts.{begins_decimal};
-ghost use Rattle.dbc_reader.specs.Reading.Attributes.{node_target_at, message_target_at, signal_target_at, target_at, comment_at, object_at, limits_at, enumeration_at, form_at, definition_at, value_at, default_at, attribute_at};
+ghost use Rattle.dbc_reader.specs.Reading.Attributes.{node_target_at, message_target_at, signal_target_at, target_at, comment_at};
+ghost use Rattle.dbc_reader.specs.Reading.Attributes.{object_at, limits_at, enumeration_at, form_at, definition_at, value_at};
+ghost use Rattle.dbc_reader.specs.Reading.Attributes.{default_at, attribute_at};
 
 use crate::classes;
 use crate::cursor::Cursor;

@@ -7,7 +7,8 @@ ghost use Rattle.dbc_records.specs.Records.{most_signals, signal_fits, signals_f
 ghost use Rattle.dbc_reader.specs.Classes.{has_word};
 ghost use Rattle.dbc_reader.specs.Reading.Cursors.{left_at};
 ghost use Rattle.dbc_reader.specs.Reading.Readers.{GivesTo, starts};
-ghost use Rattle.dbc_reader.specs.Reading.Messages.{begin_message_at, head_at, begin_signal_at, signal_name_at, tag_at, sign_at, place_at, signal_at, signals_from, message_at};
+ghost use Rattle.dbc_reader.specs.Reading.Messages.{begin_message_at, head_at, begin_signal_at, signal_name_at, tag_at, sign_at};
+ghost use Rattle.dbc_reader.specs.Reading.Messages.{place_at, signal_at, signals_from, message_at};
 
 use crate::cursor::Cursor;
 use crate::numerals::{id, order, pair, whole};

@@ -3,7 +3,8 @@ ghost use Rattle.std.specs.Prelude.{◌≡◌, ◌≤◌, ◌<◌, ◌^◌, ◌=
 ghost use Rattle.dbc_records.specs.Records.{entry_fits};
 ghost use Rattle.dbc_reader.specs.Reading.Cursors.{left_at};
 ghost use Rattle.dbc_reader.specs.Reading.Readers.{GivesTo, MayGive};
-ghost use Rattle.dbc_reader.specs.Reading.Parts.{whole_at, id_at, number_at, order_at, decimal_at, int_at, pair_at, entry_at, begins_int, entries_from};
+ghost use Rattle.dbc_reader.specs.Reading.Parts.{whole_at, id_at, number_at, order_at, decimal_at, int_at, pair_at, entry_at};
+ghost use Rattle.dbc_reader.specs.Reading.Parts.{begins_int, entries_from};
 
 use crate::classes::has_mark;
 use crate::cursor::Cursor;

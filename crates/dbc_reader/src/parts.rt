@@ -6,7 +6,8 @@ ghost use Rattle.dbc_values.specs.Pieces.{inside};
 ghost use Rattle.dbc_reader.specs.Classes.{has_name};
 ghost use Rattle.dbc_reader.specs.Reading.Cursors.{left_at, behind};
 ghost use Rattle.dbc_reader.specs.Reading.Readers.{GivesTo, MakesTo, MayGive, starts};
-ghost use Rattle.dbc_reader.specs.Reading.Parts.{word_at, mark_at, name_at, symbol_at, text_at, piece_at, names_from, symbols_from, pieces_from, comma_at, begins_receiver, receivers_from, receivers_at, texts_from};
+ghost use Rattle.dbc_reader.specs.Reading.Parts.{word_at, mark_at, name_at, symbol_at, text_at, piece_at, names_from, symbols_from};
+ghost use Rattle.dbc_reader.specs.Reading.Parts.{pieces_from, comma_at, begins_receiver, receivers_from, receivers_at, texts_from};
 
 use crate::classes;
 use crate::cursor::Cursor;
@@ -95,7 +96,8 @@ pub fn piece(alloc: Global, at: &mut Cursor<'_>) -> Result<Piece, Stopped>
 // What stands between quotes.
 #[tactic(auto, using(dbc_values::proofs::Strings::quoted_by_ends))]
 fn between_quotes(bytes: &[u8]) -> Option<&[u8]>
-    ensures { option_map (λ text. text.now) result ≡ (if bytes_eq bytes.now (quoted (inside bytes.now)) then Some (inside bytes.now) else None) }
+    ensures { option_map (λ text. text.now) result ≡ (if bytes_eq bytes.now (quoted (inside bytes.now)) then Some (inside bytes.now)
+        else None) }
 {
     match bytes {
         [first, text @ .., last] => {

@@ -4,7 +4,8 @@ ghost use Rattle.dbc_records.specs.Databases.{IsBitTiming, timing_fits};
 ghost use Rattle.dbc_reader.specs.Texts.{IsRead, IsReadAlone};
 ghost use Rattle.dbc_reader.specs.Reading.Cursors.{left_at};
 ghost use Rattle.dbc_reader.specs.Reading.Readers.{GivesTo, MakesTo, fault_of};
-ghost use Rattle.dbc_reader.specs.Reading.Databases.{version_at, timing_numbers_at, timing_at, timed_into, empty_database, database_at, message_attribute_at, one_of_six_at, statement_at};
+ghost use Rattle.dbc_reader.specs.Reading.Databases.{version_at, timing_numbers_at, timing_at, timed_into, empty_database};
+ghost use Rattle.dbc_reader.specs.Reading.Databases.{database_at, message_attribute_at, one_of_six_at, statement_at};
 
 use crate::attributes::{message_target, value};
 use crate::cursor::Cursor;

@@ -3,7 +3,8 @@ ghost use Rattle.std.specs.Prelude.{◌≡◌, [], ◌∷◌, codes, IfOk, IsTru
 ghost use Rattle.dbc_records.specs.Records.{ranges_fit};
 ghost use Rattle.dbc_reader.specs.Reading.Cursors.{left_at, with_word};
 ghost use Rattle.dbc_reader.specs.Reading.Readers.{GivesTo};
-ghost use Rattle.dbc_reader.specs.Reading.Tables.{table_at, values_at, colon_at, float_at, range_at, ranges_from, ranges_at, mux_at};
+ghost use Rattle.dbc_reader.specs.Reading.Tables.{table_at, values_at, colon_at, float_at, range_at, ranges_from, ranges_at};
+ghost use Rattle.dbc_reader.specs.Reading.Tables.{mux_at};
 
 use crate::cursor::Cursor;
 use crate::numerals::{entries, id, whole};

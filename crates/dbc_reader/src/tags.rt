@@ -30,7 +30,8 @@ fn count(digits: &[u8]) -> Result<u64, Cause>
 // The digits before a last `M`.
 #[tactic(auto, using(crate::proofs::Facts::Ends::ends_by_last))]
 fn before_switch(bytes: &[u8]) -> Option<&[u8]>
-    ensures { option_map (λ digits. digits.now) result ≡ (if is_digits (front bytes.now) && bytes_eq bytes.now (front bytes.now ++ codes "M") then Some (front bytes.now) else None) }
+    ensures { option_map (λ digits. digits.now) result ≡ (if is_digits (front bytes.now) && bytes_eq bytes.now (front bytes.now
+        ++ codes "M") then Some (front bytes.now) else None) }
 {
     match bytes {
         [digits @ .., last] => {

@@ -3,9 +3,11 @@
 -- files: one space between parts, none before a statement's last semicolon but behind entries and kept tokens.
 use Rattle.std.specs.Prelude.{ℕ, Bool, List, [], ◌∷◌, ◌++◌, Option, Some, None, codes, if◌then◌else◌}
 use Rattle.std.specs.List.{flat_map}
-use Rattle.dbc_values.specs.Lexical.{opening_parenthesis, closing_parenthesis, plus, comma, minus, colon, semicolon, at_sign, opening_bracket, closing_bracket, bar}
+use Rattle.dbc_values.specs.Lexical.{opening_parenthesis, closing_parenthesis, plus, comma, minus, colon, semicolon, at_sign}
+use Rattle.dbc_values.specs.Lexical.{opening_bracket, closing_bracket, bar}
 use Rattle.dbc_values.specs.Decimals.{Decimal}
-use Rattle.dbc_records.specs.Layout.{Word, Mark, Name, Symbol, Text, Whole, Int, Number, Switch, Muxed, Both, Order, Piece, Space, Tab, LineEnd, Is, Layout, layout_text, separated}
+use Rattle.dbc_records.specs.Layout.{Word, Mark, Name, Symbol, Text, Whole, Int, Number, Switch, Muxed, Both, Order, Piece, Space}
+use Rattle.dbc_records.specs.Layout.{Tab, LineEnd, Is, Layout, layout_text, separated}
 use Rattle.dbc_records.specs.Records.{Head, Signal, Message, Entry, TableRow, ValueRow, FloatRow, MuxRow}
 use Rattle.dbc_records.specs.Comments.{Comment}
 use Rattle.dbc_records.specs.Attributes.{AttrDef, AttrDefault, AttrRow}
@@ -87,7 +89,8 @@ symbols_layout symbols = symbols_title ++ flat_map symbol_layout symbols
 
 -- ` a : b , c`
 unfoldable pub timing_numbers : List Decimal → Layout
-timing_numbers (a ∷ b ∷ c ∷ []) = spaced_number a ++ (spaced_mark colon ++ (spaced_number b ++ (spaced_mark comma ++ spaced_number c)))
+timing_numbers (a ∷ b ∷ c ∷ []) =
+    spaced_number a ++ (spaced_mark colon ++ (spaced_number b ++ (spaced_mark comma ++ spaced_number c)))
 timing_numbers numbers = []
 
 unfoldable pub perhaps_numbers : Option (List Decimal) → Layout
@@ -135,7 +138,8 @@ values_layout row = values_key row ++ (flat_map entry_layout row.entries ++ spac
 -- `BO_ number name: size sender`
 unfoldable pub head_layout : Head → Layout
 head_layout head =
-    Is (Word (codes "BO_")) ∷ Space ∷ Is (Whole head.number) ∷ Space ∷ Is (Name head.name) ∷ Is (Mark colon) ∷ Space ∷ Is (Whole head.size) ∷ Space ∷ Is (Name head.sender) ∷ LineEnd ∷ []
+    Is (Word (codes "BO_")) ∷ Space ∷ Is (Whole head.number) ∷ Space ∷ Is (Name head.name) ∷ Is (Mark colon) ∷ Space
+    ∷ Is (Whole head.size) ∷ Space ∷ Is (Name head.sender) ∷ LineEnd ∷ []
 
 -- ` SG_ name`
 unfoldable pub signal_name_layout : Signal → Layout
@@ -155,7 +159,8 @@ sign_mark signed = if signed then minus else plus
 -- ` : start|length@order` and the sign
 unfoldable pub place_layout : Signal → Layout
 place_layout signal =
-    Space ∷ Is (Mark colon) ∷ Space ∷ Is (Whole signal.start) ∷ Is (Mark bar) ∷ Is (Whole signal.length) ∷ Is (Mark at_sign) ∷ Is (Order signal.intel) ∷ Is (Mark (sign_mark signal.signed)) ∷ []
+    Space ∷ Is (Mark colon) ∷ Space ∷ Is (Whole signal.start) ∷ Is (Mark bar) ∷ Is (Whole signal.length) ∷ Is (Mark at_sign)
+    ∷ Is (Order signal.intel) ∷ Is (Mark (sign_mark signal.signed)) ∷ []
 
 -- two numbers, with a mark before, between and behind them
 unfoldable pub pair_layout : ℕ → Decimal → ℕ → Decimal → ℕ → Layout
@@ -198,7 +203,8 @@ unfoldable pub target_layout : Target → Layout
 target_layout targets.Whole = []
 target_layout (targets.Node name) = Space ∷ Is (Word (codes "BU_")) ∷ Space ∷ Is (Name name) ∷ []
 target_layout (targets.Message number) = Space ∷ Is (Word (codes "BO_")) ∷ Space ∷ Is (Whole number) ∷ []
-target_layout (targets.Signal number name) = Space ∷ Is (Word (codes "SG_")) ∷ Space ∷ Is (Whole number) ∷ Space ∷ Is (Name name) ∷ []
+target_layout (targets.Signal number name) = Space ∷ Is (Word (codes "SG_")) ∷ Space ∷ Is (Whole number) ∷ Space ∷ Is (Name name)
+    ∷ []
 
 -- `CM_`, `CM_ BU_ n`, ..
 unfoldable pub comment_key : Comment → Layout
@@ -310,18 +316,22 @@ kept_layout statement = flat_map piece_layout statement.tokens ++ statement_end
 
 -- what stands before the messages
 unfoldable pub front_layout : Database → Layout
-front_layout d = version_layout d.version ++ (symbols_layout d.symbols ++ (timing_layout d.bit_timing ++ (nodes_layout d.nodes ++ flat_map table_layout d.tables)))
+front_layout d = version_layout d.version
+    ++ (symbols_layout d.symbols ++ (timing_layout d.bit_timing ++ (nodes_layout d.nodes ++ flat_map table_layout d.tables)))
 
 unfoldable pub attributes_layout : Database → Layout
-attributes_layout d = flat_map definition_layout d.definitions ++ (flat_map default_layout d.defaults ++ flat_map attribute_layout d.attributes)
+attributes_layout d = flat_map definition_layout d.definitions ++ (flat_map default_layout d.defaults ++ flat_map attribute_layout
+    d.attributes)
 
 -- the rows of signals, and then the kept statements
 unfoldable pub rows_layout : Database → Layout
-rows_layout d = flat_map values_layout d.values ++ (flat_map float_layout d.floats ++ (flat_map mux_layout d.muxes ++ flat_map kept_layout d.kept))
+rows_layout d = flat_map values_layout d.values ++ (flat_map float_layout d.floats ++ (flat_map mux_layout d.muxes
+    ++ flat_map kept_layout d.kept))
 
 -- all kinds, in the order of the format
 unfoldable pub database_layout : Database → Layout
-database_layout d = front_layout d ++ (flat_map message_layout d.messages ++ (flat_map comment_layout d.comments ++ (attributes_layout d ++ rows_layout d)))
+database_layout d = front_layout d ++ (flat_map message_layout d.messages ++ (flat_map comment_layout d.comments
+    ++ (attributes_layout d ++ rows_layout d)))
 
 unfoldable pub canonical_text : Database → List ℕ
 canonical_text database = layout_text (database_layout database)

@@ -4,7 +4,8 @@ use Rattle.std.specs.Prelude.{◌≡◌, ℕ, Bool, true, not, ◌&&◌, nat_le,
 use Rattle.std.specs.List.{list_all}
 use Rattle.dbc_values.specs.Decimals.{Decimal, IsDecimal}
 use Rattle.dbc_values.specs.Names.{IsName, IsText, IsSymbol}
-use Rattle.dbc_records.specs.Records.{TableRow, IsTableRow, Message, IsMessage, ValueRow, IsValueRow, FloatRow, IsFloatRow, MuxRow, IsMuxRow}
+use Rattle.dbc_records.specs.Records.{TableRow, IsTableRow, Message, IsMessage, ValueRow, IsValueRow, FloatRow, IsFloatRow, MuxRow}
+use Rattle.dbc_records.specs.Records.{IsMuxRow}
 use Rattle.dbc_records.specs.Comments.{Comment, IsComment}
 use Rattle.dbc_records.specs.Attributes.{AttrDef, IsAttrDef, AttrDefault, IsAttrDefault, AttrRow, IsAttrRow}
 use Rattle.dbc_records.specs.Kept.{Kept, IsKept}

@@ -1,6 +1,7 @@
 -- Layouts: what is printed, as blanks and items. An item is what one token of a statement says, or two where a number has
 -- a sign.
-use Rattle.std.specs.Prelude.{ℕ, ℤ, pos, negsuc, suc, ◌+◌, ◌-◌, nat_le, Bool, ◌&&◌, List, [], ◌∷◌, ◌++◌, length, take, drop, replicate, codes, decimal, if◌then◌else◌}
+use Rattle.std.specs.Prelude.{ℕ, ℤ, pos, negsuc, suc, ◌+◌, ◌-◌, nat_le, Bool, ◌&&◌, List, [], ◌∷◌, ◌++◌, length, take, drop}
+use Rattle.std.specs.Prelude.{replicate, codes, decimal, if◌then◌else◌}
 use Rattle.std.specs.List.{flat_map}
 use Rattle.std.specs.Fmt.{signed_decimal}
 use Rattle.dbc_values.specs.Lexical.{point, digit_zero, quoted}
@@ -51,9 +52,11 @@ point_before_last count digits = take (length digits - count) digits ++ (point �
 
 -- `digits · 10^exponent`, without an exponent where at most 20 digits stand before the point and at most 20 behind it
 unfoldable pub magnitude_text : List ℕ → ℤ → List ℕ
-magnitude_text digits (pos count) = if nat_le (length digits + count) plain_digits then digits ++ zeros count else with_exponent digits (pos count)
+magnitude_text digits (pos count) = if nat_le (length digits + count) plain_digits then digits ++ zeros count else with_exponent
+    digits (pos count)
 magnitude_text digits (negsuc n) =
-    if nat_le (suc n) plain_digits && nat_le (length digits) (plain_digits + suc n) then point_before_last (suc n) (filled (suc n) digits)
+    if nat_le (suc n) plain_digits && nat_le (length digits) (plain_digits + suc n) then point_before_last (suc n)
+    (filled (suc n) digits)
     else with_exponent digits (negsuc n)
 
 unfoldable pub sign_text : Bool → List ℕ

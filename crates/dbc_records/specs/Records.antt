@@ -4,7 +4,8 @@
 -- plain data as the code declares them.
 -- Source: the DBC file format, the section that is named with each. Bounds that no section gives are the profile of
 -- candesk.
-use Rattle.std.specs.Prelude.{ℕ, ℤ, pos, negsuc, int_le, ◌-◌, ◌<◌, ◌^◌, Bool, true, not, ◌&&◌, nat_le, List, [], ◌∷◌, All, length, map, IsTrue}
+use Rattle.std.specs.Prelude.{ℕ, ℤ, pos, negsuc, int_le, ◌-◌, ◌<◌, ◌^◌, Bool, true, not, ◌&&◌, nat_le, List, [], ◌∷◌, All, length}
+use Rattle.std.specs.Prelude.{map, IsTrue}
 use Rattle.std.specs.List.{list_any}
 use Rattle.std.specs.Str.{bytes_eq}
 use Rattle.dbc_values.specs.Names.{IsName, IsText}

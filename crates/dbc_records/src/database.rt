@@ -55,9 +55,40 @@ impl Model for Database {
 
     ghost Value = { databases.Database };
 
-    ghost view = { λ a. record { version = a.version; symbols = a.symbols; bit_timing = a.bit_timing; nodes = a.nodes; tables = a.tables; messages = a.messages; comments = a.comments; definitions = a.definitions; defaults = a.defaults; attributes = a.attributes; values = a.values; floats = a.floats; muxes = a.muxes; kept = a.kept } };
+    ghost view = { λ a. record {
+      version = a.version;
+      symbols = a.symbols;
+      bit_timing = a.bit_timing;
+      nodes = a.nodes;
+      tables = a.tables;
+      messages = a.messages;
+      comments = a.comments;
+      definitions = a.definitions;
+      defaults = a.defaults;
+      attributes = a.attributes;
+      values = a.values;
+      floats = a.floats;
+      muxes = a.muxes;
+      kept = a.kept;
+    } };
 
-    ghost invariant = { λ a. databases.IsDatabase (record { version = a.version; symbols = a.symbols; bit_timing = a.bit_timing; nodes = a.nodes; tables = a.tables; messages = a.messages; comments = a.comments; definitions = a.definitions; defaults = a.defaults; attributes = a.attributes; values = a.values; floats = a.floats; muxes = a.muxes; kept = a.kept }) };
+    ghost invariant = { λ a. databases.IsDatabase (record {
+      version = a.version;
+      symbols = a.symbols;
+      bit_timing = a.bit_timing;
+      nodes = a.nodes;
+      tables = a.tables;
+      messages = a.messages;
+      comments = a.comments;
+      definitions = a.definitions;
+      defaults =
+          a.defaults;
+      attributes = a.attributes;
+      values = a.values;
+      floats = a.floats;
+      muxes = a.muxes;
+      kept = a.kept;
+    }) };
 }
 
 fn none_negative(numbers: [Decimal; 3]) -> bool
@@ -100,7 +131,24 @@ impl Database {
         muxes: List<MuxRow>,
         kept: List<Kept>,
     ) -> Option<Database>
-        ensures { result ≡ (if database_fits bit_timing messages then Some (record { version = version; symbols = symbols; bit_timing = bit_timing; nodes = nodes; tables = tables; messages = messages; comments = comments; definitions = definitions; defaults = defaults; attributes = attributes; values = values; floats = floats; muxes = muxes; kept = kept }) else None) }
+        ensures { result ≡ (if database_fits bit_timing messages then Some (record {
+          version = version;
+          symbols = symbols;
+          bit_timing = bit_timing;
+          nodes = nodes;
+          tables = tables;
+          messages = messages;
+          comments = comments;
+          definitions =
+              definitions;
+          defaults = defaults;
+          attributes = attributes;
+          values = values;
+          floats = floats;
+          muxes = muxes;
+          kept =
+              kept;
+        }) else None) }
     {
         if !timing_fits(&bit_timing) || messages.len() > Database::MAX_MESSAGES {
             return None;

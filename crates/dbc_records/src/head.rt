@@ -35,7 +35,8 @@ impl Head {
 
     /// The head, or `None` where the size is over [`Head::MAX_SIZE`].
     pub fn new(number: u32, name: Name, size: u16, sender: Name) -> Option<Head>
-        ensures { result ≡ (if head_fits size then Some (record { number = number; name = name; size = size; sender = sender }) else None) }
+        ensures { result ≡ (if head_fits size then Some (record { number = number; name = name; size = size; sender = sender }) else
+            None) }
     {
         if size > Head::MAX_SIZE {
             return None;

@@ -41,7 +41,12 @@ impl Model for MuxRow {
 impl MuxRow {
     /// The row, or `None` where there is no range.
     pub fn new(number: u32, signal: Name, switch: Name, ranges: List<Range>) -> Option<MuxRow>
-        ensures { result ≡ (if ranges_fit ranges then Some (record { number = number; signal = signal; switch = switch; ranges = ranges }) else None) }
+        ensures { result ≡ (if ranges_fit ranges then Some (record {
+          number = number;
+          signal = signal;
+          switch = switch;
+          ranges = ranges;
+        }) else None) }
     {
         if ranges.is_empty() {
             return None;

@@ -43,9 +43,36 @@ impl Model for Signal {
 
     ghost Value = { records.Signal };
 
-    ghost view = { λ a. record { name = a.name; tag = a.tag; start = a.start; length = a.length; intel = a.intel; signed = a.signed; factor = a.factor; offset = a.offset; minimum = a.minimum; maximum = a.maximum; unit = a.unit; receivers = a.receivers } };
+    ghost view = { λ a. record {
+      name = a.name;
+      tag = a.tag;
+      start = a.start;
+      length = a.length;
+      intel = a.intel;
+      signed = a.signed;
+      factor = a.factor;
+      offset = a.offset;
+      minimum = a.minimum;
+      maximum = a.maximum;
+      unit = a.unit;
+      receivers = a.receivers;
+    } };
 
-    ghost invariant = { λ a. records.IsSignal (record { name = a.name; tag = a.tag; start = a.start; length = a.length; intel = a.intel; signed = a.signed; factor = a.factor; offset = a.offset; minimum = a.minimum; maximum = a.maximum; unit = a.unit; receivers = a.receivers }) };
+    ghost invariant = { λ a. records.IsSignal (record {
+      name = a.name;
+      tag = a.tag;
+      start = a.start;
+      length = a.length;
+      intel = a.intel;
+      signed = a.signed;
+      factor = a.factor;
+      offset = a.offset;
+      minimum = a.minimum;
+      maximum = a.maximum;
+      unit =
+          a.unit;
+      receivers = a.receivers;
+    }) };
 }
 
 impl Signal {
@@ -67,7 +94,20 @@ impl Signal {
         unit: Text,
         receivers: List<Name>,
     ) -> Option<Signal>
-        ensures { result ≡ (if signal_fits length then Some (record { name = name; tag = tag; start = start; length = length; intel = intel; signed = signed; factor = factor; offset = offset; minimum = minimum; maximum = maximum; unit = unit; receivers = receivers }) else None) }
+        ensures { result ≡ (if signal_fits length then Some (record {
+          name = name;
+          tag = tag;
+          start = start;
+          length = length;
+          intel = intel;
+          signed = signed;
+          factor = factor;
+          offset = offset;
+          minimum = minimum;
+          maximum = maximum;
+          unit = unit;
+          receivers = receivers;
+        }) else None) }
     {
         if length == 0 || length > Signal::MAX_LENGTH {
             return None;

@@ -1,5 +1,6 @@
 -- A text has exactly one list of tokens, and it is the scanner's.
-use Rattle.std.proofs.Common.{◌≡◌, ◌≢◌, ℕ, zero, suc, ◌+◌, ◌<◌, Bool, true, false, not, cond, eqb, List, [], ◌∷◌, ◌++◌, length, take, drop, Option, Some, None, refl, sym, ap, ◌∙◌, arith}
+use Rattle.std.proofs.Common.{◌≡◌, ◌≢◌, ℕ, zero, suc, ◌+◌, ◌<◌, Bool, true, false, not, cond, eqb, List, [], ◌∷◌, ◌++◌, length}
+use Rattle.std.proofs.Common.{take, drop, Option, Some, None, refl, sym, ap, ◌∙◌, arith}
 use Rattle.std.specs.Prelude.{codes, ◌&&◌}
 use Rattle.std.proofs.lemmas.Bool.{eqb-true, ne_eqb, and_parts, not-true}
 use Rattle.std.proofs.lemmas.Bool.Decides.{nat_tests}
@@ -24,7 +25,10 @@ token_byte Number b h = grind (arith, nat_tests)
 token_byte Mark b h = any_all b begins_no_gap (codes ":;|@()[],+-") h refl
 
 byte_no_gap : (b : ℕ) (s : List ℕ) → begins_no_gap b ≡ true → gap_len false (b ∷ s) ≡ 0
-byte_no_gap b s h = let both = and_parts (not (is_blank b)) (not (eqb b slash)) h in rw (not-true (is_blank b) both.0, not-true (eqb b slash) both.1) refl
+byte_no_gap b s h = let both = and_parts (not (is_blank b)) (not (eqb b slash)) h in rw (
+  not-true (is_blank b) both.0,
+  not-true (eqb b slash) both.1,
+) refl
 
 -- where a token begins no gap does
 token_no_gap : (k : Kind) (t rest : List ℕ) → IsToken k t → gap_len false (t ++ rest) ≡ 0
@@ -34,7 +38,8 @@ token_no_gap k t rest h =
 
 -- ---- no other list
 
-at_gap : (line : ℕ) (gap rest : List ℕ) → IsGap gap rest → gap_len false rest ≡ 0 → cut_of line (gap ++ rest) ≡ rest_then cut_of (line + line_feeds gap) rest
+at_gap : (line : ℕ) (gap rest : List ℕ) → IsGap gap rest → gap_len false rest ≡ 0 → cut_of line (gap ++ rest)
+    ≡ rest_then cut_of (line + line_feeds gap) rest
 at_gap line gap rest is stop =
     let n = gap_only gap rest is stop in
     cut_of-step line (gap ++ rest) ∙ rw (n, take_at gap rest (length gap) refl, drop_at gap rest (length gap) refl) refl
@@ -57,9 +62,11 @@ cut_unique line text (Fault at) (gap, rest, whole, is, e, some, stop, none) =
     rw (whole, e) (sym (at_gap line gap rest is (none_gap rest stop) ∙ breaks_there (line + line_feeds gap) rest some none))
 cut_unique line text (t ▸ cut) (gap, rest, whole, is, e, token, others) =
     let tail = cut_unique (t.line + line_feeds t.bytes) rest cut others in
-    let there = rest_some cut_of (line + line_feeds gap) (t.bytes ++ rest) (t.kind, length t.bytes) (token_only t.kind t.bytes rest token) in
+    let there = rest_some cut_of (line + line_feeds gap) (t.bytes ++ rest) (t.kind, length t.bytes) (token_only t.kind t.bytes rest
+    token) in
     let step : cut_of line (gap ++ (t.bytes ++ rest)) ≡ t ▸ cut_of (t.line + line_feeds t.bytes) rest =
-    at_gap line gap (t.bytes ++ rest) is (token_no_gap t.kind t.bytes rest token.token) ∙ there ∙ rw (take_at t.bytes rest (length t.bytes) refl, drop_at t.bytes rest (length t.bytes) refl, ← e) refl in
+    at_gap line gap (t.bytes ++ rest) is (token_no_gap t.kind t.bytes rest token.token) ∙ there
+    ∙ rw (take_at t.bytes rest (length t.bytes) refl, drop_at t.bytes rest (length t.bytes) refl, ← e) refl in
     rw (whole, step, tail) refl
 
 -- ---- the scanner's list
@@ -68,27 +75,48 @@ cut_unique line text (t ▸ cut) (gap, rest, whole, is, e, token, others) =
 abbrev CutsBelow : ℕ → Type 0
 CutsBelow n = (line : ℕ) (text : List ℕ) → length text < n → HasTokens line text (cut_of line text)
 
-token_cut : (line : ℕ) (text gap : List ℕ) (b : ℕ) (rest : List ℕ) → text ≡ gap ++ b ∷ rest → IsGap gap (b ∷ rest) → gap_len false (b ∷ rest) ≡ 0 → CutsBelow (length text) → (o : Option (Kind × ℕ)) → IsFound (b ∷ rest) o → Positive o
+token_cut : (line : ℕ) (text gap : List ℕ) (b : ℕ) (rest : List ℕ) → text ≡ gap ++ b ∷ rest → IsGap gap (b ∷ rest)
+    → gap_len false (b ∷ rest) ≡ 0 → CutsBelow (length text) → (o : Option (Kind × ℕ)) → IsFound (b ∷ rest) o → Positive o
     → HasTokens line text (token_then cut_of (line + line_feeds gap) (b ∷ rest) o)
-token_cut line text gap b rest whole is stop shorter None f some = (gap, b ∷ rest, whole, is, refl, (λ e. let x : ◌≡◌ {A = List ℕ} (b ∷ rest) [] = e in cc), gap_none (b ∷ rest) stop, f)
+token_cut line text gap b rest whole is stop shorter None f some = (
+  gap,
+  b ∷ rest,
+  whole,
+  is,
+  refl,
+  (λ e. let x : ◌≡◌ {A = List ℕ} (b ∷ rest) [] = e in cc),
+  gap_none (b ∷ rest) stop,
+  f,
+)
 token_cut line text gap b rest whole is stop shorter (Some t) f some =
     let bytes = take t.1 (b ∷ rest) in
     let others = drop t.1 (b ∷ rest) in
     let parts : bytes ++ others ≡ b ∷ rest = take-append-drop t.1 (b ∷ rest) in
     let len : length bytes ≡ t.1 = length-take-le t.1 (b ∷ rest) f.0 in
-    let longest : IsLongest t.0 bytes others = record { token = f.1; longest = λ k front more e h. rw len (f.2 k front more (e ∙ parts) h) } in
-    (gap, others, rw parts whole, rw parts is, refl, longest, shorter _ others (omega (arith, ap length whole, length-append gap (b ∷ rest), length-drop t.1 (b ∷ rest))))
+    let longest : IsLongest t.0 bytes others =
+    record { token = f.1; longest = λ k front more e h. rw len (f.2 k front more (e ∙ parts) h) } in (
+      gap,
+      others,
+      rw parts whole,
+      rw parts is,
+      refl,
+      longest,
+      shorter _ others (omega (arith, ap length whole, length-append gap (b ∷ rest), length-drop t.1 (b ∷ rest))),
+    )
 
-rest_cut : (line : ℕ) (text gap rest : List ℕ) → text ≡ gap ++ rest → IsGap gap rest → gap_len false rest ≡ 0 → CutsBelow (length text) → HasTokens line text (rest_then cut_of (line + line_feeds gap) rest)
+rest_cut : (line : ℕ) (text gap rest : List ℕ) → text ≡ gap ++ rest → IsGap gap rest → gap_len false rest ≡ 0
+    → CutsBelow (length text) → HasTokens line text (rest_then cut_of (line + line_feeds gap) rest)
 rest_cut line text gap [] whole is stop shorter = let e : text ≡ gap = whole ∙ append-nil gap in rw e (is, refl)
-rest_cut line text gap (b ∷ rest) whole is stop shorter = token_cut line text gap b rest whole is stop shorter (token_at (b ∷ rest)) (token_found (b ∷ rest)) (token_at_positive (b ∷ rest))
+rest_cut line text gap (b ∷ rest) whole is stop shorter = token_cut line text gap b rest whole is stop shorter (token_at (b ∷ rest))
+    (token_found (b ∷ rest)) (token_at_positive (b ∷ rest))
 
 cuts_below : (n : ℕ) → CutsBelow n
 cuts_below zero line text lt = absurd (omega arith)
 cuts_below (suc n) line text lt =
     let g = gap_len false text in
     let front = gap_front false text in
-    rw (cut_of-step line text) (rest_cut line text (take g text) (drop g text) (sym (take-append-drop g text)) front.0 front.1 (λ l t s. cuts_below n l t (omega arith)))
+    rw (cut_of-step line text) (rest_cut line text (take g text) (drop g text) (sym (take-append-drop g text)) front.0 front.1
+    (λ l t s. cuts_below n l t (omega arith)))
 
 pub cut_is : (line : ℕ) (text : List ℕ) → HasTokens line text (cut_of line text)
 cut_is line text = cuts_below (suc (length text)) line text (omega arith)

@@ -14,7 +14,8 @@ use Rattle.dbc_tokens.proofs.NumberParts.{IsSign, IsNumber, number_parts, is_man
 
 none_in : (p : ℕ → Bool) (s : List ℕ) → ((b : ℕ) → p b ≡ true → is_line_feed b ≡ false) → list_all p s ≡ true → line_feeds s ≡ 0
 none_in p [] never h = refl
-none_in p (b ∷ s) never h = let both = and_parts (p b) (list_all p s) h in rw (never b both.0, none_in p s never both.1) (omega arith)
+none_in p (b ∷ s) never h = let both = and_parts (p b) (list_all p s) h in rw (never b both.0, none_in p s never both.1)
+    (omega arith)
 
 word_byte : (b : ℕ) → is_word_byte b ≡ true → is_line_feed b ≡ false
 word_byte b h = grind (arith, nat_tests)
@@ -38,10 +39,13 @@ sign_bytes (b ∷ []) h = and_from _ _ (or_right _ _ (or_right _ _ h)) refl
 sign_bytes (b ∷ c ∷ sign) h = elim h [ ]
 
 number_bytes : (n : List ℕ) → IsNumber n → list_all is_number_byte n ≡ true
-number_bytes n (m, [], whole, hm, hx) = rw (whole, append-nil m) (all_weaker is_mantissa_byte is_number_byte m of_mantissa (mantissa_bytes m hm))
+number_bytes n (m, [], whole, hm, hx) = rw (whole, append-nil m) (all_weaker is_mantissa_byte is_number_byte m of_mantissa
+    (mantissa_bytes m hm))
 number_bytes n (m, e ∷ x, whole, hm, (is, sign, digits, parts, s, some, d)) =
-    rw (whole, parts) (all_append is_number_byte m (e ∷ (sign ++ digits)) (all_weaker is_mantissa_byte is_number_byte m of_mantissa (mantissa_bytes m hm))
-    (and_from _ _ (or_right _ _ (or_left _ _ is)) (all_append is_number_byte sign digits (sign_bytes sign s) (all_weaker is_digit is_number_byte digits of_digit d))))
+    rw (whole, parts) (all_append is_number_byte m (e ∷ (sign ++ digits)) (all_weaker is_mantissa_byte is_number_byte m of_mantissa
+    (mantissa_bytes m hm))
+    (and_from _ _ (or_right _ _ (or_left _ _ is)) (all_append is_number_byte sign digits (sign_bytes sign s)
+    (all_weaker is_digit is_number_byte digits of_digit d))))
 
 mark_byte : (b : ℕ) → is_mark b ≡ true → is_line_feed b ≡ false
 mark_byte b h = not-true (is_line_feed b) (any_all b (λ c. not (is_line_feed c)) (codes ":;|@()[],+-") h refl)
@@ -49,6 +53,7 @@ mark_byte b h = not-true (is_line_feed b) (any_all b (λ c. not (is_line_feed c)
 pub token_feeds : (k : Kind) (s : List ℕ) → IsToken k s → (k ≡ Text → ⊥) → line_feeds s ≡ 0
 token_feeds Text s h other = absurd (other refl)
 token_feeds Word [] h other = refl
-token_feeds Word (b ∷ s) h other = let both = and_parts (is_letter b) (list_all is_word_byte s) h in none_in is_word_byte (b ∷ s) word_byte (and_from _ _ (or_left _ _ both.0) both.1)
+token_feeds Word (b ∷ s) h other = let both = and_parts (is_letter b) (list_all is_word_byte s) h in
+    none_in is_word_byte (b ∷ s) word_byte (and_from _ _ (or_left _ _ both.0) both.1)
 token_feeds Number s h other = none_in is_number_byte s number_byte (number_bytes s (number_parts s h))
 token_feeds Mark s (mark, bytes, is) other = rw (bytes, mark_byte mark is) (omega arith)

@@ -1,5 +1,6 @@
 -- The token that the scanner finds is the longest one at its place, and where it finds none no token begins.
-use Rattle.std.proofs.Common.{◌≡◌, ◌≢◌, ℕ, zero, suc, ◌+◌, ◌<◌, ◌≤◌, Bool, true, false, not, cond, eqb, List, [], ◌∷◌, ◌++◌, length, take, drop, Option, Some, None, refl, sym, ap, subst, ◌∙◌, append_assoc, arith, one-add, inl, inr}
+use Rattle.std.proofs.Common.{◌≡◌, ◌≢◌, ℕ, zero, suc, ◌+◌, ◌<◌, ◌≤◌, Bool, true, false, not, cond, eqb, List, [], ◌∷◌, ◌++◌, length}
+use Rattle.std.proofs.Common.{take, drop, Option, Some, None, refl, sym, ap, subst, ◌∙◌, append_assoc, arith, one-add, inl, inr}
 use Rattle.std.specs.Prelude.{codes}
 use Rattle.std.specs.List.{list_all, list_any, prefix_len}
 use Rattle.std.specs.Option.{option_map}
@@ -48,11 +49,17 @@ pub any_all : (b : ℕ) (q : ℕ → Bool) (ms : List ℕ) → list_any (λ m. e
 any_all b q [] h all = absurd cc
 any_all b q (m ∷ ms) h all =
     let both = and_parts (q m) (list_all q ms) all in
-    elim (or_cases (eqb b m) (list_any (λ m. eqb b m) ms) h) [ inl e ↦ rw (eqb-true b m e) both.0 | inr e ↦ any_all b q ms e both.1 ]
+    elim (or_cases (eqb b m) (list_any (λ m. eqb b m) ms) h) [
+      | inl e ↦ rw (eqb-true b m e) both.0
+      | inr e ↦ any_all b q ms e
+          both.1
+    ]
 
 -- a mark begins no token of a kind that begins with none of the marks
-pub no_other : (b : ℕ) (k : Kind) → is_mark b ≡ true → list_all (λ m. not (begins k m)) (codes ":;|@()[],+-") ≡ true → begins k b ≡ true → ⊥
-no_other b k h all e = let one = any_all b (λ m. not (begins k m)) (codes ":;|@()[],+-") h all in let two = not-true (begins k b) one in cc
+pub no_other : (b : ℕ) (k : Kind) → is_mark b ≡ true → list_all (λ m. not (begins k m)) (codes ":;|@()[],+-") ≡ true
+    → begins k b ≡ true → ⊥
+no_other b k h all e = let one = any_all b (λ m. not (begins k m)) (codes ":;|@()[],+-") h all in let two =
+    not-true (begins k b) one in cc
 
 -- no byte begins tokens of two kinds
 one_kind : (k j : Kind) (b : ℕ) → begins k b ≡ true → begins j b ≡ true → k ≡ j
@@ -76,10 +83,13 @@ one_kind Mark Number b p q = absurd (no_other b Number p refl q)
 -- ---- strings
 
 -- a string at the front ends at the quote that was found
-text_bytes : (s front others : List ℕ) → front ++ others ≡ quote ∷ s → IsToken Text front → (n : ℕ) × (text_len false s ≡ Some n) × (length front ≡ 2 + n)
+text_bytes : (s front others : List ℕ) → front ++ others ≡ quote ∷ s → IsToken Text front → (n : ℕ) × (text_len false s ≡ Some n)
+    × (length front ≡ 2 + n)
 unfolding is_text
 text_bytes s front others whole (text, bytes, is) =
-    let regrouped : quote ∷ (text ++ quote ∷ others) ≡ quote ∷ s = sym (ap (λ (t : List ℕ). quote ∷ t) (append_assoc text (quote ∷ []) others)) ∙ ap (λ (t : List ℕ). t ++ others) (sym bytes) ∙ whole in
+    let regrouped : quote ∷ (text ++ quote ∷ others) ≡ quote ∷ s =
+    sym (ap (λ (t : List ℕ). quote ∷ t) (append_assoc text (quote ∷ []) others)) ∙ ap (λ (t : List ℕ). t ++ others) (sym bytes)
+    ∙ whole in
     let rest : text ++ quote ∷ others ≡ s = cc in
     (length text, rw (← rest) (text_found false text others is), rw bytes (omega (arith, length-append text (quote ∷ []))))
 
@@ -87,8 +97,10 @@ text_bytes s front others whole (text, bytes, is) =
 text_never : (s front others : List ℕ) → text_len false s ≡ None → front ++ others ≡ quote ∷ s → IsToken Text front → ⊥
 text_never s front others none whole h = let x = text_bytes s front others whole h in let e : None ≡ Some x.0 = sym none ∙ x.1 in cc
 
-text_bound : (s front others : List ℕ) (n : ℕ) → text_len false s ≡ Some n → front ++ others ≡ quote ∷ s → IsToken Text front → length front ≤ 2 + n
-text_bound s front others n some whole h = let x = text_bytes s front others whole h in let e : Some n ≡ Some x.0 = sym some ∙ x.1 in let same : n ≡ x.0 = cc in omega (arith, x.2)
+text_bound : (s front others : List ℕ) (n : ℕ) → text_len false s ≡ Some n → front ++ others ≡ quote ∷ s → IsToken Text front
+    → length front ≤ 2 + n
+text_bound s front others n some whole h = let x = text_bytes s front others whole h in let e : Some n ≡ Some x.0 = sym some
+    ∙ x.1 in let same : n ≡ x.0 = cc in omega (arith, x.2)
 
 -- what stands up to the closing quote is a string
 text_is : (s : List ℕ) (n : ℕ) → text_len false s ≡ Some n → IsToken Text (take (2 + n) (quote ∷ s)) × (2 + n ≤ length (quote ∷ s))
@@ -96,25 +108,32 @@ unfolding is_text
 text_is s n e =
     let c = closes_at false s n e in
     let long : length (quoted c.text) ≡ 2 + n = omega (arith, length-append c.text (quote ∷ []), c.len) in
-    let whole : quote ∷ s ≡ quoted c.text ++ c.rest = ap (λ (t : List ℕ). quote ∷ t) (c.bytes ∙ sym (append_assoc c.text (quote ∷ []) c.rest)) in
-    ((c.text, ap (take (2 + n)) whole ∙ take_at (quoted c.text) c.rest (2 + n) long, c.is), omega (arith, ap length whole, length-append (quoted c.text) c.rest))
+    let whole : quote ∷ s ≡ quoted c.text ++ c.rest = ap (λ (t : List ℕ). quote ∷ t) (c.bytes
+    ∙ sym (append_assoc c.text (quote ∷ []) c.rest)) in (
+      (c.text, ap (take (2 + n)) whole ∙ take_at (quoted c.text) c.rest (2 + n) long, c.is),
+      omega (arith, ap length whole, length-append (quoted c.text) c.rest),
+    )
 
 -- ---- the token at the front
 
 abbrev pub NoLonger : List ℕ → ℕ → Type 0
 NoLonger s n = (k : Kind) (front others : List ℕ) → front ++ others ≡ s → IsToken k front → length front ≤ n
 
-pub kind_there : (k j : Kind) (b : ℕ) (s front others : List ℕ) → begins k b ≡ true → front ++ others ≡ b ∷ s → IsToken j front → j ≡ k
+pub kind_there : (k j : Kind) (b : ℕ) (s front others : List ℕ) → begins k b ≡ true → front ++ others ≡ b ∷ s → IsToken j front
+    → j ≡ k
 kind_there k j b s front others is whole h =
     let x = token_begins j front h in
     let one : (x.0 ∷ x.1) ++ others ≡ b ∷ s = subst (λ t. t ++ others ≡ b ∷ s) x.2 whole in
     let same : x.0 ≡ b = cc in
     one_kind j k b (rw (← same) x.3) is
 
-longer_than : (k : Kind) (b n : ℕ) (s : List ℕ) → begins k b ≡ true → ((front others : List ℕ) → front ++ others ≡ b ∷ s → IsToken k front → length front ≤ n) → NoLonger (b ∷ s) n
-longer_than k b n s is bound j front others whole h = bound front others whole (subst (λ i. IsToken i front) (kind_there k j b s front others is whole h) h)
+longer_than : (k : Kind) (b n : ℕ) (s : List ℕ) → begins k b ≡ true → ((front others : List ℕ) → front ++ others ≡ b ∷ s
+    → IsToken k front → length front ≤ n) → NoLonger (b ∷ s) n
+longer_than k b n s is bound j front others whole h =
+    bound front others whole (subst (λ i. IsToken i front) (kind_there k j b s front others is whole h) h)
 
-word_bound : (b : ℕ) (s front others : List ℕ) → front ++ others ≡ b ∷ s → IsToken Word front → length front ≤ 1 + prefix_len is_word_byte s
+word_bound : (b : ℕ) (s front others : List ℕ) → front ++ others ≡ b ∷ s → IsToken Word front
+    → length front ≤ 1 + prefix_len is_word_byte s
 word_bound b s [] others whole h = absurd cc
 word_bound b s (c ∷ front) others whole h =
     let rest : front ++ others ≡ s = cc in
@@ -125,7 +144,8 @@ number_bound s front others whole h = by (number_parts front h)
   where
     by : IsNumber front → length front ≤ number_len s
     by (m, x, parts, hm, hx) =
-        let regrouped : m ++ (x ++ others) ≡ s = sym (append_assoc m x others) ∙ ap (λ (t : List ℕ). t ++ others) (sym parts) ∙ whole in
+        let regrouped : m ++ (x ++ others) ≡ s = sym (append_assoc m x others) ∙ ap (λ (t : List ℕ). t ++ others) (sym parts)
+        ∙ whole in
         rw (parts, ← regrouped) (number_with m x others hm hx)
 
 mark_bound : (front : List ℕ) → IsToken Mark front → length front ≤ 1
@@ -144,17 +164,22 @@ no_begin b s none k front others whole h =
     none k (rw (← same) x.3)
 
 found_text : (s : List ℕ) (o : Option ℕ) → text_len false s ≡ o → IsFound (quote ∷ s) (option_map (λ n. (Text, 2 + n)) o)
-found_text s None e = λ k front others whole h. text_never s front others e whole (subst (λ i. IsToken i front) (kind_there Text k quote s front others refl whole h) h)
+found_text s None e = λ k front others whole h. text_never s front others e whole
+    (subst (λ i. IsToken i front) (kind_there Text k quote s front others refl whole h) h)
 found_text s (Some n) e =
     let is = text_is s n e in
     (is.1, is.0, longer_than Text quote (2 + n) s refl (λ front others. text_bound s front others n e))
 
 found_word : (b : ℕ) (s : List ℕ) → is_letter b ≡ true → IsFound (b ∷ s) (Some (Word, 1 + prefix_len is_word_byte s))
 found_word b s is =
-    let e : take (1 + prefix_len is_word_byte s) (b ∷ s) ≡ b ∷ take (prefix_len is_word_byte s) s = rw one-add refl in
-    (omega (arith, prefix_len-le-length is_word_byte s), rw e (and_from _ _ is (prefix_all is_word_byte s)), longer_than Word b _ s is (word_bound b s))
+    let e : take (1 + prefix_len is_word_byte s) (b ∷ s) ≡ b ∷ take (prefix_len is_word_byte s) s = rw one-add refl in (
+      omega (arith, prefix_len-le-length is_word_byte s),
+      rw e (and_from _ _ is (prefix_all is_word_byte s)),
+      longer_than Word b _ s is (word_bound b s),
+    )
 
-no_number : (b : ℕ) (s : List ℕ) → eqb b quote ≡ false → is_letter b ≡ false → is_mark b ≡ false → number_len (b ∷ s) ≡ 0 → BeginsNoToken (b ∷ s)
+no_number : (b : ℕ) (s : List ℕ) → eqb b quote ≡ false → is_letter b ≡ false → is_mark b ≡ false → number_len (b ∷ s) ≡ 0
+    → BeginsNoToken (b ∷ s)
 no_number b s q l m z k front others whole h =
     let x = token_begins k front h in
     let one : (x.0 ∷ x.1) ++ others ≡ b ∷ s = subst (λ t. t ++ others ≡ b ∷ s) x.2 whole in
@@ -171,19 +196,26 @@ number_there : (b n : ℕ) (s : List ℕ) → n ≢ 0 → IsNumber (take n (b �
 number_there b zero s some h = absurd (some refl)
 number_there b (suc n) s some h = number_begins b (take n s) h
 
-found_number : (b : ℕ) (s : List ℕ) → eqb b quote ≡ false → is_letter b ≡ false → is_mark b ≡ false → IsFound (b ∷ s) (cond (eqb (number_len (b ∷ s)) 0) None (Some (Number, number_len (b ∷ s))))
+found_number : (b : ℕ) (s : List ℕ) → eqb b quote ≡ false → is_letter b ≡ false → is_mark b ≡ false
+    → IsFound (b ∷ s) (cond (eqb (number_len (b ∷ s)) 0) None (Some (Number, number_len (b ∷ s))))
 found_number b s q l m =
     elim (cases_Bool (eqb (number_len (b ∷ s)) 0)) [
       | inl z ↦ rw z (no_number b s q l m (eqb-true _ 0 z))
       | inr z ↦
           let some = eqb-false (number_len (b ∷ s)) 0 z in
           let is = number_is (b ∷ s) some in
-          rw z (number_le (b ∷ s), number_test _ is, longer_than Number b (number_len (b ∷ s)) s (number_there b (number_len (b ∷ s)) s some is) (λ front others whole. number_bound (b ∷ s) front others whole))
+          rw z (
+            number_le (b ∷ s),
+            number_test _ is,
+            longer_than Number b (number_len (b ∷ s)) s
+                (number_there b (number_len (b ∷ s)) s some is) (λ front others whole. number_bound (b ∷ s) front others whole),
+          )
     ]
 
 pub token_found : (s : List ℕ) → IsFound s (token_at s)
 unfolding token_at
-token_found [] = λ k front others whole h. let x = token_begins k front h in let one : (x.0 ∷ x.1) ++ others ≡ [] = subst (λ t. t ++ others ≡ []) x.2 whole in cc
+token_found [] = λ k front others whole h. let x = token_begins k front h in let one : (x.0 ∷ x.1) ++ others ≡ [] =
+    subst (λ t. t ++ others ≡ []) x.2 whole in cc
 token_found (b ∷ s) =
     elim (cases_Bool (eqb b quote)) [
       | inl q ↦ let e : b ≡ quote = eqb-true b quote q in rw e (found_text s (text_len false s) refl)
@@ -192,7 +224,11 @@ token_found (b ∷ s) =
             | inl l ↦ rw (q, l) (found_word b s l)
             | inr l ↦
                 elim (cases_Bool (is_mark b)) [
-                  | inl m ↦ rw (q, l, m) (omega arith, (b, refl, m), longer_than Mark b 1 s m (λ front others whole. mark_bound front))
+                  | inl m ↦ rw (q, l, m) (
+                    omega arith,
+                    (b, refl, m),
+                    longer_than Mark b 1 s m (λ front others whole. mark_bound front),
+                  )
                   | inr m ↦ rw (q, l, m) (found_number b s q l m)
                 ]
           ]

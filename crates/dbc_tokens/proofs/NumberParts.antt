@@ -1,18 +1,21 @@
 -- The parts of a number: what the test `is_number` says, in the parts that its bytes are made of.
-use Rattle.std.proofs.Common.{◌≡◌, ℕ, suc, ◌+◌, ◌<◌, Bool, true, false, not, IsTrue, cond, ◌&&◌, ◌||◌, List, [], ◌∷◌, ◌++◌, length, take, drop, refl, sym, ap, subst, ◌∙◌, append-nil, arith, ◌⊎◌, inl, inr}
+use Rattle.std.proofs.Common.{◌≡◌, ℕ, suc, ◌+◌, ◌<◌, Bool, true, false, not, IsTrue, cond, ◌&&◌, ◌||◌, List, [], ◌∷◌, ◌++◌, length}
+use Rattle.std.proofs.Common.{take, drop, refl, sym, ap, subst, ◌∙◌, append-nil, arith, ◌⊎◌, inl, inr}
 use Rattle.std.specs.List.{list_all, list_any, position_or_len, before_first, after_first}
 use Rattle.std.proofs.lemmas.Bool.{cases_Bool, and_parts, and_from, or_left, or_right, not-true, not_from_false, not_from_true}
 use Rattle.std.proofs.lemmas.Bool.Decides.{nat_tests}
 use Rattle.std.proofs.lemmas.List.{take_at}
 use Rattle.std.proofs.lemmas.List.Folds.{list_any-append}
-use Rattle.dbc_values.specs.Lexical.{point, is_point, is_digit, is_sign, is_exponent_mark, is_digits, is_signed_digits, is_mantissa, is_number}
+use Rattle.dbc_values.specs.Lexical.{point, is_point, is_digit, is_sign, is_exponent_mark, is_digits, is_signed_digits, is_mantissa}
+use Rattle.dbc_values.specs.Lexical.{is_number}
 use Rattle.dbc_tokens.proofs.Runs.{all_stop, all_append, all_weaker}
 
 -- ---- the parts
 
 -- digits; or digits, a point and digits, at least one of them
 abbrev pub IsMantissa : List ℕ → Type 0
-IsMantissa bytes = (whole fraction : List ℕ) × IsTrue (list_all is_digit whole) × IsTrue (list_all is_digit fraction) × (0 < length whole + length fraction)
+IsMantissa bytes = (whole fraction : List ℕ) × IsTrue (list_all is_digit whole) × IsTrue (list_all is_digit fraction)
+    × (0 < length whole + length fraction)
     × ((bytes ≡ whole ++ point ∷ fraction) ⊎ ((bytes ≡ whole) × (fraction ≡ [])))
 
 abbrev pub IsSign : List ℕ → Type 0
@@ -23,7 +26,8 @@ IsSign (b ∷ c ∷ bytes) = ⊥
 -- nothing; or `E` or `e`, perhaps a sign, and at least one digit
 abbrev pub IsExponent : List ℕ → Type 0
 IsExponent [] = Unit {0}
-IsExponent (e ∷ bytes) = IsTrue (is_exponent_mark e) × (sign digits : List ℕ) × (bytes ≡ sign ++ digits) × IsSign sign × (0 < length digits) × IsTrue (list_all is_digit digits)
+IsExponent (e ∷ bytes) = IsTrue (is_exponent_mark e) × (sign digits : List ℕ) × (bytes ≡ sign ++ digits) × IsSign sign
+    × (0 < length digits) × IsTrue (list_all is_digit digits)
 
 abbrev pub IsNumber : List ℕ → Type 0
 IsNumber bytes = (mantissa exponent : List ℕ) × (bytes ≡ mantissa ++ exponent) × IsMantissa mantissa × IsExponent exponent
@@ -35,11 +39,19 @@ fails_all p bytes = list_all (λ b. not (p b)) bytes
 
 -- no byte passes; or one does, and none before it
 abbrev Split : (ℕ → Bool) → List ℕ → Type 0
-Split p s = (fails_all p s ≡ true) ⊎ ((u : List ℕ) × (b : ℕ) × (v : List ℕ) × (s ≡ u ++ b ∷ v) × (p b ≡ true) × (fails_all p u ≡ true))
+Split p s = (fails_all p s ≡ true) ⊎ ((u : List ℕ) × (b : ℕ) × (v : List ℕ) × (s ≡ u ++ b ∷ v) × (p b ≡ true)
+    × (fails_all p u ≡ true))
 
 split_more : (p : ℕ → Bool) (b : ℕ) (s : List ℕ) → p b ≡ false → Split p s → Split p (b ∷ s)
 split_more p b s e (inl none) = inl (and_from _ _ (not_from_false (p b) e) none)
-split_more p b s e (inr (u, c, v, whole, is, none)) = inr (b ∷ u, c, v, ap (λ (t : List ℕ). b ∷ t) whole, is, and_from _ _ (not_from_false (p b) e) none)
+split_more p b s e (inr (u, c, v, whole, is, none)) = inr (
+  b ∷ u,
+  c,
+  v,
+  ap (λ (t : List ℕ). b ∷ t) whole,
+  is,
+  and_from _ _ (not_from_false (p b) e) none,
+)
 
 split_of : (p : ℕ → Bool) (s : List ℕ) → Split p s
 split_of p [] = inl refl
@@ -69,7 +81,8 @@ halves_none p s h =
     past [] = refl
     past (b ∷ s) = let e : suc (length s) + 1 ≡ suc (length s + 1) = omega arith in rw e (past s)
 
-pub halves_some : (p : ℕ → Bool) (u : List ℕ) (b : ℕ) (v : List ℕ) → fails_all p u ≡ true → p b ≡ true → Halves p (u ++ b ∷ v) u v true
+pub halves_some : (p : ℕ → Bool) (u : List ℕ) (b : ℕ) (v : List ℕ) → fails_all p u ≡ true → p b ≡ true
+    → Halves p (u ++ b ∷ v) u v true
 halves_some p u b v h is =
     let n : position_or_len p (u ++ b ∷ v) ≡ length u = all_stop (λ b. not (p b)) u (b ∷ v) h (not_from_true (p b) is) in
     record {
@@ -91,14 +104,17 @@ mantissa_parts m h = by (split_of is_point m)
     some [] h = absurd cc
     some (b ∷ m) h = omega arith
 
-    some_of : (u : List ℕ) (b : ℕ) (v : List ℕ) → is_point b ≡ true → list_any is_digit (u ++ b ∷ v) ≡ true → 0 < length u + length v
+    some_of : (u : List ℕ) (b : ℕ) (v : List ℕ) → is_point b ≡ true → list_any is_digit (u ++ b ∷ v) ≡ true
+        → 0 < length u + length v
     some_of [] b [] is h = absurd (grind (arith, nat_tests))
     some_of [] b (c ∷ v) is h = omega arith
     some_of (c ∷ u) b v is h = omega arith
 
-    parts : is_mantissa m ≡ true → (list_all is_digit (before_first is_point m) ≡ true) × (list_all is_digit (after_first is_point m) ≡ true) × (list_any is_digit m ≡ true)
+    parts : is_mantissa m ≡ true → (list_all is_digit (before_first is_point m) ≡ true)
+        × (list_all is_digit (after_first is_point m) ≡ true) × (list_any is_digit m ≡ true)
     parts h =
-        let outer = and_parts (list_all is_digit (before_first is_point m) && list_all is_digit (after_first is_point m)) (list_any is_digit m) h in
+        let outer = and_parts (list_all is_digit (before_first is_point m) && list_all is_digit (after_first is_point m))
+        (list_any is_digit m) h in
         let inner = and_parts (list_all is_digit (before_first is_point m)) (list_all is_digit (after_first is_point m)) outer.0 in
         (inner.0, inner.1, outer.1)
 
@@ -111,8 +127,14 @@ mantissa_parts m h = by (split_of is_point m)
         let halves : Halves is_point m u v true = rw whole (halves_some is_point u b v none is) in
         let three = parts h in
         let any : list_any is_digit (u ++ b ∷ v) ≡ true = subst (λ t. list_any is_digit t ≡ true) whole three.2 in
-        let same : b ≡ point = grind (arith, nat_tests) in
-        (u, v, rw halves.before at three.0, rw halves.after at three.1, some_of u b v is any, inl (whole ∙ ap (λ (c : ℕ). u ++ c ∷ v) same))
+        let same : b ≡ point = grind (arith, nat_tests) in (
+          u,
+          v,
+          rw halves.before at three.0,
+          rw halves.after at three.1,
+          some_of u b v is any,
+          inl (whole ∙ ap (λ (c : ℕ). u ++ c ∷ v) same),
+        )
 
 pub digits_parts : (digits : List ℕ) → is_digits digits ≡ true → (0 < length digits) × (list_all is_digit digits ≡ true)
 digits_parts [] h = absurd cc
@@ -143,12 +165,16 @@ number_parts bytes h = by (split_of is_exponent_mark bytes)
     by : Split is_exponent_mark bytes → IsNumber bytes
     by (inl none) =
         let halves = halves_none is_exponent_mark bytes none in
-        let mantissa = (and_parts (is_mantissa (before_first is_exponent_mark bytes)) (cond (list_any is_exponent_mark bytes) (is_signed_digits (after_first is_exponent_mark bytes)) true) h).0 in
+        let mantissa = (and_parts (is_mantissa (before_first is_exponent_mark bytes)) (cond (list_any is_exponent_mark bytes)
+        (is_signed_digits (after_first is_exponent_mark bytes)) true) h).0 in
         (bytes, [], sym (append-nil bytes), mantissa_parts bytes (rw halves.before at mantissa), tt)
     by (inr (u, b, v, whole, is, none)) =
         let halves : Halves is_exponent_mark bytes u v true = rw whole (halves_some is_exponent_mark u b v none is) in
-        let both = and_parts (is_mantissa (before_first is_exponent_mark bytes)) (cond (list_any is_exponent_mark bytes) (is_signed_digits (after_first is_exponent_mark bytes)) true) h in
-        let exponent : cond true (is_signed_digits v) true ≡ true = subst (λ t. cond true (is_signed_digits t) true ≡ true) halves.after (subst (λ c. cond c (is_signed_digits (after_first is_exponent_mark bytes)) true ≡ true) halves.any both.1) in
+        let both = and_parts (is_mantissa (before_first is_exponent_mark bytes)) (cond (list_any is_exponent_mark bytes)
+        (is_signed_digits (after_first is_exponent_mark bytes)) true) h in
+        let exponent : cond true (is_signed_digits v) true ≡ true = subst (λ t. cond true (is_signed_digits t) true ≡ true)
+        halves.after (subst (λ c. cond c (is_signed_digits (after_first is_exponent_mark bytes)) true ≡ true) halves.any
+        both.1) in
         (u, b ∷ v, whole, mantissa_parts u (rw halves.before at both.0), exponent_parts b v is exponent)
 
 -- ---- from the parts to the test
@@ -175,22 +201,26 @@ digit_is_mantissa_byte b h = or_left (is_digit b) (is_point b) h
 
 pub mantissa_bytes : (m : List ℕ) → IsMantissa m → list_all is_mantissa_byte m ≡ true
 mantissa_bytes m (whole, fraction, w, f, some, inl e) =
-    rw e (all_append is_mantissa_byte whole (point ∷ fraction) (all_weaker is_digit is_mantissa_byte whole digit_is_mantissa_byte w) (all_weaker is_digit is_mantissa_byte fraction digit_is_mantissa_byte f))
+    rw e (all_append is_mantissa_byte whole (point ∷ fraction) (all_weaker is_digit is_mantissa_byte whole digit_is_mantissa_byte w)
+    (all_weaker is_digit is_mantissa_byte fraction digit_is_mantissa_byte f))
 mantissa_bytes m (whole, fraction, w, f, some, inr e) = rw e.0 (all_weaker is_digit is_mantissa_byte whole digit_is_mantissa_byte w)
 
 mantissa_test : (m : List ℕ) → IsMantissa m → is_mantissa m ≡ true
 mantissa_test m (whole, fraction, w, f, some, inl e) =
-    let halves = halves_some is_point whole point fraction (all_weaker is_digit (λ b. not (is_point b)) whole digit_no_point w) refl in
+    let halves = halves_some is_point whole point fraction (all_weaker is_digit (λ b. not (is_point b)) whole digit_no_point w)
+    refl in
     rw (e, halves.before, halves.after, w, f) (list_any-append is_digit whole (point ∷ fraction) ∙ any whole fraction some w f)
   where
-    any : (whole fraction : List ℕ) → 0 < length whole + length fraction → list_all is_digit whole ≡ true → list_all is_digit fraction ≡ true → (list_any is_digit whole || list_any is_digit (point ∷ fraction)) ≡ true
+    any : (whole fraction : List ℕ) → 0 < length whole + length fraction → list_all is_digit whole ≡ true
+        → list_all is_digit fraction ≡ true → (list_any is_digit whole || list_any is_digit (point ∷ fraction)) ≡ true
     any [] fraction some w f = digit_any fraction (omega arith) f
     any (b ∷ whole) fraction some w f = or_left _ _ (digit_any (b ∷ whole) (omega arith) w)
 mantissa_test m (whole, fraction, w, f, some, inr e) =
     let halves = halves_none is_point whole (all_weaker is_digit (λ b. not (is_point b)) whole digit_no_point w) in
     rw (e.0, halves.before, halves.after, w) (digit_any whole (omega (arith, ap length e.1)) w)
 
-exponent_test : (sign digits : List ℕ) → IsSign sign → 0 < length digits → list_all is_digit digits ≡ true → is_signed_digits (sign ++ digits) ≡ true
+exponent_test : (sign digits : List ℕ) → IsSign sign → 0 < length digits → list_all is_digit digits ≡ true
+    → is_signed_digits (sign ++ digits) ≡ true
 exponent_test [] [] s some d = absurd (omega arith)
 exponent_test [] (b ∷ digits) s some d = rw (digit_no_sign b (and_parts (is_digit b) (list_all is_digit digits) d).0) d
 exponent_test (b ∷ []) [] s some d = absurd (omega arith)

@@ -1,9 +1,11 @@
 -- The number that the scanner finds at the front is the longest one there.
-use Rattle.std.proofs.Common.{◌≡◌, ℕ, suc, ◌+◌, ◌<◌, ◌≤◌, true, false, eqb, List, [], ◌∷◌, ◌++◌, length, get_or, take, drop, refl, sym, ap, ◌∙◌, append_assoc, arith, inl, inr}
+use Rattle.std.proofs.Common.{◌≡◌, ℕ, suc, ◌+◌, ◌<◌, ◌≤◌, true, false, eqb, List, [], ◌∷◌, ◌++◌, length, get_or, take, drop, refl}
+use Rattle.std.proofs.Common.{sym, ap, ◌∙◌, append_assoc, arith, inl, inr}
 use Rattle.std.specs.List.{list_all, prefix_len}
 use Rattle.std.proofs.lemmas.Bool.{eqb-true, eqb-false, ne_eqb, cases_Bool, cases_lt, and_parts, cond-false, false_from_ne_true}
 use Rattle.std.proofs.lemmas.Bool.Decides.{nat_tests}
-use Rattle.std.proofs.lemmas.List.{take_at, drop_at, take-append-drop, length-append, length-take, length-take-le, length-drop, get_or_at, get_or-take}
+use Rattle.std.proofs.lemmas.List.{take_at, drop_at, take-append-drop, length-append, length-take, length-take-le, length-drop}
+use Rattle.std.proofs.lemmas.List.{get_or_at, get_or-take}
 use Rattle.std.proofs.lemmas.List.Sums.{prefix_len-le-length}
 use Rattle.std.proofs.Math.Seq.{take-add}
 use Rattle.dbc_values.specs.Lexical.{point, is_digit, is_exponent_mark, is_sign}
@@ -17,7 +19,8 @@ fraction_ge : (w : ℕ) (r : List ℕ) → w ≤ fraction_len w r
 fraction_ge w [] = omega arith
 fraction_ge w (b ∷ r) = grind (arith, nat_tests)
 
-mantissa_point : (whole fraction v : List ℕ) → list_all is_digit whole ≡ true → list_all is_digit fraction ≡ true → 0 < length whole + length fraction
+mantissa_point : (whole fraction v : List ℕ) → list_all is_digit whole ≡ true → list_all is_digit fraction ≡ true
+    → 0 < length whole + length fraction
     → length whole + suc (length fraction) ≤ mantissa_len (whole ++ point ∷ (fraction ++ v))
 mantissa_point whole fraction v w f some =
     let n = all_stop is_digit whole (point ∷ (fraction ++ v)) w refl in
@@ -27,12 +30,19 @@ mantissa_point whole fraction v w f some =
 
 mantissa_longest : (m v : List ℕ) → IsMantissa m → length m ≤ mantissa_len (m ++ v)
 mantissa_longest m v (whole, fraction, w, f, some, inl e) =
-    let regrouped : m ++ v ≡ whole ++ point ∷ (fraction ++ v) = ap (λ (t : List ℕ). t ++ v) e ∙ append_assoc whole (point ∷ fraction) v in
+    let regrouped : m ++ v ≡ whole ++ point ∷ (fraction ++ v) = ap (λ (t : List ℕ). t ++ v) e
+    ∙ append_assoc whole (point ∷ fraction) v in
     rw (regrouped, e, length-append) (mantissa_point whole fraction v w f some)
 mantissa_longest m v (whole, fraction, w, f, some, inr e) =
-    rw e.0 (omega (arith, all_le is_digit whole v w, fraction_ge (prefix_len is_digit (whole ++ v)) (drop (prefix_len is_digit (whole ++ v)) (whole ++ v))))
+    rw e.0 (omega (
+      arith,
+      all_le is_digit whole v w,
+      fraction_ge (prefix_len is_digit (whole ++ v))
+          (drop (prefix_len is_digit (whole ++ v)) (whole ++ v)),
+    ))
 
-mantissa_of : (whole r : List ℕ) → list_all is_digit whole ≡ true → 0 < fraction_len (length whole) r → IsMantissa (take (fraction_len (length whole) r) (whole ++ r))
+mantissa_of : (whole r : List ℕ) → list_all is_digit whole ≡ true → 0 < fraction_len (length whole) r
+    → IsMantissa (take (fraction_len (length whole) r) (whole ++ r))
 mantissa_of whole [] w some = (whole, [], w, refl, omega arith, inr (take_at whole [] (length whole) refl, refl))
 mantissa_of whole (b ∷ r) w some =
     elim (cases_Bool (eqb b point)) [
@@ -43,19 +53,29 @@ mantissa_of whole (b ∷ r) w some =
             | inl z ↦ absurd (none whole b r e z some)
             | inr z ↦
                 let len : fraction_len (length whole) (b ∷ r) ≡ 1 + (length whole + f) = rw (e, z) refl in
-                let taken : take (1 + (length whole + f)) (whole ++ b ∷ r) ≡ whole ++ point ∷ take f r = take_past whole b r f ∙ ap (λ (c : ℕ). whole ++ c ∷ take f r) (eqb-true b 46 e) in
+                let taken : take (1 + (length whole + f)) (whole ++ b ∷ r) ≡ whole ++ point ∷ take f r = take_past whole b r f
+                ∙ ap (λ (c : ℕ). whole ++ c ∷ take f r) (eqb-true b 46 e) in
                 let g : length (take f r) ≡ f = length-take-le f r (prefix_len-le-length is_digit r) in
-                rw (len, taken) (whole, take f r, w, prefix_all is_digit r, rw g (omega (arith, eqb-false (length whole + f) 0 z)), inl refl)
+                rw (len, taken) (
+                  whole,
+                  take f r,
+                  w,
+                  prefix_all is_digit r,
+                  rw g (omega (arith, eqb-false (length whole + f) 0 z)),
+                  inl refl,
+                )
           ]
     ]
   where
-    mantissa_whole : (whole : List ℕ) (b : ℕ) (r : List ℕ) → list_all is_digit whole ≡ true → eqb b point ≡ false → 0 < fraction_len (length whole) (b ∷ r) → IsMantissa (take (fraction_len (length whole) (b ∷ r)) (whole ++ b ∷ r))
+    mantissa_whole : (whole : List ℕ) (b : ℕ) (r : List ℕ) → list_all is_digit whole ≡ true → eqb b point ≡ false
+        → 0 < fraction_len (length whole) (b ∷ r) → IsMantissa (take (fraction_len (length whole) (b ∷ r)) (whole ++ b ∷ r))
     mantissa_whole whole b r w e some =
         let len : fraction_len (length whole) (b ∷ r) ≡ length whole = rw e refl in
         let long : 0 < length whole = rw len at some in
         rw (len, take_at whole (b ∷ r) (length whole) refl) (whole, [], w, refl, omega arith, inr (refl, refl))
 
-    none : (whole : List ℕ) (b : ℕ) (r : List ℕ) → eqb b point ≡ true → eqb (length whole + prefix_len is_digit r) 0 ≡ true → 0 < fraction_len (length whole) (b ∷ r) → ⊥
+    none : (whole : List ℕ) (b : ℕ) (r : List ℕ) → eqb b point ≡ true → eqb (length whole + prefix_len is_digit r) 0 ≡ true
+        → 0 < fraction_len (length whole) (b ∷ r) → ⊥
     none whole b r e z some = let len : fraction_len (length whole) (b ∷ r) ≡ 0 = rw (e, z) refl in omega arith
 
 pub mantissa_is : (s : List ℕ) → 0 < mantissa_len s → IsMantissa (take (mantissa_len s) s)
@@ -78,9 +98,11 @@ not_both b d s = grind (arith, nat_tests)
 mark_no_mantissa : (b : ℕ) → is_exponent_mark b ≡ true → is_mantissa_byte b ≡ true → ⊥
 mark_no_mantissa b d s = grind (arith, nat_tests)
 
-sign_then : (sign digits v : List ℕ) → IsSign sign → 0 < length digits → list_all is_digit digits ≡ true → sign_len (sign ++ (digits ++ v)) ≡ length sign
+sign_then : (sign digits v : List ℕ) → IsSign sign → 0 < length digits → list_all is_digit digits ≡ true
+    → sign_len (sign ++ (digits ++ v)) ≡ length sign
 sign_then [] [] v s some d = absurd (omega arith)
-sign_then [] (b ∷ digits) v s some d = cond-false (is_sign b) 1 0 (false_from_ne_true (is_sign b) (not_both b (and_parts (is_digit b) (list_all is_digit digits) d).0))
+sign_then [] (b ∷ digits) v s some d =
+    cond-false (is_sign b) 1 0 (false_from_ne_true (is_sign b) (not_both b (and_parts (is_digit b) (list_all is_digit digits) d).0))
 sign_then (b ∷ []) digits v s some d = rw s refl
 sign_then (b ∷ c ∷ sign) digits v s some d = elim s [ ]
 
@@ -102,11 +124,21 @@ sign_is (b ∷ s) =
       | inl y ↦ rw y (y, omega arith)
     ]
 
-exponent_with : (e : ℕ) (s : List ℕ) (sign digits : ℕ) → is_exponent_mark e ≡ true → sign ≡ sign_len s → digits ≡ prefix_len is_digit (drop sign s) → (eqb digits 0 ≡ false) → IsExponent (take (1 + (sign + digits)) (e ∷ s))
+exponent_with : (e : ℕ) (s : List ℕ) (sign digits : ℕ) → is_exponent_mark e ≡ true → sign ≡ sign_len s
+    → digits ≡ prefix_len is_digit (drop sign s) → (eqb digits 0 ≡ false) → IsExponent (take (1 + (sign + digits)) (e ∷ s))
 exponent_with e s sign digits is sign_as digits_as some =
     let one : 1 + (sign + digits) ≡ suc (sign + digits) = omega arith in
-    let len : length (take digits (drop sign s)) ≡ digits = length-take-le digits (drop sign s) (rw digits_as (prefix_len-le-length is_digit (drop sign s))) in
-    rw one (is, take sign s, take digits (drop sign s), take-add sign digits s, rw sign_as (sign_is s).0, rw len (omega (arith, eqb-false digits 0 some)), rw digits_as (prefix_all is_digit (drop sign s)))
+    let len : length (take digits (drop sign s)) ≡ digits =
+    length-take-le digits (drop sign s) (rw digits_as (prefix_len-le-length is_digit (drop sign s))) in
+    rw one (
+      is,
+      take sign s,
+      take digits (drop sign s),
+      take-add sign digits s,
+      rw sign_as (sign_is s).0,
+      rw len (omega (arith, eqb-false digits 0 some)),
+      rw digits_as (prefix_all is_digit (drop sign s)),
+    )
 
 exponent_is : (s : List ℕ) → IsExponent (take (exponent_len s) s)
 exponent_is [] = tt
@@ -137,7 +169,8 @@ number_with m x v hm hx =
       | inl lt ↦ shorter x v hx lt
     ])
   where
-    shorter : (x v : List ℕ) → IsExponent x → length m < mantissa_len (m ++ (x ++ v)) → length m + length x ≤ mantissa_len (m ++ (x ++ v)) + exponent_len (drop (mantissa_len (m ++ (x ++ v))) (m ++ (x ++ v)))
+    shorter : (x v : List ℕ) → IsExponent x → length m < mantissa_len (m ++ (x ++ v))
+        → length m + length x ≤ mantissa_len (m ++ (x ++ v)) + exponent_len (drop (mantissa_len (m ++ (x ++ v))) (m ++ (x ++ v)))
     shorter [] v h lt = omega arith
     shorter (e ∷ x) v h lt =
         let s = m ++ (e ∷ (x ++ v)) in
@@ -155,7 +188,13 @@ number_is s some =
       | inr z ↦
           let n = mantissa_len s in
           let e = exponent_len (drop n s) in
-          rw z (take n s, take e (drop n s), take-add n e s, mantissa_is s (omega (arith, eqb-false (mantissa_len s) 0 z)), exponent_is (drop n s))
+          rw z (
+            take n s,
+            take e (drop n s),
+            take-add n e s,
+            mantissa_is s (omega (arith, eqb-false (mantissa_len s) 0 z)),
+            exponent_is (drop n s),
+          )
     ]
 
 -- ---- within the bytes
@@ -165,7 +204,12 @@ fraction_le w [] = omega arith
 fraction_le w (b ∷ r) = let h = prefix_len-le-length is_digit r in grind (arith, nat_tests, h)
 
 mantissa_le : (s : List ℕ) → mantissa_len s ≤ length s
-mantissa_le s = let w = prefix_len is_digit s in omega (arith, fraction_le w (drop w s), length-drop w s, prefix_len-le-length is_digit s)
+mantissa_le s = let w = prefix_len is_digit s in omega (
+  arith,
+  fraction_le w (drop w s),
+  length-drop w s,
+  prefix_len-le-length is_digit s,
+)
 
 exponent_le : (s : List ℕ) → exponent_len s ≤ length s
 exponent_le [] = omega arith

@@ -1,5 +1,6 @@
 -- Runs of bytes that pass a test, at the front of a list.
-use Rattle.std.proofs.Common.{◌≡◌, ℕ, zero, suc, ◌+◌, ◌<◌, ◌≤◌, Bool, true, false, cond, List, [], ◌∷◌, ◌++◌, length, get_or, take, refl, ap, arith, one-add}
+use Rattle.std.proofs.Common.{◌≡◌, ℕ, zero, suc, ◌+◌, ◌<◌, ◌≤◌, Bool, true, false, cond, List, [], ◌∷◌, ◌++◌, length, get_or, take}
+use Rattle.std.proofs.Common.{refl, ap, arith, one-add}
 use Rattle.std.specs.List.{list_all, prefix_len}
 use Rattle.std.proofs.lemmas.Bool.{and_parts, and_from}
 
@@ -17,7 +18,8 @@ all_stop p [] [] h s = refl
 all_stop p [] (b ∷ v) h s = rw s refl
 all_stop p (b ∷ u) v h s = let q = and_parts (p b) (list_all p u) h in rw (q.0, all_stop p u v q.1 s) (omega arith)
 
-prefix_all_if : (p : ℕ → Bool) (b : ℕ) (s : List ℕ) (x : Bool) → p b ≡ x → list_all p (take (prefix_len p s) s) ≡ true → list_all p (take (cond x (1 + prefix_len p s) 0) (b ∷ s)) ≡ true
+prefix_all_if : (p : ℕ → Bool) (b : ℕ) (s : List ℕ) (x : Bool) → p b ≡ x → list_all p (take (prefix_len p s) s) ≡ true
+    → list_all p (take (cond x (1 + prefix_len p s) 0) (b ∷ s)) ≡ true
 prefix_all_if p b s true e h = rw one-add (and_from _ _ e h)
 prefix_all_if p b s false e h = refl
 
@@ -41,4 +43,5 @@ all_weaker p q (b ∷ s) f h = let x = and_parts (p b) (list_all p s) h in and_f
 -- a list, one byte and a few more
 pub take_past : (x : List ℕ) (b : ℕ) (s : List ℕ) (n : ℕ) → take (1 + (length x + n)) (x ++ b ∷ s) ≡ x ++ b ∷ take n s
 take_past [] b s n = let e : 1 + (0 + n) ≡ suc n = omega arith in rw e refl
-take_past (c ∷ x) b s n = let e : 1 + (suc (length x) + n) ≡ suc (1 + (length x + n)) = omega arith in rw e (ap (λ (t : List ℕ). c ∷ t) (take_past x b s n))
+take_past (c ∷ x) b s n = let e : 1 + (suc (length x) + n) ≡ suc (1 + (length x + n)) = omega arith in
+    rw e (ap (λ (t : List ℕ). c ∷ t) (take_past x b s n))

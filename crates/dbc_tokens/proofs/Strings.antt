@@ -1,5 +1,6 @@
 -- The quote that closes a string: a text and a quote behind it are what the scanner finds, and it finds nothing else.
-use Rattle.std.proofs.Common.{◌≡◌, ℕ, ◌+◌, Bool, true, false, not, cond, eqb, ◌&&◌, List, [], ◌∷◌, ◌++◌, length, Option, Some, None, refl, ap, subst, arith, inl, inr}
+use Rattle.std.proofs.Common.{◌≡◌, ℕ, ◌+◌, Bool, true, false, not, cond, eqb, ◌&&◌, List, [], ◌∷◌, ◌++◌, length, Option, Some, None}
+use Rattle.std.proofs.Common.{refl, ap, subst, arith, inl, inr}
 use Rattle.std.specs.Option.{option_map}
 use Rattle.std.proofs.lemmas.Bool.{eqb-true, cases_Bool, and_parts, and_from}
 use Rattle.dbc_values.specs.Lexical.{quote, backslash, is_text_after}
@@ -22,7 +23,8 @@ opens_not b after h = by (eqb b quote) after h
     by true false h = absurd cc
     by false after h = refl
 
-pub text_found : (after : Bool) (text rest : List ℕ) → is_text_after after text ≡ true → text_len after (text ++ quote ∷ rest) ≡ Some (length text)
+pub text_found : (after : Bool) (text rest : List ℕ) → is_text_after after text ≡ true → text_len after (text ++ quote ∷ rest)
+    ≡ Some (length text)
 text_found true [] rest h = absurd cc
 text_found false [] rest h = refl
 text_found after (b ∷ text) rest h =
@@ -51,7 +53,8 @@ closes after (b ∷ s) =
       | inr no' ↦ rw no' (more (text_len (eqb b backslash) s) no' (closes (eqb b backslash) s))
     ]
   where
-    more : (o : Option ℕ) → (eqb b quote && not after) ≡ false → Found (Closes (eqb b backslash) s) o → Found (Closes after (b ∷ s)) (option_map (λ n. 1 + n) o)
+    more : (o : Option ℕ) → (eqb b quote && not after) ≡ false → Found (Closes (eqb b backslash) s) o
+        → Found (Closes after (b ∷ s)) (option_map (λ n. 1 + n) o)
     more None no' c = tt
     more (Some n) no' c = record {
       text = b ∷ c.text;

@@ -13,7 +13,8 @@ tokens_of (t ▸ cut) = t ∷ tokens_of cut
 abbrev pub StandInOrder : ℕ → List ℕ → List Token → Type 0
 StandInOrder line text [] = Unit {0}
 StandInOrder line text (t ∷ tokens) =
-    (before behind : List ℕ) × (text ≡ before ++ (t.bytes ++ behind)) × (t.line ≡ line + line_feeds before) × StandInOrder (t.line + line_feeds t.bytes) behind tokens
+    (before behind : List ℕ) × (text ≡ before ++ (t.bytes ++ behind)) × (t.line ≡ line + line_feeds before)
+    × StandInOrder (t.line + line_feeds t.bytes) behind tokens
 
 -- the tokens of a text stand in it in their order, none within another
 abbrev pub TokensInOrder : Type 0

@@ -47,7 +47,8 @@ EndsLine (b ∷ bytes) = b ≡ line_feed
 abbrev pub AreParts : List Part → List ℕ → Type 0
 AreParts [] rest = Unit {0}
 AreParts (Blank b ∷ parts) rest = IsTrue (is_blank b) × AreParts parts rest
-AreParts (Comment body ∷ parts) rest = IsTrue (list_all (λ b. not (is_line_feed b)) body) × EndsLine (flat_map part_bytes parts ++ rest) × AreParts parts rest
+AreParts (Comment body ∷ parts) rest = IsTrue (list_all (λ b. not (is_line_feed b)) body)
+    × EndsLine (flat_map part_bytes parts ++ rest) × AreParts parts rest
 
 -- blanks and comments, possibly none, where rest stands behind them
 abbrev pub IsGap : List ℕ → List ℕ → Type 0

@@ -8,7 +8,8 @@ use Rattle.dbc_values.proofs.Powers.{tens_more, tens_none, at_least_itself}
 pub zero_behind : (m : ℕ) (digits : Option ℕ) (zeros : ℕ) → HasDigits m digits zeros → HasDigits (m * 10 + 0) digits (zeros + 1)
 zero_behind m digits zeros h = record {
   front = h.front;
-  value = let e : m * 10 + 0 ≡ h.front * 10 ^ zeros * 10 = omega (arith, ap (λ (n : ℕ). n * 10) h.value) in e ∙ tens_more h.front zeros;
+  value = let e : m * 10 + 0 ≡ h.front * 10 ^ zeros * 10 = omega (arith, ap (λ (n : ℕ). n * 10) h.value) in e
+      ∙ tens_more h.front zeros;
   last = h.last;
   kept = h.kept;
 }
@@ -21,8 +22,10 @@ digit_behind m digits zeros digit h some small more kept = record {
       let e : m * 10 ≡ h.front * 10 ^ (zeros + 1) = ap (λ (n : ℕ). n * 10) h.value ∙ tens_more h.front zeros in
       ap (λ (n : ℕ). n + digit) e ∙ sym (tens_none (h.front * 10 ^ (zeros + 1) + digit));
   last = λ zero.
-      let e : h.front * 10 ^ (zeros + 1) + digit ≡ h.front * 10 ^ zeros * 10 + digit = ap (λ (n : ℕ). n + digit) (sym (tens_more h.front zeros)) in
-      let r : (h.front * 10 ^ (zeros + 1) + digit) % 10 ≡ digit = ap (λ (n : ℕ). n % 10) e ∙ mod-mul-add (h.front * 10 ^ zeros) 10 digit small in
+      let e : h.front * 10 ^ (zeros + 1) + digit ≡ h.front * 10 ^ zeros * 10 + digit =
+      ap (λ (n : ℕ). n + digit) (sym (tens_more h.front zeros)) in
+      let r : (h.front * 10 ^ (zeros + 1) + digit) % 10 ≡ digit = ap (λ (n : ℕ). n % 10) e
+      ∙ mod-mul-add (h.front * 10 ^ zeros) 10 digit small in
       absurd (omega arith);
   kept = kept;
 }
@@ -42,9 +45,11 @@ dropped m h = grind (arith, nat_tests)
 pub digit_behind_some : (m n zeros digit : ℕ) → HasDigits m (Some n) zeros → 0 < digit → digit < 10
     → (more : Option ℕ) → more ≡ at_most_36_digits (n * 10 ^ (zeros + 1) + digit) → HasDigits (m * 10 + digit) more 0
 digit_behind_some m n zeros digit h some small more kept =
-    digit_behind m (Some n) zeros digit h some small more (kept ∙ ap (λ (i : ℕ). at_most_36_digits (i * 10 ^ (zeros + 1) + digit)) (kept_is n h.front h.kept))
+    digit_behind m (Some n) zeros digit h some small more (kept ∙ ap (λ (i : ℕ). at_most_36_digits (i * 10 ^ (zeros + 1) + digit))
+    (kept_is n h.front h.kept))
 
 pub digit_behind_none : (m zeros digit : ℕ) → HasDigits m None zeros → 0 < digit → digit < 10 → HasDigits (m * 10 + digit) None 0
 digit_behind_none m zeros digit h some small =
     let long : 10 ^ 36 ≤ h.front = dropped_is h.front h.kept in
-    digit_behind m None zeros digit h some small None (dropped (h.front * 10 ^ (zeros + 1) + digit) (omega (arith, at_least_itself h.front (zeros + 1))))
+    digit_behind m None zeros digit h some small None (dropped (h.front * 10 ^ (zeros + 1) + digit)
+    (omega (arith, at_least_itself h.front (zeros + 1))))

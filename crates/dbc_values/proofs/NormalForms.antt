@@ -1,5 +1,7 @@
 -- The normal form of a number is one, and it is there where the digits and the exponent are within the bounds.
-use Rattle.std.proofs.Common.{List, MatchOption, ◌≡◌, ◌≢◌, ℕ, ℤ, pos, negsuc, zero, suc, ◌+◌, ◌*◌, ◌^◌, ◌/◌, ◌%◌, ◌<◌, ◌≤◌, ◌+ℤ◌, ◌-ℤ◌, ◌≤ℤ◌, inl, inr, nat_lt, Option, Some, None, refl, sym, ap, subst, ◌∙◌, arith, true, false, Bool, IsTrue, not, ◌&&◌, eqb}
+use Rattle.std.proofs.Common.{List, MatchOption, ◌≡◌, ◌≢◌, ℕ, ℤ, pos, negsuc, zero, suc, ◌+◌, ◌*◌, ◌^◌, ◌/◌, ◌%◌, ◌<◌, ◌≤◌, ◌+ℤ◌}
+use Rattle.std.proofs.Common.{◌-ℤ◌, ◌≤ℤ◌, inl, inr, nat_lt, Option, Some, None, refl, sym, ap, subst, ◌∙◌, arith, true, false, Bool}
+use Rattle.std.proofs.Common.{IsTrue, not, ◌&&◌, eqb}
 use Rattle.std.specs.Prelude.{int_le}
 use Rattle.std.specs.Ordering.{int_eq}
 use Rattle.std.proofs.Math.Nat.{zero-mul}
@@ -7,7 +9,8 @@ use Rattle.std.proofs.lemmas.Bool.{and_parts, and_from, eqb-false, ne_eqb, eq-eq
 use Rattle.std.proofs.lemmas.Bool.Decides.{Decides-int_eq}
 use Rattle.std.proofs.lemmas.Int.{ints}
 use Rattle.std.proofs.lemmas.Nat.{div-add-mod'}
-use Rattle.dbc_values.specs.Decimals.{Decimal, decimal_fits, IsDecimalOf, without_zeros, where_fits, decimal_of, decimal_of_number, SpellsDecimal}
+use Rattle.dbc_values.specs.Decimals.{Decimal, decimal_fits, IsDecimalOf, without_zeros, where_fits, decimal_of, decimal_of_number}
+use Rattle.dbc_values.specs.Decimals.{SpellsDecimal}
 use Rattle.dbc_values.specs.Lexical.{is_number}
 use Rattle.dbc_values.specs.Numbers.{IsReduced, StandsFor, mantissa_of, exponent_of}
 use Rattle.dbc_values.proofs.Powers.{one_way, SameTens, at_least_itself, tens_more, tens_none}
@@ -26,11 +29,14 @@ int_le-true a b h = grind (arith, ints)
 le-int_le : (a b : ℤ) → a ≤ℤ b → int_le a b ≡ true
 le-int_le a b h = grind (arith, ints)
 
-pub bounds_of : (negative : Bool) (mantissa : ℕ) (exponent : ℤ) → mantissa ≢ 0 → IsTrue (decimal_fits negative mantissa exponent) → WithinBounds mantissa exponent
+pub bounds_of : (negative : Bool) (mantissa : ℕ) (exponent : ℤ) → mantissa ≢ 0 → IsTrue (decimal_fits negative mantissa exponent)
+    → WithinBounds mantissa exponent
 unfolding decimal_fits
 bounds_of negative mantissa exponent some fits =
-    let within : (nat_lt mantissa (10 ^ 36) && not (eqb (mantissa % 10) 0) && int_le (negsuc 399) exponent && int_le exponent (pos 400)) ≡ true = rw (ne_eqb mantissa 0 some) at fits in
-    let a = and_parts (nat_lt mantissa (10 ^ 36) && not (eqb (mantissa % 10) 0) && int_le (negsuc 399) exponent) (int_le exponent (pos 400)) within in
+    let within : (nat_lt mantissa (10 ^ 36) && not (eqb (mantissa % 10) 0) && int_le (negsuc 399) exponent && int_le exponent
+    (pos 400)) ≡ true = rw (ne_eqb mantissa 0 some) at fits in
+    let a = and_parts (nat_lt mantissa (10 ^ 36) && not (eqb (mantissa % 10) 0) && int_le (negsuc 399) exponent)
+    (int_le exponent (pos 400)) within in
     let b = and_parts (nat_lt mantissa (10 ^ 36) && not (eqb (mantissa % 10) 0)) (int_le (negsuc 399) exponent) a.0 in
     let d = and_parts (nat_lt mantissa (10 ^ 36)) (not (eqb (mantissa % 10) 0)) b.0 in
     record {
@@ -40,14 +46,16 @@ bounds_of negative mantissa exponent some fits =
       greatest = int_le-true exponent (pos 400) a.1;
     }
 
-pub fits_within : (negative : Bool) (mantissa : ℕ) (exponent : ℤ) → WithinBounds mantissa exponent → IsTrue (decimal_fits negative mantissa exponent)
+pub fits_within : (negative : Bool) (mantissa : ℕ) (exponent : ℤ) → WithinBounds mantissa exponent
+    → IsTrue (decimal_fits negative mantissa exponent)
 unfolding decimal_fits
 fits_within negative mantissa exponent w =
     let some : mantissa ≢ 0 = λ at_zero. w.last (ap (λ (n : ℕ). n % 10) at_zero) in
     rw (ne_eqb mantissa 0 some)
     (and_from (nat_lt mantissa (10 ^ 36) && not (eqb (mantissa % 10) 0) && int_le (negsuc 399) exponent) (int_le exponent (pos 400))
     (and_from (nat_lt mantissa (10 ^ 36) && not (eqb (mantissa % 10) 0)) (int_le (negsuc 399) exponent)
-    (and_from (nat_lt mantissa (10 ^ 36)) (not (eqb (mantissa % 10) 0)) (lt-ltb mantissa (10 ^ 36) w.digits) (rw (ne_eqb (mantissa % 10) 0 w.last) refl))
+    (and_from (nat_lt mantissa (10 ^ 36)) (not (eqb (mantissa % 10) 0)) (lt-ltb mantissa (10 ^ 36) w.digits)
+    (rw (ne_eqb (mantissa % 10) 0 w.last) refl))
     (le-int_le (negsuc 399) exponent (omega (arith, ints, w.least))))
     (le-int_le exponent (pos 400) w.greatest))
 
@@ -61,7 +69,8 @@ pub record SameParts (negative : Bool) (n : ℕ) (e : ℤ) (d : Decimal) : Type 
 nothing : (n z : ℕ) → n * 10 ^ z ≡ 0 → n ≡ 0
 nothing n z e = omega (arith, at_least_itself n z)
 
-pub same_parts : (negative : Bool) (m n z : ℕ) (e : ℤ) (d : Decimal) → m ≡ n * 10 ^ z → n % 10 ≢ 0 → IsDecimalOf negative m e d → SameParts negative n (e +ℤ pos z) d
+pub same_parts : (negative : Bool) (m n z : ℕ) (e : ℤ) (d : Decimal) → m ≡ n * 10 ^ z → n % 10 ≢ 0 → IsDecimalOf negative m e d
+    → SameParts negative n (e +ℤ pos z) d
 same_parts negative m n z e d value last is = elim is.value [
   | inl at_zero ↦ absurd (last (ap (λ (i : ℕ). i % 10) (nothing n z (sym value ∙ at_zero.0))))
   | inr some ↦
@@ -75,7 +84,12 @@ same_parts negative m n z e d value last is = elim is.value [
         mantissa = same.number;
         exponent = exponent;
         sign = some.3;
-        within = record { digits = omega (arith, same.number, bounds.digits); last = last; least = rw exponent at bounds.least; greatest = rw exponent at bounds.greatest };
+        within = record {
+          digits = omega (arith, same.number, bounds.digits);
+          last = last;
+          least = rw exponent at bounds.least;
+          greatest = rw exponent at bounds.greatest;
+        };
       }
 ]
 
@@ -105,23 +119,32 @@ is_near e x (inl same) low high = same
 is_near e x (inr (inl above)) low high = absurd (omega (arith, ints, above.0))
 is_near e x (inr (inr below)) low high = absurd (omega (arith, ints, below.0))
 
-pub no_decimal_far : (negative : Bool) (m n : ℕ) (e x : ℤ) (r : IsReduced m e (Some n) x) → n ≢ 0 → ((pos 0 -ℤ pos 400) ≤ℤ x → x ≤ℤ pos 400 → ⊥) → (d : Decimal) → IsDecimalOf negative m e d → ⊥
+pub no_decimal_far : (negative : Bool) (m n : ℕ) (e x : ℤ) (r : IsReduced m e (Some n) x) → n ≢ 0
+    → ((pos 0 -ℤ pos 400) ≤ℤ x → x ≤ℤ pos 400 → ⊥) → (d : Decimal) → IsDecimalOf negative m e d → ⊥
 no_decimal_far negative m n e x r some far d is =
     let same = same_parts negative m n r.zeros e d (value_of m n e x r) (last_of m n e x r some) is in
     let exponent : x ≡ (e +ℤ pos r.zeros) = near_is (e +ℤ pos r.zeros) x r.power same.within.least same.within.greatest in
     far (omega (arith, ints, same.within.least)) (omega (arith, ints, same.within.greatest))
 
-pub within_bounds : (m n : ℕ) (e x : ℤ) (r : IsReduced m e (Some n) x) → n ≢ 0 → (pos 0 -ℤ pos 400) ≤ℤ x → x ≤ℤ pos 400 → WithinBounds n x
-within_bounds m n e x r some low high = record { digits = kept_small n r.front.front r.front.kept; last = last_of m n e x r some; least = low; greatest = high }
+pub within_bounds : (m n : ℕ) (e x : ℤ) (r : IsReduced m e (Some n) x) → n ≢ 0 → (pos 0 -ℤ pos 400) ≤ℤ x → x ≤ℤ pos 400
+    → WithinBounds n x
+within_bounds m n e x r some low high = record {
+  digits = kept_small n r.front.front r.front.kept;
+  last = last_of m n e x r some;
+  least = low;
+  greatest = high;
+}
 
-pub decimal_is : (negative : Bool) (m n : ℕ) (e x : ℤ) (r : IsReduced m e (Some n) x) → n ≢ 0 → (pos 0 -ℤ pos 400) ≤ℤ x → x ≤ℤ pos 400
+pub decimal_is : (negative : Bool) (m n : ℕ) (e x : ℤ) (r : IsReduced m e (Some n) x) → n ≢ 0 → (pos 0 -ℤ pos 400) ≤ℤ x
+    → x ≤ℤ pos 400
     → IsDecimalOf negative m e (record { negative = negative; mantissa = n; exponent = x })
 decimal_is negative m n e x r some low high = record {
   fits = fits_within negative n x (within_bounds m n e x r some low high);
   value = inr (r.zeros, value_of m n e x r, is_near (e +ℤ pos r.zeros) x r.power low high, refl);
 }
 
-pub zero_is : (negative : Bool) (m : ℕ) (e x : ℤ) → IsReduced m e (Some 0) x → IsDecimalOf negative m e (record { negative = false; mantissa = 0; exponent = pos 0 })
+pub zero_is : (negative : Bool) (m : ℕ) (e x : ℤ) → IsReduced m e (Some 0) x
+    → IsDecimalOf negative m e (record { negative = false; mantissa = 0; exponent = pos 0 })
 unfolding decimal_fits
 zero_is negative m e x r = record { fits = refl; value = inl (value_of m 0 e x r ∙ zero-mul (10 ^ r.zeros), refl) }
 
@@ -155,7 +178,8 @@ zero_to negative m e d none is = elim is.value [
   | inr some ↦ zero_parts d (nothing d.mantissa some.0 (sym some.1 ∙ none)) is.fits
 ]
 
-pub one_decimal : (negative : Bool) (m : ℕ) (e : ℤ) (a b : Decimal) → IsDecimalOf negative m e a → IsDecimalOf negative m e b → a ≡ b
+pub one_decimal : (negative : Bool) (m : ℕ) (e : ℤ) (a b : Decimal) → IsDecimalOf negative m e a → IsDecimalOf negative m e b
+    → a ≡ b
 one_decimal negative m e a b is-a is-b = elim (cases_eq a.mantissa 0) [
   | inl none ↦
       let m-none = zero_from negative m e a none is-a in
@@ -165,7 +189,8 @@ one_decimal negative m e a b is-a is-b = elim (cases_eq a.mantissa 0) [
   | inr some ↦ elim is-a.value [
     | inl at_zero ↦ absurd (some at_zero.1)
     | inr at ↦
-        let parts = same_parts negative m a.mantissa at.0 e b at.1 (bounds_of a.negative a.mantissa a.exponent some is-a.fits).last is-b in
+        let parts = same_parts negative m a.mantissa at.0 e b at.1 (bounds_of a.negative a.mantissa a.exponent some is-a.fits).last
+        is-b in
         same_decimal a b (at.3 ∙ sym parts.sign) parts.mantissa (at.2 ∙ sym parts.exponent)
   ]
 ]
@@ -182,7 +207,8 @@ record IsReducedOf (negative : Bool) (m : ℕ) (e : ℤ) (d : Decimal) : Type 0 
 one_zero_more : (n z : ℕ) (e x : ℤ) → x ≡ ((e +ℤ pos 1) +ℤ pos z) → x ≡ (e +ℤ pos (z + 1))
 one_zero_more n z e x is = omega (arith, ints)
 
-reduces : (steps : ℕ) (negative : Bool) (m : ℕ) (e : ℤ) → m ≢ 0 → m ≤ steps → IsReducedOf negative m e (without_zeros steps negative m e)
+reduces : (steps : ℕ) (negative : Bool) (m : ℕ) (e : ℤ) → m ≢ 0 → m ≤ steps
+    → IsReducedOf negative m e (without_zeros steps negative m e)
 reduces zero negative m e some few = absurd (some (omega arith))
 reduces (suc steps) negative m e some few = elim (cases_eq (m % 10) 0) [
   | inl none ↦
@@ -191,15 +217,26 @@ reduces (suc steps) negative m e some few = elim (cases_eq (m % 10) 0) [
       reduces steps negative (m / 10) (e +ℤ pos 1) (λ at_zero. some (product ∙ ap (λ (i : ℕ). i * 10) at_zero)) (omega arith) in
       rw (eq-eqb (m % 10) 0 none) (record {
         zeros = r.zeros + 1;
-        value = product ∙ ap (λ (i : ℕ). i * 10) r.value ∙ tens_more (without_zeros steps negative (m / 10) (e +ℤ pos 1)).mantissa r.zeros;
+        value = product ∙ ap (λ (i : ℕ). i * 10) r.value ∙ tens_more (without_zeros steps negative (m / 10) (e +ℤ pos 1)).mantissa
+            r.zeros;
         last = r.last;
         exponent = one_zero_more m r.zeros e (without_zeros steps negative (m / 10) (e +ℤ pos 1)).exponent r.exponent;
         sign = r.sign;
       })
-  | inr last ↦ rw (ne_eqb (m % 10) 0 last) (record { zeros = 0; value = sym (tens_none m); last = last; exponent = omega (arith, ints); sign = refl })
+  | inr last ↦ rw (ne_eqb (m % 10) 0 last) (record {
+    zeros = 0;
+    value = sym (tens_none m);
+    last = last;
+    exponent = omega (arith, ints);
+    sign = refl;
+  })
 ]
 
-zero_spelled : (negative : Bool) (m : ℕ) (e : ℤ) → m ≡ 0 → IsDecimalOf negative m e (record { negative = false; mantissa = 0; exponent = pos 0 })
+zero_spelled : (negative : Bool) (m : ℕ) (e : ℤ) → m ≡ 0 → IsDecimalOf negative m e (record {
+  negative = false;
+  mantissa = 0;
+  exponent = pos 0;
+})
 unfolding decimal_fits
 zero_spelled negative m e none = record { fits = refl; value = inl (none, refl) }
 
@@ -210,11 +247,13 @@ decimal_from negative m e d is = elim (cases_eq m 0) [
   | inr some ↦
       let r : IsReducedOf negative m e (without_zeros m negative m e) = reduces m negative m e some (omega arith) in
       let parts = same_parts negative m (without_zeros m negative m e).mantissa r.zeros e d r.value r.last is in
-      let same : without_zeros m negative m e ≡ d = same_decimal (without_zeros m negative m e) d (r.sign ∙ sym parts.sign) parts.mantissa (r.exponent ∙ sym parts.exponent) in
+      let same : without_zeros m negative m e ≡ d = same_decimal (without_zeros m negative m e) d (r.sign ∙ sym parts.sign)
+      parts.mantissa (r.exponent ∙ sym parts.exponent) in
       rw (ne_eqb m 0 some, same, is.fits) refl
 ]
 
-fitting : (negative : Bool) (m : ℕ) (e : ℤ) (d n : Decimal) → IsReducedOf negative m e n → where_fits n ≡ Some d → IsDecimalOf negative m e d
+fitting : (negative : Bool) (m : ℕ) (e : ℤ) (d n : Decimal) → IsReducedOf negative m e n → where_fits n ≡ Some d
+    → IsDecimalOf negative m e d
 fitting negative m e d n r made = elim (cases_Bool (decimal_fits n.negative n.mantissa n.exponent)) [
   | inl fits ↦
       let there : Some n ≡ Some d = rw fits at made in
@@ -245,9 +284,11 @@ none_from (Some d) no_such = absurd (no_such d refl)
 
 -- what a number's decimal is told to be is what the function gives
 pub decimal_is_made : (negative : Bool) (number : List ℕ) (made : Option Decimal)
-    → MatchOption made ((d : Decimal) → SpellsDecimal negative number d → ⊥) (SpellsDecimal negative number) → made ≡ decimal_of_number negative number
+    → MatchOption made ((d : Decimal) → SpellsDecimal negative number d → ⊥) (SpellsDecimal negative number)
+    → made ≡ decimal_of_number negative number
 unfolding decimal_of_number
-decimal_is_made negative number (Some d) spells = rw spells.form (sym (decimal_from negative (mantissa_of number) (exponent_of number) d spells.is))
+decimal_is_made negative number (Some d) spells =
+    rw spells.form (sym (decimal_from negative (mantissa_of number) (exponent_of number) d spells.is))
 decimal_is_made negative number None none = elim (cases_Bool (is_number number)) [
   | inl form ↦
       rw form (none_from (decimal_of negative (mantissa_of number) (exponent_of number))

@@ -1,5 +1,6 @@
 -- The parts of a number's text are digits.
-use Rattle.std.proofs.Common.{◌≡◌, ℕ, ◌+◌, Bool, true, false, IsTrue, List, [], ◌∷◌, ◌++◌, ℤ, pos, ◌-ℤ◌, ◌+ℤ◌, Option, Some, length, drop, take, if◌then◌else◌, get_or, refl, sym, ap, ◌∙◌, arith, inl, inr}
+use Rattle.std.proofs.Common.{◌≡◌, ℕ, ◌+◌, Bool, true, false, IsTrue, List, [], ◌∷◌, ◌++◌, ℤ, pos, ◌-ℤ◌, ◌+ℤ◌, Option, Some, length}
+use Rattle.std.proofs.Common.{drop, take, if◌then◌else◌, get_or, refl, sym, ap, ◌∙◌, arith, inl, inr}
 use Rattle.std.specs.List.{list_all, list_any, before_first, after_first, position_or_len}
 use Rattle.std.specs.Str.Parse.{without_leading_sign, digits_value, digits_value_after}
 use Rattle.std.proofs.lemmas.Bool.{and_parts, cases_Bool, cases_lt, both_ways}
@@ -9,7 +10,8 @@ use Rattle.std.proofs.lemmas.List.Folds.{list_any-from_Any}
 use Rattle.std.proofs.lemmas.List.Sums.{passes_at_first}
 use Rattle.std.proofs.Math.ListN.{drop_of_length-le}
 use Rattle.dbc_values.specs.Lexical.{is_digit, is_point, is_exponent_mark, is_signed_digits, is_number}
-use Rattle.dbc_values.specs.Numbers.{digits_before_point, digits_behind_point, written_exponent, mantissa_of, exponent_of, HasDigits, StandsFor, IsReduced}
+use Rattle.dbc_values.specs.Numbers.{digits_before_point, digits_behind_point, written_exponent, mantissa_of, exponent_of}
+use Rattle.dbc_values.specs.Numbers.{HasDigits, StandsFor, IsReduced}
 use Rattle.dbc_values.proofs.DigitTexts.{value_append}
 
 pub digits_before : (number : List ℕ) → IsTrue (is_number number) → IsTrue (list_all is_digit (digits_before_point number))
@@ -29,15 +31,23 @@ nothing_after p xs none =
     let i = position_or_len p xs in
     elim (cases_lt i (length xs)) [
       | inl less ↦
-          let found : list_any p xs ≡ true = list_any-from_Any p xs (i, get_or xs i 0, less, get_or_default xs i (get_or xs i 0) 0 less, passes_at_first p xs 0 less) in
+          let found : list_any p xs ≡ true = list_any-from_Any p xs (
+            i,
+            get_or xs i 0,
+            less,
+            get_or_default xs i (get_or xs i 0) 0 less,
+            passes_at_first p xs 0 less,
+          ) in
           absurd (both_ways (list_any p xs) none found)
       | inr more ↦ drop_of_length-le xs (omega arith)
     ]
 
-pub digits_of_exponent : (number : List ℕ) → IsTrue (is_number number) → IsTrue (list_all is_digit (without_leading_sign (after_first is_exponent_mark number)))
+pub digits_of_exponent : (number : List ℕ) → IsTrue (is_number number)
+    → IsTrue (list_all is_digit (without_leading_sign (after_first is_exponent_mark number)))
 unfolding is_number
 digits_of_exponent number h =
-    let exponent : (if list_any is_exponent_mark number then is_signed_digits (after_first is_exponent_mark number) else true) ≡ true = (and_parts _ _ h).1 in
+    let exponent : (if list_any is_exponent_mark number then is_signed_digits (after_first is_exponent_mark number) else true)
+    ≡ true = (and_parts _ _ h).1 in
     elim (cases_Bool (list_any is_exponent_mark number)) [
       | inl some ↦ behind_sign (after_first is_exponent_mark number) (rw some at exponent)
       | inr none ↦ rw (nothing_after is_exponent_mark number none) refl
@@ -61,7 +71,8 @@ pub exponent_is : (number part : List ℕ) (i : ℕ) → i ≡ position_or_len i
 exponent_is number part i i-is part-is = part-is ∙ ap (λ (n : ℕ). drop (n + 1) number) i-is
 
 -- the parts' values are what the number spells
-pub reduced : (number before behind : List ℕ) (digits : Option ℕ) (zeros : ℕ) (x : ℤ) → before ≡ digits_before_point number → behind ≡ digits_behind_point number
+pub reduced : (number before behind : List ℕ) (digits : Option ℕ) (zeros : ℕ) (x : ℤ) → before ≡ digits_before_point number
+    → behind ≡ digits_behind_point number
     → HasDigits (digits_value_after 10 (digits_value_after 10 0 before) behind) digits zeros
     → StandsFor 1000 ((written_exponent number -ℤ pos (length behind)) +ℤ pos zeros) x
     → IsReduced (mantissa_of number) (exponent_of number) digits x
@@ -69,8 +80,10 @@ unfolding mantissa_of exponent_of
 reduced number before behind digits zeros x before-is behind-is has stands = record {
   zeros = zeros;
   front =
-      let e : digits_value_after 10 (digits_value_after 10 0 before) behind ≡ digits_value 10 (digits_before_point number ++ digits_behind_point number) =
-      sym (value_append 0 before behind) ∙ ap (λ (t : List ℕ). digits_value 10 (t ++ behind)) before-is ∙ ap (λ (t : List ℕ). digits_value 10 (digits_before_point number ++ t)) behind-is in
+      let e : digits_value_after 10 (digits_value_after 10 0 before) behind ≡ digits_value 10 (digits_before_point number
+      ++ digits_behind_point number) =
+      sym (value_append 0 before behind) ∙ ap (λ (t : List ℕ). digits_value 10 (t ++ behind)) before-is
+      ∙ ap (λ (t : List ℕ). digits_value 10 (digits_before_point number ++ t)) behind-is in
       rw e at has;
   power = rw behind-is at stands;
 }

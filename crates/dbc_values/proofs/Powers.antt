@@ -1,6 +1,7 @@
 -- Numbers with zeros behind them: products with powers of ten.
 use Rattle.std.proofs.Common.{◌≡◌, ◌≢◌, ℕ, ◌+◌, ◌-◌, ◌*◌, ◌^◌, ◌%◌, ◌<◌, ◌≤◌, sym, ap, ◌∙◌, add-one, arith}
-use Rattle.std.proofs.Math.Nat.{one-le-pow, pow-suc, pow-le-pow_right, le_of_mul-le-mul_right, le-mul_of_pos_right, mul_assoc, mul-mod_left}
+use Rattle.std.proofs.Math.Nat.{one-le-pow, pow-suc, pow-le-pow_right, le_of_mul-le-mul_right, le-mul_of_pos_right, mul_assoc}
+use Rattle.std.proofs.Math.Nat.{mul-mod_left}
 use Rattle.std.proofs.lemmas.Nat.{pow-add, mul-le}
 
 pub tens_positive : (k : ℕ) → 1 ≤ 10 ^ k

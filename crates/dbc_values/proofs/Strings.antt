@@ -19,7 +19,8 @@ split_ends [] h = grind arith
 split_ends (x ∷ xs) h = grind (arith, common_steps, split_last xs)
 
 -- a list of two bytes or more is a string's where its ends are quotes
-pub quoted_by_ends : (bytes : List ℕ) → 2 ≤ length bytes → bytes_eq bytes (quoted (inside bytes)) ≡ (get_or bytes 0 0 == quote && get_or bytes (length bytes - 1) 0 == quote)
+pub quoted_by_ends : (bytes : List ℕ) → 2 ≤ length bytes → bytes_eq bytes (quoted (inside bytes))
+    ≡ (get_or bytes 0 0 == quote && get_or bytes (length bytes - 1) 0 == quote)
 quoted_by_ends bytes h =
     let first = get_or bytes 0 0 in
     let last = get_or bytes (length bytes - 1) 0 in

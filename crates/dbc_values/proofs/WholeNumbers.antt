@@ -1,5 +1,6 @@
 -- Whether a number is whole, by the zeros at its end and its exponent.
-use Rattle.std.proofs.Common.{List, MatchOption, ◌≡◌, ◌≢◌, ℕ, ℤ, pos, negsuc, ◌+◌, ◌*◌, ◌^◌, ◌/◌, ◌%◌, ◌≤◌, ◌+ℤ◌, ◌≤ℤ◌, ◌<ℤ◌, inl, inr, Option, Some, None, refl, sym, ap, subst, ◌∙◌, arith, false}
+use Rattle.std.proofs.Common.{List, MatchOption, ◌≡◌, ◌≢◌, ℕ, ℤ, pos, negsuc, ◌+◌, ◌*◌, ◌^◌, ◌/◌, ◌%◌, ◌≤◌, ◌+ℤ◌, ◌≤ℤ◌, ◌<ℤ◌, inl}
+use Rattle.std.proofs.Common.{inr, Option, Some, None, refl, sym, ap, subst, ◌∙◌, arith, false}
 use Rattle.std.specs.Prelude.{unsigned_abs}
 use Rattle.std.proofs.lemmas.Bool.{cases_lt, cases_eq, lt-ltb, le-ltb, eq-eqb, ne_eqb}
 use Rattle.std.proofs.lemmas.Int.{ints}
@@ -7,7 +8,8 @@ use Rattle.std.proofs.Math.Nat.{zero-mul, mul-mod_left}
 use Rattle.std.proofs.lemmas.Nat.{div-add-mod'}
 use Rattle.dbc_values.specs.declared.number.Whole.{Whole}
 use Rattle.dbc_values.specs.declared.number.Whole.TheVariants.{Fraction, TooLarge, Value}
-use Rattle.dbc_values.specs.Numbers.{IsWholeNumber, IsWhole, IsReduced, StandsFor, as_whole, whole_value, whole_of_number, mantissa_of, exponent_of, SpellsWhole}
+use Rattle.dbc_values.specs.Numbers.{IsWholeNumber, IsWhole, IsReduced, StandsFor, as_whole, whole_value, whole_of_number}
+use Rattle.dbc_values.specs.Numbers.{mantissa_of, exponent_of, SpellsWhole}
 use Rattle.dbc_values.specs.Lexical.{is_number}
 use Rattle.dbc_values.proofs.Powers.{same_tens, tens_apart, ends_in_zero, at_least_itself, tens_at_least}
 use Rattle.dbc_values.proofs.Digits.{kept_is, dropped_is}
@@ -45,18 +47,24 @@ at_or_above : (e : ℤ) → pos 0 ≤ℤ e → (t : ℕ) × (e ≡ pos t)
 at_or_above (pos t) h = (t, refl)
 at_or_above (negsuc k) h = absurd (omega (arith, ints))
 
-pub fraction : (m : ℕ) (e x : ℤ) (digits : Option ℕ) (r : IsReduced m e digits x) → r.front.front ≢ 0 → x <ℤ pos 0 → (n : ℕ) → IsWholeNumber m e n → ⊥
+pub fraction : (m : ℕ) (e x : ℤ) (digits : Option ℕ) (r : IsReduced m e digits x) → r.front.front ≢ 0 → x <ℤ pos 0 → (n : ℕ)
+    → IsWholeNumber m e n → ⊥
 fraction m e x digits r some less n w =
     no_whole r.front.front n r.zeros e (λ zero. some (r.front.last zero)) (below_zero (e +ℤ pos r.zeros) x r.power less)
     (same_number (r.front.front * 10 ^ r.zeros) m n e (sym r.front.value) w)
 
-whole_front : (m t : ℕ) (e x : ℤ) (digits : Option ℕ) (r : IsReduced m e digits x) → (e +ℤ pos r.zeros) ≡ pos t → IsWholeNumber m e (r.front.front * 10 ^ t)
-whole_front m t e x digits r at = same_number m (r.front.front * 10 ^ r.zeros) (r.front.front * 10 ^ t) e r.front.value (with_exponent r.front.front r.zeros t e at)
+whole_front : (m t : ℕ) (e x : ℤ) (digits : Option ℕ) (r : IsReduced m e digits x) → (e +ℤ pos r.zeros) ≡ pos t
+    → IsWholeNumber m e (r.front.front * 10 ^ t)
+whole_front m t e x digits r at = same_number m (r.front.front * 10 ^ r.zeros) (r.front.front * 10 ^ t) e r.front.value
+    (with_exponent r.front.front r.zeros t e at)
 
 pub too_long : (m : ℕ) (e x : ℤ) (r : IsReduced m e None x) → pos 0 ≤ℤ x → IsWhole m e TooLarge
 too_long m e x r more =
-    let some = at_or_above (e +ℤ pos r.zeros) (not_below_zero (e +ℤ pos r.zeros) x r.power more) in
-    (r.front.front * 10 ^ some.0, omega (arith, dropped_is r.front.front r.front.kept, at_least_itself r.front.front some.0), whole_front m some.0 e x None r some.1)
+    let some = at_or_above (e +ℤ pos r.zeros) (not_below_zero (e +ℤ pos r.zeros) x r.power more) in (
+      r.front.front * 10 ^ some.0,
+      omega (arith, dropped_is r.front.front r.front.kept, at_least_itself r.front.front some.0),
+      whole_front m some.0 e x None r some.1,
+    )
 
 zero_is_whole : (e : ℤ) → IsWholeNumber 0 e 0
 unfolding IsWholeNumber
@@ -99,7 +107,8 @@ at_sign : (m d : ℕ) (e x : ℤ) (r : IsReduced m e (Some d) x) → d ≢ 0 →
 at_sign m d e (pos y) r some more = with_zeros_behind m d e y r some
 at_sign m d e (negsuc k) r some more = absurd (omega (arith, ints))
 
-pub with_zeros_at : (m d : ℕ) (e x z : ℤ) → z ≡ x → (r : IsReduced m e (Some d) x) → d ≢ 0 → pos 0 ≤ℤ x → IsWhole m e (as_whole (d * 10 ^ unsigned_abs z))
+pub with_zeros_at : (m d : ℕ) (e x z : ℤ) → z ≡ x → (r : IsReduced m e (Some d) x) → d ≢ 0 → pos 0 ≤ℤ x
+    → IsWhole m e (as_whole (d * 10 ^ unsigned_abs z))
 with_zeros_at m d e x z same r some more = rw same (at_sign m d e x r some more)
 
 -- ---- one whole number
@@ -127,7 +136,8 @@ whole_value_is m (negsuc k) = elim (cases_eq (m % 10 ^ (k + 1)) 0) [
   | inl none ↦
       let product : m ≡ m / 10 ^ (k + 1) * 10 ^ (k + 1) = omega (arith, div-add-mod' m (10 ^ (k + 1))) in
       rw (eq-eqb (m % 10 ^ (k + 1)) 0 none) (exact_whole m (m / 10 ^ (k + 1)) (negsuc k) product)
-  | inr some ↦ rw (ne_eqb (m % 10 ^ (k + 1)) 0 some) (λ n w. some (ap (λ (i : ℕ). i % 10 ^ (k + 1)) w ∙ mul-mod_left n (10 ^ (k + 1))))
+  | inr some ↦ rw (ne_eqb (m % 10 ^ (k + 1)) 0 some) (λ n w. some (ap (λ (i : ℕ). i % 10 ^ (k + 1)) w
+      ∙ mul-mod_left n (10 ^ (k + 1))))
 ]
 
 pub whole_from : (m : ℕ) (e : ℤ) (whole : Whole) → IsWhole m e whole → whole_value m e ≡ whole
@@ -137,7 +147,9 @@ pub whole_to : (m : ℕ) (e : ℤ) (whole : Whole) → whole_value m e ≡ whole
 whole_to m e whole same = subst (IsWhole m e) same (whole_value_is m e)
 
 -- what a number is told to be as a whole number is what the function gives
-pub whole_is_made : (number : List ℕ) (made : Option Whole) → MatchOption made (is_number number ≡ false) (SpellsWhole number) → made ≡ whole_of_number number
+pub whole_is_made : (number : List ℕ) (made : Option Whole) → MatchOption made (is_number number ≡ false) (SpellsWhole number)
+    → made ≡ whole_of_number number
 unfolding whole_of_number
-whole_is_made number (Some whole) spells = rw (spells.form, whole_from (mantissa_of number) (exponent_of number) whole spells.is) refl
+whole_is_made number (Some whole) spells = rw (spells.form, whole_from (mantissa_of number) (exponent_of number) whole spells.is)
+    refl
 whole_is_made number None other = rw other refl

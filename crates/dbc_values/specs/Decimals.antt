@@ -1,7 +1,8 @@
 -- Exact decimals: numbers of a database text as sign, whole number and power of ten, in one form each.
 -- Source: the DBC file format, "General Definitions" (signed_integer, unsigned_integer, double). That numbers are kept
 -- exactly, and the bounds, are the profile of candesk.
-use Rattle.std.specs.Prelude.{◌≡◌, ℕ, zero, suc, ℤ, pos, ◌+ℤ◌, ◌-ℤ◌, int_le, nat_lt, Bool, not, ◌&&◌, ◌==◌, ◌*◌, ◌^◌, ◌/◌, ◌%◌, ◌⊎◌, false, List, Option, Some, None, IsTrue, if◌then◌else◌}
+use Rattle.std.specs.Prelude.{◌≡◌, ℕ, zero, suc, ℤ, pos, ◌+ℤ◌, ◌-ℤ◌, int_le, nat_lt, Bool, not, ◌&&◌, ◌==◌, ◌*◌, ◌^◌, ◌/◌, ◌%◌, ◌⊎◌}
+use Rattle.std.specs.Prelude.{false, List, Option, Some, None, IsTrue, if◌then◌else◌}
 use Rattle.std.specs.Ordering.{int_eq}
 use Rattle.std.specs.Str.Parse.{starts_with_minus, without_leading_sign}
 use Rattle.dbc_values.specs.Lexical.{is_number}
@@ -22,7 +23,8 @@ most_exponent = 400
 unfoldable pub decimal_fits : Bool → ℕ → ℤ → Bool
 decimal_fits negative mantissa exponent =
     if mantissa == 0 then (not negative && int_eq exponent (pos 0))
-    else (nat_lt mantissa (10 ^ most_digits) && not (mantissa % 10 == 0) && int_le (pos 0 -ℤ pos most_exponent) exponent && int_le exponent (pos most_exponent))
+    else (nat_lt mantissa (10 ^ most_digits) && not (mantissa % 10 == 0) && int_le (pos 0 -ℤ pos most_exponent) exponent && int_le
+    exponent (pos most_exponent))
 
 pub record IsDecimal (decimal : Decimal) : Type 0 where
   pub fits : IsTrue (decimal_fits decimal.negative decimal.mantissa decimal.exponent)
@@ -43,7 +45,11 @@ pub record IsDecimalOf (negative : Bool) (m : ℕ) (e : ℤ) (decimal : Decimal)
 abbrev pub without_zeros : ℕ → Bool → ℕ → ℤ → Decimal
 without_zeros zero negative m e = record { negative = negative; mantissa = m; exponent = e }
 without_zeros (suc steps) negative m e =
-    if m % 10 == 0 then without_zeros steps negative (m / 10) (e +ℤ pos 1) else record { negative = negative; mantissa = m; exponent = e }
+    if m % 10 == 0 then without_zeros steps negative (m / 10) (e +ℤ pos 1) else record {
+      negative = negative;
+      mantissa = m;
+      exponent = e;
+    }
 
 abbrev pub where_fits : Decimal → Option Decimal
 where_fits decimal = if decimal_fits decimal.negative decimal.mantissa decimal.exponent then Some decimal else None

@@ -138,14 +138,17 @@ is_word (b ∷ bytes) = is_letter b && list_all is_word_byte bytes
 -- the words that begin the lists and statements whose parts are judged
 abbrev pub statement_words : List (List ℕ)
 statement_words =
-    codes "NS_" ∷ codes "BS_" ∷ codes "BU_" ∷ codes "BO_" ∷ codes "SG_" ∷ codes "CM_" ∷ codes "BA_" ∷ codes "VAL_" ∷ codes "VAL_TABLE_"
+    codes "NS_" ∷ codes "BS_" ∷ codes "BU_" ∷ codes "BO_" ∷ codes "SG_" ∷ codes "CM_" ∷ codes "BA_" ∷ codes "VAL_"
+    ∷ codes "VAL_TABLE_"
     ∷ codes "BA_DEF_" ∷ codes "BA_DEF_DEF_" ∷ codes "SIG_VALTYPE_" ∷ codes "SG_MUL_VAL_" ∷ []
 
 -- the words that begin the statements which are kept as they stand
 abbrev pub kept_words : List (List ℕ)
 kept_words =
-    codes "BO_TX_BU_" ∷ codes "EV_" ∷ codes "ENVVAR_DATA_" ∷ codes "EV_DATA_" ∷ codes "SIG_GROUP_" ∷ codes "SGTYPE_" ∷ codes "SGTYPE_VAL_"
-    ∷ codes "SIG_TYPE_REF_" ∷ codes "SIGTYPE_VALTYPE_" ∷ codes "BA_DEF_SGTYPE_" ∷ codes "BA_SGTYPE_" ∷ codes "BA_DEF_REL_" ∷ codes "BA_REL_"
+    codes "BO_TX_BU_" ∷ codes "EV_" ∷ codes "ENVVAR_DATA_" ∷ codes "EV_DATA_" ∷ codes "SIG_GROUP_" ∷ codes "SGTYPE_"
+    ∷ codes "SGTYPE_VAL_"
+    ∷ codes "SIG_TYPE_REF_" ∷ codes "SIGTYPE_VALTYPE_" ∷ codes "BA_DEF_SGTYPE_" ∷ codes "BA_SGTYPE_" ∷ codes "BA_DEF_REL_"
+    ∷ codes "BA_REL_"
     ∷ codes "BA_DEF_DEF_REL_" ∷ codes "CAT_DEF_" ∷ codes "CAT_" ∷ []
 
 abbrev pub is_kept_word : List ℕ → Bool
@@ -182,7 +185,8 @@ quoted text = quote ∷ (text ++ quote ∷ [])
 
 -- digits, perhaps with one point among, before or behind them, and at least one digit
 abbrev pub is_mantissa : List ℕ → Bool
-is_mantissa bytes = list_all is_digit (before_first is_point bytes) && list_all is_digit (after_first is_point bytes) && list_any is_digit bytes
+is_mantissa bytes = list_all is_digit (before_first is_point bytes) && list_all is_digit (after_first is_point bytes) && list_any
+    is_digit bytes
 
 -- at least one digit, and digits alone
 abbrev pub is_digits : List ℕ → Bool

@@ -1,7 +1,8 @@
 -- What a number of a database text spells: `m · 10^e`, where `m` is the value of all its digits read as one whole
 -- number, and `e` its exponent less the count of the digits behind its point.
 -- Source: the DBC file format, "General Definitions" (unsigned_integer, double).
-use Rattle.std.specs.Prelude.{◌≡◌, ℕ, ℤ, pos, negsuc, ◌+◌, ◌*◌, ◌+ℤ◌, ◌-ℤ◌, ◌≤ℤ◌, ◌⊎◌, ◌^◌, ◌/◌, ◌%◌, ◌==◌, ◌<◌, ◌≤◌, nat_lt, List, ◌++◌, length, Option, Some, None, IsTrue, if◌then◌else◌}
+use Rattle.std.specs.Prelude.{◌≡◌, ℕ, ℤ, pos, negsuc, ◌+◌, ◌*◌, ◌+ℤ◌, ◌-ℤ◌, ◌≤ℤ◌, ◌⊎◌, ◌^◌, ◌/◌, ◌%◌, ◌==◌, ◌<◌, ◌≤◌, nat_lt, List}
+use Rattle.std.specs.Prelude.{◌++◌, length, Option, Some, None, IsTrue, if◌then◌else◌}
 use Rattle.std.specs.List.{before_first, after_first}
 use Rattle.std.specs.Str.Parse.{digits_value, signed_digits_value}
 use Rattle.dbc_values.specs.Lexical.{is_point, is_exponent_mark, is_number}
@@ -77,7 +78,8 @@ pub record HasDigits (m : ℕ) (digits : Option ℕ) (zeros : ℕ) : Type 0 wher
 
 -- x is e, or both are beyond the bound on one side
 abbrev pub StandsFor : ℕ → ℤ → ℤ → Type 0
-StandsFor bound e x = (x ≡ e) ⊎ (((pos bound ≤ℤ x) × (pos bound ≤ℤ e)) ⊎ ((x ≤ℤ (pos 0 -ℤ pos bound)) × (e ≤ℤ (pos 0 -ℤ pos bound))))
+StandsFor bound e x = (x ≡ e) ⊎ (((pos bound ≤ℤ x) × (pos bound ≤ℤ e))
+    ⊎ ((x ≤ℤ (pos 0 -ℤ pos bound)) × (e ≤ℤ (pos 0 -ℤ pos bound))))
 
 -- `m · 10^e` is `digits · 10^exponent`, without zeros at the end of the digits, and where the exponent isn't far from 0
 pub record IsReduced (m : ℕ) (e : ℤ) (digits : Option ℕ) (exponent : ℤ) : Type 0 where

@@ -2,7 +2,8 @@
 -- right, without any rounding.
 -- Source: the DBC file format, "Signal Definitions" (factor, offset: physical_value = raw_value * factor + offset). The
 -- bounds are the profile of candesk: every value has at most 38 digits.
-use Rattle.std.specs.Prelude.{ℕ, suc, ℤ, pos, negsuc, neg_ℤ, ◌+◌, ◌-◌, ◌*◌, ◌^◌, ◌≤◌, max, nat_lt, nat_le, Bool, ◌&&◌, IsTrue, if◌then◌else◌, unsigned_abs}
+use Rattle.std.specs.Prelude.{ℕ, suc, ℤ, pos, negsuc, neg_ℤ, ◌+◌, ◌-◌, ◌*◌, ◌^◌, ◌≤◌, max, nat_lt, nat_le, Bool, ◌&&◌, IsTrue}
+use Rattle.std.specs.Prelude.{if◌then◌else◌, unsigned_abs}
 use Rattle.dbc_values.specs.Decimals.{Decimal}
 
 -- `length` is the greatest number of raw bits
@@ -50,7 +51,8 @@ most_places = 36
 unfoldable pub scale_fits : Decimal → Decimal → ℕ → Bool
 scale_fits factor offset length =
     let places = places_of factor offset in
-    nat_le length most_raw_bits && nat_le places most_places && reach_fits (magnitude_at places factor) (magnitude_at places offset) length
+    nat_le length most_raw_bits && nat_le places most_places && reach_fits (magnitude_at places factor) (magnitude_at places offset)
+    length
 
 unfoldable pub scale_of : Decimal → Decimal → ℕ → Scale
 scale_of factor offset length =

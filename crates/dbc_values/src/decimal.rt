@@ -36,7 +36,8 @@ impl Decimal {
     pub const MAX_EXPONENT: i16 = 400;
 
     fn spelled(negative: bool, number: &[u8]) -> Option<Decimal>
-        ensures { MatchOption result ((d : Decimals) → SpellsDecimal negative number.now d → ⊥) (SpellsDecimal negative number.now) }
+        ensures { MatchOption result ((d : Decimals) → SpellsDecimal negative number.now d
+            → ⊥) (SpellsDecimal negative number.now) }
     {
         let number = Reduced::read(number)?;
         let mantissa = number.digits?;
@@ -62,7 +63,8 @@ impl Decimal {
     /// number, where it takes more than 36 digits, or where its exponent, the zeros at the end of its digits counted
     /// with it, is beyond [`Decimal::MAX_EXPONENT`]. A zero is 0 whatever its sign and exponent.
     pub fn of_number(negative: bool, number: &[u8]) -> Option<Decimal>
-        ensures spells { MatchOption result ((d : Decimals) → SpellsDecimal negative number.now d → ⊥) (SpellsDecimal negative number.now) }
+        ensures spells { MatchOption result ((d : Decimals) → SpellsDecimal negative number.now d
+            → ⊥) (SpellsDecimal negative number.now) }
         ensures value { result ≡ decimal_of_number negative number.now }
     {
         Decimal::spelled(negative, number)

@@ -2,7 +2,8 @@
 ghost use Rattle.std.specs.Prelude.{◌≡◌, IfOk, OnErr, IsTrue, Some, None, if◌then◌else◌};
 ghost use Rattle.std.specs.List.{list_any, list_all};
 ghost use Rattle.std.specs.Str.{bytes_eq};
-ghost use Rattle.dbc_values.specs.Lexical.{is_name, is_word, is_keyword, is_letter, is_word_byte, is_kept_word, statement_words, relation_words};
+ghost use Rattle.dbc_values.specs.Lexical.{is_name, is_word, is_keyword, is_letter, is_word_byte, is_kept_word, statement_words};
+ghost use Rattle.dbc_values.specs.Lexical.{relation_words};
 
 use crate::list::{Checked, Copied};
 use crate::memory::Memory;

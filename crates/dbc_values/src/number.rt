@@ -1,9 +1,12 @@
 //! Numbers: which bytes are one, and what its digits and its exponent say, exactly.
-ghost use Rattle.std.specs.Prelude.{◌≡◌, ℕ, ℤ, pos, ◌+ℤ◌, ◌-ℤ◌, unsigned_abs, ◌+◌, ◌*◌, ◌^◌, ◌<◌, ◌≤◌, false, take, drop, length, nat_lt, Some, None, MatchOption, IsTrue, min, if◌then◌else◌};
+ghost use Rattle.std.specs.Prelude.{◌≡◌, ℕ, ℤ, pos, ◌+ℤ◌, ◌-ℤ◌, unsigned_abs, ◌+◌, ◌*◌, ◌^◌, ◌<◌, ◌≤◌, false, take, drop, length};
+ghost use Rattle.std.specs.Prelude.{nat_lt, Some, None, MatchOption, IsTrue, min, if◌then◌else◌};
 ghost use Rattle.std.specs.List.{list_any, list_all, position_or_len, prefix_len};
 ghost use Rattle.std.specs.Str.Parse.{digits_value, digits_value_after, signed_digits_value, without_leading_sign};
-ghost use Rattle.dbc_values.specs.Lexical.{is_digit, is_sign, is_point, is_exponent_mark, is_mantissa, is_digits, is_signed_digits, is_number};
-ghost use Rattle.dbc_values.specs.Numbers.{mantissa_of, exponent_of, IsWhole, SpellsWhole, whole_of_number, at_most_36_digits, HasDigits, StandsFor, IsReduced};
+ghost use Rattle.dbc_values.specs.Lexical.{is_digit, is_sign, is_point, is_exponent_mark, is_mantissa, is_digits, is_signed_digits};
+ghost use Rattle.dbc_values.specs.Lexical.{is_number};
+ghost use Rattle.dbc_values.specs.Numbers.{mantissa_of, exponent_of, IsWhole, SpellsWhole, whole_of_number, at_most_36_digits};
+ghost use Rattle.dbc_values.specs.Numbers.{HasDigits, StandsFor, IsReduced};
 
 /// What a number is as a whole number.
 #[derive(Clone, Copy, Debug, PartialEq, Eq)]
@@ -198,7 +201,8 @@ impl Digits {
     fn then_all(self, digits: &[u8]) -> Digits
         requires digits { IsTrue (list_all is_digit digits.now) }
         requires few { self.zeros < 2 ^ 99 }
-        ensures value { (m : ℕ) → HasDigits m self.front self.zeros → HasDigits (digits_value_after 10 m digits.now) result.front result.zeros }
+        ensures value { (m : ℕ) → HasDigits m self.front self.zeros → HasDigits (digits_value_after 10 m digits.now) result.front
+            result.zeros }
         ensures few { result.zeros ≤ self.zeros + 2 ^ 64 }
     {
         let mut all = self;
@@ -246,7 +250,8 @@ fn reduced_exponent(written: i128, behind_point: usize, zeros: u128) -> i128
 impl Reduced {
     /// What the bytes spell, or `None` where they are no number.
     pub fn read(number: &[u8]) -> Option<Reduced>
-        ensures { MatchOption result (is_number number.now ≡ false) (λ r. IsTrue (is_number number.now) × IsReduced (mantissa_of number.now) (exponent_of number.now) r.digits r.exponent) }
+        ensures { MatchOption result (is_number number.now ≡ false) (λ r. IsTrue (is_number number.now)
+            × IsReduced (mantissa_of number.now) (exponent_of number.now) r.digits r.exponent) }
     {
         if !is_number(number) {
             return None;

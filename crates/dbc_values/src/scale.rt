@@ -1,6 +1,7 @@
 //! The scale of a signal, in whole numbers.
 ghost use Rattle.std.specs.Prelude.{◌≡◌, ℕ, ◌*◌, ◌+ℤ◌, ◌*ℤ◌, ◌^◌, ◌≤◌, nat_lt, Some, None, unsigned_abs, if◌then◌else◌};
-ghost use Rattle.dbc_values.specs.Scales.{digits_behind, places_of, magnitude_at, signed, whole_at, reach_fits, scale_fits, scale_of};
+ghost use Rattle.dbc_values.specs.Scales.{digits_behind, places_of, magnitude_at, signed, whole_at, reach_fits, scale_fits};
+ghost use Rattle.dbc_values.specs.Scales.{scale_of};
 
 use crate::decimal::Decimal;
 use crate::number::{LIMIT, with_zeros};
@@ -91,7 +92,8 @@ impl Scale {
     /// [`Scale::MAX_LENGTH`], where factor or offset has more than [`Scale::MAX_PLACES`] digits behind its point, or
     /// where some value could have more than 38 digits.
     pub fn of(factor: &Decimal, offset: &Decimal, length: u16) -> Option<Scale>
-        ensures { result ≡ (if scale_fits factor.now offset.now length then Some (scale_of factor.now offset.now length) else None) }
+        ensures { result ≡ (if scale_fits factor.now offset.now length then Some (scale_of factor.now offset.now length) else
+            None) }
     {
         let places = places_of(factor, offset);
         if length > Scale::MAX_LENGTH || places > Scale::MAX_PLACES {

@@ -12,13 +12,21 @@ use Rattle.dbc_edits.specs.declared.edit.Edit.{Edit}
 use Rattle.dbc_edits.specs.declared.edit.Edit.TheVariants as edits
 use Rattle.dbc_edits.specs.declared.refusal.Refusal.{Refusal}
 use Rattle.dbc_edits.specs.Changes.{Change}
-use Rattle.dbc_edits.specs.Rows.{without, with_item, is_of_number, is_of_signal, values_target, float_target, mux_target, without_rows, renumbered, target_renumbered, attribute_renumbered, values_renumbered, float_renumbered, mux_renumbered, rows_renumbered, Renaming, name_after, target_renamed, attribute_renamed, values_renamed, float_renamed, mux_renamed, rows_renamed, is_values_of, is_mux_of, is_attribute_of}
-use Rattle.dbc_edits.specs.Edits.{at_message, refused_if, message_added, has_number, cleared_of_number, message_removed, with_message, message_changed, message_renumbered, signal_added, has_signal, cleared_of_signal, signal_removed, signal_changed, signal_renamed, mux_set, values_set, mux_dropped, values_dropped, table_set, table_dropped, attribute_set, attribute_dropped, edited}
+use Rattle.dbc_edits.specs.Rows.{without, with_item, is_of_number, is_of_signal, values_target, float_target, mux_target}
+use Rattle.dbc_edits.specs.Rows.{without_rows, renumbered, target_renumbered, attribute_renumbered, values_renumbered}
+use Rattle.dbc_edits.specs.Rows.{float_renumbered, mux_renumbered, rows_renumbered, Renaming, name_after, target_renamed}
+use Rattle.dbc_edits.specs.Rows.{attribute_renamed, values_renamed, float_renamed, mux_renamed, rows_renamed, is_values_of}
+use Rattle.dbc_edits.specs.Rows.{is_mux_of, is_attribute_of}
+use Rattle.dbc_edits.specs.Edits.{at_message, refused_if, message_added, has_number, cleared_of_number, message_removed}
+use Rattle.dbc_edits.specs.Edits.{with_message, message_changed, message_renumbered, signal_added, has_signal, cleared_of_signal}
+use Rattle.dbc_edits.specs.Edits.{signal_removed, signal_changed, signal_renamed, mux_set, values_set, mux_dropped, values_dropped}
+use Rattle.dbc_edits.specs.Edits.{table_set, table_dropped, attribute_set, attribute_dropped, edited}
 use Rattle.can_rows.specs.Rows.{rows_of}
 use Rattle.can_rows.specs.Groups.{is_for_message, gives_format, format_row}
 use Rattle.edit_reach.specs.Touched.{is_among, number_at, edit_numbers}
 use Rattle.edit_reach.specs.Elsewhere.{is_elsewhere, SameElsewhere}
-use Rattle.edit_reach.proofs.ListFacts.{find-by_filter, filter-without, filter-with_item, filter-insert, filter-remove, filter-set, filter-map}
+use Rattle.edit_reach.proofs.ListFacts.{find-by_filter, filter-without, filter-with_item, filter-insert, filter-remove, filter-set}
+use Rattle.edit_reach.proofs.ListFacts.{filter-map}
 
 -- ---- what an accepted edit did
 
@@ -28,7 +36,8 @@ accepted d = Ok d
 Ok-same : (x y : Database) → accepted x ≡ accepted y → x ≡ y
 Ok-same x y e = cc
 
-passed : (test : Bool) (refusal : Refusal) (otherwise : Result Database Refusal) (e : Database) → refused_if test refusal otherwise ≡ Ok e → otherwise ≡ Ok e
+passed : (test : Bool) (refusal : Refusal) (otherwise : Result Database Refusal) (e : Database) → refused_if test refusal otherwise
+    ≡ Ok e → otherwise ≡ Ok e
 unfolding refused_if
 passed true refusal otherwise e ok = absurd (cc)
 passed false refusal otherwise e ok = ok
@@ -38,7 +47,8 @@ record Found (place : Option Message) (change : Message → Result Database Refu
   stands : place ≡ Some message
   done : change message ≡ Ok e
 
-found_at : (place : Option Message) (change : Message → Result Database Refusal) (e : Database) → at_message place change ≡ Ok e → Found place change e
+found_at : (place : Option Message) (change : Message → Result Database Refusal) (e : Database) → at_message place change ≡ Ok e
+    → Found place change e
 unfolding at_message
 found_at None change e ok = absurd (cc)
 found_at (Some message) change e ok = record { message = message; stands = refl; done = ok }
@@ -46,20 +56,24 @@ found_at (Some message) change e ok = record { message = message; stands = refl;
 -- ---- rows, as far as decoding reads them
 
 abbrev OfNumber : (X : Type 0) → (X → ℕ) → ℕ → List X → List X → Type 0
-OfNumber X number_of n after before = filter (λ (row : X). number_of row == n) after ≡ filter (λ (row : X). number_of row == n) before
+OfNumber X number_of n after before = filter (λ (row : X). number_of row == n) after ≡ filter (λ (row : X). number_of row == n)
+    before
 
 rows-same : (d e : Database) (n : ℕ)
-    → OfNumber ValueRow (λ row. row.number) n e.values d.values → OfNumber FloatRow (λ row. row.number) n e.floats d.floats → OfNumber MuxRow (λ row. row.number) n e.muxes d.muxes
+    → OfNumber ValueRow (λ row. row.number) n e.values d.values → OfNumber FloatRow (λ row. row.number) n e.floats d.floats
+    → OfNumber MuxRow (λ row. row.number) n e.muxes d.muxes
     → rows_of n e ≡ rows_of n d
 unfolding rows_of
 rows-same d e n values floats muxes = rw (values, floats, muxes) refl
 
 abbrev AttributesOf : ℕ → List AttrRow → List AttrRow → Type 0
-AttributesOf n after before = filter (λ (row : AttrRow). is_for_message n row.target) after ≡ filter (λ (row : AttrRow). is_for_message n row.target) before
+AttributesOf n after before = filter (λ (row : AttrRow). is_for_message n row.target) after
+    ≡ filter (λ (row : AttrRow). is_for_message n row.target) before
 
 formats-same : (d e : Database) (n : ℕ) → AttributesOf n e.attributes d.attributes → format_row n e ≡ format_row n d
 unfolding format_row
-formats-same d e n same = find-by_filter (gives_format n) (λ row. is_for_message n row.target) (λ row t. (and_parts _ _ t).1) d.attributes e.attributes same
+formats-same d e n same = find-by_filter (gives_format n) (λ row. is_for_message n row.target) (λ row t. (and_parts _ _ t).1)
+    d.attributes e.attributes same
 
 -- ---- numbers
 
@@ -70,7 +84,8 @@ itself n = rw (eq-eqb n n refl) refl
 other : (k n m : ℕ) → is_among (k ∷ []) n ≡ false → (m == k) ≡ true → (m == n) ≡ false
 other k n m out is = let same = eqb-true m k is in rw same (or_parts (k == n) false out).0
 
-other_target : (k n : ℕ) (target : Target) → is_among (k ∷ []) n ≡ false → is_of_number k target ≡ true → is_for_message n target ≡ false
+other_target : (k n : ℕ) (target : Target) → is_among (k ∷ []) n ≡ false → is_of_number k target ≡ true → is_for_message n target
+    ≡ false
 other_target k n targets.Whole out is = refl
 other_target k n (targets.Node name) out is = refl
 other_target k n (targets.Message m) out is = other k n m out is
@@ -90,8 +105,10 @@ of_message k (targets.Signal m signal) is = absurd (cc)
 
 -- ---- messages alone
 
-same_rows : (numbers : List ℕ) (d e : Database) → filter (is_elsewhere numbers) e.messages ≡ filter (is_elsewhere numbers) d.messages
-    → e.values ≡ d.values → e.floats ≡ d.floats → e.muxes ≡ d.muxes → e.attributes ≡ d.attributes → e.defaults ≡ d.defaults → e.definitions ≡ d.definitions
+same_rows : (numbers : List ℕ) (d e : Database) → filter (is_elsewhere numbers) e.messages ≡ filter (is_elsewhere numbers)
+    d.messages
+    → e.values ≡ d.values → e.floats ≡ d.floats → e.muxes ≡ d.muxes → e.attributes ≡ d.attributes → e.defaults ≡ d.defaults
+    → e.definitions ≡ d.definitions
     → SameElsewhere numbers d e
 same_rows numbers d e messages values floats muxes attributes defaults definitions = record {
   messages = messages;
@@ -101,7 +118,8 @@ same_rows numbers d e messages values floats muxes attributes defaults definitio
   definitions = definitions;
 }
 
-with_messages : (numbers : List ℕ) (d : Database) (messages : List Message) → filter (is_elsewhere numbers) messages ≡ filter (is_elsewhere numbers) d.messages
+with_messages : (numbers : List ℕ) (d : Database) (messages : List Message) → filter (is_elsewhere numbers) messages
+    ≡ filter (is_elsewhere numbers) d.messages
     → SameElsewhere numbers d (record d { messages = messages })
 with_messages numbers d messages same = same_rows numbers d (record d { messages = messages }) same refl refl refl refl refl refl
 
@@ -118,10 +136,12 @@ one_then numbers d e f s t = record {
 }
 
 -- a message in the place of another of the same number
-in_place : (place : ℕ) (old new : Message) (d : Database) → slice_get d.messages place ≡ Some old → new.head.number ≡ old.head.number
+in_place : (place : ℕ) (old new : Message) (d : Database) → slice_get d.messages place ≡ Some old
+    → new.head.number ≡ old.head.number
     → SameElsewhere (old.head.number ∷ []) d (with_message place new d)
 in_place place old new d stands same =
-    with_messages (old.head.number ∷ []) d _ (filter-set _ d.messages place old new stands (itself old.head.number) (rw same (itself old.head.number)))
+    with_messages (old.head.number ∷ []) d _ (filter-set _ d.messages place old new stands (itself old.head.number)
+    (rw same (itself old.head.number)))
 
 added : (place : ℕ) (head : Head) (d e : Database) → message_added place head d ≡ Ok e → SameElsewhere (head.number ∷ []) d e
 unfolding message_added
@@ -129,27 +149,35 @@ added place head d e ok =
     subst (SameElsewhere (head.number ∷ []) d) (Ok-same _ e (passed _ _ _ e (passed _ _ _ e ok)))
     (with_messages (head.number ∷ []) d _ (filter-insert _ d.messages place _ (itself head.number)))
 
-changed_at : (place : ℕ) (change : Change) (d e : Database) → message_changed place change d ≡ Ok e → SameElsewhere (number_at place d) d e
+changed_at : (place : ℕ) (change : Change) (d e : Database) → message_changed place change d ≡ Ok e
+    → SameElsewhere (number_at place d) d e
 unfolding message_changed
 changed_at place change d e ok =
     let found = found_at _ _ e ok in
-    rw found.stands (subst (SameElsewhere (found.message.head.number ∷ []) d) (Ok-same _ e found.done) (in_place place found.message _ d found.stands refl))
+    rw found.stands (subst (SameElsewhere (found.message.head.number ∷ []) d) (Ok-same _ e found.done)
+    (in_place place found.message _ d found.stands refl))
 
-signal_added_at : (place at : ℕ) (signal : Signal) (d e : Database) → signal_added place at signal d ≡ Ok e → SameElsewhere (number_at place d) d e
+signal_added_at : (place at : ℕ) (signal : Signal) (d e : Database) → signal_added place at signal d ≡ Ok e
+    → SameElsewhere (number_at place d) d e
 unfolding signal_added
 signal_added_at place at signal d e ok =
     let found = found_at _ _ e ok in
-    rw found.stands (subst (SameElsewhere (found.message.head.number ∷ []) d) (Ok-same _ e (passed _ _ _ e (passed _ _ _ e (passed _ _ _ e found.done)))) (in_place place found.message _ d found.stands refl))
+    rw found.stands (subst (SameElsewhere (found.message.head.number ∷ []) d)
+    (Ok-same _ e (passed _ _ _ e (passed _ _ _ e (passed _ _ _ e found.done)))) (in_place place found.message _ d found.stands
+    refl))
 
-signal_changed_at : (place : ℕ) (signal : Signal) (d e : Database) → signal_changed place signal d ≡ Ok e → SameElsewhere (number_at place d) d e
+signal_changed_at : (place : ℕ) (signal : Signal) (d e : Database) → signal_changed place signal d ≡ Ok e
+    → SameElsewhere (number_at place d) d e
 unfolding signal_changed
 signal_changed_at place signal d e ok =
     let found = found_at _ _ e ok in
-    rw found.stands (subst (SameElsewhere (found.message.head.number ∷ []) d) (Ok-same _ e (passed _ _ _ e found.done)) (in_place place found.message _ d found.stands refl))
+    rw found.stands (subst (SameElsewhere (found.message.head.number ∷ []) d) (Ok-same _ e (passed _ _ _ e found.done))
+    (in_place place found.message _ d found.stands refl))
 
 -- ---- rows that go
 
-rows_gone : (k : ℕ) (test : Target → Bool) (d : Database) → ((target : Target) → test target ≡ true → is_of_number k target ≡ true) → SameElsewhere (k ∷ []) d (without_rows test d)
+rows_gone : (k : ℕ) (test : Target → Bool) (d : Database) → ((target : Target) → test target ≡ true → is_of_number k target ≡ true)
+    → SameElsewhere (k ∷ []) d (without_rows test d)
 unfolding without_rows
 rows_gone k test d own = record {
   messages = refl;
@@ -157,7 +185,8 @@ rows_gone k test d own = record {
       (filter-without _ _ (λ row is. other k n row.number out (own (values_target row) is)) d.values)
       (filter-without _ _ (λ row is. other k n row.number out (own (float_target row) is)) d.floats)
       (filter-without _ _ (λ row is. other k n row.number out (own (mux_target row) is)) d.muxes);
-  formats = λ n out. formats-same d _ n (filter-without _ _ (λ row is. other_target k n row.target out (own row.target is)) d.attributes);
+  formats = λ n out. formats-same d _ n (filter-without _ _ (λ row is. other_target k n row.target out (own row.target is))
+      d.attributes);
   defaults = refl;
   definitions = refl;
 }
@@ -188,7 +217,8 @@ removed_at place d e ok =
     (with_messages (number ∷ []) d _ (filter-remove _ d.messages place found.message found.stands (itself number)))
     (cleared_number number taken)))
 
-signal_removed_at : (place : ℕ) (name : List ℕ) (d e : Database) → signal_removed place name d ≡ Ok e → SameElsewhere (number_at place d) d e
+signal_removed_at : (place : ℕ) (name : List ℕ) (d e : Database) → signal_removed place name d ≡ Ok e
+    → SameElsewhere (number_at place d) d e
 unfolding signal_removed
 signal_removed_at place name d e ok =
     let found = found_at _ _ e ok in
@@ -216,13 +246,15 @@ number_stays : (old new n m : ℕ) → is_among (new ∷ old ∷ []) n ≡ false
 number_stays old new n m out isnt =
     elim (cases_Bool (m == old)) [ inl t ↦ rw t (both_out new old n out).0 | inr f ↦ rw f isnt ]
 
-target_keeps : (old new n : ℕ) (target : Target) → is_among (new ∷ old ∷ []) n ≡ false → is_for_message n target ≡ true → target_renumbered old new target ≡ target
+target_keeps : (old new n : ℕ) (target : Target) → is_among (new ∷ old ∷ []) n ≡ false → is_for_message n target ≡ true
+    → target_renumbered old new target ≡ target
 target_keeps old new n targets.Whole out is = refl
 target_keeps old new n (targets.Node name) out is = refl
 target_keeps old new n (targets.Message m) out is = ap targets.Message (number_keeps old new n m out is)
 target_keeps old new n (targets.Signal m name) out is = absurd (cc)
 
-target_stays : (old new n : ℕ) (target : Target) → is_among (new ∷ old ∷ []) n ≡ false → is_for_message n target ≡ false → is_for_message n (target_renumbered old new target) ≡ false
+target_stays : (old new n : ℕ) (target : Target) → is_among (new ∷ old ∷ []) n ≡ false → is_for_message n target ≡ false
+    → is_for_message n (target_renumbered old new target) ≡ false
 target_stays old new n targets.Whole out isnt = refl
 target_stays old new n (targets.Node name) out isnt = refl
 target_stays old new n (targets.Message m) out isnt = number_stays old new n m out isnt
@@ -233,16 +265,21 @@ unfolding rows_renumbered
 rows_moved old new d = record {
   messages = refl;
   rows = λ n out. rows-same d _ n
-      (filter-map _ (values_renumbered old new) (λ row is. rw (number_keeps old new n row.number out is) refl) (λ row isnt. number_stays old new n row.number out isnt) d.values)
-      (filter-map _ (float_renumbered old new) (λ row is. rw (number_keeps old new n row.number out is) refl) (λ row isnt. number_stays old new n row.number out isnt) d.floats)
-      (filter-map _ (mux_renumbered old new) (λ row is. rw (number_keeps old new n row.number out is) refl) (λ row isnt. number_stays old new n row.number out isnt) d.muxes);
+      (filter-map _ (values_renumbered old new) (λ row is. rw (number_keeps old new n row.number out is) refl)
+      (λ row isnt. number_stays old new n row.number out isnt) d.values)
+      (filter-map _ (float_renumbered old new) (λ row is. rw (number_keeps old new n row.number out is) refl)
+      (λ row isnt. number_stays old new n row.number out isnt) d.floats)
+      (filter-map _ (mux_renumbered old new) (λ row is. rw (number_keeps old new n row.number out is) refl)
+      (λ row isnt. number_stays old new n row.number out isnt) d.muxes);
   formats = λ n out. formats-same d _ n
-      (filter-map _ (attribute_renumbered old new) (λ row is. rw (target_keeps old new n row.target out is) refl) (λ row isnt. target_stays old new n row.target out isnt) d.attributes);
+      (filter-map _ (attribute_renumbered old new) (λ row is. rw (target_keeps old new n row.target out is) refl)
+      (λ row isnt. target_stays old new n row.target out isnt) d.attributes);
   defaults = refl;
   definitions = refl;
 }
 
-renumbered_at : (place new : ℕ) (d e : Database) → message_renumbered place new d ≡ Ok e → SameElsewhere (new ∷ number_at place d) d e
+renumbered_at : (place new : ℕ) (d e : Database) → message_renumbered place new d ≡ Ok e
+    → SameElsewhere (new ∷ number_at place d) d e
 unfolding message_renumbered
 renumbered_at place new d e ok =
     let found = found_at _ _ e ok in
@@ -250,12 +287,16 @@ renumbered_at place new d e ok =
     rw found.stands
     (subst (SameElsewhere (new ∷ old ∷ []) d) (Ok-same _ e (passed _ _ _ e (passed _ _ _ e found.done)))
     (one_then (new ∷ old ∷ []) d _ _
-    (with_messages (new ∷ old ∷ []) d _ (filter-set _ d.messages place found.message _ found.stands (rw (eq-eqb old old refl, or_right (new == old) true refl) refl) (rw (eq-eqb new new refl) refl)))
+    (with_messages (new ∷ old ∷ []) d _ (filter-set _ d.messages place found.message _ found.stands (rw (
+      eq-eqb old old refl,
+      or_right (new == old) true refl,
+    ) refl) (rw (eq-eqb new new refl) refl)))
     (rows_moved old new _)))
 
 -- ---- renaming
 
-name_keeps : (r : Renaming) (n m : ℕ) (name : List ℕ) → is_among (r.number ∷ []) n ≡ false → (m == n) ≡ true → name_after r m name ≡ name
+name_keeps : (r : Renaming) (n m : ℕ) (name : List ℕ) → is_among (r.number ∷ []) n ≡ false → (m == n) ≡ true → name_after r m name
+    ≡ name
 name_keeps r n m name out is =
     elim (cases_Bool (m == r.number)) [ inl t ↦ absurd (both_ways (m == n) (other r.number n m out t) is) | inr f ↦ rw f refl ]
 
@@ -266,7 +307,8 @@ message_keeps r n (targets.Node name) is = refl
 message_keeps r n (targets.Message m) is = refl
 message_keeps r n (targets.Signal m name) is = absurd (cc)
 
-message_stays : (r : Renaming) (n : ℕ) (target : Target) → is_for_message n target ≡ false → is_for_message n (target_renamed r target) ≡ false
+message_stays : (r : Renaming) (n : ℕ) (target : Target) → is_for_message n target ≡ false
+    → is_for_message n (target_renamed r target) ≡ false
 message_stays r n targets.Whole isnt = refl
 message_stays r n (targets.Node name) isnt = refl
 message_stays r n (targets.Message m) isnt = isnt
@@ -277,47 +319,59 @@ unfolding rows_renamed
 rows_named r d = record {
   messages = refl;
   rows = λ n out. rows-same d _ n
-      (filter-map _ (values_renamed r) (λ row is. rw (name_keeps r n row.number row.signal out is) refl) (λ row isnt. isnt) d.values)
+      (filter-map _ (values_renamed r) (λ row is. rw (name_keeps r n row.number row.signal out is) refl) (λ row isnt. isnt)
+      d.values)
       (filter-map _ (float_renamed r) (λ row is. rw (name_keeps r n row.number row.signal out is) refl) (λ row isnt. isnt) d.floats)
-      (filter-map _ (mux_renamed r) (λ row is. rw (name_keeps r n row.number row.signal out is, name_keeps r n row.number row.switch out is) refl) (λ row isnt. isnt) d.muxes);
+      (filter-map _ (mux_renamed r) (λ row is. rw (
+        name_keeps r n row.number row.signal out is,
+        name_keeps r n row.number row.switch out is,
+      ) refl) (λ row isnt. isnt) d.muxes);
   formats = λ n out. formats-same d _ n
-      (filter-map _ (attribute_renamed r) (λ row is. rw (message_keeps r n row.target is) refl) (λ row isnt. message_stays r n row.target isnt) d.attributes);
+      (filter-map _ (attribute_renamed r) (λ row is. rw (message_keeps r n row.target is) refl)
+      (λ row isnt. message_stays r n row.target isnt) d.attributes);
   defaults = refl;
   definitions = refl;
 }
 
-signal_renamed_at : (place : ℕ) (old new : List ℕ) (d e : Database) → signal_renamed place old new d ≡ Ok e → SameElsewhere (number_at place d) d e
+signal_renamed_at : (place : ℕ) (old new : List ℕ) (d e : Database) → signal_renamed place old new d ≡ Ok e
+    → SameElsewhere (number_at place d) d e
 unfolding signal_renamed
 signal_renamed_at place old new d e ok =
     let found = found_at _ _ e ok in
     let number : ℕ = found.message.head.number in
     rw found.stands
-    (subst (SameElsewhere (number ∷ []) d) (Ok-same _ e (passed _ _ _ e (passed _ _ _ e (passed _ _ _ e (passed _ _ _ e found.done)))))
+    (subst (SameElsewhere (number ∷ []) d)
+    (Ok-same _ e (passed _ _ _ e (passed _ _ _ e (passed _ _ _ e (passed _ _ _ e found.done)))))
     (one_then (number ∷ []) d _ _
     (in_place place found.message _ d found.stands refl)
     (rows_named _ _)))
 
 -- ---- rows that are set and dropped
 
-values_put : (row : ValueRow) (d : Database) → SameElsewhere (row.number ∷ []) d (record d { values = with_item (is_values_of row.number row.signal) row d.values })
+values_put : (row : ValueRow) (d : Database)
+    → SameElsewhere (row.number ∷ []) d (record d { values = with_item (is_values_of row.number row.signal) row d.values })
 values_put row d = record {
   messages = refl;
-  rows = λ n out. rows-same d _ n (filter-with_item _ (is_values_of row.number row.signal) row (λ old is. other row.number n old.number out (and_parts _ _ is).0) (or_parts _ false out).0 d.values) refl refl;
+  rows = λ n out. rows-same d _ n (filter-with_item _ (is_values_of row.number row.signal) row
+      (λ old is. other row.number n old.number out (and_parts _ _ is).0) (or_parts _ false out).0 d.values) refl refl;
   formats = λ n out. formats-same d _ n refl;
   defaults = refl;
   definitions = refl;
 }
 
-mux_put : (row : MuxRow) (d : Database) → SameElsewhere (row.number ∷ []) d (record d { muxes = with_item (is_mux_of row.number row.signal) row d.muxes })
+mux_put : (row : MuxRow) (d : Database)
+    → SameElsewhere (row.number ∷ []) d (record d { muxes = with_item (is_mux_of row.number row.signal) row d.muxes })
 mux_put row d = record {
   messages = refl;
-  rows = λ n out. rows-same d _ n refl refl (filter-with_item _ (is_mux_of row.number row.signal) row (λ old is. other row.number n old.number out (and_parts _ _ is).0) (or_parts _ false out).0 d.muxes);
+  rows = λ n out. rows-same d _ n refl refl (filter-with_item _ (is_mux_of row.number row.signal) row
+      (λ old is. other row.number n old.number out (and_parts _ _ is).0) (or_parts _ false out).0 d.muxes);
   formats = λ n out. formats-same d _ n refl;
   defaults = refl;
   definitions = refl;
 }
 
-values_gone : (k : ℕ) (name : List ℕ) (d : Database) → SameElsewhere (k ∷ []) d (record d { values = without (is_values_of k name) d.values })
+values_gone : (k : ℕ) (name : List ℕ) (d : Database)
+    → SameElsewhere (k ∷ []) d (record d { values = without (is_values_of k name) d.values })
 values_gone k name d = record {
   messages = refl;
   rows = λ n out. rows-same d _ n (filter-without _ _ (λ old is. other k n old.number out (and_parts _ _ is).0) d.values) refl refl;
@@ -326,7 +380,8 @@ values_gone k name d = record {
   definitions = refl;
 }
 
-mux_gone : (k : ℕ) (name : List ℕ) (d : Database) → SameElsewhere (k ∷ []) d (record d { muxes = without (is_mux_of k name) d.muxes })
+mux_gone : (k : ℕ) (name : List ℕ) (d : Database)
+    → SameElsewhere (k ∷ []) d (record d { muxes = without (is_mux_of k name) d.muxes })
 mux_gone k name d = record {
   messages = refl;
   rows = λ n out. rows-same d _ n refl refl (filter-without _ _ (λ old is. other k n old.number out (and_parts _ _ is).0) d.muxes);
@@ -335,20 +390,25 @@ mux_gone k name d = record {
   definitions = refl;
 }
 
-attribute_put : (name : List ℕ) (k : ℕ) (row : AttrRow) (d : Database) → row.target ≡ targets.Message k → SameElsewhere (k ∷ []) d (record d { attributes = with_item (is_attribute_of name k) row d.attributes })
+attribute_put : (name : List ℕ) (k : ℕ) (row : AttrRow) (d : Database) → row.target ≡ targets.Message k
+    → SameElsewhere (k ∷ []) d (record d { attributes = with_item (is_attribute_of name k) row d.attributes })
 attribute_put name k row d target = record {
   messages = refl;
   rows = λ n out. rows-same d _ n refl refl refl;
-  formats = λ n out. formats-same d _ n (filter-with_item _ (is_attribute_of name k) row (λ old is. other_target k n old.target out (of_message k old.target (and_parts _ _ is).0)) (rw target (or_parts _ false out).0) d.attributes);
+  formats = λ n out. formats-same d _ n (filter-with_item _ (is_attribute_of name k) row (λ old is. other_target k n old.target out
+      (of_message k old.target (and_parts _ _ is).0)) (rw target (or_parts _ false out).0) d.attributes);
   defaults = refl;
   definitions = refl;
 }
 
-attribute_gone : (name : List ℕ) (k : ℕ) (d : Database) → SameElsewhere (k ∷ []) d (record d { attributes = without (is_attribute_of name k) d.attributes })
+attribute_gone : (name : List ℕ) (k : ℕ) (d : Database)
+    → SameElsewhere (k ∷ []) d (record d { attributes = without (is_attribute_of name k) d.attributes })
 attribute_gone name k d = record {
   messages = refl;
   rows = λ n out. rows-same d _ n refl refl refl;
-  formats = λ n out. formats-same d _ n (filter-without _ _ (λ old is. other_target k n old.target out (of_message k old.target (and_parts _ _ is).0)) d.attributes);
+  formats =
+      λ n out. formats-same d _ n (filter-without _ _ (λ old is. other_target k n old.target out
+      (of_message k old.target (and_parts _ _ is).0)) d.attributes);
   defaults = refl;
   definitions = refl;
 }
@@ -356,7 +416,8 @@ attribute_gone name k d = record {
 module _ (d e : Database) where
   values_set_at : (row : ValueRow) → values_set row d ≡ Ok e → SameElsewhere (row.number ∷ []) d e
   unfolding values_set
-  values_set_at row ok = subst (SameElsewhere (row.number ∷ []) d) (Ok-same _ e (passed _ _ _ e (passed _ _ _ e ok))) (values_put row d)
+  values_set_at row ok = subst (SameElsewhere (row.number ∷ []) d) (Ok-same _ e (passed _ _ _ e (passed _ _ _ e ok)))
+      (values_put row d)
 
   mux_set_at : (row : MuxRow) → mux_set row d ≡ Ok e → SameElsewhere (row.number ∷ []) d e
   unfolding mux_set
@@ -376,11 +437,13 @@ module _ (d e : Database) where
 
   table_dropped_at : (name : List ℕ) → table_dropped name d ≡ Ok e → SameElsewhere [] d e
   unfolding table_dropped
-  table_dropped_at name ok = subst (SameElsewhere [] d) (Ok-same _ e (passed _ _ _ e ok)) (same_rows [] d _ refl refl refl refl refl refl refl)
+  table_dropped_at name ok = subst (SameElsewhere [] d) (Ok-same _ e (passed _ _ _ e ok)) (same_rows [] d _ refl refl refl refl refl
+      refl refl)
 
   attribute_set_at : (name : List ℕ) (k : ℕ) (value : AttrValue) → attribute_set name k value d ≡ Ok e → SameElsewhere (k ∷ []) d e
   unfolding attribute_set
-  attribute_set_at name k value ok = subst (SameElsewhere (k ∷ []) d) (Ok-same _ e (passed _ _ _ e (passed _ _ _ e ok))) (attribute_put name k _ d refl)
+  attribute_set_at name k value ok = subst (SameElsewhere (k ∷ []) d) (Ok-same _ e (passed _ _ _ e (passed _ _ _ e ok)))
+      (attribute_put name k _ d refl)
 
   attribute_dropped_at : (name : List ℕ) (k : ℕ) → attribute_dropped name k d ≡ Ok e → SameElsewhere (k ∷ []) d e
   unfolding attribute_dropped

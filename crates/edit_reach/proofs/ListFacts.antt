@@ -32,7 +32,8 @@ find-filter p q h (x ∷ xs) =
     ]
 
 -- two lists in which the same items pass a weaker test
-pub find-by_filter : {X : Type 0} (p q : X → Bool) → Implies p q → (xs ys : List X) → filter q ys ≡ filter q xs → find p ys ≡ find p xs
+pub find-by_filter : {X : Type 0} (p q : X → Bool) → Implies p q → (xs ys : List X) → filter q ys ≡ filter q xs
+    → find p ys ≡ find p xs
 find-by_filter p q h xs ys same = sym (find-filter p q h ys) ∙ ap (find p) same ∙ find-filter p q h xs
 
 pub find-same : {X : Type 0} (p q : X → Bool) → ((x : X) → p x ≡ q x) → (xs : List X) → find p xs ≡ find q xs
@@ -67,9 +68,14 @@ filter-filter p q h (x ∷ xs) =
 
 pub filter-without : {X : Type 0} (p q : X → Bool) → Excludes q p → (xs : List X) → filter p (without q xs) ≡ filter p xs
 filter-without p q h xs =
-    filter-filter p (λ x. not (q x)) (λ x t. elim (cases_Bool (q x)) [ inl e ↦ absurd (both_ways (p x) (h x e) t) | inr e ↦ rw e refl ]) xs
+    filter-filter p (λ x. not (q x)) (λ x t. elim (cases_Bool (q x)) [
+      | inl e ↦ absurd (both_ways (p x) (h x e) t)
+      | inr e ↦ rw e
+          refl
+    ]) xs
 
-pub filter-with_item : {X : Type 0} (p q : X → Bool) (item : X) → Excludes q p → p item ≡ false → (xs : List X) → filter p (with_item q item xs) ≡ filter p xs
+pub filter-with_item : {X : Type 0} (p q : X → Bool) (item : X) → Excludes q p → p item ≡ false → (xs : List X)
+    → filter p (with_item q item xs) ≡ filter p xs
 filter-with_item p q item h e [] = rw e refl
 filter-with_item p q item h e (x ∷ xs) =
     elim (cases_Bool (q x)) [
@@ -79,20 +85,24 @@ filter-with_item p q item h e (x ∷ xs) =
 
 pub filter-insert : {X : Type 0} (p : X → Bool) (xs : List X) (i : ℕ) (y : X) → p y ≡ false → filter p (insert xs i y) ≡ filter p xs
 filter-insert p xs i y e =
-    filter-append p (take i xs) (y ∷ drop i xs) ∙ rw e (sym (filter-append p (take i xs) (drop i xs)) ∙ ap (filter p) (take-append-drop i xs))
+    filter-append p (take i xs) (y ∷ drop i xs) ∙ rw e (sym (filter-append p (take i xs) (drop i xs))
+    ∙ ap (filter p) (take-append-drop i xs))
 
-pub filter-remove : {X : Type 0} (p : X → Bool) (xs : List X) (i : ℕ) (y : X) → slice_get xs i ≡ Some y → p y ≡ false → filter p (remove xs i) ≡ filter p xs
+pub filter-remove : {X : Type 0} (p : X → Bool) (xs : List X) (i : ℕ) (y : X) → slice_get xs i ≡ Some y → p y ≡ false
+    → filter p (remove xs i) ≡ filter p xs
 filter-remove p [] i y at e = absurd (cc)
 filter-remove p (x ∷ xs) zero y at e = let same : x ≡ y = cc in rw (same, e) refl
 filter-remove p (x ∷ xs) (suc i) y at e = rw (filter-remove p xs i y at e) refl
 
-pub filter-set : {X : Type 0} (p : X → Bool) (xs : List X) (i : ℕ) (y z : X) → slice_get xs i ≡ Some y → p y ≡ false → p z ≡ false → filter p (slice_set xs i z) ≡ filter p xs
+pub filter-set : {X : Type 0} (p : X → Bool) (xs : List X) (i : ℕ) (y z : X) → slice_get xs i ≡ Some y → p y ≡ false → p z ≡ false
+    → filter p (slice_set xs i z) ≡ filter p xs
 filter-set p [] i y z at e f = absurd (cc)
 filter-set p (x ∷ xs) zero y z at e f = let same : x ≡ y = cc in rw (same, e, f) refl
 filter-set p (x ∷ xs) (suc i) y z at e f = rw (filter-set p xs i y z at e f) refl
 
 -- a change that leaves what passes as it is, and lets nothing else pass
-pub filter-map : {X : Type 0} (p : X → Bool) (f : X → X) → ((x : X) → p x ≡ true → f x ≡ x) → ((x : X) → p x ≡ false → p (f x) ≡ false) → (xs : List X) → filter p (map f xs) ≡ filter p xs
+pub filter-map : {X : Type 0} (p : X → Bool) (f : X → X) → ((x : X) → p x ≡ true → f x ≡ x)
+    → ((x : X) → p x ≡ false → p (f x) ≡ false) → (xs : List X) → filter p (map f xs) ≡ filter p xs
 filter-map p f keeps stays [] = refl
 filter-map p f keeps stays (x ∷ xs) =
     elim (cases_Bool (p x)) [

@@ -46,7 +46,8 @@ may_have_group number = is_extended number && not (is_bad_number number)
 
 -- both numbers have 29 bits, and one parameter group
 abbrev pub shares_group : ℕ → ℕ → Bool
-shares_group frame_number number = is_extended frame_number && (may_have_group number && group_number_of number == group_number_of frame_number)
+shares_group frame_number number = is_extended frame_number && (may_have_group number && group_number_of number == group_number_of
+    frame_number)
 
 -- a frame of the first number may go to a message of the second
 unfoldable pub concerns : ℕ → ℕ → Bool

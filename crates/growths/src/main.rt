@@ -1,7 +1,9 @@
 //! growths: makes calls of candesk's libraries one by one, and tells of each what it answered and all that is lent behind it.
 //!
-//! `growths WORD FILE` reads a database text. Right before a call it writes the line `begin`, and right behind it `end`, so that what is
-//! preloaded can refuse the allocations of one call alone, or fail its reads and writes. It isn't installed, and what it writes is judged
+//! `growths WORD FILE` reads a database text. Right before a call it writes the line `begin`, and right behind it `end`, so that
+//! what is
+//! preloaded can refuse the allocations of one call alone, or fail its reads and writes. It isn't installed, and what it writes is
+//! judged
 //! by `scripts/refused_calls` and `scripts/failing_devices`.
 #![tactic(auto)]
 

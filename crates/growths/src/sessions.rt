@@ -112,7 +112,8 @@ fn opened(alloc: Global, asked: Asked<'_>) -> Result<Session, ReadFault> {
     }
 }
 
-/// Opens a session, and in it runs the script that the source gives, or else does what each line of the input asks for. (It is the one
+/// Opens a session, and in it runs the script that the source gives, or else does what each line of the input asks for. (It is the
+/// one
 /// owner of a session: each costs a proof of its own.)
 pub(crate) fn call_with_session<R: Source, W: Sink>(
     alloc: Global,

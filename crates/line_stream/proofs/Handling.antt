@@ -1,5 +1,6 @@
 -- How what comes of lines is put together: line by line within a piece, and then piece by piece.
-use Rattle.std.proofs.Common.{◌≡◌, ℕ, ◌<◌, List, [], ◌∷◌, ◌++◌, length, refl, sym, ap, subst, ◌∙◌, append_assoc, append-nil, inl, inr}
+use Rattle.std.proofs.Common.{◌≡◌, ℕ, ◌<◌, List, [], ◌∷◌, ◌++◌, length, refl, sym, ap, subst, ◌∙◌, append_assoc, append-nil, inl}
+use Rattle.std.proofs.Common.{inr}
 use Rattle.std.specs.List.{AllByRecursion}
 use Rattle.std.specs.Io.KnownBytes.{Appends}
 use Rattle.std.specs.Prelude.{Result, Err}
@@ -11,7 +12,8 @@ use Rattle.line_stream.specs.declared.fault.StreamFault.TheVariants as faults
 use Rattle.line_stream.specs.Lines.{IsShort, AllShort}
 use Rattle.line_stream.specs.Runs.{Rules, Runs, Leads, Breaks, Handled, HandledBut, StopsAmong, BreaksAmong, FailsAt}
 
-pub AllByRecursion-append : {X : Type 0} (P : X → Type 0) (xs ys : List X) → AllByRecursion P xs → AllByRecursion P ys → AllByRecursion P (xs ++ ys)
+pub AllByRecursion-append : {X : Type 0} (P : X → Type 0) (xs ys : List X) → AllByRecursion P xs → AllByRecursion P ys
+    → AllByRecursion P (xs ++ ys)
 AllByRecursion-append P [] ys h k = k
 AllByRecursion-append P (x ∷ xs) ys h k = (h.0, AllByRecursion-append P xs ys h.1 k)
 
@@ -23,7 +25,8 @@ Breaks-behind a b c xs ys zs p q = record {
   front = q.front;
   back = q.back;
   parts = q.parts;
-  bytes = subst (λ t. Appends a.bytes c.bytes t) (sym (append_assoc xs ys q.front)) (Appends-trans a.bytes b.bytes c.bytes xs (ys ++ q.front) p.bytes q.bytes);
+  bytes = subst (λ t. Appends a.bytes c.bytes t) (sym (append_assoc xs ys q.front)) (Appends-trans a.bytes b.bytes c.bytes xs
+      (ys ++ q.front) p.bytes q.bytes);
   failures = subst (λ n. Rises n c.failures) p.failures q.failures;
 }
 
@@ -48,15 +51,18 @@ Broke-both a b xs ys p = record {
 }
 
 module _ {State : Type 0} (Step : State → List ℕ → State → List ℕ → Type 0) where
-  pub Runs-append : (a b c : State) (lines more : List (List ℕ)) (xs ys : List ℕ) → Runs Step a lines b xs → Runs Step b more c ys → Runs Step a (lines ++ more) c (xs ++ ys)
-  Runs-append a b c [] more xs ys p q = subst (λ s. Runs Step s more c (xs ++ ys)) p.0 (subst (λ t. Runs Step b more c (t ++ ys)) (sym p.1) q)
+  pub Runs-append : (a b c : State) (lines more : List (List ℕ)) (xs ys : List ℕ) → Runs Step a lines b xs → Runs Step b more c ys
+      → Runs Step a (lines ++ more) c (xs ++ ys)
+  Runs-append a b c [] more xs ys p q = subst (λ s. Runs Step s more c (xs ++ ys)) p.0 (subst (λ t. Runs Step b more c (t ++ ys))
+      (sym p.1) q)
   Runs-append a b c (line ∷ lines) more xs ys p q =
       (p.0, p.1, p.2 ++ ys, p.3, Runs-append p.0 b c lines more p.2 ys p.4 q, ap (λ t. t ++ ys) p.5 ∙ append_assoc p.1 p.2 ys)
 
   pub Runs-one : (a b : State) (line xs : List ℕ) → Step a line b xs → Runs Step a (line ∷ []) b xs
   Runs-one a b line xs p = (b, xs, [], p, (refl, refl), sym (append-nil xs))
 
-  pub Runs-push : (a b c : State) (lines : List (List ℕ)) (line xs ys : List ℕ) → Runs Step a lines b xs → Step b line c ys → Runs Step a (lines ++ line ∷ []) c (xs ++ ys)
+  pub Runs-push : (a b c : State) (lines : List (List ℕ)) (line xs ys : List ℕ) → Runs Step a lines b xs → Step b line c ys
+      → Runs Step a (lines ++ line ∷ []) c (xs ++ ys)
   Runs-push a b c lines line xs ys p q = Runs-append a b c lines (line ∷ []) xs ys p (Runs-one b c line ys q)
 
 module _ {State : Type 0} (rules : Rules State) (most : ℕ) where
@@ -68,8 +74,10 @@ module _ {State : Type 0} (rules : Rules State) (most : ℕ) where
   pub Handled-none : (s : State) (a : Written) → Handled rules most s a [] s a
   Handled-none s a = record { text = []; short = tt; ran = (refl, refl); wrote = Wrote-nil a }
 
-  pub HandledBut-next : (s t u : State) (a b c : Written) (lines : List (List ℕ)) (line held next : List ℕ) → HandledBut rules most s a lines t b held
-      → IsShort most line → ((text : List ℕ) × rules.Step t line u text × Passes b c held text next × rules.Waits next) → HandledBut rules most s a (lines ++ line ∷ []) u c next
+  pub HandledBut-next : (s t u : State) (a b c : Written) (lines : List (List ℕ)) (line held next : List ℕ)
+      → HandledBut rules most s a lines t b held
+      → IsShort most line → ((text : List ℕ) × rules.Step t line u text × Passes b c held text next × rules.Waits next)
+      → HandledBut rules most s a (lines ++ line ∷ []) u c next
   HandledBut-next s t u a b c lines line held next h is_short k = record {
     text = h.text ++ k.0;
     short = AllByRecursion-append (IsShort most) lines (line ∷ []) h.short (is_short, tt);
@@ -79,7 +87,8 @@ module _ {State : Type 0} (rules : Rules State) (most : ℕ) where
   }
 
   -- what was held is put
-  pub Handled-flush : (s t u : State) (a b c : Written) (lines : List (List ℕ)) (held : List ℕ) → HandledBut rules most s a lines t b held → u ≡ t → Wrote b c held → Handled rules most s a lines u c
+  pub Handled-flush : (s t u : State) (a b c : Written) (lines : List (List ℕ)) (held : List ℕ)
+      → HandledBut rules most s a lines t b held → u ≡ t → Wrote b c held → Handled rules most s a lines u c
   Handled-flush s t u a b c lines held h same p = record {
     text = h.text;
     short = h.short;
@@ -87,7 +96,8 @@ module _ {State : Type 0} (rules : Rules State) (most : ℕ) where
     wrote = Passes-flush a b c [] h.text held h.passes p;
   }
 
-  pub StopsAmong-at : (s t u : State) (a b c : Written) (lines : List (List ℕ)) (line held : List ℕ) → HandledBut rules most s a lines t b held
+  pub StopsAmong-at : (s t u : State) (a b c : Written) (lines : List (List ℕ)) (line held : List ℕ)
+      → HandledBut rules most s a lines t b held
       → rules.Stops t line × (u ≡ t) × Wrote b c held → StopsAmong rules most s a (lines ++ line ∷ []) u c
   StopsAmong-at s t u a b c lines line held h k = record {
     lines = lines;
@@ -98,7 +108,8 @@ module _ {State : Type 0} (rules : Rules State) (most : ℕ) where
     handled = Handled-flush s t u a b c lines held h k.1 k.2;
   }
 
-  pub BreaksAmong-behind : (s t u : State) (a b c : Written) (lines more : List (List ℕ)) (held : List ℕ) → HandledBut rules most s a lines t b held
+  pub BreaksAmong-behind : (s t u : State) (a b c : Written) (lines more : List (List ℕ)) (held : List ℕ)
+      → HandledBut rules most s a lines t b held
       → u ≡ t → 0 < length held → Broke b c held → BreaksAmong rules most s a (lines ++ more) u c
   BreaksAmong-behind s t u a b c lines more held h same some p = inr (record {
     lines = lines;
@@ -107,13 +118,15 @@ module _ {State : Type 0} (rules : Rules State) (most : ℕ) where
     short = h.short;
     out = h.passes.out;
     waiting = held;
-    ran = subst (λ v. Runs rules.Step s lines v (h.passes.out ++ held)) (sym same) (subst (Runs rules.Step s lines t) h.passes.parts h.ran);
+    ran = subst (λ v. Runs rules.Step s lines v (h.passes.out ++ held)) (sym same) (subst (Runs rules.Step s lines t) h.passes.parts
+        h.ran);
     waits = h.waits;
     some = some;
     breaks = Breaks-of a b c h.passes.out held h.passes.wrote p;
   })
 
-  pub BreaksAmong-at : (s t u : State) (a b c : Written) (lines : List (List ℕ)) (line held : List ℕ) → HandledBut rules most s a lines t b held
+  pub BreaksAmong-at : (s t u : State) (a b c : Written) (lines : List (List ℕ)) (line held : List ℕ)
+      → HandledBut rules most s a lines t b held
       → FailsAt rules most t b held line u c → BreaksAmong rules most s a (lines ++ line ∷ []) u c
   BreaksAmong-at s t u a b c lines line held h (inl k) = inl (record {
     lines = lines;
@@ -134,7 +147,8 @@ module _ {State : Type 0} (rules : Rules State) (most : ℕ) where
 
   -- ---- piece by piece
 
-  pub Handled-then : (s t u : State) (a b c : Written) (lines more : List (List ℕ)) → Handled rules most s a lines t b → Handled rules most t b more u c → Handled rules most s a (lines ++ more) u c
+  pub Handled-then : (s t u : State) (a b c : Written) (lines more : List (List ℕ)) → Handled rules most s a lines t b
+      → Handled rules most t b more u c → Handled rules most s a (lines ++ more) u c
   Handled-then s t u a b c lines more h k = record {
     text = h.text ++ k.text;
     short = AllByRecursion-append (IsShort most) lines more h.short k.short;
@@ -142,13 +156,15 @@ module _ {State : Type 0} (rules : Rules State) (most : ℕ) where
     wrote = Wrote-then a b c h.text k.text h.wrote k.wrote;
   }
 
-  regrouped : (front all lines : List (List ℕ)) (more : List (List ℕ)) → all ≡ lines ++ more → front ++ all ≡ (front ++ lines) ++ more
+  regrouped : (front all lines : List (List ℕ)) (more : List (List ℕ)) → all ≡ lines ++ more → front ++ all ≡ (front ++ lines)
+      ++ more
   regrouped front all lines more e = ap (λ xs. front ++ xs) e ∙ sym (append_assoc front lines more)
 
   longer : (all lines more back : List (List ℕ)) → all ≡ lines ++ more → all ++ back ≡ lines ++ (more ++ back)
   longer all lines more back e = ap (λ xs. xs ++ back) e ∙ append_assoc lines more back
 
-  pub StopsAmong-then : (s t u : State) (a b c : Written) (lines more : List (List ℕ)) → Handled rules most s a lines t b → StopsAmong rules most t b more u c → StopsAmong rules most s a (lines ++ more) u c
+  pub StopsAmong-then : (s t u : State) (a b c : Written) (lines more : List (List ℕ)) → Handled rules most s a lines t b
+      → StopsAmong rules most t b more u c → StopsAmong rules most s a (lines ++ more) u c
   StopsAmong-then s t u a b c lines more h k = record {
     lines = lines ++ k.lines;
     line = k.line;
@@ -158,18 +174,21 @@ module _ {State : Type 0} (rules : Rules State) (most : ℕ) where
     handled = Handled-then s t u a b c lines k.lines h k.handled;
   }
 
-  pub BreaksAmong-then : (s t u : State) (a b c : Written) (lines more : List (List ℕ)) → Handled rules most s a lines t b → BreaksAmong rules most t b more u c → BreaksAmong rules most s a (lines ++ more) u c
+  pub BreaksAmong-then : (s t u : State) (a b c : Written) (lines more : List (List ℕ)) → Handled rules most s a lines t b
+      → BreaksAmong rules most t b more u c → BreaksAmong rules most s a (lines ++ more) u c
   BreaksAmong-then s t u a b c lines more h (inl k) = inl (record {
     lines = lines ++ k.lines;
     line = k.line;
     more = k.more;
     parts = regrouped lines more k.lines (k.line ∷ k.more) k.parts;
-    short = subst (AllShort most) (sym (append_assoc lines k.lines (k.line ∷ []))) (AllByRecursion-append (IsShort most) lines (k.lines ++ k.line ∷ []) h.short k.short);
+    short = subst (AllShort most) (sym (append_assoc lines k.lines (k.line ∷ []))) (AllByRecursion-append (IsShort most) lines
+        (k.lines ++ k.line ∷ []) h.short k.short);
     between = k.between;
     out = h.text ++ k.out;
     waiting = k.waiting;
     last = k.last;
-    ran = subst (Runs rules.Step s (lines ++ k.lines) k.between) (sym (append_assoc h.text k.out k.waiting)) (Runs-append rules.Step s t k.between lines k.lines h.text (k.out ++ k.waiting) h.ran k.ran);
+    ran = subst (Runs rules.Step s (lines ++ k.lines) k.between) (sym (append_assoc h.text k.out k.waiting))
+        (Runs-append rules.Step s t k.between lines k.lines h.text (k.out ++ k.waiting) h.ran k.ran);
     waits = k.waits;
     step = k.step;
     breaks = Breaks-behind a b c h.text k.out (k.waiting ++ k.last) h.wrote k.breaks;
@@ -181,7 +200,8 @@ module _ {State : Type 0} (rules : Rules State) (most : ℕ) where
     short = AllByRecursion-append (IsShort most) lines k.lines h.short k.short;
     out = h.text ++ k.out;
     waiting = k.waiting;
-    ran = subst (Runs rules.Step s (lines ++ k.lines) u) (sym (append_assoc h.text k.out k.waiting)) (Runs-append rules.Step s t u lines k.lines h.text (k.out ++ k.waiting) h.ran k.ran);
+    ran = subst (Runs rules.Step s (lines ++ k.lines) u) (sym (append_assoc h.text k.out k.waiting))
+        (Runs-append rules.Step s t u lines k.lines h.text (k.out ++ k.waiting) h.ran k.ran);
     waits = k.waits;
     some = k.some;
     breaks = Breaks-behind a b c h.text k.out k.waiting h.wrote k.breaks;
@@ -189,7 +209,8 @@ module _ {State : Type 0} (rules : Rules State) (most : ℕ) where
 
   -- ---- more lines behind those that were met
 
-  pub StopsAmong-more : (s u : State) (a c : Written) (all back : List (List ℕ)) → StopsAmong rules most s a all u c → StopsAmong rules most s a (all ++ back) u c
+  pub StopsAmong-more : (s u : State) (a c : Written) (all back : List (List ℕ)) → StopsAmong rules most s a all u c
+      → StopsAmong rules most s a (all ++ back) u c
   StopsAmong-more s u a c all back k = record {
     lines = k.lines;
     line = k.line;
@@ -199,7 +220,8 @@ module _ {State : Type 0} (rules : Rules State) (most : ℕ) where
     handled = k.handled;
   }
 
-  pub BreaksAmong-more : (s u : State) (a c : Written) (all back : List (List ℕ)) → BreaksAmong rules most s a all u c → BreaksAmong rules most s a (all ++ back) u c
+  pub BreaksAmong-more : (s u : State) (a c : Written) (all back : List (List ℕ)) → BreaksAmong rules most s a all u c
+      → BreaksAmong rules most s a (all ++ back) u c
   BreaksAmong-more s u a c all back (inl k) = inl (record {
     lines = k.lines;
     line = k.line;
@@ -229,7 +251,8 @@ module _ {State : Type 0} (rules : Rules State) (most : ℕ) where
   })
 
   -- that a put failed
-  pub BreaksAmong-rises : (s u : State) (a c : Written) (all : List (List ℕ)) → BreaksAmong rules most s a all u c → Rises a.failures c.failures
+  pub BreaksAmong-rises : (s u : State) (a c : Written) (all : List (List ℕ)) → BreaksAmong rules most s a all u c
+      → Rises a.failures c.failures
   BreaksAmong-rises s u a c all (inl k) = k.breaks.failures
   BreaksAmong-rises s u a c all (inr k) = k.breaks.failures
 
@@ -240,15 +263,23 @@ module _ {State : Type 0} (rules : Rules State) (most : ℕ) where
   Leads-none s = record { lines = []; text = []; ran = (refl, refl) }
 
   pub Leads-then : (s t u : State) → Leads rules.Step s t → Leads rules.Step t u → Leads rules.Step s u
-  Leads-then s t u h k = record { lines = h.lines ++ k.lines; text = h.text ++ k.text; ran = Runs-append rules.Step s t u h.lines k.lines h.text k.text h.ran k.ran }
+  Leads-then s t u h k = record {
+    lines = h.lines ++ k.lines;
+    text = h.text ++ k.text;
+    ran = Runs-append rules.Step s t u h.lines
+        k.lines h.text k.text h.ran k.ran;
+  }
 
-  pub Handled-leads : (s t : State) (a b : Written) (lines : List (List ℕ)) → Handled rules most s a lines t b → Leads rules.Step s t
+  pub Handled-leads : (s t : State) (a b : Written) (lines : List (List ℕ)) → Handled rules most s a lines t b
+      → Leads rules.Step s t
   Handled-leads s t a b lines h = record { lines = lines; text = h.text; ran = h.ran }
 
-  pub StopsAmong-leads : (s t : State) (a b : Written) (all : List (List ℕ)) → StopsAmong rules most s a all t b → Leads rules.Step s t
+  pub StopsAmong-leads : (s t : State) (a b : Written) (all : List (List ℕ)) → StopsAmong rules most s a all t b
+      → Leads rules.Step s t
   StopsAmong-leads s t a b all h = Handled-leads s t a b h.lines h.handled
 
-  pub BreaksAmong-leads : (s t : State) (a b : Written) (all : List (List ℕ)) → BreaksAmong rules most s a all t b → Leads rules.Step s t
+  pub BreaksAmong-leads : (s t : State) (a b : Written) (all : List (List ℕ)) → BreaksAmong rules most s a all t b
+      → Leads rules.Step s t
   BreaksAmong-leads s t a b all (inl h) = record {
     lines = h.lines ++ h.line ∷ [];
     text = (h.out ++ h.waiting) ++ h.last;
@@ -260,7 +291,8 @@ module _ {State : Type 0} (rules : Rules State) (most : ℕ) where
 abbrev pub faulty : StreamFault → Result ℕ StreamFault
 faulty fault = Err fault
 
-pub at-fault : {P : Type 0} (fault : StreamFault) → (faulty fault ≡ faulty faults.LongLine → P) → (faulty fault ≡ faulty faults.Memory → P) → (faulty fault ≡ faulty faults.Write → P)
+pub at-fault : {P : Type 0} (fault : StreamFault) → (faulty fault ≡ faulty faults.LongLine → P)
+    → (faulty fault ≡ faulty faults.Memory → P) → (faulty fault ≡ faulty faults.Write → P)
     → ¬ (faulty fault ≡ faulty faults.Read) → P
 at-fault faults.LongLine long memory write others = long refl
 at-fault faults.Memory long memory write others = memory refl

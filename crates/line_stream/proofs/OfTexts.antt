@@ -1,5 +1,6 @@
 -- A stream whose lines have one text each: what it handled is what it wrote.
-use Rattle.std.proofs.Common.{◌≡◌, ℕ, List, [], ◌∷◌, ◌++◌, Option, None, Some, IfSome, Result, Ok, Err, refl, sym, ap, subst, ◌∙◌, append_assoc, inl, inr}
+use Rattle.std.proofs.Common.{◌≡◌, ℕ, List, [], ◌∷◌, ◌++◌, Option, None, Some, IfSome, Result, Ok, Err, refl, sym, ap, subst, ◌∙◌}
+use Rattle.std.proofs.Common.{append_assoc, inl, inr}
 use Rattle.std.proofs.lemmas.Grind.{flat_map-append}
 use Rattle.byte_devices.specs.Device.{Unread, Written, Wrote, Broke}
 use Rattle.byte_devices.proofs.Writes.{Broke-more}
@@ -8,7 +9,8 @@ use Rattle.line_stream.specs.declared.fault.StreamFault.TheVariants as faults
 use Rattle.line_stream.specs.Lines.{lines_of, whole_lines, AllShort}
 use Rattle.line_stream.specs.Runs.{Runs, Leads, Handled, BreaksAmong}
 use Rattle.line_stream.specs.Stream.{StreamEnds}
-use Rattle.line_stream.specs.LineTexts.{longest_line, line_text, texts, Texts, WritesText, writes_texts, behind, StreamsAll, StopsAtLong, StopsAtWrite, StopsAtMemory, StreamsLines}
+use Rattle.line_stream.specs.LineTexts.{longest_line, line_text, texts, Texts, WritesText, writes_texts, behind, StreamsAll}
+use Rattle.line_stream.specs.LineTexts.{StopsAtLong, StopsAtWrite, StopsAtMemory, StreamsLines}
 use Rattle.line_stream.proofs.Handling.{Runs-push, Broke-both}
 
 module _ {S : Type 0} (made : Texts S) (same : (s : S) (line : List ℕ) → made.text_of (made.next s line) ≡ made.text_of s) where
@@ -18,23 +20,31 @@ module _ {S : Type 0} (made : Texts S) (same : (s : S) (line : List ℕ) → mad
   run-behind s t (line ∷ lines) text p = run-behind p.0 t lines p.2 p.4 ∙ ap (λ r. behind made r lines) p.3.0
 
   -- all the text of a run is the texts of its lines
-  text-run : (s t : S) (lines : List (List ℕ)) (text : List ℕ) → Runs (WritesText made) s lines t text → text ≡ texts (made.text_of s) lines
+  text-run : (s t : S) (lines : List (List ℕ)) (text : List ℕ) → Runs (WritesText made) s lines t text
+      → text ≡ texts (made.text_of s) lines
   text-run s t [] text p = p.1
   text-run s t (line ∷ lines) text p =
       p.5 ∙ ap (λ xs. xs ++ p.2) p.3.1
-      ∙ ap (λ xs. line_text (made.text_of s) line ++ xs) (text-run p.0 t lines p.2 p.4 ∙ ap (λ text_of. texts text_of lines) (ap made.text_of p.3.0 ∙ same s line))
+      ∙ ap (λ xs. line_text (made.text_of s) line ++ xs) (text-run p.0 t lines p.2 p.4
+      ∙ ap (λ text_of. texts text_of lines) (ap made.text_of p.3.0 ∙ same s line))
 
   module _ (s t : S) (old new : Written) where
     -- these lines led there, and this holds of them
     abbrev pub Led : (List (List ℕ) → Type 0) → Type 0
     Led Holds = (lines : List (List ℕ)) × (t ≡ behind made s lines) × Holds lines
 
-    handled-led : (lines : List (List ℕ)) (Holds : List (List ℕ) → Type 0) → Handled (writes_texts made) longest_line s old lines t new
+    handled-led : (lines : List (List ℕ)) (Holds : List (List ℕ) → Type 0) → Handled (writes_texts made) longest_line s old lines
+        t new
         → (Wrote old new (texts (made.text_of s) lines) → Holds lines) → Led Holds
-    handled-led lines Holds h f = (lines, run-behind s t lines h.text h.ran, f (subst (Wrote old new) (text-run s t lines h.text h.ran) h.wrote))
+    handled-led lines Holds h f = (
+      lines,
+      run-behind s t lines h.text h.ran,
+      f (subst (Wrote old new) (text-run s t lines h.text h.ran) h.wrote),
+    )
 
     -- a put failed for some of the text of these lines
-    broke-led : (input : List ℕ) (lines more : List (List ℕ)) (text : List ℕ) → lines_of input ≡ lines ++ more → AllShort longest_line lines
+    broke-led : (input : List ℕ) (lines more : List (List ℕ)) (text : List ℕ) → lines_of input ≡ lines ++ more
+        → AllShort longest_line lines
         → Runs (WritesText made) s lines t text → Broke old new text → Led (StopsAtWrite (made.text_of s) input old new)
     broke-led input lines more text e short ran broke =
         let all : Broke old new (texts (made.text_of s) lines) = subst (Broke old new) (text-run s t lines text ran) broke in
@@ -46,36 +56,66 @@ module _ {S : Type 0} (made : Texts S) (same : (s : S) (line : List ℕ) → mad
             parts = e;
             short = short;
             broke = all;
-            of_all = subst (Broke old new) (sym joined) (Broke-more old new (texts (made.text_of s) lines) (texts (made.text_of s) more) all);
+            of_all = subst (Broke old new) (sym joined) (Broke-more old new (texts (made.text_of s) lines)
+                (texts (made.text_of s) more) all);
           },
         )
 
-    at-write : (input : List ℕ) → BreaksAmong (writes_texts made) longest_line s old (lines_of input) t new → Led (StopsAtWrite (made.text_of s) input old new)
+    at-write : (input : List ℕ) → BreaksAmong (writes_texts made) longest_line s old (lines_of input) t new
+        → Led (StopsAtWrite (made.text_of s) input old new)
     at-write input (inl h) =
-        broke-led input (h.lines ++ h.line ∷ []) h.more ((h.out ++ h.waiting) ++ h.last) (h.parts ∙ sym (append_assoc h.lines (h.line ∷ []) h.more)) h.short
+        broke-led input (h.lines ++ h.line ∷ []) h.more ((h.out ++ h.waiting) ++ h.last) (h.parts
+        ∙ sym (append_assoc h.lines (h.line ∷ []) h.more)) h.short
         (Runs-push (WritesText made) s h.between t h.lines h.line (h.out ++ h.waiting) h.last h.ran h.step)
-        (subst (Broke old new) (sym (append_assoc h.out h.waiting h.last)) (Broke-both old new h.out (h.waiting ++ h.last) h.breaks))
-    at-write input (inr h) = broke-led input h.lines h.more (h.out ++ h.waiting) h.parts h.short h.ran (Broke-both old new h.out h.waiting h.breaks)
+        (subst (Broke old new) (sym (append_assoc h.out h.waiting h.last)) (Broke-both old new h.out (h.waiting ++ h.last)
+        h.breaks))
+    at-write input (inr h) = broke-led input h.lines h.more (h.out ++ h.waiting) h.parts h.short h.ran
+        (Broke-both old new h.out h.waiting h.breaks)
 
     -- what holds where the source tells its bytes; where it doesn't, some lines led there
-    told-led : (bytes : Option (List ℕ)) (P : List ℕ → Type 0) (Q : List ℕ → List (List ℕ) → Type 0) → ((input : List ℕ) → P input → Led (Q input))
+    told-led : (bytes : Option (List ℕ)) (P : List ℕ → Type 0) (Q : List ℕ → List (List ℕ) → Type 0)
+        → ((input : List ℕ) → P input → Led (Q input))
         → Leads (WritesText made) s t → IfSome bytes P → Led (λ lines. IfSome bytes (λ input. Q input lines))
     told-led None P Q f led h = (led.lines, run-behind s t led.lines led.text led.ran, tt)
     told-led (Some input) P Q f led h = f input h
 
-    pub Streams-of : (before after : Unread) (result : Result ℕ StreamFault) → StreamEnds (writes_texts made) longest_line s old before after t new result
+    pub Streams-of : (before after : Unread) (result : Result ℕ StreamFault) → StreamEnds (writes_texts made) longest_line s old
+        before after t new result
         → Leads (WritesText made) s t → Led (StreamsLines (made.text_of s) before after old new result)
     Streams-of before after (Ok count) h led =
-        let told = told-led before.bytes _ (λ input. StreamsAll (made.text_of s) input after old new count) (λ input k. handled-led (lines_of input) _ k.handled (λ wrote. record { ended = k.ended; all = refl; short = k.handled.short; counted = k.counted; wrote = wrote })) led h.1 in
+        let told = told-led before.bytes _ (λ input. StreamsAll (made.text_of s) input after old new count)
+        (λ input k. handled-led (lines_of input) _ k.handled (λ wrote. record {
+          ended = k.ended;
+          all = refl;
+          short = k.handled.short;
+          counted = k.counted;
+          wrote = wrote;
+        })) led h.1 in
         (told.0, told.1, (h.0, told.2))
     Streams-of before after (Err faults.LongLine) h led =
-        let told = told-led before.bytes _ (λ input. StopsAtLong (made.text_of s) input old new) (λ input k. handled-led k.lines _ k.handled (λ wrote. record { long = k.long; more = k.more; parts = k.parts; short = k.handled.short; is_long = k.is_long; wrote = wrote })) led h.1 in
+        let told = told-led before.bytes _ (λ input. StopsAtLong (made.text_of s) input old new) (λ input k. handled-led k.lines _
+        k.handled (λ wrote. record {
+          long = k.long;
+          more = k.more;
+          parts = k.parts;
+          short = k.handled.short;
+          is_long = k.is_long;
+          wrote = wrote;
+        })) led h.1 in
         (told.0, told.1, (h.0, told.2))
     Streams-of before after (Err faults.Read) h led =
-        handled-led (whole_lines h.read) _ h.handled (λ wrote. record { read = h.read; failed = h.failed; whole = refl; short = h.short; wrote = wrote })
+        handled-led (whole_lines h.read) _ h.handled (λ wrote. record {
+          read = h.read;
+          failed = h.failed;
+          whole = refl;
+          short = h.short;
+          wrote = wrote;
+        })
     Streams-of before after (Err faults.Write) h led =
         let told = told-led before.bytes _ (λ input. StopsAtWrite (made.text_of s) input old new) at-write led h.2 in
         (told.0, told.1, (h.0, h.1, told.2))
     Streams-of before after (Err faults.Memory) h led =
-        let told = told-led before.bytes _ (λ input. StopsAtMemory (made.text_of s) input old new) (λ input k. handled-led k.lines _ k.handled (λ wrote. record { line = k.line; more = k.more; parts = k.parts; short = k.handled.short; wrote = wrote })) led h.2 in
+        let told = told-led before.bytes _ (λ input. StopsAtMemory (made.text_of s) input old new) (λ input k. handled-led k.lines _
+        k.handled (λ wrote. record { line = k.line; more = k.more; parts = k.parts; short = k.handled.short; wrote = wrote }))
+        led h.2 in
         (told.0, told.1, (h.0, told.2))

@@ -21,7 +21,8 @@ abbrev pub texts : (List ℕ → List ℕ) → List (List ℕ) → List ℕ
 texts text_of lines = flat_map (line_text text_of) lines
 
 -- All of this input was read, none of its lines is long, and the text of each was written; `count` is their number, up to 2^64 - 1.
-pub record StreamsAll (text_of : List ℕ → List ℕ) (input : List ℕ) (after : Unread) (old new : Written) (count : ℕ) (lines : List (List ℕ)) : Type 0 where
+pub record StreamsAll (text_of : List ℕ → List ℕ) (input : List ℕ) (after : Unread) (old new : Written) (count : ℕ)
+    (lines : List (List ℕ)) : Type 0 where
   pub ended : after.bytes ≡ Some []
   pub all : lines ≡ lines_of input
   pub short : AllShort longest_line lines
@@ -38,12 +39,13 @@ pub record StopsAtLong (text_of : List ℕ → List ℕ) (input : List ℕ) (old
   pub wrote : Wrote old new (texts text_of lines)
 
 -- What was read has no long line, finished or not, and the texts of those lines whose LF was read were written.
-pub record StopsAtRead (text_of : List ℕ → List ℕ) (before after : Unread) (old new : Written) (lines : List (List ℕ)) : Type 0 where
-  pub read : List ℕ
-  pub failed : PullFailed before after read
-  pub whole : lines ≡ whole_lines read
-  pub short : AllShort longest_line (lines_of read)
-  pub wrote : Wrote old new (texts text_of lines)
+pub record StopsAtRead (text_of : List ℕ → List ℕ) (before after : Unread) (old new : Written) (lines : List (List ℕ)) : Type 0
+  where
+    pub read : List ℕ
+    pub failed : PullFailed before after read
+    pub whole : lines ≡ whole_lines read
+    pub short : AllShort longest_line (lines_of read)
+    pub wrote : Wrote old new (texts text_of lines)
 
 -- Of the texts of the first lines, of which none is long, a beginning was written, and then a put failed. So that is a
 -- beginning of the texts of all lines.
@@ -64,12 +66,16 @@ pub record StopsAtMemory (text_of : List ℕ → List ℕ) (input : List ℕ) (o
 
 -- The texts of these lines were made, and so it ended. What is said of the input is said where the source tells its bytes.
 abbrev pub StreamsLines : (List ℕ → List ℕ) → Unread → Unread → Written → Written → Result ℕ StreamFault → List (List ℕ) → Type 0
-StreamsLines text_of before after old new (Ok count) lines = NoneFailed before after × IfSome before.bytes (λ input. StreamsAll text_of input after old new count lines)
-StreamsLines text_of before after old new (Err faults.LongLine) lines = NoneFailed before after × IfSome before.bytes (λ input. StopsAtLong text_of input old new lines)
+StreamsLines text_of before after old new (Ok count) lines = NoneFailed before after
+    × IfSome before.bytes (λ input. StreamsAll text_of input after old new count lines)
+StreamsLines text_of before after old new (Err faults.LongLine) lines = NoneFailed before after
+    × IfSome before.bytes (λ input. StopsAtLong text_of input old new lines)
 StreamsLines text_of before after old new (Err faults.Read) lines = StopsAtRead text_of before after old new lines
 StreamsLines text_of before after old new (Err faults.Write) lines =
-    NoneFailed before after × Rises old.failures new.failures × IfSome before.bytes (λ input. StopsAtWrite text_of input old new lines)
-StreamsLines text_of before after old new (Err faults.Memory) lines = NoneFailed before after × IfSome before.bytes (λ input. StopsAtMemory text_of input old new lines)
+    NoneFailed before after × Rises old.failures new.failures
+    × IfSome before.bytes (λ input. StopsAtWrite text_of input old new lines)
+StreamsLines text_of before after old new (Err faults.Memory) lines = NoneFailed before after
+    × IfSome before.bytes (λ input. StopsAtMemory text_of input old new lines)
 
 -- so for some lines
 abbrev pub Streams : (List ℕ → List ℕ) → Unread → Unread → Written → Written → Result ℕ StreamFault → Type 0

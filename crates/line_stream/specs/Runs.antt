@@ -8,7 +8,8 @@ use Rattle.line_stream.specs.Lines.{IsShort, AllShort}
 abbrev pub Runs : {State : Type 0} → (State → List ℕ → State → List ℕ → Type 0) → State → List (List ℕ) → State → List ℕ → Type 0
 Runs Step before [] after text = (after ≡ before) × (text ≡ [])
 Runs {State} Step before (line ∷ lines) after text =
-    (between : State) × (first rest : List ℕ) × Step before line between first × Runs Step between lines after rest × (text ≡ first ++ rest)
+    (between : State) × (first rest : List ℕ) × Step before line between first × Runs Step between lines after rest
+    × (text ≡ first ++ rest)
 
 -- some lines lead from one state to the other
 pub record Leads {State : Type 0} (Step : State → List ℕ → State → List ℕ → Type 0) (before after : State) : Type 0 where
@@ -24,7 +25,8 @@ pub record Breaks (old new : Written) (whole part : List ℕ) : Type 0 where
   pub bytes : Appends old.bytes new.bytes (whole ++ front)
   pub failures : Rises old.failures new.failures
 
--- How lines are handled: what a line may do to a state, and its text; the lines for which memory may be wanting in a state; and what
+-- How lines are handled: what a line may do to a state, and its text; the lines for which memory may be wanting in a state; and
+-- what
 -- may wait from one line to the next.
 pub record Rules (State : Type 0) : Type 1 where
   pub Step : State → List ℕ → State → List ℕ → Type 0
@@ -41,7 +43,8 @@ module _ {State : Type 0} (rules : Rules State) (most : ℕ) where
     pub wrote : Wrote old new text
 
   -- these lines, none of them long, were handled, and their text was written but for its end, which is held
-  pub record HandledBut (before : State) (old : Written) (lines : List (List ℕ)) (after : State) (new : Written) (held : List ℕ) : Type 0 where
+  pub record HandledBut (before : State) (old : Written) (lines : List (List ℕ)) (after : State) (new : Written)
+      (held : List ℕ) : Type 0 where
     pub text : List ℕ
     pub short : AllShort most lines
     pub ran : Runs rules.Step before lines after text

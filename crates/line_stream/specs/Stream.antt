@@ -12,7 +12,8 @@ NoneFailed unread left = left.failures ≡ unread.failures
 
 module _ {State : Type 0} (rules : Rules State) (most : ℕ) where
   -- all of the input was read, and each of its lines was handled, of which none is long; there are this many, up to 2^64 - 1
-  pub record HandlesAll (before : State) (old : Written) (input : List ℕ) (left : Option (List ℕ)) (after : State) (new : Written) (count : ℕ) : Type 0 where
+  pub record HandlesAll (before : State) (old : Written) (input : List ℕ) (left : Option (List ℕ)) (after : State) (new : Written)
+      (count : ℕ) : Type 0 where
     pub ended : left ≡ Some []
     pub counted : count ≡ min (length (lines_of input)) (2 ^ 64 - 1)
     pub handled : Handled rules most before old (lines_of input) after new
@@ -35,10 +36,14 @@ module _ {State : Type 0} (rules : Rules State) (most : ℕ) where
 
   -- Where the source doesn't tell its bytes, nothing is said of lines but at a failed pull.
   abbrev pub StreamEnds : State → Written → Unread → Unread → State → Written → Result ℕ StreamFault → Type 0
-  StreamEnds before old unread left after new (Ok count) = NoneFailed unread left × IfSome unread.bytes (λ input. HandlesAll before old input left.bytes after new count)
-  StreamEnds before old unread left after new (Err faults.LongLine) = NoneFailed unread left × IfSome unread.bytes (λ input. EndsAtLong before old input after new)
+  StreamEnds before old unread left after new (Ok count) = NoneFailed unread left
+      × IfSome unread.bytes (λ input. HandlesAll before old input left.bytes after new count)
+  StreamEnds before old unread left after new (Err faults.LongLine) = NoneFailed unread left
+      × IfSome unread.bytes (λ input. EndsAtLong before old input after new)
   StreamEnds before old unread left after new (Err faults.Read) = EndsAtRead before old unread left after new
   StreamEnds before old unread left after new (Err faults.Write) =
-      NoneFailed unread left × Rises old.failures new.failures × IfSome unread.bytes (λ input. BreaksAmong rules most before old (lines_of input) after new)
+      NoneFailed unread left × Rises old.failures new.failures
+      × IfSome unread.bytes (λ input. BreaksAmong rules most before old (lines_of input) after new)
   StreamEnds before old unread left after new (Err faults.Memory) =
-      NoneFailed unread left × ((state : State) × (line : List ℕ) × rules.Stops state line) × IfSome unread.bytes (λ input. StopsAmong rules most before old (lines_of input) after new)
+      NoneFailed unread left × ((state : State) × (line : List ℕ) × rules.Stops state line)
+      × IfSome unread.bytes (λ input. StopsAmong rules most before old (lines_of input) after new)

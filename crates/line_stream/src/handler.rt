@@ -39,10 +39,13 @@ pub trait Handler: Drop {
         requires line { HasNoLineFeed line.now }
         requires waits { (rules self.now).Waits out.old.held.items }
         ensures ok { OnOk result ((text : List ℕ) × (rules self.now).Step (view state.old) line.now (view state.new) text
-            × Passes (W.written out.old.sink.now) (W.written out.new.sink.now) out.old.held.items text out.new.held.items × (rules self.now).Waits out.new.held.items) }
-        ensures write { IsErrOf result stops.Write → (text : List ℕ) × (rules self.now).Step (view state.old) line.now (view state.new) text
+            × Passes (W.written out.old.sink.now) (W.written out.new.sink.now) out.old.held.items text out.new.held.items
+            × (rules self.now).Waits out.new.held.items) }
+        ensures write { IsErrOf result stops.Write → (text : List ℕ) × (rules self.now).Step (view state.old) line.now
+            (view state.new) text
             × Broke (W.written out.old.sink.now) (W.written out.new.sink.now) (out.old.held.items ++ text) }
-        ensures memory { IsErrOf result stops.Memory → (rules self.now).Stops (view state.old) line.now × (view state.new ≡ view state.old)
+        ensures memory { IsErrOf result stops.Memory → (rules self.now).Stops (view state.old) line.now
+            × (view state.new ≡ view state.old)
             × (W.written out.new.sink.now ≡ W.written out.old.sink.now) × (out.new.held.items ≡ out.old.held.items) }
         ensures same { SameSink out.old out.new };
 

@@ -1,5 +1,6 @@
 //! A source is read piece by piece, cut into lines and handled.
-ghost use Rattle.std.specs.Prelude.{◌≡◌, ℕ, ◌-◌, ◌^◌, ◌+◌, ◌<◌, ◌≤◌, min, List, [], ◌∷◌, ◌++◌, length, IfOk, OnOk, OnErr, IfSome, IfNone, IsErrOf};
+ghost use Rattle.std.specs.Prelude.{◌≡◌, ℕ, ◌-◌, ◌^◌, ◌+◌, ◌<◌, ◌≤◌, min, List, [], ◌∷◌, ◌++◌, length, IfOk, OnOk, OnErr, IfSome};
+ghost use Rattle.std.specs.Prelude.{IfNone, IsErrOf};
 ghost use Rattle.dbc_values.specs.Lexical.{line_feed};
 ghost use Rattle.byte_devices.specs.Device.{Rises, Wrote, Broke, Prints, Passes};
 ghost use Rattle.byte_devices.specs.Outs.{SameSink};
@@ -60,11 +61,14 @@ impl<'r, 'w, W: Sink> Streaming<'r, 'w, W> {
         requires short { IsShort MOST line.now }
         requires waits { (H.rules handler.now).Waits self.old.out.held.items }
         ensures ok { OnOk result ((text : List ℕ) × (H.rules handler.now).Step (H.view state.old) line.now (H.view state.new) text
-            × Passes (W.written self.old.out.sink.now) (W.written self.new.out.sink.now) self.old.out.held.items text self.new.out.held.items × (H.rules handler.now).Waits self.new.out.held.items) }
-        ensures memory { IsErrOf result StreamFault.Memory → (H.rules handler.now).Stops (H.view state.old) line.now × (H.view state.new ≡ H.view state.old)
+            × Passes (W.written self.old.out.sink.now) (W.written self.new.out.sink.now) self.old.out.held.items text
+            self.new.out.held.items × (H.rules handler.now).Waits self.new.out.held.items) }
+        ensures memory { IsErrOf result StreamFault.Memory → (H.rules handler.now).Stops (H.view state.old) line.now
+            × (H.view state.new ≡ H.view state.old)
             × Wrote (W.written self.old.out.sink.now) (W.written self.new.out.sink.now) self.old.out.held.items }
         ensures write { IsErrOf result StreamFault.Write →
-            FailsAt (H.rules handler.now) MOST (H.view state.old) (W.written self.old.out.sink.now) self.old.out.held.items line.now (H.view state.new) (W.written self.new.out.sink.now) }
+            FailsAt (H.rules handler.now) MOST (H.view state.old) (W.written self.old.out.sink.now) self.old.out.held.items line.now
+            (H.view state.new) (W.written self.new.out.sink.now) }
         ensures others { (¬ IsErrOf result StreamFault.LongLine) × (¬ IsErrOf result StreamFault.Read) }
         ensures same { SameSink self.old.out self.new.out }
     {
@@ -91,16 +95,22 @@ impl<'r, 'w, W: Sink> Streaming<'r, 'w, W> {
     ) -> Result<(), StreamFault>
         requires line { HasNoLineFeed (line.old.items ++ head.now) }
         requires waits { (H.rules handler.now).Waits self.old.out.held.items }
-        ensures ok { OnOk result ((text : List ℕ) × (H.rules handler.now).Step (H.view state.old) (line.old.items ++ head.now) (H.view state.new) text
-            × Passes (W.written self.old.out.sink.now) (W.written self.new.out.sink.now) self.old.out.held.items text self.new.out.held.items × (H.rules handler.now).Waits self.new.out.held.items) }
+        ensures ok { OnOk result ((text : List ℕ) × (H.rules handler.now).Step (H.view state.old) (line.old.items ++ head.now)
+            (H.view state.new) text
+            × Passes (W.written self.old.out.sink.now) (W.written self.new.out.sink.now) self.old.out.held.items text
+            self.new.out.held.items × (H.rules handler.now).Waits self.new.out.held.items) }
         ensures short { OnOk result (IsShort MOST (line.old.items ++ head.now)) }
         ensures empty { OnOk result (line.new.items ≡ []) }
         ensures long { IsErrOf result StreamFault.LongLine → (MOST < length (line.old.items ++ head.now))
-            × (H.view state.new ≡ H.view state.old) × Wrote (W.written self.old.out.sink.now) (W.written self.new.out.sink.now) self.old.out.held.items }
-        ensures memory { IsErrOf result StreamFault.Memory → (H.rules handler.now).Stops (H.view state.old) (line.old.items ++ head.now)
-            × (H.view state.new ≡ H.view state.old) × Wrote (W.written self.old.out.sink.now) (W.written self.new.out.sink.now) self.old.out.held.items }
+            × (H.view state.new ≡ H.view state.old) × Wrote (W.written self.old.out.sink.now) (W.written self.new.out.sink.now)
+            self.old.out.held.items }
+        ensures memory { IsErrOf result StreamFault.Memory → (H.rules handler.now).Stops (H.view state.old) (line.old.items
+            ++ head.now)
+            × (H.view state.new ≡ H.view state.old) × Wrote (W.written self.old.out.sink.now) (W.written self.new.out.sink.now)
+            self.old.out.held.items }
         ensures write { IsErrOf result StreamFault.Write →
-            FailsAt (H.rules handler.now) MOST (H.view state.old) (W.written self.old.out.sink.now) self.old.out.held.items (line.old.items ++ head.now) (H.view state.new) (W.written self.new.out.sink.now) }
+            FailsAt (H.rules handler.now) MOST (H.view state.old) (W.written self.old.out.sink.now) self.old.out.held.items
+            (line.old.items ++ head.now) (H.view state.new) (W.written self.new.out.sink.now) }
         ensures others { ¬ IsErrOf result StreamFault.Read }
         ensures same { SameSink self.old.out self.new.out }
     {
@@ -132,17 +142,21 @@ impl<'r, 'w, W: Sink> Streaming<'r, 'w, W> {
         requires empty { self.old.out.held.items ≡ [] }
         ensures ok { IfOk result (λ count. (lines : List (List ℕ)) × Cuts (line.old.items ++ piece.now) lines line.new.items
             × HasNoLineFeed line.new.items × IsShort MOST line.new.items × (count ≡ min (length lines) (2 ^ 64 - 1))
-            × Handled (H.rules handler.now) MOST (H.view state.old) (W.written self.old.out.sink.now) lines (H.view state.new) (W.written self.new.out.sink.now)) }
+            × Handled (H.rules handler.now) MOST (H.view state.old) (W.written self.old.out.sink.now) lines (H.view state.new)
+            (W.written self.new.out.sink.now)) }
         ensures empty { OnOk result (self.new.out.held.items ≡ []) }
         ensures long { IsErrOf result StreamFault.LongLine → (lines : List (List ℕ)) × (long rest : List ℕ)
             × Cuts (line.old.items ++ piece.now) lines (long ++ rest) × HasNoLineFeed long × (MOST < length long)
-            × Handled (H.rules handler.now) MOST (H.view state.old) (W.written self.old.out.sink.now) lines (H.view state.new) (W.written self.new.out.sink.now) }
+            × Handled (H.rules handler.now) MOST (H.view state.old) (W.written self.old.out.sink.now) lines (H.view state.new)
+            (W.written self.new.out.sink.now) }
         ensures memory { IsErrOf result StreamFault.Memory → (lines : List (List ℕ)) × (rest : List ℕ)
             × Cuts (line.old.items ++ piece.now) lines rest
-            × StopsAmong (H.rules handler.now) MOST (H.view state.old) (W.written self.old.out.sink.now) lines (H.view state.new) (W.written self.new.out.sink.now) }
+            × StopsAmong (H.rules handler.now) MOST (H.view state.old) (W.written self.old.out.sink.now) lines (H.view state.new)
+            (W.written self.new.out.sink.now) }
         ensures write { IsErrOf result StreamFault.Write → (lines : List (List ℕ)) × (rest : List ℕ)
             × Cuts (line.old.items ++ piece.now) lines rest
-            × BreaksAmong (H.rules handler.now) MOST (H.view state.old) (W.written self.old.out.sink.now) lines (H.view state.new) (W.written self.new.out.sink.now) }
+            × BreaksAmong (H.rules handler.now) MOST (H.view state.old) (W.written self.old.out.sink.now) lines (H.view state.new)
+            (W.written self.new.out.sink.now) }
         ensures others { ¬ IsErrOf result StreamFault.Read }
         ensures same { SameSink self.old.out self.new.out }
     {
@@ -173,12 +187,15 @@ impl<'r, 'w, W: Sink> Streaming<'r, 'w, W> {
         requires no_line_feed { HasNoLineFeed line.now }
         requires short { IsShort MOST line.now }
         requires empty { self.old.out.held.items ≡ [] }
-        ensures ok { OnOk result (Handled (H.rules handler.now) MOST (H.view state.old) (W.written self.old.out.sink.now) (lines_of line.now) (H.view state.new) (W.written self.new.out.sink.now)) }
+        ensures ok { OnOk result (Handled (H.rules handler.now) MOST (H.view state.old) (W.written self.old.out.sink.now)
+            (lines_of line.now) (H.view state.new) (W.written self.new.out.sink.now)) }
         ensures count { IfOk result (λ count. count ≡ length (lines_of line.now)) }
         ensures memory { IsErrOf result StreamFault.Memory →
-            StopsAmong (H.rules handler.now) MOST (H.view state.old) (W.written self.old.out.sink.now) (lines_of line.now) (H.view state.new) (W.written self.new.out.sink.now) }
+            StopsAmong (H.rules handler.now) MOST (H.view state.old) (W.written self.old.out.sink.now) (lines_of line.now)
+            (H.view state.new) (W.written self.new.out.sink.now) }
         ensures write { IsErrOf result StreamFault.Write →
-            BreaksAmong (H.rules handler.now) MOST (H.view state.old) (W.written self.old.out.sink.now) (lines_of line.now) (H.view state.new) (W.written self.new.out.sink.now) }
+            BreaksAmong (H.rules handler.now) MOST (H.view state.old) (W.written self.old.out.sink.now) (lines_of line.now)
+            (H.view state.new) (W.written self.new.out.sink.now) }
         ensures others { (¬ IsErrOf result StreamFault.LongLine) × (¬ IsErrOf result StreamFault.Read) }
         ensures same { SameSink self.old.out self.new.out }
     {
@@ -203,21 +220,28 @@ impl<'r, 'w, W: Sink> Streaming<'r, 'w, W> {
         requires empty { line.old.items ≡ [] }
         requires nothing_waits { self.old.out.held.items ≡ [] }
         ensures ok { IfOk result (λ count. IfSome (R.unread source.old).bytes (λ input.
-            HandlesAll (H.rules handler.now) MOST (H.view state.old) (W.written self.old.out.sink.now) input (R.unread source.new).bytes (H.view state.new) (W.written self.new.out.sink.now) count)) }
+            HandlesAll (H.rules handler.now) MOST (H.view state.old) (W.written self.old.out.sink.now) input
+            (R.unread source.new).bytes (H.view state.new) (W.written self.new.out.sink.now) count)) }
         ensures long { IsErrOf result StreamFault.LongLine → IfSome (R.unread source.old).bytes (λ input.
-            EndsAtLong (H.rules handler.now) MOST (H.view state.old) (W.written self.old.out.sink.now) input (H.view state.new) (W.written self.new.out.sink.now)) }
+            EndsAtLong (H.rules handler.now) MOST (H.view state.old) (W.written self.old.out.sink.now) input (H.view state.new)
+            (W.written self.new.out.sink.now)) }
         ensures read { IsErrOf result StreamFault.Read →
-            EndsAtRead (H.rules handler.now) MOST (H.view state.old) (W.written self.old.out.sink.now) (R.unread source.old) (R.unread source.new) (H.view state.new) (W.written self.new.out.sink.now) }
+            EndsAtRead (H.rules handler.now) MOST (H.view state.old) (W.written self.old.out.sink.now) (R.unread source.old)
+            (R.unread source.new) (H.view state.new) (W.written self.new.out.sink.now) }
         ensures write { IsErrOf result StreamFault.Write → IfSome (R.unread source.old).bytes (λ input.
-            BreaksAmong (H.rules handler.now) MOST (H.view state.old) (W.written self.old.out.sink.now) (lines_of input) (H.view state.new) (W.written self.new.out.sink.now)) }
+            BreaksAmong (H.rules handler.now) MOST (H.view state.old) (W.written self.old.out.sink.now) (lines_of input)
+            (H.view state.new) (W.written self.new.out.sink.now)) }
         ensures memory { IsErrOf result StreamFault.Memory → IfSome (R.unread source.old).bytes (λ input.
-            StopsAmong (H.rules handler.now) MOST (H.view state.old) (W.written self.old.out.sink.now) (lines_of input) (H.view state.new) (W.written self.new.out.sink.now)) }
+            StopsAmong (H.rules handler.now) MOST (H.view state.old) (W.written self.old.out.sink.now) (lines_of input)
+            (H.view state.new) (W.written self.new.out.sink.now)) }
 
         // At a write fault the sink has failed, even where the source doesn't tell its bytes.
-        ensures sink_failed { IsErrOf result StreamFault.Write → Rises (W.written self.old.out.sink.now).failures (W.written self.new.out.sink.now).failures }
+        ensures sink_failed { IsErrOf result StreamFault.Write → Rises (W.written self.old.out.sink.now).failures
+            (W.written self.new.out.sink.now).failures }
 
         // At a memory fault memory may be wanting for some line, even where the source doesn't tell its bytes.
-        ensures handler_stops { IsErrOf result StreamFault.Memory → (view : H.View) × (line : List ℕ) × (H.rules handler.now).Stops view line }
+        ensures handler_stops { IsErrOf result StreamFault.Memory → (view : H.View) × (line : List ℕ)
+            × (H.rules handler.now).Stops view line }
 
         // At all ends but a failed read no pull failed; and whatever the end, some lines led there.
         ensures none_failed { (¬ IsErrOf result StreamFault.Read) → NoneFailed (R.unread source.old) (R.unread source.new) }
@@ -257,7 +281,8 @@ pub fn stream_lines<const MOST: usize, H: Handler, R: Source, W: Sink>(
     line: &mut ArrayVec<u8, MOST>,
 ) -> Result<u64, StreamFault>
     requires empty { line.old.items ≡ [] }
-    ensures ends { StreamEnds (H.rules handler.now) MOST (H.view state.old) (W.written sink.old) (R.unread source.old) (R.unread source.new) (H.view state.new) (W.written sink.new) result }
+    ensures ends { StreamEnds (H.rules handler.now) MOST (H.view state.old) (W.written sink.old) (R.unread source.old)
+        (R.unread source.new) (H.view state.new) (W.written sink.new) result }
     ensures leads { Leads (H.rules handler.now).Step (H.view state.old) (H.view state.new) }
 {
     let mut room = Vec::new(alloc);

@@ -22,8 +22,10 @@ pub trait LineText: Drop {
     // What it becomes when it has made the text of a line, such as a count that rises.
     ghost next: { Self → List ℕ → Self };
 
-    /// Puts the text of a line, and an LF behind it, into `text` in the place of what it held. Where memory is wanting it is as it was,
-    /// and what `text` holds means nothing. What else it changes of itself, such as a table of what was looked up, no contract sees.
+    /// Puts the text of a line, and an LF behind it, into `text` in the place of what it held. Where memory is wanting it is as it
+    /// was,
+    /// and what `text` holds means nothing. What else it changes of itself, such as a table of what was looked up, no contract
+    /// sees.
     fn renew(&mut self, text: &mut Vec<u8>, line: &[u8]) -> Result<(), Memory>
         ensures text { OnOk result (text.new.items ≡ text_of self.old line.now ++ line_feed ∷ []) }
         ensures next { OnOk result (self.new ≡ next self.old line.now) }
@@ -79,7 +81,8 @@ pub fn stream_texts<T: LineText, R: Source, W: Sink>(
     sink: &mut W,
 ) -> Result<u64, StreamFault>
     ensures { (lines : List (List ℕ)) × (texts.new ≡ behind (record { text_of = T.text_of; next = T.next }) texts.old lines)
-        × StreamsLines (T.text_of texts.old) (R.unread source.old) (R.unread source.new) (W.written sink.old) (W.written sink.new) result lines }
+        × StreamsLines (T.text_of texts.old) (R.unread source.old) (R.unread source.new) (W.written sink.old) (W.written sink.new)
+        result lines }
 {
     let mut line = ArrayVec::<u8, LONGEST>::new();
     let writer = Writer { texts: PhantomData };

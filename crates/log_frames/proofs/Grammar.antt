@@ -1,5 +1,6 @@
 -- A line tells a frame exactly where the grammar says so.
-use Rattle.std.proofs.Common.{◌≡◌, ℕ, ◌+◌, ◌*◌, ◌<◌, ◌==◌, inl, inr, Bool, true, false, not, List, [], ◌∷◌, ◌++◌, length, drop, Option, Some, None, refl, sym, ap, subst, ◌∙◌, arith, length-append}
+use Rattle.std.proofs.Common.{◌≡◌, ℕ, ◌+◌, ◌*◌, ◌<◌, ◌==◌, inl, inr, Bool, true, false, not, List, [], ◌∷◌, ◌++◌, length, drop}
+use Rattle.std.proofs.Common.{Option, Some, None, refl, sym, ap, subst, ◌∙◌, arith, length-append}
 use Rattle.std.specs.Prelude.{option_and_then, option_map, if◌then◌else◌}
 use Rattle.std.specs.List.{prefix_len, AllByRecursion}
 use Rattle.std.specs.Result.{result_ok}
@@ -8,10 +9,13 @@ use Rattle.hex.specs.Hex.{decode_of}
 use Rattle.log_frames.specs.declared.frame.Kind.{Kind}
 use Rattle.log_frames.specs.declared.frame.Kind.TheVariants.{Error}
 use Rattle.log_frames.specs.LogLines.{first_word, behind_first_word, is_log_blank, is_stamp, frame_word}
-use Rattle.log_frames.specs.Frames.{Frame, Identifier, number_sign, frame_with, frame_of_parts, before_number_sign, behind_first, behind_number_sign, identifier_of, form_of, frame_of_word, frame_of}
-use Rattle.log_frames.specs.LogGrammar.{HasNoBlank, SpellsFurther, IsIdentifierText, IsFrameText, IsStampText, IsWord, AreBlanks, IsBehindWord, IsLogLine}
+use Rattle.log_frames.specs.Frames.{Frame, Identifier, number_sign, frame_with, frame_of_parts, before_number_sign, behind_first}
+use Rattle.log_frames.specs.Frames.{behind_number_sign, identifier_of, form_of, frame_of_word, frame_of}
+use Rattle.log_frames.specs.LogGrammar.{HasNoBlank, SpellsFurther, IsIdentifierText, IsFrameText, IsStampText, IsWord, AreBlanks}
+use Rattle.log_frames.specs.LogGrammar.{IsBehindWord, IsLogLine}
 use Rattle.log_frames.proofs.Runs.{all_append, Stops, rest_stops, front_and_rest, front_is, rest_is}
-use Rattle.log_frames.proofs.LineWords.{HeadWord, head_word, first_word_is, behind_first_word_is, some_blanks, blanks_end, word_begins, behind_ends, is_behind, some_in, HasWords, has_words, frame_word_is}
+use Rattle.log_frames.proofs.LineWords.{HeadWord, head_word, first_word_is, behind_first_word_is, some_blanks, blanks_end}
+use Rattle.log_frames.proofs.LineWords.{word_begins, behind_ends, is_behind, some_in, HasWords, has_words, frame_word_is}
 use Rattle.log_frames.proofs.Stamps.{stamp_found, stamp_there, stamp_unbroken}
 use Rattle.log_frames.proofs.Hexadecimals.{some_same, no_digit, bytes_found, bytes_there}
 use Rattle.log_frames.proofs.Identifiers.{identifier_unbroken, identifier_found, identifier_there}
@@ -24,17 +28,22 @@ no_mark b = not (b == number_sign)
 
 marked : (rest tail : List ℕ) → Stops no_mark rest → behind_first rest ≡ Some tail → rest ≡ number_sign ∷ tail
 marked [] tail stops is = absurd (let no : None ≡ Some tail = is in cc)
-marked (b ∷ rest) tail stops is = ap (λ (b : ℕ). b ∷ rest) (eqb-true b number_sign (not-false (b == number_sign) stops)) ∙ ap (λ rest. number_sign ∷ rest) (some_same rest tail is)
+marked (b ∷ rest) tail stops is = ap (λ (b : ℕ). b ∷ rest) (eqb-true b number_sign (not-false (b == number_sign) stops))
+    ∙ ap (λ rest. number_sign ∷ rest) (some_same rest tail is)
 
-frame_by : (word : List ℕ) (frame : Frame) (identifier : Option Identifier) (tail : Option (List ℕ)) → identifier_of (before_number_sign word) ≡ identifier → behind_number_sign word ≡ tail
-    → option_and_then (λ identifier. option_and_then (frame_of_parts identifier) (option_and_then form_of tail)) identifier ≡ Some frame → IsFrameText word frame
+frame_by : (word : List ℕ) (frame : Frame) (identifier : Option Identifier) (tail : Option (List ℕ))
+    → identifier_of (before_number_sign word) ≡ identifier → behind_number_sign word ≡ tail
+    → option_and_then (λ identifier. option_and_then (frame_of_parts identifier) (option_and_then form_of tail)) identifier
+    ≡ Some frame → IsFrameText word frame
 frame_by word frame None tail is_identifier is_tail is = absurd (let no : None ≡ Some frame = is in cc)
 frame_by word frame (Some identifier) None is_identifier is_tail is = absurd (let no : None ≡ Some frame = is in cc)
 frame_by word frame (Some identifier) (Some tail) is_identifier is_tail is =
-    elim (form_of tail) as (λ form. form_of tail ≡ form → option_and_then (frame_of_parts identifier) form ≡ Some frame → IsFrameText word frame) [
+    elim (form_of tail) as (λ form. form_of tail ≡ form → option_and_then (frame_of_parts identifier) form ≡ Some frame
+    → IsFrameText word frame) [
       | None ↦ λ is_form is. absurd (let no : None ≡ Some frame = is in cc)
       | Some form ↦ λ is_form is.
-          elim (result_ok (decode_of form.digits)) as (λ bytes. result_ok (decode_of form.digits) ≡ bytes → option_map (frame_with identifier form) bytes ≡ Some frame → IsFrameText word frame) [
+          elim (result_ok (decode_of form.digits)) as (λ bytes. result_ok (decode_of form.digits) ≡ bytes
+          → option_map (frame_with identifier form) bytes ≡ Some frame → IsFrameText word frame) [
             | None ↦ λ decodes is. absurd (let no : None ≡ Some frame = is in cc)
             | Some bytes ↦ λ decodes is.
                 subst (IsFrameText word) (some_same (frame_with identifier form bytes) frame is) (record {
@@ -42,7 +51,8 @@ frame_by word frame (Some identifier) (Some tail) is_identifier is_tail is =
                   kind = form.kind;
                   digits = before_number_sign word;
                   tail = tail;
-                  parts = front_and_rest no_mark word ∙ ap (λ rest. before_number_sign word ++ rest) (marked (drop (prefix_len no_mark word) word) tail (rest_stops no_mark word) is_tail);
+                  parts = front_and_rest no_mark word ∙ ap (λ rest. before_number_sign word ++ rest)
+                      (marked (drop (prefix_len no_mark word) word) tail (rest_stops no_mark word) is_tail);
                   identified = identifier_found (before_number_sign word) identifier is_identifier;
                   told = form_found tail bytes form is_form (bytes_found form.digits bytes decodes);
                   kind_is = refl;
@@ -56,35 +66,48 @@ frame_found : (word : List ℕ) (frame : Frame) → frame_of_word word ≡ Some 
 unfolding frame_of_word
 frame_found word frame is = frame_by word frame (identifier_of (before_number_sign word)) (behind_number_sign word) refl refl is
 
-no_marks : (before : ℕ) (text : List ℕ) (number : ℕ) → SpellsFurther before text number → AllByRecursion (λ b. no_mark b ≡ true) text
+no_marks : (before : ℕ) (text : List ℕ) (number : ℕ) → SpellsFurther before text number → AllByRecursion (λ b. no_mark b ≡ true)
+    text
 no_marks before [] number spelled = tt
-no_marks before (digit ∷ text) number spelled = (ap not (no_digit number_sign digit spelled.0 refl spelled.1), no_marks (before * 16 + spelled.0) text number spelled.2)
+no_marks before (digit ∷ text) number spelled = (
+  ap not (no_digit number_sign digit spelled.0 refl spelled.1),
+  no_marks (before * 16 + spelled.0) text number spelled.2,
+)
 
-identifier_unmarked : (text : List ℕ) (identifier : Identifier) → IsIdentifierText text identifier → AllByRecursion (λ b. no_mark b ≡ true) text
+identifier_unmarked : (text : List ℕ) (identifier : Identifier) → IsIdentifierText text identifier
+    → AllByRecursion (λ b. no_mark b ≡ true) text
 identifier_unmarked text identifier (inl is) = no_marks 0 text identifier.number is.spelled
 identifier_unmarked text identifier (inr is) = no_marks 0 text is.number is.spelled
 
 abbrev the_frame : Kind → Bool → ℕ → List ℕ → Frame
 the_frame kind extended number bytes = record { kind = kind; extended = extended; identifier = number; bytes = bytes }
 
-frame_of_fields : (kind : Kind) (extended : Bool) (number : ℕ) (frame : Frame) → frame.kind ≡ kind → frame.extended ≡ extended → frame.identifier ≡ number → the_frame kind extended number frame.bytes ≡ frame
+frame_of_fields : (kind : Kind) (extended : Bool) (number : ℕ) (frame : Frame) → frame.kind ≡ kind → frame.extended ≡ extended
+    → frame.identifier ≡ number → the_frame kind extended number frame.bytes ≡ frame
 frame_of_fields kind extended number frame kind_is width number_is =
-    let step_one : the_frame kind extended number frame.bytes ≡ the_frame frame.kind extended number frame.bytes = ap (λ (k : Kind). the_frame k extended number frame.bytes) (sym kind_is) in
-    let step_two : the_frame frame.kind extended number frame.bytes ≡ the_frame frame.kind frame.extended number frame.bytes = ap (λ (e : Bool). the_frame frame.kind e number frame.bytes) (sym width) in
-    let step_three : the_frame frame.kind frame.extended number frame.bytes ≡ the_frame frame.kind frame.extended frame.identifier frame.bytes = ap (λ (n : ℕ). the_frame frame.kind frame.extended n frame.bytes) (sym number_is) in
+    let step_one : the_frame kind extended number frame.bytes ≡ the_frame frame.kind extended number frame.bytes =
+    ap (λ (k : Kind). the_frame k extended number frame.bytes) (sym kind_is) in
+    let step_two : the_frame frame.kind extended number frame.bytes ≡ the_frame frame.kind frame.extended number frame.bytes =
+    ap (λ (e : Bool). the_frame frame.kind e number frame.bytes) (sym width) in
+    let step_three : the_frame frame.kind frame.extended number frame.bytes ≡ the_frame frame.kind frame.extended frame.identifier
+    frame.bytes = ap (λ (n : ℕ). the_frame frame.kind frame.extended n frame.bytes) (sym number_is) in
     step_one ∙ step_two ∙ step_three
 
 frame_there : (word : List ℕ) (frame : Frame) → IsFrameText word frame → frame_of_word word ≡ Some frame
 unfolding frame_of_word
 frame_there word frame is =
     let unmarked : AllByRecursion (λ b. no_mark b ≡ true) is.digits = identifier_unmarked is.digits is.identifier is.identified in
-    let front : before_number_sign word ≡ is.digits = ap before_number_sign is.parts ∙ front_is no_mark is.digits (number_sign ∷ is.tail) unmarked refl in
-    let rest : drop (prefix_len no_mark word) word ≡ number_sign ∷ is.tail = ap (λ word. drop (prefix_len no_mark word) word) is.parts ∙ rest_is no_mark is.digits (number_sign ∷ is.tail) unmarked refl in
+    let front : before_number_sign word ≡ is.digits = ap before_number_sign is.parts
+    ∙ front_is no_mark is.digits (number_sign ∷ is.tail) unmarked refl in
+    let rest : drop (prefix_len no_mark word) word ≡ number_sign ∷ is.tail = ap (λ word. drop (prefix_len no_mark word) word)
+    is.parts ∙ rest_is no_mark is.digits (number_sign ∷ is.tail) unmarked refl in
     let form : HasForm is.kind is.tail frame.bytes = form_there is.kind is.tail frame.bytes is.told in
-    let identified : identifier_of (before_number_sign word) ≡ Some is.identifier = ap identifier_of front ∙ identifier_there is.digits is.identifier is.identified in
+    let identified : identifier_of (before_number_sign word) ≡ Some is.identifier = ap identifier_of front
+    ∙ identifier_there is.digits is.identifier is.identified in
     let behind : behind_number_sign word ≡ Some is.tail = ap behind_first rest in
     rw (identified, behind, form.form_is, bytes_there form.digits frame.bytes form.spelled)
-    (ap Some (frame_of_fields (if is.identifier.marks_error then Error else is.kind) is.identifier.extended is.identifier.number frame is.kind_is is.width is.number))
+    (ap Some (frame_of_fields (if is.identifier.marks_error then Error else is.kind) is.identifier.extended is.identifier.number
+    frame is.kind_is is.width is.number))
 
 some_parts : (digits tail : List ℕ) → 0 < length (digits ++ number_sign ∷ tail)
 some_parts digits tail = omega (arith, length-append digits (number_sign ∷ tail))
@@ -94,14 +117,16 @@ some_word word frame is = subst (λ word. 0 < length word) (sym is.parts) (some_
 
 frame_unbroken : (word : List ℕ) (frame : Frame) → IsFrameText word frame → HasNoBlank word
 frame_unbroken word frame is =
-    subst HasNoBlank (sym is.parts) (all_append (λ b. is_log_blank b ≡ false) is.digits (number_sign ∷ is.tail) (identifier_unbroken is.digits is.identifier is.identified) (refl, tail_unbroken is.kind is.tail frame.bytes is.told))
+    subst HasNoBlank (sym is.parts) (all_append (λ b. is_log_blank b ≡ false) is.digits (number_sign ∷ is.tail)
+    (identifier_unbroken is.digits is.identifier is.identified) (refl, tail_unbroken is.kind is.tail frame.bytes is.told))
 
 frame_word_of : (word : List ℕ) (frame : Frame) → IsFrameText word frame → IsWord word
 frame_word_of word frame is = record { some = some_word word frame is; unbroken = frame_unbroken word frame is }
 
 -- ---- the line
 
-line_by : (body : List ℕ) (frame : Frame) (word : Option (List ℕ)) → frame_word body ≡ word → option_and_then frame_of_word word ≡ Some frame → IsLogLine body frame
+line_by : (body : List ℕ) (frame : Frame) (word : Option (List ℕ)) → frame_word body ≡ word → option_and_then frame_of_word word
+    ≡ Some frame → IsLogLine body frame
 line_by body frame None is_word is = absurd (let no : None ≡ Some frame = is in cc)
 line_by body frame (Some word) is_word is =
     let has : HasWords body word = has_words body word is_word in
@@ -109,11 +134,15 @@ line_by body frame (Some word) is_word is =
     let behind_interface : List ℕ = behind_first_word behind_stamp in
     let first : HeadWord body (first_word body) behind_stamp = head_word body in
     let second : HeadWord behind_stamp (first_word behind_stamp) behind_interface = head_word behind_stamp in
-    let third : HeadWord behind_interface (first_word behind_interface) (behind_first_word behind_interface) = head_word behind_interface in
-    let frame_is : IsFrameText (first_word behind_interface) frame = subst (λ word. IsFrameText word frame) (sym has.word_is) (frame_found word frame is) in
+    let third : HeadWord behind_interface (first_word behind_interface) (behind_first_word behind_interface) =
+    head_word behind_interface in
+    let frame_is : IsFrameText (first_word behind_interface) frame = subst (λ word. IsFrameText word frame) (sym has.word_is)
+    (frame_found word frame is) in
     let some : 0 < length (first_word behind_interface) = some_word (first_word behind_interface) frame frame_is in
-    let some_stamp : 0 < length behind_stamp = subst (λ text. 0 < length text) (sym second.parts) (some_in (first_word behind_stamp) (second.blanks ++ behind_interface) has.interface_is) in
-    let some_interface : 0 < length behind_interface = subst (λ text. 0 < length text) (sym third.parts) (some_in (first_word behind_interface) (third.blanks ++ behind_first_word behind_interface) some) in
+    let some_stamp : 0 < length behind_stamp = subst (λ text. 0 < length text) (sym second.parts) (some_in (first_word behind_stamp)
+    (second.blanks ++ behind_interface) has.interface_is) in
+    let some_interface : 0 < length behind_interface = subst (λ text. 0 < length text) (sym third.parts)
+    (some_in (first_word behind_interface) (third.blanks ++ behind_first_word behind_interface) some) in
     record {
       stamp = first_word body;
       stamp_gap = first.blanks;
@@ -123,11 +152,18 @@ line_by body frame (Some word) is_word is =
       behind = third.blanks ++ behind_first_word behind_interface;
       parts =
           first.parts
-          ∙ ap (λ rest. first_word body ++ (first.blanks ++ rest)) (second.parts ∙ ap (λ rest. first_word behind_stamp ++ (second.blanks ++ rest)) third.parts);
+          ∙ ap (λ rest. first_word body ++ (first.blanks ++ rest)) (second.parts
+          ∙ ap (λ rest. first_word behind_stamp ++ (second.blanks ++ rest)) third.parts);
       stamp_is = stamp_found (first_word body) has.stamp_is;
-      stamp_gap_is = record { some = some_blanks first.blanks behind_stamp first.ends first.begins some_stamp; blank = first.blank };
+      stamp_gap_is = record {
+        some = some_blanks first.blanks behind_stamp first.ends first.begins some_stamp;
+        blank = first.blank;
+      };
       interface_is = record { some = has.interface_is; unbroken = second.unbroken };
-      interface_gap_is = record { some = some_blanks second.blanks behind_interface second.ends second.begins some_interface; blank = second.blank };
+      interface_gap_is = record {
+        some = some_blanks second.blanks behind_interface second.ends second.begins some_interface;
+        blank = second.blank;
+      };
       frame_is = frame_is;
       behind_is = is_behind (third.blanks ++ behind_first_word behind_interface) third.ends;
     }
@@ -137,19 +173,25 @@ unfolding frame_of
 found body frame is = line_by body frame (frame_word body) refl is
 
 -- the three words of a line by the grammar
-words_there : (stamp stamp_gap interface interface_gap word behind : List ℕ) → IsStampText stamp → AreBlanks stamp_gap → IsWord interface → AreBlanks interface_gap → IsWord word → IsBehindWord behind
+words_there : (stamp stamp_gap interface interface_gap word behind : List ℕ) → IsStampText stamp → AreBlanks stamp_gap
+    → IsWord interface → AreBlanks interface_gap → IsWord word → IsBehindWord behind
     → frame_word (stamp ++ (stamp_gap ++ (interface ++ (interface_gap ++ (word ++ behind))))) ≡ Some word
-words_there stamp stamp_gap interface interface_gap word behind stamp_is stamp_gap_is interface_is interface_gap_is word_is behind_is =
+words_there stamp stamp_gap interface interface_gap word behind stamp_is stamp_gap_is interface_is interface_gap_is word_is
+    behind_is =
     let behind_interface : List ℕ = word ++ behind in
     let behind_stamp : List ℕ = interface ++ (interface_gap ++ behind_interface) in
     let body : List ℕ = stamp ++ (stamp_gap ++ behind_stamp) in
     let unbroken : HasNoBlank stamp = stamp_unbroken stamp stamp_is in
-    let first : first_word body ≡ stamp = first_word_is stamp (stamp_gap ++ behind_stamp) unbroken (blanks_end stamp_gap behind_stamp stamp_gap_is) in
+    let first : first_word body ≡ stamp = first_word_is stamp (stamp_gap ++ behind_stamp) unbroken
+    (blanks_end stamp_gap behind_stamp stamp_gap_is) in
     let first_behind : behind_first_word body ≡ behind_stamp =
-    behind_first_word_is stamp stamp_gap behind_stamp unbroken stamp_gap_is.blank (blanks_end stamp_gap behind_stamp stamp_gap_is) (word_begins interface (interface_gap ++ behind_interface) interface_is) in
-    let second : first_word behind_stamp ≡ interface = first_word_is interface (interface_gap ++ behind_interface) interface_is.unbroken (blanks_end interface_gap behind_interface interface_gap_is) in
+    behind_first_word_is stamp stamp_gap behind_stamp unbroken stamp_gap_is.blank (blanks_end stamp_gap behind_stamp stamp_gap_is)
+    (word_begins interface (interface_gap ++ behind_interface) interface_is) in
+    let second : first_word behind_stamp ≡ interface = first_word_is interface (interface_gap ++ behind_interface)
+    interface_is.unbroken (blanks_end interface_gap behind_interface interface_gap_is) in
     let second_behind : behind_first_word behind_stamp ≡ behind_interface =
-    behind_first_word_is interface interface_gap behind_interface interface_is.unbroken interface_gap_is.blank (blanks_end interface_gap behind_interface interface_gap_is) (word_begins word behind word_is) in
+    behind_first_word_is interface interface_gap behind_interface interface_is.unbroken interface_gap_is.blank
+    (blanks_end interface_gap behind_interface interface_gap_is) (word_begins word behind word_is) in
     let third : first_word behind_interface ≡ word = first_word_is word behind word_is.unbroken (behind_ends behind behind_is) in
     frame_word_is body word (record {
       stamp_is = ap is_stamp first ∙ stamp_there stamp stamp_is;
@@ -160,7 +202,9 @@ words_there stamp stamp_gap interface interface_gap word behind stamp_is stamp_g
 pub there : (body : List ℕ) (frame : Frame) → IsLogLine body frame → frame_of body ≡ Some frame
 unfolding frame_of
 there body frame is =
-    ap (option_and_then frame_of_word) (ap frame_word is.parts ∙ words_there is.stamp is.stamp_gap is.interface is.interface_gap is.frame_text is.behind is.stamp_is is.stamp_gap_is is.interface_is is.interface_gap_is (frame_word_of is.frame_text frame is.frame_is) is.behind_is)
+    ap (option_and_then frame_of_word) (ap frame_word is.parts ∙ words_there is.stamp is.stamp_gap is.interface is.interface_gap
+    is.frame_text is.behind is.stamp_is is.stamp_gap_is is.interface_is is.interface_gap_is (frame_word_of is.frame_text frame
+    is.frame_is) is.behind_is)
     ∙ frame_there is.frame_text frame is.frame_is
 
 -- a line tells one frame

@@ -1,5 +1,6 @@
 -- The words of a line, and the blanks between them.
-use Rattle.std.proofs.Common.{◌≡◌, ℕ, ◌<◌, ◌==◌, ◌&&◌, Bool, true, false, not, true≢false, cond, List, [], ◌∷◌, ◌++◌, length, take, drop, Some, None, refl, sym, ap, subst, ◌∙◌, arith}
+use Rattle.std.proofs.Common.{◌≡◌, ℕ, ◌<◌, ◌==◌, ◌&&◌, Bool, true, false, not, true≢false, cond, List, [], ◌∷◌, ◌++◌, length, take}
+use Rattle.std.proofs.Common.{drop, Some, None, refl, sym, ap, subst, ◌∙◌, arith}
 use Rattle.std.specs.List.{prefix_len, AllByRecursion}
 use Rattle.std.proofs.lemmas.Bool.{and_parts, and_from, not-true, not-false}
 use Rattle.log_frames.specs.LogLines.{is_log_blank, first_word, behind_first_word, is_stamp, frame_word}
@@ -21,7 +22,8 @@ pub record HeadWord (bytes word behind : List ℕ) : Type 0 where
 pub head_word : (bytes : List ℕ) → HeadWord bytes (first_word bytes) (behind_first_word bytes)
 head_word bytes =
     let rest : List ℕ = drop (prefix_len not_blank bytes) bytes in
-    let behind : rest ≡ take (prefix_len is_log_blank rest) rest ++ drop (prefix_len is_log_blank rest) rest = front_and_rest is_log_blank rest in
+    let behind : rest ≡ take (prefix_len is_log_blank rest) rest ++ drop (prefix_len is_log_blank rest) rest =
+    front_and_rest is_log_blank rest in
     record {
       blanks = take (prefix_len is_log_blank rest) rest;
       parts = front_and_rest not_blank bytes ∙ ap (λ rest. first_word bytes ++ rest) behind;
@@ -44,7 +46,8 @@ behind_first_word_is word blanks behind unbroken blank ends begins =
 
 -- ---- where blanks are
 
-pub some_blanks : (blanks behind : List ℕ) → Stops not_blank (blanks ++ behind) → Stops is_log_blank behind → 0 < length behind → 0 < length blanks
+pub some_blanks : (blanks behind : List ℕ) → Stops not_blank (blanks ++ behind) → Stops is_log_blank behind → 0 < length behind
+    → 0 < length blanks
 some_blanks [] [] ends begins some = some
 some_blanks [] (b ∷ behind) ends begins some = absurd (true≢false (sym (not-false (is_log_blank b) ends) ∙ begins))
 some_blanks (b ∷ blanks) behind ends begins some = omega arith
@@ -85,20 +88,27 @@ some_test : (text : List ℕ) → 0 < length text → not (length text == 0) ≡
 some_test [] some = let no : ⊥ = omega (arith, some) in absurd no
 some_test (b ∷ text) some = grind arith
 
-has_words_by : (body word : List ℕ) (test : Bool) → is_stamp (first_word body) && not (length (first_word (behind_first_word body)) == 0) ≡ test
+has_words_by : (body word : List ℕ) (test : Bool) → is_stamp (first_word body) && not (length (first_word (behind_first_word body))
+    == 0) ≡ test
     → cond test (Some (first_word (behind_first_word (behind_first_word body)))) None ≡ Some word → HasWords body word
 has_words_by body word true is found =
     let both = and_parts (is_stamp (first_word body)) (not (length (first_word (behind_first_word body)) == 0)) is in
-    record { stamp_is = both.0; interface_is = some_length (first_word (behind_first_word body)) both.1; word_is = let same : Some (first_word (behind_first_word (behind_first_word body))) ≡ Some word = found in cc }
+    record {
+      stamp_is = both.0;
+      interface_is = some_length (first_word (behind_first_word body)) both.1;
+      word_is = let same : Some (first_word (behind_first_word (behind_first_word body))) ≡ Some word = found in cc;
+    }
 has_words_by body word false is found = absurd (let no : None ≡ Some word = found in cc)
 
 pub has_words : (body word : List ℕ) → frame_word body ≡ Some word → HasWords body word
 unfolding frame_word
-has_words body word found = has_words_by body word (is_stamp (first_word body) && not (length (first_word (behind_first_word body)) == 0)) refl found
+has_words body word found = has_words_by body word (is_stamp (first_word body) && not (length (first_word (behind_first_word body))
+    == 0)) refl found
 
 pub frame_word_is : (body word : List ℕ) → HasWords body word → frame_word body ≡ Some word
 unfolding frame_word
 frame_word_is body word has =
     let test : is_stamp (first_word body) && not (length (first_word (behind_first_word body)) == 0) ≡ true =
-    and_from (is_stamp (first_word body)) (not (length (first_word (behind_first_word body)) == 0)) has.stamp_is (some_test (first_word (behind_first_word body)) has.interface_is) in
+    and_from (is_stamp (first_word body)) (not (length (first_word (behind_first_word body)) == 0)) has.stamp_is
+    (some_test (first_word (behind_first_word body)) has.interface_is) in
     rw (test, has.word_is) refl

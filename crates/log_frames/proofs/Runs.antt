@@ -1,5 +1,6 @@
 -- A list is a front that passes a test and a rest that does not begin with what passes, in one way only.
-use Rattle.std.proofs.Common.{◌≡◌, ℕ, ◌+◌, Bool, true, false, cond, List, [], ◌∷◌, ◌++◌, length, take, drop, refl, sym, one-add, take-append-drop}
+use Rattle.std.proofs.Common.{◌≡◌, ℕ, ◌+◌, Bool, true, false, cond, List, [], ◌∷◌, ◌++◌, length, take, drop, refl, sym, one-add}
+use Rattle.std.proofs.Common.{take-append-drop}
 use Rattle.std.proofs.Math.Seq.{take-append_seam, drop-append_seam}
 use Rattle.std.specs.Prelude.{⊤}
 use Rattle.std.specs.List.{prefix_len, AllByRecursion}

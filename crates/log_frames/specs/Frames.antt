@@ -1,6 +1,7 @@
 -- The frame of a log line: its kind, its identifier and its bytes, by what stands before and behind the first `#` of its word.
 -- Source: can-utils, the log format of `candump -L` (lib.h, "CAN log file"), where `_` begins a raw length code.
-use Rattle.std.specs.Prelude.{◌≡◌, ◌≤◌, ◌<◌, ℕ, ◌+◌, ◌*◌, ◌/◌, ◌%◌, ◌^◌, Bool, true, false, not, ◌&&◌, ◌||◌, ◌==◌, nat_le, List, [], ◌∷◌, length, take, drop, Option, Some, None, option_and_then, option_map, if◌then◌else◌}
+use Rattle.std.specs.Prelude.{◌≡◌, ◌≤◌, ◌<◌, ℕ, ◌+◌, ◌*◌, ◌/◌, ◌%◌, ◌^◌, Bool, true, false, not, ◌&&◌, ◌||◌, ◌==◌, nat_le, List, []}
+use Rattle.std.specs.Prelude.{◌∷◌, length, take, drop, Option, Some, None, option_and_then, option_map, if◌then◌else◌}
 use Rattle.std.specs.List.{prefix_len}
 use Rattle.std.specs.Result.{result_ok}
 use Rattle.std.specs.Int.{from_be_bytes, w16, w32}
@@ -30,7 +31,8 @@ most_bytes = 64
 -- the identifier has 29 bits, or 11 where it is not extended
 abbrev pub IsFrame : Frame → Type 0
 IsFrame frame =
-    (frame.identifier < 2 ^ 29) × (frame.extended ≡ false → frame.identifier ≤ greatest_standard) × (length frame.bytes ≤ most_bytes)
+    (frame.identifier < 2 ^ 29) × (frame.extended ≡ false → frame.identifier ≤ greatest_standard)
+    × (length frame.bytes ≤ most_bytes)
 
 abbrev pub is_data_kind : Kind → Bool
 is_data_kind Classic = true
@@ -74,7 +76,8 @@ pub record Identifier : Type 0 where
 
 -- an identifier of 11 bits
 abbrev pub standard_identifier : ℕ → Option Identifier
-standard_identifier n = if nat_le n greatest_standard then Some (record { extended = false; marks_error = false; number = n }) else None
+standard_identifier n = if nat_le n greatest_standard then Some (record { extended = false; marks_error = false; number = n }) else
+    None
 
 -- an identifier of 29 bits; the bit above them marks an error frame, and the two highest bits tell nothing
 abbrev pub extended_identifier : ℕ → Identifier
@@ -82,7 +85,8 @@ extended_identifier n = record { extended = true; marks_error = n / 2 ^ 29 % 2 =
 
 -- three hexadecimal digits: behind a 0 they are two bytes, the higher first
 unfoldable pub of_three_digits : List ℕ → Option Identifier
-of_three_digits digits = option_and_then (λ bytes. standard_identifier (from_be_bytes w16 bytes)) (result_ok (decode_of (digit_zero ∷ digits)))
+of_three_digits digits = option_and_then (λ bytes. standard_identifier (from_be_bytes w16 bytes))
+    (result_ok (decode_of (digit_zero ∷ digits)))
 
 -- eight hexadecimal digits: four bytes, the highest first
 unfoldable pub of_eight_digits : List ℕ → Option Identifier
@@ -135,7 +139,8 @@ remote_form text = if is_asked_length text then Some (record { kind = Remote; di
 -- what stands behind the first `#`: a further `#` begins an FD frame, and `R` a remote one
 unfoldable pub form_of : List ℕ → Option Form
 form_of [] = classic_form []
-form_of (b ∷ text) = if b == number_sign then fd_form text else (if b == capital_r then remote_form text else classic_form (b ∷ text))
+form_of (b ∷ text) = if b == number_sign then fd_form text else (if b == capital_r then remote_form text else classic_form
+    (b ∷ text))
 
 -- ---- the frame of a line
 
@@ -145,7 +150,12 @@ kind_of identifier form = if identifier.marks_error then Error else form.kind
 
 -- a frame of these bytes
 abbrev pub frame_with : Identifier → Form → List ℕ → Frame
-frame_with identifier form data_bytes = record { kind = kind_of identifier form; extended = identifier.extended; identifier = identifier.number; bytes = data_bytes }
+frame_with identifier form data_bytes = record {
+  kind = kind_of identifier form;
+  extended = identifier.extended;
+  identifier = identifier.number;
+  bytes = data_bytes;
+}
 
 -- the digits of the form spell the frame's bytes
 abbrev pub frame_of_parts : Identifier → Form → Option Frame
@@ -166,7 +176,8 @@ behind_number_sign word = behind_first (drop (prefix_len (λ b. not (b == number
 
 unfoldable pub frame_of_word : List ℕ → Option Frame
 frame_of_word word =
-    option_and_then (λ identifier. option_and_then (frame_of_parts identifier) (option_and_then form_of (behind_number_sign word))) (identifier_of (before_number_sign word))
+    option_and_then (λ identifier. option_and_then (frame_of_parts identifier) (option_and_then form_of (behind_number_sign word)))
+    (identifier_of (before_number_sign word))
 
 -- the frame that a line without its CR is a log line of
 unfoldable pub frame_of : List ℕ → Option Frame

@@ -1,6 +1,7 @@
 -- The grammar of a log line: which parts stand in it one after another, and which frame they tell.
 -- Source: can-utils, the log format of `candump -L` (lib.h, "CAN log file"): `(seconds.fraction) interface frame`.
-use Rattle.std.specs.Prelude.{◌≡◌, ◌<◌, ◌≤◌, ◌⊎◌, ⊤, ℕ, ◌+◌, ◌*◌, ◌^◌, true, false, List, [], ◌∷◌, ◌++◌, length, Some, if◌then◌else◌}
+use Rattle.std.specs.Prelude.{◌≡◌, ◌<◌, ◌≤◌, ◌⊎◌, ⊤, ℕ, ◌+◌, ◌*◌, ◌^◌, true, false, List, [], ◌∷◌, ◌++◌, length, Some}
+use Rattle.std.specs.Prelude.{if◌then◌else◌}
 use Rattle.std.specs.List.{AllByRecursion}
 use Rattle.hex.specs.Hex.{hex_digit_value}
 use Rattle.dbc_values.specs.Lexical.{opening_parenthesis, closing_parenthesis, point, underscore, digit_zero, is_digit}
@@ -51,7 +52,8 @@ pub record IsStampText (text : List ℕ) : Type 0 where
 -- before it worth sixteen times as much, and adds its own value
 abbrev pub SpellsFurther : ℕ → List ℕ → ℕ → Type 0
 SpellsFurther before [] number = before ≡ number
-SpellsFurther before (digit ∷ text) number = (value : ℕ) × (hex_digit_value digit ≡ Some value) × SpellsFurther (before * 16 + value) text number
+SpellsFurther before (digit ∷ text) number = (value : ℕ) × (hex_digit_value digit ≡ Some value)
+    × SpellsFurther (before * 16 + value) text number
 
 -- the text is hexadecimal digits, in either case, and they spell the number, the highest digit first
 abbrev pub SpellsNumber : List ℕ → ℕ → Type 0
@@ -157,7 +159,8 @@ pub record IsFrameText (text : List ℕ) (frame : Frame) : Type 0 where
   pub width : frame.extended ≡ identifier.extended
   pub number : frame.identifier ≡ identifier.number
 
--- a stamp at the very beginning, an interface and a frame, with blanks between them; behind the frame nothing, or a blank and anything
+-- a stamp at the very beginning, an interface and a frame, with blanks between them; behind the frame nothing, or a blank and
+-- anything
 pub record IsLogLine (body : List ℕ) (frame : Frame) : Type 0 where
   pub stamp : List ℕ
   pub stamp_gap : List ℕ

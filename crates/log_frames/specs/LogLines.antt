@@ -1,6 +1,7 @@
 -- The words of a log line: `(seconds.fraction) interface frame`, and behind a blank anything.
 -- Source: can-utils, the log format of `candump -L` (lib.h, "CAN log file").
-use Rattle.std.specs.Prelude.{ℕ, ◌-◌, Bool, false, not, ◌&&◌, ◌||◌, ◌==◌, nat_lt, nat_le, slice_index, List, [], ◌∷◌, length, take, drop, Option, Some, None, if◌then◌else◌}
+use Rattle.std.specs.Prelude.{ℕ, ◌-◌, Bool, false, not, ◌&&◌, ◌||◌, ◌==◌, nat_lt, nat_le, slice_index, List, [], ◌∷◌, length, take}
+use Rattle.std.specs.Prelude.{drop, Option, Some, None, if◌then◌else◌}
 use Rattle.std.specs.List.{prefix_len}
 use Rattle.std.specs.Str.{bytes_eq}
 use Rattle.dbc_values.specs.Lexical.{space, tab, carriage_return, opening_parenthesis, closing_parenthesis, is_digit, is_point}
@@ -17,7 +18,8 @@ first_word bytes = take (prefix_len (λ b. not (is_log_blank b)) bytes) bytes
 
 -- what stands behind the first word and the blanks that follow it
 abbrev pub behind_first_word : List ℕ → List ℕ
-behind_first_word bytes = let rest = drop (prefix_len (λ b. not (is_log_blank b)) bytes) bytes in drop (prefix_len is_log_blank rest) rest
+behind_first_word bytes = let rest = drop (prefix_len (λ b. not (is_log_blank b)) bytes) bytes in
+    drop (prefix_len is_log_blank rest) rest
 
 -- ---- the stamp
 

@@ -1,6 +1,7 @@
 //! Forms of frames: what stands behind the first `#`.
 ghost use Rattle.std.specs.Prelude.{◌≡◌, ◌≤◌, ◌*◌, length, option_map, IfSome};
-ghost use Rattle.log_frames.specs.Frames.{form_of, classic_form, fd_form, remote_form, form_up_to, is_raw_length, is_raw_length_code, is_asked_length};
+ghost use Rattle.log_frames.specs.Frames.{form_of, classic_form, fd_form, remote_form, form_up_to, is_raw_length};
+ghost use Rattle.log_frames.specs.Frames.{is_raw_length_code, is_asked_length};
 ghost use Rattle.log_frames.specs.Seen.{form_view};
 
 use crate::frame::Kind;

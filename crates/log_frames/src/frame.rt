@@ -38,7 +38,12 @@ impl Model for Frame {
 
     ghost view = { λ a. record { kind = a.kind; extended = a.extended; identifier = a.identifier; bytes = a.bytes.items } };
 
-    ghost invariant = { λ a. frames.IsFrame (record { kind = a.kind; extended = a.extended; identifier = a.identifier; bytes = a.bytes.items }) };
+    ghost invariant = { λ a. frames.IsFrame (record {
+      kind = a.kind;
+      extended = a.extended;
+      identifier = a.identifier;
+      bytes = a.bytes.items;
+    }) };
 }
 
 impl Frame {

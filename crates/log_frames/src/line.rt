@@ -1,7 +1,8 @@
 //! The words of a log line.
 ghost use Rattle.std.specs.Prelude.{◌≡◌, ◌≤◌, length, option_map, not};
 ghost use Rattle.std.specs.List.{prefix_len, list_any};
-ghost use Rattle.log_frames.specs.LogLines.{is_log_blank, first_word, behind_first_word, is_stamp, is_seconds_end, is_fraction_end, frame_word, body_of};
+ghost use Rattle.log_frames.specs.LogLines.{is_log_blank, first_word, behind_first_word, is_stamp, is_seconds_end, is_fraction_end};
+ghost use Rattle.log_frames.specs.LogLines.{frame_word, body_of};
 
 use dbc_values::digits_len;
 

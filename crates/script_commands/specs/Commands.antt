@@ -1,5 +1,6 @@
 -- What a line of a script asks for.
-use Rattle.std.specs.Prelude.{◌≡◌, ℕ, ◌&&◌, Bool, true, false, List, Option, Some, None, codes, option_map, option_and_then, if◌then◌else◌}
+use Rattle.std.specs.Prelude.{◌≡◌, ℕ, ◌&&◌, Bool, true, false, List, Option, Some, None, codes, option_map, option_and_then}
+use Rattle.std.specs.Prelude.{if◌then◌else◌}
 use Rattle.std.specs.Str.{bytes_eq}
 use Rattle.dbc_values.specs.Lexical.{is_name}
 use Rattle.dbc_values.specs.Pieces.{is_string, inside}
@@ -109,7 +110,11 @@ by_string edit text = Plain (if is_string text then Some (Change (edit (inside t
 
 -- a message's new first line: its name, its size and its sender
 abbrev pub change_of : List ℕ → ℕ → List ℕ → Option NewLine
-change_of name size sender = if is_name name && is_name sender && head_fits size then Some (record { name = name; size = size; sender = sender }) else None
+change_of name size sender = if is_name name && is_name sender && head_fits size then Some (record {
+  name = name;
+  size = size;
+  sender = sender;
+}) else None
 
 abbrev pub change_to : ℕ → List ℕ → ℕ → List ℕ → Option Command
 change_to place name size sender = option_map (λ change. Change (edits.ChangeMessage place change)) (change_of name size sender)
@@ -139,10 +144,12 @@ edit_sense verbs.AddMessage text = with_number (λ place statement. by_statement
 edit_sense verbs.RemoveMessage text = by_number (λ place. edits.RemoveMessage place) text
 edit_sense verbs.ChangeMessage text = with_number (λ place words. Plain (change_by place (word_of words) (rest_of words))) text
 edit_sense verbs.Renumber text = with_number (λ place number. by_number (λ n. edits.Renumber place n) number) text
-edit_sense verbs.AddSignal text = with_number (λ place words. with_number (λ at statement. by_statement verbs.AddSignal place at statement) words) text
+edit_sense verbs.AddSignal text =
+    with_number (λ place words. with_number (λ at statement. by_statement verbs.AddSignal place at statement) words) text
 edit_sense verbs.RemoveSignal text = with_number (λ place name. by_name (λ n. edits.RemoveSignal place n) name) text
 edit_sense verbs.ChangeSignal text = with_number (λ place statement. by_statement verbs.ChangeSignal place 0 statement) text
-edit_sense verbs.RenameSignal text = with_number (λ place names. by_names (λ old new. edits.RenameSignal place old new) (word_of names) (rest_of names)) text
+edit_sense verbs.RenameSignal text = with_number (λ place names. by_names (λ old new. edits.RenameSignal place old new)
+    (word_of names) (rest_of names)) text
 edit_sense verbs.SetMux text = by_statement verbs.SetMux 0 0 text
 edit_sense verbs.SetValues text = by_statement verbs.SetValues 0 0 text
 edit_sense verbs.SetTable text = by_statement verbs.SetTable 0 0 text

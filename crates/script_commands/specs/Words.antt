@@ -52,8 +52,10 @@ verb_word verbs.Print = codes "print"
 
 abbrev pub all_verbs : List Verb
 all_verbs =
-    verbs.Log ∷ verbs.AddMessage ∷ verbs.RemoveMessage ∷ verbs.ChangeMessage ∷ verbs.Renumber ∷ verbs.AddSignal ∷ verbs.RemoveSignal ∷ verbs.ChangeSignal
-    ∷ verbs.RenameSignal ∷ verbs.SetMux ∷ verbs.SetValues ∷ verbs.SetTable ∷ verbs.SetAttribute ∷ verbs.DropMux ∷ verbs.DropValues ∷ verbs.DropTable
+    verbs.Log ∷ verbs.AddMessage ∷ verbs.RemoveMessage ∷ verbs.ChangeMessage ∷ verbs.Renumber ∷ verbs.AddSignal ∷ verbs.RemoveSignal
+    ∷ verbs.ChangeSignal
+    ∷ verbs.RenameSignal ∷ verbs.SetMux ∷ verbs.SetValues ∷ verbs.SetTable ∷ verbs.SetAttribute ∷ verbs.DropMux ∷ verbs.DropValues
+    ∷ verbs.DropTable
     ∷ verbs.DropAttribute ∷ verbs.Show ∷ verbs.Print ∷ []
 
 -- the verb that a word is

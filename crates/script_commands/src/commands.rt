@@ -3,7 +3,8 @@ ghost use Rattle.std.specs.Prelude.{◌≡◌, IfOk, OnErr, IsTrue, option_map};
 ghost use Rattle.std.specs.Str.{bytes_eq};
 ghost use Rattle.script_commands.specs.Words.{verb_of, word_of};
 ghost use Rattle.std.specs.Prelude.{Some};
-ghost use Rattle.script_commands.specs.Commands.{HasSense, sense_of, line_sense, sense_alone, show_layout, show, changes, seen, Means, takes_memory};
+ghost use Rattle.script_commands.specs.Commands.{HasSense, sense_of, line_sense, sense_alone, show_layout, show, changes, seen};
+ghost use Rattle.script_commands.specs.Commands.{Means, takes_memory};
 ghost use Rattle.log_frames.specs.LogLines.{body_of};
 
 use crate::command::Command;
@@ -74,7 +75,8 @@ fn by_verb<'a>(
     verb: Option<Verb>,
     rest: Option<&'a [u8]>,
 ) -> Result<Option<Command<'a>>, Memory>
-    ensures sense { IfOk result (λ command. HasSense (line_sense verb (option_map (λ t. t.now) rest.entry)) (option_map seen command)) }
+    ensures sense { IfOk result (λ command. HasSense (line_sense verb (option_map (λ t. t.now) rest.entry))
+        (option_map seen command)) }
     ensures memory { OnErr result (IsTrue (takes_memory verb)) }
 {
     match (verb, rest) {

@@ -3,7 +3,8 @@ ghost use Rattle.std.specs.Prelude.{◌≡◌, IfOk, Some, None, if◌then◌els
 ghost use Rattle.dbc_values.specs.Pieces.{is_string, inside};
 ghost use Rattle.dbc_edits.specs.declared.edit.Edit.TheVariants as edits;
 ghost use Rattle.script_commands.specs.declared.verb.Verb.TheVariants as verbs;
-ghost use Rattle.script_commands.specs.Commands.{HasSense, edit_sense, changes, change_of, attribute_set, edit_by, by_statement, with_number};
+ghost use Rattle.script_commands.specs.Commands.{HasSense, edit_sense, changes, change_of, attribute_set, edit_by, by_statement};
+ghost use Rattle.script_commands.specs.Commands.{with_number};
 
 use crate::statement::statement_of;
 use crate::verb::Verb;
@@ -67,7 +68,8 @@ fn by_statement(
 
 // By the place of a message and a statement.
 fn by_place(alloc: Global, verb: Verb, text: &[u8]) -> Result<Option<Edit>, Memory>
-    ensures { IfOk result (λ edit. HasSense (with_number (λ place statement. by_statement verb place 0 statement) text.now) (changes edit)) }
+    ensures { IfOk result (λ edit. HasSense (with_number (λ place statement. by_statement verb place 0 statement) text.now)
+        (changes edit)) }
 {
     match number_and_rest(text) {
         Some((place, statement)) => by_statement(alloc, verb, place, 0, statement),

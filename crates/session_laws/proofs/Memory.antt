@@ -7,7 +7,10 @@ use Rattle.dbc_edits.specs.declared.edit.Edit.{Edit}
 use Rattle.dbc_edits.specs.declared.edit.Edit.TheVariants as edits
 use Rattle.dbc_edits.specs.declared.refusal.Refusal.{Refusal}
 use Rattle.dbc_edits.specs.declared.refusal.Refusal.TheVariants as refusals
-use Rattle.dbc_edits.specs.Edits.{edited, at_message, refused_if, message_added, message_removed, message_changed, message_renumbered, signal_added, signal_removed, signal_changed, signal_renamed, mux_set, values_set, mux_dropped, values_dropped, table_set, table_dropped, attribute_set, attribute_dropped}
+use Rattle.dbc_edits.specs.Edits.{edited, at_message, refused_if, message_added, message_removed, message_changed}
+use Rattle.dbc_edits.specs.Edits.{message_renumbered, signal_added, signal_removed, signal_changed, signal_renamed, mux_set}
+use Rattle.dbc_edits.specs.Edits.{values_set, mux_dropped, values_dropped, table_set, table_dropped, attribute_set}
+use Rattle.dbc_edits.specs.Edits.{attribute_dropped}
 use Rattle.can_session.specs.States.{State, longest_line, is_full, with_line}
 use Rattle.session_laws.specs.Runs.{Change, Retain, with_database, with_lines, unless_stopped, answer_of, OnlyStopped}
 
@@ -15,52 +18,66 @@ use Rattle.session_laws.specs.Runs.{Change, Retain, with_database, with_lines, u
 abbrev pub HasCause : {A : Type 0} → Result A Refusal → Type 0
 HasCause result = MatchResult result (λ _. Unit {0}) (λ refusal. ¬ (refusal ≡ refusals.Memory))
 
-at-message : (message : Option Message) (change : Message → Result Database Refusal) → ((message : Message) → HasCause (change message)) → HasCause (at_message message change)
+at-message : (message : Option Message) (change : Message → Result Database Refusal)
+    → ((message : Message) → HasCause (change message)) → HasCause (at_message message change)
 unfolding at_message
 at-message None change h = λ is. cc
 at-message (Some message) change h = h message
 
-refused : (test : Bool) (refusal : Refusal) (otherwise : Result Database Refusal) → ¬ (refusal ≡ refusals.Memory) → HasCause otherwise → HasCause (refused_if test refusal otherwise)
+refused : (test : Bool) (refusal : Refusal) (otherwise : Result Database Refusal) → ¬ (refusal ≡ refusals.Memory)
+    → HasCause otherwise → HasCause (refused_if test refusal otherwise)
 unfolding refused_if
 refused true refusal otherwise cause h = cause
 refused false refusal otherwise cause h = h
 
 -- an edit that a message's place, a test or two come before
 edited-has-cause : (database : Database) (edit : Edit) → HasCause (edited database edit)
-unfolding message_added message_removed message_changed message_renumbered signal_added signal_removed signal_changed signal_renamed mux_set values_set mux_dropped values_dropped table_set table_dropped attribute_set attribute_dropped
-edited-has-cause database (edits.AddMessage place head) = refused _ refusals.BadPlace _ (λ is. cc) (refused _ refusals.MessagesFull _ (λ is. cc) tt)
+unfolding message_added message_removed message_changed message_renumbered signal_added signal_removed signal_changed signal_renamed
+    mux_set values_set mux_dropped values_dropped table_set table_dropped attribute_set attribute_dropped
+edited-has-cause database (edits.AddMessage place head) = refused _ refusals.BadPlace _ (λ is. cc) (refused _ refusals.MessagesFull
+    _ (λ is. cc) tt)
 edited-has-cause database (edits.RemoveMessage place) = at-message _ _ (λ message. tt)
 edited-has-cause database (edits.ChangeMessage place change) = at-message _ _ (λ message. tt)
-edited-has-cause database (edits.Renumber place number) = at-message _ _ (λ message. refused _ refusals.IdTaken _ (λ is. cc) (refused _ refusals.IdShared _ (λ is. cc) tt))
+edited-has-cause database (edits.Renumber place number) =
+    at-message _ _ (λ message. refused _ refusals.IdTaken _ (λ is. cc) (refused _ refusals.IdShared _ (λ is. cc) tt))
 edited-has-cause database (edits.AddSignal place at signal) =
-    at-message _ _ (λ message. refused _ refusals.BadPlace _ (λ is. cc) (refused _ refusals.SignalExists _ (λ is. cc) (refused _ refusals.SignalsFull _ (λ is. cc) tt)))
+    at-message _ _ (λ message. refused _ refusals.BadPlace _ (λ is. cc) (refused _ refusals.SignalExists _ (λ is. cc)
+    (refused _ refusals.SignalsFull _ (λ is. cc) tt)))
 edited-has-cause database (edits.RemoveSignal place name) = at-message _ _ (λ message. refused _ refusals.NoSignal _ (λ is. cc) tt)
-edited-has-cause database (edits.ChangeSignal place signal) = at-message _ _ (λ message. refused _ refusals.NoSignal _ (λ is. cc) tt)
+edited-has-cause database (edits.ChangeSignal place signal) =
+    at-message _ _ (λ message. refused _ refusals.NoSignal _ (λ is. cc) tt)
 edited-has-cause database (edits.RenameSignal place old new) =
     at-message _ _ (λ message. refused _ refusals.NoSignal _ (λ is. cc) (refused _ refusals.SignalExists _ (λ is. cc)
     (refused _ refusals.NameTaken _ (λ is. cc) (refused _ refusals.NameShared _ (λ is. cc) tt))))
-edited-has-cause database (edits.SetMux row) = refused _ refusals.NoMessage _ (λ is. cc) (refused _ refusals.NoSignal _ (λ is. cc) tt)
-edited-has-cause database (edits.SetValues row) = refused _ refusals.NoMessage _ (λ is. cc) (refused _ refusals.NoSignal _ (λ is. cc) tt)
+edited-has-cause database (edits.SetMux row) = refused _ refusals.NoMessage _ (λ is. cc)
+    (refused _ refusals.NoSignal _ (λ is. cc) tt)
+edited-has-cause database (edits.SetValues row) = refused _ refusals.NoMessage _ (λ is. cc)
+    (refused _ refusals.NoSignal _ (λ is. cc) tt)
 edited-has-cause database (edits.DropMux number signal) = refused _ refusals.NoRow _ (λ is. cc) tt
 edited-has-cause database (edits.DropValues number signal) = refused _ refusals.NoRow _ (λ is. cc) tt
 edited-has-cause database (edits.DropTable name) = refused _ refusals.NoRow _ (λ is. cc) tt
 edited-has-cause database (edits.SetTable row) = tt
-edited-has-cause database (edits.SetAttribute name number value) = refused _ refusals.NoMessage _ (λ is. cc) (refused _ refusals.NoDefinition _ (λ is. cc) tt)
+edited-has-cause database (edits.SetAttribute name number value) = refused _ refusals.NoMessage _ (λ is. cc)
+    (refused _ refusals.NoDefinition _ (λ is. cc) tt)
 edited-has-cause database (edits.DropAttribute name number) = refused _ refusals.NoRow _ (λ is. cc) tt
 
-line-has-cause : (full long : Bool) (lines : List (List ℕ)) → HasCause (if full then Err refusals.LogFull else (if long then Err refusals.LongLine else Ok lines))
+line-has-cause : (full long : Bool) (lines : List (List ℕ))
+    → HasCause (if full then Err refusals.LogFull else (if long then Err refusals.LongLine else Ok lines))
 line-has-cause true long lines = λ is. cc
 line-has-cause false true lines = λ is. cc
 line-has-cause false false lines = tt
 
-database-answers : (state : State) (defined : Result Database Refusal) → HasCause defined → answer_of (unless_stopped false (with_database state defined)) ≡ Err refusals.Memory → ⊥
+database-answers : (state : State) (defined : Result Database Refusal) → HasCause defined
+    → answer_of (unless_stopped false (with_database state defined)) ≡ Err refusals.Memory → ⊥
 database-answers state (Ok database) h is = cc
 database-answers state (Err cause) h is = h cc
 
-lines-answer : (state : State) (defined : Result (List (List ℕ)) Refusal) → HasCause defined → answer_of (unless_stopped false (with_lines state defined)) ≡ Err refusals.Memory → ⊥
+lines-answer : (state : State) (defined : Result (List (List ℕ)) Refusal) → HasCause defined
+    → answer_of (unless_stopped false (with_lines state defined)) ≡ Err refusals.Memory → ⊥
 lines-answer state (Ok lines) h is = cc
 lines-answer state (Err cause) h is = h cc
 
 pub only_stopped : OnlyStopped
 only_stopped state (Change edit) = database-answers state (edited state.database edit) (edited-has-cause state.database edit)
-only_stopped state (Retain line) = lines-answer state (with_line state.options.keep state.lines line) (line-has-cause (is_full state.options.keep (length state.lines)) (nat_lt longest_line (length line)) _)
+only_stopped state (Retain line) = lines-answer state (with_line state.options.keep state.lines line)
+    (line-has-cause (is_full state.options.keep (length state.lines)) (nat_lt longest_line (length line)) _)

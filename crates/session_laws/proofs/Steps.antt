@@ -11,35 +11,62 @@ use Rattle.dbc_edits.specs.declared.refusal.Refusal.{Refusal}
 use Rattle.dbc_edits.specs.Refusals.{IsRefusal}
 use Rattle.dbc_edits.specs.Edits.{edited}
 use Rattle.can_session.specs.States.{State, Applies, Adds, with_line}
-use Rattle.session_laws.specs.Runs.{Command, Change, Retain, Given, Answer, with_database, with_lines, unless_stopped, answer_of, answer, step, answers, run, Runs}
+use Rattle.session_laws.specs.Runs.{Command, Change, Retain, Given, Answer, with_database, with_lines, unless_stopped, answer_of}
+use Rattle.session_laws.specs.Runs.{answer, step, answers, run, Runs}
 
 -- ---- one command
 
 module _ (command : Command) (before after : State) (reply : Answer) where
-  runs_one : (is_stopped : Bool) → (let given : Given = record { command = command; is_stopped = is_stopped } in (reply ≡ answer before given) × (after ≡ step before given)) → Runs before (command ∷ []) (reply ∷ []) after
-  runs_one is_stopped so = record { givens = record { command = command; is_stopped = is_stopped } ∷ []; given = refl; answered = ap (λ first. first ∷ []) so.0; stands = so.1 }
+  runs_one : (is_stopped : Bool) → (let given : Given = record { command = command; is_stopped = is_stopped } in
+      (reply ≡ answer before given) × (after ≡ step before given)) → Runs before (command ∷ []) (reply ∷ []) after
+  runs_one is_stopped so = record {
+    givens = record { command = command; is_stopped = is_stopped } ∷ [];
+    given = refl;
+    answered = ap (λ first. first ∷ []) so.0;
+    stands = so.1;
+  }
 
 -- what is defined as a variable
 database_so : (defined : Result Database Refusal) (before after : State) (reply : Answer)
-    → MatchResult reply (λ _. (defined ≡ Ok after.database) × (after.lines ≡ before.lines) × (after.options ≡ before.options)) (λ refusal. IsRefusal defined refusal × (after ≡ before))
-    → (is_stopped : Bool) × ((reply ≡ answer_of (unless_stopped is_stopped (with_database before defined))) × (after ≡ result_unwrap_or (unless_stopped is_stopped (with_database before defined)) before))
-database_so defined before after (Ok done) is = (false, (rw is.0 refl, rw is.0 (ap (λ lines. record after { lines = lines }) is.1 ∙ ap (λ options. record after { lines = before.lines; options = options }) is.2)))
+    → MatchResult reply (λ _. (defined ≡ Ok after.database) × (after.lines ≡ before.lines) × (after.options ≡ before.options))
+    (λ refusal. IsRefusal defined refusal × (after ≡ before))
+    → (is_stopped : Bool) × ((reply ≡ answer_of (unless_stopped is_stopped (with_database before defined)))
+    × (after ≡ result_unwrap_or (unless_stopped is_stopped (with_database before defined)) before))
+database_so defined before after (Ok done) is = (
+  false,
+  (
+    rw is.0 refl,
+    rw is.0 (ap (λ lines. record after { lines = lines }) is.1
+        ∙ ap (λ options. record after { lines = before.lines; options = options }) is.2),
+  ),
+)
 database_so (Ok database) before after (Err refusal) is = (true, (ap Err is.0, is.1))
 database_so (Err cause) before after (Err refusal) is = (false, (ap Err is.0, is.1))
 
 lines_so : (defined : Result (List (List ℕ)) Refusal) (before after : State) (reply : Answer)
-    → MatchResult reply (λ _. (defined ≡ Ok after.lines) × (after.database ≡ before.database) × (after.options ≡ before.options)) (λ refusal. IsRefusal defined refusal × (after ≡ before))
-    → (is_stopped : Bool) × ((reply ≡ answer_of (unless_stopped is_stopped (with_lines before defined))) × (after ≡ result_unwrap_or (unless_stopped is_stopped (with_lines before defined)) before))
-lines_so defined before after (Ok done) is = (false, (rw is.0 refl, rw is.0 (ap (λ database. record after { database = database }) is.1 ∙ ap (λ options. record after { database = before.database; options = options }) is.2)))
+    → MatchResult reply (λ _. (defined ≡ Ok after.lines) × (after.database ≡ before.database) × (after.options ≡ before.options))
+    (λ refusal. IsRefusal defined refusal × (after ≡ before))
+    → (is_stopped : Bool) × ((reply ≡ answer_of (unless_stopped is_stopped (with_lines before defined)))
+    × (after ≡ result_unwrap_or (unless_stopped is_stopped (with_lines before defined)) before))
+lines_so defined before after (Ok done) is = (
+  false,
+  (
+    rw is.0 refl,
+    rw is.0 (ap (λ database. record after { database = database }) is.1
+        ∙ ap (λ options. record after { database = before.database; options = options }) is.2),
+  ),
+)
 lines_so (Ok lines) before after (Err refusal) is = (true, (ap Err is.0, is.1))
 lines_so (Err cause) before after (Err refusal) is = (false, (ap Err is.0, is.1))
 
-pub runs_edit : (edit : Edit) (before after : State) (reply : Answer) → Applies edit before reply after → Runs before (Change edit ∷ []) (reply ∷ []) after
+pub runs_edit : (edit : Edit) (before after : State) (reply : Answer) → Applies edit before reply after
+    → Runs before (Change edit ∷ []) (reply ∷ []) after
 runs_edit edit before after reply is =
     let so = database_so (edited before.database edit) before after reply is in
     runs_one (Change edit) before after reply so.0 so.1
 
-pub runs_line : (line : List ℕ) (before after : State) (reply : Answer) → Adds line before reply after → Runs before (Retain line ∷ []) (reply ∷ []) after
+pub runs_line : (line : List ℕ) (before after : State) (reply : Answer) → Adds line before reply after
+    → Runs before (Retain line ∷ []) (reply ∷ []) after
 runs_line line before after reply is =
     let so = lines_so (with_line before.options.keep before.lines line) before after reply is in
     runs_one (Retain line) before after reply so.0 so.1
@@ -49,7 +76,8 @@ runs_line line before after reply is =
 pub runs_none : (first last : State) → last ≡ first → Runs first [] [] last
 runs_none first last same = record { givens = []; given = refl; answered = refl; stands = same }
 
-answers-append : (state : State) (givens more : List Given) → answers state (givens ++ more) ≡ answers state givens ++ answers (run state givens) more
+answers-append : (state : State) (givens more : List Given) → answers state (givens ++ more) ≡ answers state givens
+    ++ answers (run state givens) more
 answers-append state [] more = refl
 answers-append state (first ∷ givens) more = ap (λ rest. answer state first ∷ rest) (answers-append (step state first) givens more)
 
@@ -67,7 +95,8 @@ runs-append first between last commands more replies others ran then_ran =
 -- ---- what is shown
 
 -- the next item of a mapped list
-pub next_of_map : {X Y Z : Type 0} (now : Z → Y) (f : X → Y) (xs : List X) (i : ℕ) (items : List Z) (item : Z) → Some (now item) ≡ option_map f (slice_get xs i)
+pub next_of_map : {X Y Z : Type 0} (now : Z → Y) (f : X → Y) (xs : List X) (i : ℕ) (items : List Z) (item : Z)
+    → Some (now item) ≡ option_map f (slice_get xs i)
     → map now items ≡ take i (map f xs) → map now (items ++ item ∷ []) ≡ take (i + 1) (map f xs)
 next_of_map now f xs i items item is before =
     let there : slice_get (map f xs) i ≡ Some (now item) = slice_get-map f xs i ∙ sym is in

@@ -1,5 +1,6 @@
 -- What is done and replied for a line of a script.
-use Rattle.std.specs.Prelude.{◌≡◌, ◌⊎◌, ℕ, List, [], ◌∷◌, ◌++◌, map, Option, Some, None, Result, Ok, Err, slice_get, codes, decimal, IsTrue}
+use Rattle.std.specs.Prelude.{◌≡◌, ◌⊎◌, ℕ, List, [], ◌∷◌, ◌++◌, map, Option, Some, None, Result, Ok, Err, slice_get, codes, decimal}
+use Rattle.std.specs.Prelude.{IsTrue}
 use Rattle.std.specs.List.{flat_map}
 use Rattle.std.specs.Option.{option_map_or}
 use Rattle.dbc_records.specs.Databases.{Database}
@@ -26,7 +27,8 @@ bad_text = codes "bad command\n"
 
 -- `refused 22 NoSignal`
 unfoldable pub refused_text : Refusal → List ℕ
-refused_text refusal = flat_map (λ piece. piece) (codes "refused " ∷ decimal (refusal_number refusal) ∷ codes " " ∷ refusal_word refusal ∷ codes "\n" ∷ [])
+refused_text refusal = flat_map (λ piece. piece) (codes "refused " ∷ decimal (refusal_number refusal) ∷ codes " "
+    ∷ refusal_word refusal ∷ codes "\n" ∷ [])
 
 abbrev pub answer_text : Result (Unit {0}) Refusal → List ℕ
 answer_text (Ok done) = ok_text
@@ -38,7 +40,8 @@ diagnostics_text database = flat_map (λ diagnostic. line_text diagnostic ++ cod
 
 -- the picture and `ok`, where a message stands at the place
 unfoldable pub layout_text : Database → ℕ → List ℕ
-layout_text database place = option_map_or (λ message. picture_of database message ++ ok_text) (slice_get database.messages place) (refused_text refusals.NoMessage)
+layout_text database place = option_map_or (λ message. picture_of database message ++ ok_text) (slice_get database.messages place)
+    (refused_text refusals.NoMessage)
 
 -- the decoded text of each line
 abbrev pub decoded_texts : State → List (List ℕ)
@@ -55,8 +58,10 @@ print_text database = canonical_text database ++ ok_text
 
 abbrev pub Does : Option Command → State → State → List ℕ → Type 0
 Does None before after text = (after ≡ before) × (text ≡ bad_text)
-Does (Some (Log line)) before after text = (answer : Result (Unit {0}) Refusal) × Adds line before answer after × (text ≡ answer_text answer)
-Does (Some (Change edit)) before after text = (answer : Result (Unit {0}) Refusal) × Applies edit before answer after × (text ≡ answer_text answer)
+Does (Some (Log line)) before after text = (answer : Result (Unit {0}) Refusal) × Adds line before answer after
+    × (text ≡ answer_text answer)
+Does (Some (Change edit)) before after text = (answer : Result (Unit {0}) Refusal) × Applies edit before answer after
+    × (text ≡ answer_text answer)
 Does (Some ShowDiagnostics) before after text = (after ≡ before) × (text ≡ diagnostics_text before.database)
 Does (Some (ShowLayout place)) before after text = (after ≡ before) × (text ≡ layout_text before.database place)
 Does (Some ShowLines) before after text = (after ≡ before) × (text ≡ lines_text before)
@@ -66,8 +71,10 @@ Does (Some Print) before after text = (after ≡ before) × (text ≡ print_text
 
 -- memory ran out before it was known what the line asks for
 abbrev pub IsStopped : List ℕ → State → State → List ℕ → Type 0
-IsStopped line before after text = IsTrue (takes_memory (verb_of (word_of (body_of line)))) × (after ≡ before) × (text ≡ refused_text refusals.Memory)
+IsStopped line before after text = IsTrue (takes_memory (verb_of (word_of (body_of line)))) × (after ≡ before)
+    × (text ≡ refused_text refusals.Memory)
 
 -- the line leads from one state to the other, and this is its reply
 abbrev pub Replies : State → List ℕ → State → List ℕ → Type 0
-Replies before line after text = IsStopped line before after text ⊎ ((meaning : Option Command) × Means line meaning × Does meaning before after text)
+Replies before line after text = IsStopped line before after text ⊎ ((meaning : Option Command) × Means line meaning
+    × Does meaning before after text)

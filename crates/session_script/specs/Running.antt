@@ -18,7 +18,8 @@ ServesSession first last unread left old new (Err (faults.Read fault)) = ⊥
 -- the script was run from the text's database without lines, with the choices
 abbrev pub ServesText : List ℕ → Options → Unread → Unread → Written → Written → Result ℕ StreamFault → Type 0
 ServesText text options unread left old new result =
-    (first last : State) × HasDatabase text first.database × (first.lines ≡ []) × (first.options ≡ options) × Serves first old unread left last new result
+    (first last : State) × HasDatabase text first.database × (first.lines ≡ []) × (first.options ≡ options)
+    × Serves first old unread left last new result
 
 -- Or nothing was read and nothing was written, and the fault is the first of the text, or memory ran out.
 abbrev pub RunsScript : List ℕ → Options → Unread → Unread → Written → Written → Result ℕ SessionFault → Type 0

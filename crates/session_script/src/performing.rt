@@ -18,7 +18,8 @@ fn perform<W: Sink>(
     command: Option<Command<'_>>,
     sink: &mut W,
 ) -> Result<(), WriteFault>
-    ensures { (text : List ℕ) × Does (option_map seen command.entry) session.old.state session.new.state text × Prints (W.written sink.old) (W.written sink.new) result text }
+    ensures { (text : List ℕ) × Does (option_map seen command.entry) session.old.state session.new.state text
+        × Prints (W.written sink.old) (W.written sink.new) result text }
 {
     match command {
         None => put_bad(sink),
@@ -38,7 +39,8 @@ pub(crate) fn reply<W: Sink>(
     line: &[u8],
     sink: &mut W,
 ) -> Result<(), WriteFault>
-    ensures { (text : List ℕ) × Replies session.old.state line.now session.new.state text × Prints (W.written sink.old) (W.written sink.new) result text }
+    ensures { (text : List ℕ) × Replies session.old.state line.now session.new.state text
+        × Prints (W.written sink.old) (W.written sink.new) result text }
 {
     match command_of(alloc, line) {
         Ok(command) => perform(session, command, sink),

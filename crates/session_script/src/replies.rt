@@ -4,7 +4,8 @@ ghost use Rattle.can_layout.specs.Pictures.{picture_of};
 ghost use Rattle.std.specs.List.{flat_map};
 ghost use Rattle.byte_devices.specs.Device.{Prints};
 ghost use Rattle.byte_devices.specs.Outs.{Sends};
-ghost use Rattle.session_script.specs.Replies.{ok_text, bad_text, refused_text, answer_text, diagnostics_text, layout_text, decoded_texts, lines_text, print_text};
+ghost use Rattle.session_script.specs.Replies.{ok_text, bad_text, refused_text, answer_text, diagnostics_text, layout_text};
+ghost use Rattle.session_script.specs.Replies.{decoded_texts, lines_text, print_text};
 
 use byte_devices::{Out, Sink, WriteFault, put_all};
 use can_check::write_lines;
@@ -76,7 +77,8 @@ fn put_picture<W: Sink>(sink: &mut W, picture: &[u8]) -> Result<(), WriteFault>
 
 // The picture of the message at a place, where there is one.
 fn picture_at(session: &Session, place: usize) -> Option<&[u8]>
-    ensures { option_map (λ picture. picture.now) result ≡ option_map (picture_of session.now.state.database) (slice_get session.now.state.database.messages place) }
+    ensures { option_map (λ picture. picture.now) result ≡ option_map (picture_of session.now.state.database)
+        (slice_get session.now.state.database.messages place) }
 {
     if place < session.database().messages.len() {
         Some(session.picture(place))
@@ -118,7 +120,8 @@ fn hold_lines<W: Sink>(out: &mut Out<'_, W>, session: &Session) -> Result<(), Wr
 
 #[tactic(auto, using(byte_devices::proofs::Outs::flushes))]
 fn put_lines<W: Sink>(sink: &mut W, session: &Session) -> Result<(), WriteFault>
-    ensures { Prints (W.written sink.old) (W.written sink.new) result (flat_map (λ text. text ++ codes "\n") (decoded_texts session.now.state)) }
+    ensures { Prints (W.written sink.old) (W.written sink.new) result (flat_map (λ text. text ++ codes "\n")
+        (decoded_texts session.now.state)) }
 {
     let mut out = Out::new(sink);
     hold_lines(&mut out, session)?;

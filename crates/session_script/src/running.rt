@@ -14,7 +14,8 @@ fn run_in<R: Source, W: Sink>(
     source: &mut R,
     sink: &mut W,
 ) -> Result<u64, SessionFault>
-    ensures { ServesSession session.old.state session.new.state (R.unread source.old) (R.unread source.new) (W.written sink.old) (W.written sink.new) result }
+    ensures { ServesSession session.old.state session.new.state (R.unread source.old) (R.unread source.new) (W.written sink.old)
+        (W.written sink.new) result }
 {
     match serve(alloc, session, source, sink) {
         Ok(count) => Ok(count),
@@ -31,7 +32,8 @@ pub fn session_run<R: Source, W: Sink>(
     source: &mut R,
     sink: &mut W,
 ) -> Result<u64, SessionFault>
-    ensures { RunsScript text.now options (R.unread source.old) (R.unread source.new) (W.written sink.old) (W.written sink.new) result }
+    ensures { RunsScript text.now options (R.unread source.old) (R.unread source.new) (W.written sink.old) (W.written sink.new)
+        result }
 {
     match Session::open_with(alloc, text, options) {
         Ok(mut session) => run_in(alloc, &mut session, source, sink),

@@ -57,7 +57,8 @@ pub fn serve<R: Source, W: Sink>(
     source: &mut R,
     sink: &mut W,
 ) -> Result<u64, StreamFault>
-    ensures { Serves session.old.state (W.written sink.old) (R.unread source.old) (R.unread source.new) session.new.state (W.written sink.new) result }
+    ensures { Serves session.old.state (W.written sink.old) (R.unread source.old) (R.unread source.new) session.new.state
+        (W.written sink.new) result }
 {
     let Ok(mut line) = Box::new(alloc, ArrayVec::<u8, LONGEST>::new()) else {
         return Err(StreamFault::Memory);

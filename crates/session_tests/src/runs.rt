@@ -107,8 +107,8 @@ fn open(alloc: Global, text: &[u8], keep: Keep) -> Option<Session> {
     }
 }
 
-/// Whether a session of the text, which retains these lines, does the runs so. No other function has a session of its own, and this one hands it on at once:
-/// whoever has one and leaves in many ways is long in proving.
+/// Whether a session of the text, which retains these lines, does the runs so. No other function has a session of its own, and
+/// this one hands it on at once: whoever has one and leaves in many ways is long in proving.
 pub fn all_done(
     alloc: Global,
     text: &[u8],

@@ -2,7 +2,9 @@
 ghost use Rattle.std.specs.Prelude.{◌≡◌, codes};
 ghost use Rattle.byte_devices.specs.Outs.{Sends};
 ghost use Rattle.dbc_records.specs.Layout.{layout_text};
-ghost use Rattle.dbc_records.specs.CanonicalText.{target_layout, comment_key, object_word, object_layout, number_limits_layout, texts_layout, form_layout, definition_key, value_layout, default_key, attribute_key};
+ghost use Rattle.dbc_records.specs.CanonicalText.{target_layout, comment_key, object_word, object_layout, number_limits_layout};
+ghost use Rattle.dbc_records.specs.CanonicalText.{texts_layout, form_layout, definition_key, value_layout, default_key};
+ghost use Rattle.dbc_records.specs.CanonicalText.{attribute_key};
 
 use crate::printing::parts::{
     hold_spaced_number, hold_spaced_text, hold_spaced_word, hold_statement_end, hold_word,

@@ -2,7 +2,8 @@
 ghost use Rattle.std.specs.Prelude.{◌≡◌, [], ◌∷◌};
 ghost use Rattle.byte_devices.specs.Outs.{Sends};
 ghost use Rattle.dbc_records.specs.Layout.{Order, item_text, layout_text};
-ghost use Rattle.dbc_records.specs.CanonicalText.{sign_mark, head_layout, signal_name_layout, tag_layout, place_layout, scale_layout, limits_layout, receivers_layout};
+ghost use Rattle.dbc_records.specs.CanonicalText.{sign_mark, head_layout, signal_name_layout, tag_layout, place_layout};
+ghost use Rattle.dbc_records.specs.CanonicalText.{scale_layout, limits_layout, receivers_layout};
 
 use crate::printing::parts::{SpacedName, hold_line_end, hold_pair, hold_spaced_text};
 use crate::printing::style::{Style, hold_list, hold_separated};

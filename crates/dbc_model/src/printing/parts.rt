@@ -1,7 +1,9 @@
 //! The parts that statements are printed of.
 ghost use Rattle.byte_devices.specs.Outs.{Sends};
 ghost use Rattle.dbc_records.specs.Layout.{layout_text};
-ghost use Rattle.dbc_records.specs.CanonicalText.{blank, mark_layout, spaced_mark, number_layout, spaced_number, spaced_text, spaced_name, spaced_word, word_layout, signal_key, line_end, statement_end, spaced_end, pair_layout};
+ghost use Rattle.dbc_records.specs.CanonicalText.{blank, mark_layout, spaced_mark, number_layout, spaced_number, spaced_text};
+ghost use Rattle.dbc_records.specs.CanonicalText.{spaced_name, spaced_word, word_layout, signal_key, line_end, statement_end};
+ghost use Rattle.dbc_records.specs.CanonicalText.{spaced_end, pair_layout};
 
 use crate::printing::numbers::hold_decimal;
 use crate::printing::style::Style;

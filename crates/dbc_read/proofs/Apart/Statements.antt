@@ -1,5 +1,6 @@
 -- In the canonical text of a database each item stands apart from what stands behind it.
-use Rattle.std.proofs.Common.{◌≡◌, ℕ, ◌<◌, ◌≤◌, ◌^◌, ◌-◌, ℤ, pos, negsuc, arith, Bool, true, false, ◌&&◌, List, [], ◌∷◌, ◌++◌, Option, Some, None, refl}
+use Rattle.std.proofs.Common.{◌≡◌, ℕ, ◌<◌, ◌≤◌, ◌^◌, ◌-◌, ℤ, pos, negsuc, arith, Bool, true, false, ◌&&◌, List, [], ◌∷◌, ◌++◌}
+use Rattle.std.proofs.Common.{Option, Some, None, refl}
 use Rattle.std.specs.Prelude.{codes, nat_le, int_le, All, IsTrue, IfSome}
 use Rattle.std.proofs.lemmas.Bool.{and_parts}
 use Rattle.std.proofs.lemmas.Grind.{common_steps}
@@ -9,10 +10,13 @@ use Rattle.dbc_records.specs.Databases.{Database, IsDatabase, IsBitTiming}
 use Rattle.dbc_values.specs.Decimals.{Decimal, IsDecimal}
 use Rattle.dbc_records.specs.Kept.{Kept, IsKept}
 use Rattle.dbc_values.specs.Pieces.{IsPiece}
-use Rattle.dbc_records.specs.Records.{IsNumber, IsTag, entry_fits, Head, IsHead, Signal, IsSignal, Message, IsMessage, Entry, IsEntry, TableRow, IsTableRow, ValueRow, IsValueRow, FloatRow, IsFloatRow, MuxRow, IsMuxRow, IsRange}
+use Rattle.dbc_records.specs.Records.{IsNumber, IsTag, entry_fits, Head, IsHead, Signal, IsSignal, Message, IsMessage, Entry}
+use Rattle.dbc_records.specs.Records.{IsEntry, TableRow, IsTableRow, ValueRow, IsValueRow, FloatRow, IsFloatRow, MuxRow, IsMuxRow}
+use Rattle.dbc_records.specs.Records.{IsRange}
 use Rattle.dbc_values.specs.Names.{IsName, IsText, IsSymbol}
 use Rattle.dbc_records.specs.Comments.{Comment, IsComment, IsTarget}
-use Rattle.dbc_records.specs.Attributes.{AttrDef, IsAttrDef, IsForm, IsLimits, AttrDefault, IsAttrDefault, AttrRow, IsAttrRow, IsAttrValue}
+use Rattle.dbc_records.specs.Attributes.{AttrDef, IsAttrDef, IsForm, IsLimits, AttrDefault, IsAttrDefault, AttrRow, IsAttrRow}
+use Rattle.dbc_records.specs.Attributes.{IsAttrValue}
 use Rattle.dbc_records.specs.declared.tag.Tag.{Tag}
 use Rattle.dbc_records.specs.declared.tag.Tag.TheVariants as tags
 use Rattle.dbc_records.specs.declared.mux_row.Range.{Range}
@@ -26,10 +30,22 @@ use Rattle.dbc_records.specs.declared.definition.Object.TheVariants as objects
 use Rattle.dbc_records.specs.declared.definition.Form.{Form}
 use Rattle.dbc_records.specs.declared.definition.Form.TheVariants as forms
 use Rattle.dbc_records.specs.Layout.{Word, Mark, Name, Text, Whole, Int, Number, Switch, Muxed, Both}
-use Rattle.dbc_records.specs.CanonicalText.{blank, mark_layout, spaced_mark, number_layout, spaced_number, spaced_text, spaced_name, spaced_word, word_layout, signal_key, line_end, statement_end, spaced_end, version_layout, symbol_layout, symbols_title, symbols_layout, timing_numbers, perhaps_numbers, timing_title, timing_layout, nodes_title, nodes_layout, entry_layout, table_key, table_layout, values_key, values_layout, head_layout, signal_name_layout, tag_layout, sign_mark, place_layout, pair_layout, scale_layout, limits_layout, further_receiver, receivers_layout, signal_layout, message_layout, target_layout, comment_key, comment_layout, object_layout, number_limits_layout, further_text, texts_layout, form_layout, definition_key, definition_layout, value_layout, default_key, default_layout, attribute_key, attribute_layout, float_key, float_kind, float_layout, range_layout, further_range, ranges_layout, mux_key, mux_layout, piece_layout, kept_layout, front_layout, attributes_layout, rows_layout, database_layout}
+use Rattle.dbc_records.specs.CanonicalText.{blank, mark_layout, spaced_mark, number_layout, spaced_number, spaced_text, spaced_name}
+use Rattle.dbc_records.specs.CanonicalText.{spaced_word, word_layout, signal_key, line_end, statement_end, spaced_end}
+use Rattle.dbc_records.specs.CanonicalText.{version_layout, symbol_layout, symbols_title, symbols_layout, timing_numbers}
+use Rattle.dbc_records.specs.CanonicalText.{perhaps_numbers, timing_title, timing_layout, nodes_title, nodes_layout, entry_layout}
+use Rattle.dbc_records.specs.CanonicalText.{table_key, table_layout, values_key, values_layout, head_layout, signal_name_layout}
+use Rattle.dbc_records.specs.CanonicalText.{tag_layout, sign_mark, place_layout, pair_layout, scale_layout, limits_layout}
+use Rattle.dbc_records.specs.CanonicalText.{further_receiver, receivers_layout, signal_layout, message_layout, target_layout}
+use Rattle.dbc_records.specs.CanonicalText.{comment_key, comment_layout, object_layout, number_limits_layout, further_text}
+use Rattle.dbc_records.specs.CanonicalText.{texts_layout, form_layout, definition_key, definition_layout, value_layout, default_key}
+use Rattle.dbc_records.specs.CanonicalText.{default_layout, attribute_key, attribute_layout, float_key, float_kind, float_layout}
+use Rattle.dbc_records.specs.CanonicalText.{range_layout, further_range, ranges_layout, mux_key, mux_layout, piece_layout}
+use Rattle.dbc_records.specs.CanonicalText.{kept_layout, front_layout, attributes_layout, rows_layout, database_layout}
 use Rattle.dbc_read.proofs.Takes.Kinds.{within_ints}
 use Rattle.dbc_read.proofs.Items.{IsItem}
-use Rattle.dbc_read.proofs.Apart.{AreItems, Start, Middle, Close, Line, start_then, start_close, middle_both, middle_close, line_both, close_line, middle_none, middle_each, line_each, middle_separated, spaced, word_start}
+use Rattle.dbc_read.proofs.Apart.{AreItems, Start, Middle, Close, Line, start_then, start_close, middle_both, middle_close}
+use Rattle.dbc_read.proofs.Apart.{line_both, close_line, middle_none, middle_each, line_each, middle_separated, spaced, word_start}
 
 -- ---- ends of statements
 
@@ -77,10 +93,12 @@ number_small n h = omega (arith, h)
 
 entry_item : (z : ℤ) → IsTrue (entry_fits z) → IsItem (Int z)
 entry_item (pos n) fits =
-    let most = within_ints (pos n) (pos (2 ^ 64 - 1)) (and_parts (int_le (negsuc (2 ^ 63 - 1)) (pos n)) (int_le (pos n) (pos (2 ^ 64 - 1))) fits).1 in
+    let most = within_ints (pos n) (pos (2 ^ 64 - 1)) (and_parts (int_le (negsuc (2 ^ 63 - 1)) (pos n))
+    (int_le (pos n) (pos (2 ^ 64 - 1))) fits).1 in
     omega (arith, ints, most)
 entry_item (negsuc n) fits =
-    let least = within_ints (negsuc (2 ^ 63 - 1)) (negsuc n) (and_parts (int_le (negsuc (2 ^ 63 - 1)) (negsuc n)) (int_le (negsuc n) (pos (2 ^ 64 - 1))) fits).0 in
+    let least = within_ints (negsuc (2 ^ 63 - 1)) (negsuc n) (and_parts (int_le (negsuc (2 ^ 63 - 1)) (negsuc n))
+    (int_le (negsuc n) (pos (2 ^ 64 - 1))) fits).0 in
     omega (arith, ints, least)
 
 start_small : (n : ℕ) → n < 2 ^ 16 → IsItem (Whole n)
@@ -124,7 +142,8 @@ numbers_neat (a ∷ []) are = middle_none
 numbers_neat (a ∷ b ∷ []) are = middle_none
 numbers_neat (a ∷ b ∷ c ∷ []) are =
     let behind = All-tail IsDecimal a (b ∷ c ∷ []) are in
-    middle_both (number_part a (All-head IsDecimal a (b ∷ c ∷ []) are)) (middle_both (mark_part 58 refl) (middle_both (number_part b (All-head IsDecimal b (c ∷ []) behind)) (middle_both (mark_part 44 refl)
+    middle_both (number_part a (All-head IsDecimal a (b ∷ c ∷ []) are)) (middle_both (mark_part 58 refl)
+    (middle_both (number_part b (All-head IsDecimal b (c ∷ []) behind)) (middle_both (mark_part 44 refl)
     (number_part c (All-head IsDecimal c [] (All-tail IsDecimal b (c ∷ []) behind))))))
 numbers_neat (a ∷ b ∷ c ∷ d ∷ more) are = middle_none
 
@@ -147,7 +166,8 @@ nodes_title_neat = record { items = (refl, (refl, tt)); apart = λ rest apart. a
 
 pub nodes_neat : (nodes : List (List ℕ)) → All IsName nodes → Line (nodes_layout nodes)
 unfolding nodes_layout
-nodes_neat nodes are = line_both nodes_title_neat (close_line (middle_close (middle_each IsName spaced_name name_part nodes are) end_closes))
+nodes_neat nodes are = line_both nodes_title_neat (close_line (middle_close (middle_each IsName spaced_name name_part nodes are)
+    end_closes))
 
 -- ---- rows of values
 
@@ -157,11 +177,13 @@ entry_neat entry is = middle_both (spaced (Int entry.number) (entry_item entry.n
 
 pub table_neat : (row : TableRow) → IsTableRow row → Line (table_layout row)
 unfolding table_layout table_key
-table_neat row is = start_close (start_then (start (codes "VAL_TABLE_") refl) (name_part row.name is.name)) (middle_close (middle_each IsEntry entry_layout entry_neat row.entries is.entries) spaced_closes)
+table_neat row is = start_close (start_then (start (codes "VAL_TABLE_") refl) (name_part row.name is.name))
+    (middle_close (middle_each IsEntry entry_layout entry_neat row.entries is.entries) spaced_closes)
 
 pub values_neat : (row : ValueRow) → IsValueRow row → Line (values_layout row)
 unfolding values_layout values_key
-values_neat row is = start_close (start_then (start (codes "VAL_") refl) (key_part row.number row.signal is.number is.signal)) (middle_close (middle_each IsEntry entry_layout entry_neat row.entries is.entries) spaced_closes)
+values_neat row is = start_close (start_then (start (codes "VAL_") refl) (key_part row.number row.signal is.number is.signal))
+    (middle_close (middle_each IsEntry entry_layout entry_neat row.entries is.entries) spaced_closes)
 
 float_part : (row : FloatRow) → IsFloatRow row → Middle (float_kind row)
 unfolding float_kind
@@ -195,13 +217,24 @@ pub mux_neat : (row : MuxRow) → IsMuxRow row → Line (mux_layout row)
 unfolding mux_layout mux_key ranges_layout
 mux_neat row is =
     start_close (start_then (start (codes "SG_MUL_VAL_") refl) (key_part row.number row.signal is.number is.signal))
-    (middle_close (name_part row.switch is.switch) (middle_close (middle_separated IsRange range_layout further_range range_part further_part row.ranges is.ranges) statement_closes))
+    (middle_close (name_part row.switch is.switch) (middle_close (middle_separated IsRange range_layout further_range range_part
+    further_part row.ranges is.ranges) statement_closes))
 
 -- ---- messages and signals
 
 pub head_neat : (head : Head) → IsHead head → Line (head_layout head)
 unfolding head_layout
-head_neat head is = record { items = (refl, (number_small head.number is.number, (is.name, (refl, (size_small head.size is.size, (is.sender, tt)))))); apart = λ rest apart. apart }
+head_neat head is =
+    record {
+      items = (
+        refl,
+        (
+          number_small head.number is.number,
+          (is.name, (refl, (size_small head.size is.size, (is.sender, tt)))),
+        ),
+      );
+      apart = λ rest apart. apart;
+    }
 
 signal_name_part : (signal : Signal) → IsName signal.name → Middle (signal_name_layout signal)
 unfolding signal_name_layout
@@ -221,15 +254,26 @@ sign_is_mark false = refl
 place_part : (signal : Signal) → IsSignal signal → Middle (place_layout signal)
 unfolding place_layout
 place_part signal is = record {
-  items = (refl, (start_small signal.start is.start, (refl, (length_small signal.length is.fits, (refl, (tt, (sign_is_mark signal.signed, tt)))))));
+  items = (
+    refl,
+    (
+      start_small signal.start is.start,
+      (refl, (length_small signal.length is.fits, (refl, (tt, (sign_is_mark signal.signed, tt))))),
+    ),
+  );
   begins = λ rest ends. refl;
   apart = λ rest ends apart. apart;
 }
 
-pair_part : (opening : ℕ) (first : Decimal) (between : ℕ) (second : Decimal) (closing : ℕ) → IsItem (Mark opening) → IsItem (Mark between) → IsItem (Mark closing) → IsDecimal first → IsDecimal second
+pair_part : (opening : ℕ) (first : Decimal) (between : ℕ) (second : Decimal) (closing : ℕ) → IsItem (Mark opening)
+    → IsItem (Mark between) → IsItem (Mark closing) → IsDecimal first → IsDecimal second
     → Middle (pair_layout opening first between second closing)
 unfolding pair_layout spaced_mark number_layout mark_layout
-pair_part opening first between second closing o b c f s = record { items = (o, (f, (b, (s, (c, tt))))); begins = λ rest ends. refl; apart = λ rest ends apart. apart }
+pair_part opening first between second closing o b c f s = record {
+  items = (o, (f, (b, (s, (c, tt)))));
+  begins = λ rest ends. refl;
+  apart = λ rest ends apart. apart;
+}
 
 scale_part : (signal : Signal) → IsSignal signal → Middle (scale_layout signal)
 unfolding scale_layout
@@ -241,26 +285,35 @@ limits_part signal is = pair_part 91 signal.minimum 124 signal.maximum 93 refl r
 
 receiver_part : (name : List ℕ) → IsName name → Middle (further_receiver name)
 unfolding further_receiver
-receiver_part name is = record { items = (refl, (is, tt)); begins = λ rest ends. refl; apart = λ rest ends apart. (spaced (Name name) is).apart rest ends apart }
+receiver_part name is = record {
+  items = (refl, (is, tt));
+  begins = λ rest ends. refl;
+  apart = λ rest ends apart. (spaced (Name name) is).apart rest ends apart;
+}
 
 receivers_part : (names : List (List ℕ)) → All IsName names → Middle (receivers_layout names)
 unfolding receivers_layout
 receivers_part names are = middle_separated IsName spaced_name further_receiver name_part receiver_part names are
 
 pub signal_front_items : (signal : Signal) → IsSignal signal
-    → AreItems (signal_name_layout signal ++ (tag_layout signal.tag ++ (place_layout signal ++ (scale_layout signal ++ (limits_layout signal ++ spaced_text signal.unit)))))
+    → AreItems (signal_name_layout signal
+    ++ (tag_layout signal.tag
+    ++ (place_layout signal ++ (scale_layout signal ++ (limits_layout signal ++ spaced_text signal.unit)))))
 signal_front_items signal is =
-    (middle_both (signal_name_part signal is.name) (middle_both (tag_part signal.tag is.tag) (middle_both (place_part signal is) (middle_both (scale_part signal is) (middle_both (limits_part signal is) (text_part signal.unit is.unit)))))).items
+    (middle_both (signal_name_part signal is.name) (middle_both (tag_part signal.tag is.tag) (middle_both (place_part signal is)
+    (middle_both (scale_part signal is) (middle_both (limits_part signal is) (text_part signal.unit is.unit)))))).items
 
 pub signal_neat : (signal : Signal) → IsSignal signal → Line (signal_layout signal)
 unfolding signal_layout
 signal_neat signal is =
-    close_line (middle_close (signal_name_part signal is.name) (middle_close (tag_part signal.tag is.tag) (middle_close (place_part signal is) (middle_close (scale_part signal is) (middle_close (limits_part signal is)
+    close_line (middle_close (signal_name_part signal is.name) (middle_close (tag_part signal.tag is.tag)
+    (middle_close (place_part signal is) (middle_close (scale_part signal is) (middle_close (limits_part signal is)
     (middle_close (text_part signal.unit is.unit) (middle_close (receivers_part signal.receivers is.receivers) end_closes)))))))
 
 pub message_neat : (message : Message) → IsMessage message → Line (message_layout message)
 unfolding message_layout
-message_neat message is = line_both (head_neat message.head is.head) (line_each IsSignal signal_layout signal_neat message.signals is.signals)
+message_neat message is = line_both (head_neat message.head is.head) (line_each IsSignal signal_layout signal_neat message.signals
+    is.signals)
 
 -- ---- comments and attributes
 
@@ -268,12 +321,15 @@ target_part : (target : Target) → IsTarget target → Middle (target_layout ta
 unfolding target_layout
 target_part targets.Whole is = middle_none
 target_part (targets.Node name) is = middle_both (spaced (Word (codes "BU_")) refl) (spaced (Name name) is)
-target_part (targets.Message number) is = middle_both (spaced (Word (codes "BO_")) refl) (spaced (Whole number) (number_small number is))
-target_part (targets.Signal number name) is = middle_both (spaced (Word (codes "SG_")) refl) (middle_both (spaced (Whole number) (number_small number is.0)) (spaced (Name name) is.1))
+target_part (targets.Message number) is = middle_both (spaced (Word (codes "BO_")) refl)
+    (spaced (Whole number) (number_small number is))
+target_part (targets.Signal number name) is = middle_both (spaced (Word (codes "SG_")) refl)
+    (middle_both (spaced (Whole number) (number_small number is.0)) (spaced (Name name) is.1))
 
 pub comment_neat : (comment : Comment) → IsComment comment → Line (comment_layout comment)
 unfolding comment_layout comment_key
-comment_neat comment is = start_close (start_then (start (codes "CM_") refl) (target_part comment.target is.target)) (middle_close (text_part comment.text is.text) statement_closes)
+comment_neat comment is = start_close (start_then (start (codes "CM_") refl) (target_part comment.target is.target))
+    (middle_close (text_part comment.text is.text) statement_closes)
 
 object_part : (object : Option Object) → Middle (object_layout object)
 unfolding object_layout
@@ -307,7 +363,8 @@ form_part (forms.Enumeration texts) is = middle_both (word_part (codes "ENUM") r
 pub definition_neat : (definition : AttrDef) → IsAttrDef definition → Line (definition_layout definition)
 unfolding definition_layout definition_key
 definition_neat definition is =
-    start_close (start_then (start (codes "BA_DEF_") refl) (middle_both (object_part definition.object) (text_part definition.name is.name))) (middle_close (form_part definition.form is.form) statement_closes)
+    start_close (start_then (start (codes "BA_DEF_") refl) (middle_both (object_part definition.object)
+    (text_part definition.name is.name))) (middle_close (form_part definition.form is.form) statement_closes)
 
 value_part : (given : AttrValue) → IsAttrValue given → Middle (value_layout given)
 unfolding value_layout
@@ -316,11 +373,14 @@ value_part (values.Decimal number) is = number_part number is
 
 pub default_neat : (row : AttrDefault) → IsAttrDefault row → Line (default_layout row)
 unfolding default_layout default_key
-default_neat row is = start_close (start_then (start (codes "BA_DEF_DEF_") refl) (text_part row.name is.name)) (middle_close (value_part row.value is.value) statement_closes)
+default_neat row is = start_close (start_then (start (codes "BA_DEF_DEF_") refl) (text_part row.name is.name))
+    (middle_close (value_part row.value is.value) statement_closes)
 
 pub attribute_neat : (row : AttrRow) → IsAttrRow row → Line (attribute_layout row)
 unfolding attribute_layout attribute_key
-attribute_neat row is = start_close (start_then (start (codes "BA_") refl) (middle_both (text_part row.name is.name) (target_part row.target is.target))) (middle_close (value_part row.value is.value) statement_closes)
+attribute_neat row is =
+    start_close (start_then (start (codes "BA_") refl) (middle_both (text_part row.name is.name)
+    (target_part row.target is.target))) (middle_close (value_part row.value is.value) statement_closes)
 
 -- ---- kept statements
 
@@ -330,17 +390,23 @@ piece_neat bytes is = record { items = (is, tt); apart = λ rest apart. apart }
 
 pub kept_neat : (statement : Kept) → IsKept statement → Line (kept_layout statement)
 unfolding kept_layout
-kept_neat statement is = line_both (line_each IsPiece piece_layout piece_neat statement.tokens is.tokens) (close_line statement_closes)
+kept_neat statement is = line_both (line_each IsPiece piece_layout piece_neat statement.tokens is.tokens)
+    (close_line statement_closes)
 
 -- ---- databases
 
 pub database_neat : (d : Database) → IsDatabase d → Line (database_layout d)
 unfolding database_layout front_layout attributes_layout rows_layout
 database_neat d is =
-    line_both (line_both (version_neat d.version is.version) (line_both (symbols_neat d.symbols is.symbols) (line_both (timing_neat d.bit_timing is.bit_timing) (line_both (nodes_neat d.nodes is.nodes)
+    line_both (line_both (version_neat d.version is.version) (line_both (symbols_neat d.symbols is.symbols)
+    (line_both (timing_neat d.bit_timing is.bit_timing) (line_both (nodes_neat d.nodes is.nodes)
     (line_each IsTableRow table_layout table_neat d.tables is.tables)))))
-    (line_both (line_each IsMessage message_layout message_neat d.messages is.messages) (line_both (line_each IsComment comment_layout comment_neat d.comments is.comments)
-    (line_both (line_both (line_each IsAttrDef definition_layout definition_neat d.definitions is.definitions) (line_both (line_each IsAttrDefault default_layout default_neat d.defaults is.defaults)
+    (line_both (line_each IsMessage message_layout message_neat d.messages is.messages)
+    (line_both (line_each IsComment comment_layout comment_neat d.comments is.comments)
+    (line_both (line_both (line_each IsAttrDef definition_layout definition_neat d.definitions is.definitions)
+    (line_both (line_each IsAttrDefault default_layout default_neat d.defaults is.defaults)
     (line_each IsAttrRow attribute_layout attribute_neat d.attributes is.attributes)))
-    (line_both (line_each IsValueRow values_layout values_neat d.values is.values) (line_both (line_each IsFloatRow float_layout float_neat d.floats is.floats)
-    (line_both (line_each IsMuxRow mux_layout mux_neat d.muxes is.muxes) (line_each IsKept kept_layout kept_neat d.kept is.kept)))))))
+    (line_both (line_each IsValueRow values_layout values_neat d.values is.values)
+    (line_both (line_each IsFloatRow float_layout float_neat d.floats is.floats)
+    (line_both (line_each IsMuxRow mux_layout mux_neat d.muxes is.muxes) (line_each IsKept kept_layout kept_neat d.kept
+    is.kept)))))))

@@ -1,5 +1,7 @@
 -- What a decimal is printed as spells it: digits and zeros, digits around a point, or digits and an exponent.
-use Rattle.std.proofs.Common.{◌≡◌, ℕ, zero, suc, ◌+◌, ◌-◌, ◌*◌, ◌<◌, ◌^◌, ℤ, pos, negsuc, ◌+ℤ◌, ◌-ℤ◌, ◌≤ℤ◌, Bool, true, false, cond, not, ◌&&◌, List, [], ◌∷◌, ◌++◌, length, take, drop, length-append, refl, sym, ap, subst, ◌∙◌, append-nil, arith, inl, inr}
+use Rattle.std.proofs.Common.{◌≡◌, ℕ, zero, suc, ◌+◌, ◌-◌, ◌*◌, ◌<◌, ◌^◌, ℤ, pos, negsuc, ◌+ℤ◌, ◌-ℤ◌, ◌≤ℤ◌, Bool, true, false, cond}
+use Rattle.std.proofs.Common.{not, ◌&&◌, List, [], ◌∷◌, ◌++◌, length, take, drop, length-append, refl, sym, ap, subst, ◌∙◌}
+use Rattle.std.proofs.Common.{append-nil, arith, inl, inr}
 use Rattle.std.specs.Prelude.{decimal, IsTrue, nat_le}
 use Rattle.std.specs.List.{list_all, before_first, after_first}
 use Rattle.std.specs.Ordering.{int_eq}
@@ -17,7 +19,8 @@ use Rattle.dbc_values.proofs.DigitTexts.{value_append}
 use Rattle.dbc_values.proofs.NormalForms.{bounds_of}
 use Rattle.dbc_values.proofs.Powers.{tens_apart, tens_none}
 use Rattle.dbc_read.proofs.Items.Digits.{digits_from_all, all_decimal, some_decimal, digits_decimal, value_decimal}
-use Rattle.dbc_tokens.proofs.NumberParts.{IsMantissa, IsExponent, digits_parts, halves_none, halves_some, number_test, mantissa_bytes, is_mantissa_byte}
+use Rattle.dbc_tokens.proofs.NumberParts.{IsMantissa, IsExponent, digits_parts, halves_none, halves_some, number_test}
+use Rattle.dbc_tokens.proofs.NumberParts.{mantissa_bytes, is_mantissa_byte}
 use Rattle.dbc_tokens.proofs.Runs.{all_append, all_weaker}
 use Rattle.dbc_reader.proofs.Sound.Tags.{digits_are}
 
@@ -30,7 +33,11 @@ record Reads (text : List ℕ) (m : ℕ) (e : ℤ) : Type 0 where
 
 -- digits alone
 reads_digits : (digits : List ℕ) → is_digits digits ≡ true → Reads digits (digits_value 10 digits) (pos 0)
-reads_digits digits are = let number = digits_are digits are in record { form = number.form; mantissa = number.mantissa; exponent = number.exponent }
+reads_digits digits are = let number = digits_are digits are in record {
+  form = number.form;
+  mantissa = number.mantissa;
+  exponent = number.exponent;
+}
 
 digit_no_point : (b : ℕ) → is_digit b ≡ true → not (is_point b) ≡ true
 digit_no_point b is = grind (arith, nat_tests)
@@ -39,7 +46,8 @@ digit_no_mark : (b : ℕ) → is_digit b ≡ true → not (is_exponent_mark b) �
 digit_no_mark b is = grind (arith, nat_tests)
 
 -- the parts before and behind the first exponent mark, and of those before it around the first point
-mantissa_by : (text front whole fraction : List ℕ) → before_first is_exponent_mark text ≡ front → before_first is_point front ≡ whole → after_first is_point front ≡ fraction
+mantissa_by : (text front whole fraction : List ℕ) → before_first is_exponent_mark text ≡ front → before_first is_point front
+    ≡ whole → after_first is_point front ≡ fraction
     → mantissa_of text ≡ digits_value 10 (whole ++ fraction)
 unfolding mantissa_of
 mantissa_by text front whole fraction before whole-is fraction-is =
@@ -47,7 +55,8 @@ mantissa_by text front whole fraction before whole-is fraction-is =
     ∙ ap (λ (t : List ℕ). digits_value 10 (t ++ after_first is_point front)) whole-is
     ∙ ap (λ (t : List ℕ). digits_value 10 (whole ++ t)) fraction-is
 
-exponent_by : (text front behind fraction : List ℕ) → before_first is_exponent_mark text ≡ front → after_first is_exponent_mark text ≡ behind → after_first is_point front ≡ fraction
+exponent_by : (text front behind fraction : List ℕ) → before_first is_exponent_mark text ≡ front → after_first is_exponent_mark text
+    ≡ behind → after_first is_point front ≡ fraction
     → exponent_of text ≡ (signed_digits_value 10 behind -ℤ pos (length fraction))
 unfolding exponent_of
 exponent_by text front behind fraction before after fraction-is =
@@ -63,7 +72,8 @@ reads_pointed whole fraction w f some =
     let is : IsMantissa text = (whole, fraction, w, f, omega (arith, some), inl refl) in
     let unmarked = all_weaker is_mantissa_byte (λ b. not (is_exponent_mark b)) text mantissa_no_mark (mantissa_bytes text is) in
     let outer = halves_none is_exponent_mark text unmarked in
-    let inner = halves_some is_point whole point fraction (all_weaker is_digit (λ b. not (is_point b)) whole digit_no_point w) refl in
+    let inner = halves_some is_point whole point fraction (all_weaker is_digit (λ b. not (is_point b)) whole digit_no_point w)
+    refl in
     record {
       form = number_test text (text, [], sym (append-nil text), is, tt);
       mantissa = mantissa_by text text whole fraction outer.before inner.before inner.after;
@@ -79,10 +89,17 @@ reads_powered : (digits sign power : List ℕ) → is_digits digits ≡ true →
 reads_powered digits sign power are is =
     let text = digits ++ (69 ∷ (sign ++ power)) in
     let d = digits_parts digits are in
-    let outer = halves_some is_exponent_mark digits 69 (sign ++ power) (all_weaker is_digit (λ b. not (is_exponent_mark b)) digits digit_no_mark d.1) refl in
+    let outer = halves_some is_exponent_mark digits 69 (sign ++ power) (all_weaker is_digit (λ b. not (is_exponent_mark b)) digits
+    digit_no_mark d.1) refl in
     let inner = halves_none is_point digits (all_weaker is_digit (λ b. not (is_point b)) digits digit_no_point d.1) in
     record {
-      form = number_test text (digits, 69 ∷ (sign ++ power), refl, (digits, [], d.1, refl, omega (arith, d.0), inr (refl, refl)), is);
+      form = number_test text (
+        digits,
+        69 ∷ (sign ++ power),
+        refl,
+        (digits, [], d.1, refl, omega (arith, d.0), inr (refl, refl)),
+        is,
+      );
       mantissa = mantissa_by text digits digits [] outer.before inner.before inner.after ∙ ap (digits_value 10) (append-nil digits);
       exponent = exponent_by text digits (sign ++ power) [] outer.before outer.after inner.after;
     }
@@ -117,11 +134,14 @@ reads_whole n count short =
     let many : length text ≡ length (decimal n) + length (zeros count) = length-append (decimal n) (zeros count) in
     let some : 0 < length text = omega (arith, many, some_decimal n short) in
     let value : digits_value 10 text ≡ n * 10 ^ count =
-    value_append 0 (decimal n) (zeros count) ∙ ap (λ (m : ℕ). digits_value_after 10 m (zeros count)) (value_decimal n short) ∙ zeros_behind n count in
-    let number = reads_digits text (digits_from_all text some (all_append is_digit (decimal n) (zeros count) (all_decimal n short) (zeros_all count))) in
+    value_append 0 (decimal n) (zeros count) ∙ ap (λ (m : ℕ). digits_value_after 10 m (zeros count)) (value_decimal n short)
+    ∙ zeros_behind n count in
+    let number = reads_digits text (digits_from_all text some (all_append is_digit (decimal n) (zeros count) (all_decimal n short)
+    (zeros_all count))) in
     record { form = number.form; mantissa = number.mantissa ∙ value; exponent = number.exponent }
 
-all_parts : (front back : List ℕ) → list_all is_digit (front ++ back) ≡ true → (list_all is_digit front ≡ true) × (list_all is_digit back ≡ true)
+all_parts : (front back : List ℕ) → list_all is_digit (front ++ back) ≡ true → (list_all is_digit front ≡ true)
+    × (list_all is_digit back ≡ true)
 all_parts [] back all = (refl, all)
 all_parts (b ∷ front) back all =
     let first = and_parts (is_digit b) (list_all is_digit (front ++ back)) all in
@@ -138,9 +158,15 @@ reads_fraction behind digits all more =
     let whole : front ++ back ≡ digits = take-append-drop at digits in
     let parts = all_parts front back (subst (λ (t : List ℕ). list_all is_digit t ≡ true) (sym whole) all) in
     let many : length back ≡ behind = length-drop at digits ∙ left (length digits) behind more in
-    let some : 0 < length front = first_some (length front) (length back) (length digits) behind (sym (length-append front back) ∙ ap length whole) many more in
+    let some : 0 < length front = first_some (length front) (length back) (length digits) behind (sym (length-append front back)
+    ∙ ap length whole) many more in
     let number = reads_pointed front back parts.0 parts.1 some in
-    record { form = number.form; mantissa = number.mantissa ∙ ap (digits_value 10) whole; exponent = number.exponent ∙ ap (λ (n : ℕ). pos 0 -ℤ pos n) many }
+    record {
+      form = number.form;
+      mantissa = number.mantissa ∙ ap (digits_value 10) whole;
+      exponent = number.exponent
+          ∙ ap (λ (n : ℕ). pos 0 -ℤ pos n) many;
+    }
   where
     left : (n behind : ℕ) → behind < n → n - (n - behind) ≡ behind
     left n behind more = omega (arith, more)
@@ -152,9 +178,15 @@ reads_filled : (n behind : ℕ) → n < 10 ^ 64 → Reads (point_before_last beh
 reads_filled n behind short =
     let count = behind + 1 - length (decimal n) in
     let all = all_append is_digit (zeros count) (decimal n) (zeros_all count) (all_decimal n short) in
-    let many : length (filled behind (decimal n)) ≡ count + length (decimal n) = length-append (zeros count) (decimal n) ∙ ap (λ k. k + length (decimal n)) (length-replicate count 48) in
-    let number = reads_fraction behind (filled behind (decimal n)) all (enough behind (length (decimal n)) (length (filled behind (decimal n))) many) in
-    record { form = number.form; mantissa = number.mantissa ∙ zeros_before count (decimal n) ∙ value_decimal n short; exponent = number.exponent }
+    let many : length (filled behind (decimal n)) ≡ count + length (decimal n) = length-append (zeros count) (decimal n)
+    ∙ ap (λ k. k + length (decimal n)) (length-replicate count 48) in
+    let number = reads_fraction behind (filled behind (decimal n)) all (enough behind (length (decimal n))
+    (length (filled behind (decimal n))) many) in
+    record {
+      form = number.form;
+      mantissa = number.mantissa ∙ zeros_before count (decimal n) ∙ value_decimal n short;
+      exponent = number.exponent;
+    }
   where
     enough : (behind n whole : ℕ) → whole ≡ behind + 1 - n + n → behind < whole
     enough behind n whole same = omega (arith, same)
@@ -162,7 +194,8 @@ reads_filled n behind short =
 -- a sign and digits
 signed_plain : (digits : List ℕ) → is_digits digits ≡ true → signed_digits_value 10 digits ≡ pos (digits_value 10 digits)
 signed_plain [] are = absurd cc
-signed_plain (c ∷ digits) are = let first = (and_parts (is_digit c) (list_all is_digit digits) are).0 in rw (no_minus c first, no_plus c first) refl
+signed_plain (c ∷ digits) are = let first = (and_parts (is_digit c) (list_all is_digit digits) are).0 in
+    rw (no_minus c first, no_plus c first) refl
   where
     no_minus : (c : ℕ) → is_digit c ≡ true → (c == 45) ≡ false
     no_minus c is = grind (arith, nat_tests)
@@ -180,13 +213,41 @@ IsShortExponent (negsuc k) = suc k < 10 ^ 64
 
 reads_exponent : (n : ℕ) (e : ℤ) → n < 10 ^ 64 → IsShortExponent e → Reads (with_exponent (decimal n) e) n e
 reads_exponent n (pos k) short near =
-    let number = reads_powered (decimal n) [] (decimal k) (digits_decimal n short) (refl, [], decimal k, refl, tt, some_decimal k near, all_decimal k near) in
-    let value : signed_digits_value 10 (decimal k) ≡ pos k = signed_plain (decimal k) (digits_decimal k near) ∙ ap pos (value_decimal k near) in
-    record { form = number.form; mantissa = number.mantissa ∙ value_decimal n short; exponent = number.exponent ∙ less_none (signed_digits_value 10 (decimal k)) ∙ value }
+    let number = reads_powered (decimal n) [] (decimal k) (digits_decimal n short) (
+      refl,
+      [],
+      decimal k,
+      refl,
+      tt,
+      some_decimal k near,
+      all_decimal k near,
+    ) in
+    let value : signed_digits_value 10 (decimal k) ≡ pos k = signed_plain (decimal k) (digits_decimal k near)
+    ∙ ap pos (value_decimal k near) in
+    record {
+      form = number.form;
+      mantissa = number.mantissa ∙ value_decimal n short;
+      exponent = number.exponent
+          ∙ less_none (signed_digits_value 10 (decimal k)) ∙ value;
+    }
 reads_exponent n (negsuc k) short near =
-    let number = reads_powered (decimal n) (45 ∷ []) (decimal (suc k)) (digits_decimal n short) (refl, 45 ∷ [], decimal (suc k), refl, refl, some_decimal (suc k) near, all_decimal (suc k) near) in
-    let value : signed_digits_value 10 (45 ∷ decimal (suc k)) ≡ negsuc k = ap (λ (m : ℕ). neg_ℤ (pos m)) (value_decimal (suc k) near) in
-    record { form = number.form; mantissa = number.mantissa ∙ value_decimal n short; exponent = number.exponent ∙ less_none (signed_digits_value 10 (45 ∷ decimal (suc k))) ∙ value }
+    let number = reads_powered (decimal n) (45 ∷ []) (decimal (suc k)) (digits_decimal n short) (
+      refl,
+      45 ∷ [],
+      decimal (suc k),
+      refl,
+      refl,
+      some_decimal (suc k) near,
+      all_decimal (suc k) near,
+    ) in
+    let value : signed_digits_value 10 (45 ∷ decimal (suc k)) ≡ negsuc k =
+    ap (λ (m : ℕ). neg_ℤ (pos m)) (value_decimal (suc k) near) in
+    record {
+      form = number.form;
+      mantissa = number.mantissa ∙ value_decimal n short;
+      exponent = number.exponent
+          ∙ less_none (signed_digits_value 10 (45 ∷ decimal (suc k))) ∙ value;
+    }
 
 -- ---- decimals
 
@@ -197,12 +258,14 @@ short_mantissa d is = elim (cases_eq d.mantissa 0) [
   | inr some ↦ (let bounds = bounds_of d.negative d.mantissa d.exponent some is.fits in omega (arith, bounds.digits))
 ]
 
-near : (negative : Bool) (mantissa : ℕ) (exponent : ℤ) → IsTrue (decimal_fits negative mantissa exponent) → ((pos 0 -ℤ pos 400) ≤ℤ exponent) × (exponent ≤ℤ pos 400)
+near : (negative : Bool) (mantissa : ℕ) (exponent : ℤ) → IsTrue (decimal_fits negative mantissa exponent)
+    → ((pos 0 -ℤ pos 400) ≤ℤ exponent) × (exponent ≤ℤ pos 400)
 unfolding decimal_fits
 near negative mantissa exponent fits = elim (cases_eq mantissa 0) [
   | inl none ↦
       let parts : (not negative && int_eq exponent (pos 0)) ≡ true = rw (eq-eqb mantissa 0 none) at fits in
-      let at_zero : exponent ≡ pos 0 = (Decides-int_eq exponent (pos 0)).0 (and_parts (not negative) (int_eq exponent (pos 0)) parts).1 in
+      let at_zero : exponent ≡ pos 0 = (Decides-int_eq exponent (pos 0)).0 (and_parts (not negative) (int_eq exponent (pos 0))
+      parts).1 in
       (omega (arith, ints, at_zero), omega (arith, ints, at_zero))
   | inr some ↦ (let bounds = bounds_of negative mantissa exponent some fits in (bounds.least, bounds.greatest))
 ]
@@ -211,12 +274,14 @@ short_exponent : (exponent : ℤ) → (pos 0 -ℤ pos 400) ≤ℤ exponent → e
 short_exponent (pos k) least most = omega (arith, ints, most)
 short_exponent (negsuc k) least most = omega (arith, ints, least)
 
-spells : (text : List ℕ) (d : Decimal) (m : ℕ) (e : ℤ) → IsDecimal d → Reads text m e → HasValue d.negative m e d → SpellsDecimal d.negative text d
+spells : (text : List ℕ) (d : Decimal) (m : ℕ) (e : ℤ) → IsDecimal d → Reads text m e → HasValue d.negative m e d
+    → SpellsDecimal d.negative text d
 spells text d m e is number value = record {
   form = number.form;
   is = record {
     fits = is.fits;
-    value = subst (λ (k : ℕ). HasValue d.negative k (exponent_of text) d) (sym number.mantissa) (subst (λ (z : ℤ). HasValue d.negative m z d) (sym number.exponent) value);
+    value = subst (λ (k : ℕ). HasValue d.negative k (exponent_of text) d) (sym number.mantissa)
+        (subst (λ (z : ℤ). HasValue d.negative m z d) (sym number.exponent) value);
   };
 }
 
@@ -230,23 +295,30 @@ same_value d e at = inr (0, sym (tens_none d.mantissa), at ∙ added_none e, ref
     added_none : (e : ℤ) → e ≡ (e +ℤ pos 0)
     added_none e = omega (arith, ints)
 
-magnitude_at : (d : Decimal) (e : ℤ) → d.exponent ≡ e → IsDecimal d → IsShortExponent e → SpellsDecimal d.negative (magnitude_text (decimal d.mantissa) e) d
+magnitude_at : (d : Decimal) (e : ℤ) → d.exponent ≡ e → IsDecimal d → IsShortExponent e
+    → SpellsDecimal d.negative (magnitude_text (decimal d.mantissa) e) d
 unfolding magnitude_text
 magnitude_at d (pos count) at is small =
     let short = short_mantissa d is in
     let digits = decimal d.mantissa in
-    either (λ (text : List ℕ). SpellsDecimal d.negative text d) (nat_le (length digits + count) plain_digits) (digits ++ zeros count) (with_exponent digits (pos count))
-    (spells (digits ++ zeros count) d (d.mantissa * 10 ^ count) (pos 0) is (reads_whole d.mantissa count short) (inr (count, refl, at ∙ none_added count, refl)))
-    (spells (with_exponent digits (pos count)) d d.mantissa (pos count) is (reads_exponent d.mantissa (pos count) short small) (same_value d (pos count) at))
+    either (λ (text : List ℕ). SpellsDecimal d.negative text d) (nat_le (length digits + count) plain_digits)
+    (digits ++ zeros count) (with_exponent digits (pos count))
+    (spells (digits ++ zeros count) d (d.mantissa * 10 ^ count) (pos 0) is (reads_whole d.mantissa count short)
+    (inr (count, refl, at ∙ none_added count, refl)))
+    (spells (with_exponent digits (pos count)) d d.mantissa (pos count) is (reads_exponent d.mantissa (pos count) short small)
+    (same_value d (pos count) at))
   where
     none_added : (count : ℕ) → pos count ≡ (pos 0 +ℤ pos count)
     none_added count = omega (arith, ints)
 magnitude_at d (negsuc k) at is small =
     let short = short_mantissa d is in
     let digits = decimal d.mantissa in
-    either (λ (text : List ℕ). SpellsDecimal d.negative text d) (nat_le (suc k) plain_digits && nat_le (length digits) (plain_digits + suc k)) (point_before_last (suc k) (filled (suc k) digits)) (with_exponent digits (negsuc k))
-    (spells (point_before_last (suc k) (filled (suc k) digits)) d d.mantissa (pos 0 -ℤ pos (suc k)) is (reads_filled d.mantissa (suc k) short) (same_value d (pos 0 -ℤ pos (suc k)) (at ∙ below k)))
-    (spells (with_exponent digits (negsuc k)) d d.mantissa (negsuc k) is (reads_exponent d.mantissa (negsuc k) short small) (same_value d (negsuc k) at))
+    either (λ (text : List ℕ). SpellsDecimal d.negative text d) (nat_le (suc k) plain_digits && nat_le (length digits)
+    (plain_digits + suc k)) (point_before_last (suc k) (filled (suc k) digits)) (with_exponent digits (negsuc k))
+    (spells (point_before_last (suc k) (filled (suc k) digits)) d d.mantissa (pos 0 -ℤ pos (suc k)) is
+    (reads_filled d.mantissa (suc k) short) (same_value d (pos 0 -ℤ pos (suc k)) (at ∙ below k)))
+    (spells (with_exponent digits (negsuc k)) d d.mantissa (negsuc k) is (reads_exponent d.mantissa (negsuc k) short small)
+    (same_value d (negsuc k) at))
   where
     below : (k : ℕ) → negsuc k ≡ (pos 0 -ℤ pos (suc k))
     below k = omega (arith, ints)

@@ -44,7 +44,8 @@ value_decimal n short = (decimal_is_IsNumeral_wide n short).1
 -- ---- whole numbers
 
 pub decimal_spells : (n : ℕ) → n < 10 ^ 64 → SpellsNumber (decimal n) n
-decimal_spells n short = subst (SpellsNumber (decimal n)) (value_decimal n short) (spells_digits (decimal n) (digits_decimal n short))
+decimal_spells n short = subst (SpellsNumber (decimal n)) (value_decimal n short)
+    (spells_digits (decimal n) (digits_decimal n short))
 
 -- ---- tags
 
@@ -54,5 +55,7 @@ tag_spells n behind short = (decimal n, refl, digits_decimal n short, value_deci
 digit_in_word : (b : ℕ) → is_digit b ≡ true → is_word_byte b ≡ true
 digit_in_word b is = grind (arith, nat_tests)
 
-pub tag_is_word : (n : ℕ) (behind : List ℕ) → n < 10 ^ 64 → list_all is_word_byte behind ≡ true → is_word (codes "m" ++ (decimal n ++ behind)) ≡ true
-tag_is_word n behind short word = all_append is_word_byte (decimal n) behind (all_weaker is_digit is_word_byte (decimal n) digit_in_word (all_decimal n short)) word
+pub tag_is_word : (n : ℕ) (behind : List ℕ) → n < 10 ^ 64 → list_all is_word_byte behind ≡ true
+    → is_word (codes "m" ++ (decimal n ++ behind)) ≡ true
+tag_is_word n behind short word = all_append is_word_byte (decimal n) behind (all_weaker is_digit is_word_byte (decimal n)
+    digit_in_word (all_decimal n short)) word

@@ -1,5 +1,6 @@
 -- Each item is printed as tokens that say it.
-use Rattle.std.proofs.Common.{◌≡◌, ℕ, suc, ◌<◌, ◌^◌, ℤ, pos, negsuc, Bool, true, false, cond, ◌||◌, ◌&&◌, List, [], ◌∷◌, ◌++◌, length, refl, sym, ap, subst, ◌∙◌, append-nil, arith, inl}
+use Rattle.std.proofs.Common.{◌≡◌, ℕ, suc, ◌<◌, ◌^◌, ℤ, pos, negsuc, Bool, true, false, cond, ◌||◌, ◌&&◌, List, [], ◌∷◌, ◌++◌}
+use Rattle.std.proofs.Common.{length, refl, sym, ap, subst, ◌∙◌, append-nil, arith, inl}
 use Rattle.std.specs.Prelude.{codes, decimal, IsTrue, not, ◌==◌}
 use Rattle.std.specs.List.{flat_map}
 use Rattle.std.proofs.lemmas.Bool.{and_parts, eqb-true}
@@ -8,7 +9,8 @@ use Rattle.std.specs.Str.{bytes_eq}
 use Rattle.dbc_values.specs.Decimals.{Decimal, IsDecimal, SpellsDecimal}
 use Rattle.dbc_values.specs.Pieces.{is_piece, is_string, is_mark_but_semicolon, inside}
 use Rattle.dbc_values.specs.Lexical.{quoted, is_text, is_word, is_name, is_number, is_mark, is_keyword}
-use Rattle.dbc_records.specs.Layout.{Item, Word, Mark, Name, Symbol, Text, Whole, Int, Number, Switch, Muxed, Both, Order, Piece, item_text, magnitude_text, sign_text, decimal_text}
+use Rattle.dbc_records.specs.Layout.{Item, Word, Mark, Name, Symbol, Text, Whole, Int, Number, Switch, Muxed, Both, Order, Piece}
+use Rattle.dbc_records.specs.Layout.{item_text, magnitude_text, sign_text, decimal_text}
 use Rattle.dbc_values.specs.Names.{is_symbol}
 use Rattle.dbc_tokens.specs.declared.token.Kind.{Kind}
 use Rattle.dbc_tokens.specs.declared.token.Kind.TheVariants as kinds
@@ -28,26 +30,31 @@ short_negative n h = omega (arith, h)
 
 -- ---- items of one token
 
-one_says : (kind : Kind) (bytes : List ℕ) (AreSo : List ℕ → Type 0) → AreSo bytes → (tokens : List Token) → HaveLexemes (lexeme kind bytes ∷ []) tokens → IsOne AreSo tokens
+one_says : (kind : Kind) (bytes : List ℕ) (AreSo : List ℕ → Type 0) → AreSo bytes → (tokens : List Token)
+    → HaveLexemes (lexeme kind bytes ∷ []) tokens → IsOne AreSo tokens
 one_says kind bytes AreSo so [] have = elim have [ ]
 one_says kind bytes AreSo so (t ∷ tokens) have = (t, ap (λ (rest : List Token). t ∷ rest) have.2, subst AreSo (sym have.1) so)
 
-one_printed : (item : Item) (kind : Kind) (bytes : List ℕ) (AreSo : List ℕ → Type 0) → lexemes item ≡ lexeme kind bytes ∷ [] → item_text item ≡ bytes → IsToken kind bytes
+one_printed : (item : Item) (kind : Kind) (bytes : List ℕ) (AreSo : List ℕ → Type 0) → lexemes item ≡ lexeme kind bytes ∷ []
+    → item_text item ≡ bytes → IsToken kind bytes
     → ((tokens : List Token) → IsOne AreSo tokens → Says item tokens) → AreSo bytes → Printed item
 one_printed item kind bytes AreSo alone text token say so = record {
   text = text ∙ sym (append-nil bytes) ∙ ap (flat_map (λ (l : Lexeme). l.bytes)) (sym alone);
   are_tokens = subst AreTokens (sym alone) (token, tt);
-  says = λ tokens have. say tokens (one_says kind bytes AreSo so tokens (subst (λ (ls : List Lexeme). HaveLexemes ls tokens) alone have));
+  says = λ tokens have. say tokens (one_says kind bytes AreSo so tokens (subst (λ (ls : List Lexeme). HaveLexemes ls tokens) alone
+      have));
 }
 
 -- ---- a sign and a number
 
-signed_text : (negative : Bool) (bytes : List ℕ) → sign_text negative ++ bytes ≡ flat_map (λ (l : Lexeme). l.bytes) (sign_lexemes negative ++ lexeme kinds.Number bytes ∷ [])
+signed_text : (negative : Bool) (bytes : List ℕ) → sign_text negative ++ bytes ≡ flat_map (λ (l : Lexeme). l.bytes)
+    (sign_lexemes negative ++ lexeme kinds.Number bytes ∷ [])
 unfolding sign_text
 signed_text true bytes = ap (λ (rest : List ℕ). 45 ∷ rest) (sym (append-nil bytes))
 signed_text false bytes = sym (append-nil bytes)
 
-signed_tokens : (negative : Bool) (bytes : List ℕ) → is_number bytes ≡ true → AreTokens (sign_lexemes negative ++ lexeme kinds.Number bytes ∷ [])
+signed_tokens : (negative : Bool) (bytes : List ℕ) → is_number bytes ≡ true
+    → AreTokens (sign_lexemes negative ++ lexeme kinds.Number bytes ∷ [])
 signed_tokens true bytes number = ((45, refl, refl), (number, tt))
 signed_tokens false bytes number = (number, tt)
 
@@ -56,7 +63,15 @@ signed_says : (negative : Bool) (bytes : List ℕ) (AreSo : Bool → List ℕ �
 signed_says true bytes AreSo so [] have = elim have [ ]
 signed_says true bytes AreSo so (t ∷ tokens) have =
     (true, t ∷ [], tokens, refl, (t, refl, have.1), one_says kinds.Number bytes (AreSo true) so tokens have.2)
-signed_says false bytes AreSo so tokens have = (false, [], tokens, refl, inl refl, one_says kinds.Number bytes (AreSo false) so tokens have)
+signed_says false bytes AreSo so tokens have = (
+  false,
+  [],
+  tokens,
+  refl,
+  inl refl,
+  one_says kinds.Number bytes (AreSo false) so
+      tokens have,
+)
 
 int_printed : (z : ℤ) → IsItem (Int z) → Printed (Int z)
 int_printed (pos n) is =
@@ -64,14 +79,16 @@ int_printed (pos n) is =
     record {
       text = sym (append-nil (decimal n));
       are_tokens = (spelled.0, tt);
-      says = λ tokens have. signed_says false (decimal n) (λ negative bytes. (k : ℕ) × SpellsNumber bytes k × (pos n ≡ signed negative k)) (n, spelled, refl) tokens have;
+      says = λ tokens have. signed_says false (decimal n) (λ negative bytes. (k : ℕ) × SpellsNumber bytes k
+          × (pos n ≡ signed negative k)) (n, spelled, refl) tokens have;
     }
 int_printed (negsuc n) is =
     let spelled = decimal_spells (suc n) (short_negative n is) in
     record {
       text = ap (λ (rest : List ℕ). 45 ∷ rest) (sym (append-nil (decimal (suc n))));
       are_tokens = ((45, refl, refl), (spelled.0, tt));
-      says = λ tokens have. signed_says true (decimal (suc n)) (λ negative bytes. (k : ℕ) × SpellsNumber bytes k × (negsuc n ≡ signed negative k)) (suc n, spelled, refl) tokens have;
+      says = λ tokens have. signed_says true (decimal (suc n)) (λ negative bytes. (k : ℕ) × SpellsNumber bytes k
+          × (negsuc n ≡ signed negative k)) (suc n, spelled, refl) tokens have;
     }
 
 number_printed : (d : Decimal) → IsDecimal d → Printed (Number d)
@@ -96,13 +113,15 @@ string_token bytes is =
 mark_token : (bytes : List ℕ) → is_mark_but_semicolon bytes ≡ true → IsToken kinds.Mark bytes
 mark_token [] is = absurd cc
 mark_token (b ∷ []) is = (b, refl, (and_parts (is_mark b) (not (b == 59)) (and_parts (is_mark b && not (b == 59)) true is).0).0)
-mark_token (b ∷ c ∷ bytes) is = absurd (omega (arith, eqb-true (length (c ∷ bytes)) 0 (and_parts (is_mark b && not (b == 59)) (length (c ∷ bytes) == 0) is).1))
+mark_token (b ∷ c ∷ bytes) is =
+    absurd (omega (arith, eqb-true (length (c ∷ bytes)) 0 (and_parts (is_mark b && not (b == 59)) (length (c ∷ bytes) == 0) is).1))
 
 piece_token : (bytes : List ℕ) → is_piece bytes ≡ true → IsToken (kind_of_piece bytes) bytes
 unfolding is_piece
 piece_token bytes is = by_kind (is_string bytes) (is_word bytes) (is_number bytes) refl refl refl is
   where
-    by_kind : (string word number : Bool) → is_string bytes ≡ string → is_word bytes ≡ word → is_number bytes ≡ number → (string || word || number || is_mark_but_semicolon bytes) ≡ true
+    by_kind : (string word number : Bool) → is_string bytes ≡ string → is_word bytes ≡ word → is_number bytes ≡ number
+        → (string || word || number || is_mark_but_semicolon bytes) ≡ true
         → IsToken (cond string kinds.Text (cond word kinds.Word (cond number kinds.Number kinds.Mark))) bytes
     by_kind true word number is_str is_wrd is_num any = string_token bytes is_str
     by_kind false true number is_str is_wrd is_num any = is_wrd
@@ -126,10 +145,17 @@ word_of_symbol word is = (and_parts (is_word word) _ is).0
 -- the whole numbers among the items have at most 64 digits, which is how many are printed
 pub printed : (item : Item) → IsItem item → Printed item
 printed (Word word) is = one_printed (Word word) kinds.Word word (λ bytes. bytes ≡ word) refl refl is (λ tokens says. says) refl
-printed (Mark mark) is = one_printed (Mark mark) kinds.Mark (mark ∷ []) (λ bytes. bytes ≡ mark ∷ []) refl refl (mark, refl, is) (λ tokens says. says) refl
-printed (Name name) is = one_printed (Name name) kinds.Word name (λ bytes. (bytes ≡ name) × IsTrue (is_name name)) refl refl (word_of_name name is) (λ tokens says. says) (refl, is)
-printed (Symbol word) is = one_printed (Symbol word) kinds.Word word (λ bytes. (bytes ≡ word) × IsTrue (is_symbol word)) refl refl (word_of_symbol word is) (λ tokens says. says) (refl, is)
-printed (Text text) is = one_printed (Text text) kinds.Text (quoted text) (λ bytes. (bytes ≡ quoted text) × IsTrue (is_text text)) refl refl (text, refl, is) (λ tokens says. says) (refl, is)
+printed (Mark mark) is = one_printed (Mark mark) kinds.Mark (mark ∷ []) (λ bytes. bytes ≡ mark ∷ []) refl refl (
+  mark,
+  refl,
+  is,
+) (λ tokens says. says) refl
+printed (Name name) is = one_printed (Name name) kinds.Word name (λ bytes. (bytes ≡ name) × IsTrue (is_name name)) refl refl
+    (word_of_name name is) (λ tokens says. says) (refl, is)
+printed (Symbol word) is = one_printed (Symbol word) kinds.Word word (λ bytes. (bytes ≡ word) × IsTrue (is_symbol word)) refl refl
+    (word_of_symbol word is) (λ tokens says. says) (refl, is)
+printed (Text text) is = one_printed (Text text) kinds.Text (quoted text) (λ bytes. (bytes ≡ quoted text) × IsTrue (is_text text))
+    refl refl (text, refl, is) (λ tokens says. says) (refl, is)
 printed (Whole n) is =
     let spelled = decimal_spells n (short n is) in
     one_printed (Whole n) kinds.Number (decimal n) (λ bytes. SpellsNumber bytes n) refl refl spelled.0 (λ tokens says. says) spelled
@@ -137,7 +163,8 @@ printed (Int z) is = int_printed z is
 printed (Number d) is = number_printed d is
 printed Switch is = one_printed Switch kinds.Word (codes "M") (λ bytes. bytes ≡ codes "M") refl refl refl (λ tokens says. says) refl
 printed (Muxed n) is =
-    let alone : codes "m" ++ (decimal n ++ []) ≡ codes "m" ++ decimal n = ap (λ (digits : List ℕ). codes "m" ++ digits) (append-nil (decimal n)) in
+    let alone : codes "m" ++ (decimal n ++ []) ≡ codes "m" ++ decimal n = ap (λ (digits : List ℕ). codes "m" ++ digits)
+    (append-nil (decimal n)) in
     one_printed (Muxed n) kinds.Word (codes "m" ++ decimal n) (λ bytes. SpellsTag bytes n []) refl refl
     (subst (λ (bytes : List ℕ). is_word bytes ≡ true) alone (tag_is_word n [] (short n is) refl)) (λ tokens says. says)
     (subst (λ (bytes : List ℕ). SpellsTag bytes n []) alone (tag_spells n [] (short n is)))
@@ -146,6 +173,8 @@ printed (Both n) is =
     (tag_is_word n (codes "M") (short n is) refl) (λ tokens says. says) (tag_spells n (codes "M") (short n is))
 printed (Order intel) is =
     let spelled = order_spells intel in
-    one_printed (Order intel) kinds.Number (cond intel (codes "1") (codes "0")) (λ bytes. SpellsNumber bytes (cond intel 1 0)) refl refl spelled.0 (λ tokens says. says) spelled
+    one_printed (Order intel) kinds.Number (cond intel (codes "1") (codes "0")) (λ bytes. SpellsNumber bytes (cond intel 1 0)) refl
+    refl spelled.0 (λ tokens says. says) spelled
 printed (Piece bytes) is =
-    one_printed (Piece bytes) (kind_of_piece bytes) bytes (λ piece. (piece ≡ bytes) × IsTrue (is_piece bytes)) refl refl (piece_token bytes is) (λ tokens says. says) (refl, is)
+    one_printed (Piece bytes) (kind_of_piece bytes) bytes (λ piece. (piece ≡ bytes) × IsTrue (is_piece bytes)) refl refl
+    (piece_token bytes is) (λ tokens says. says) (refl, is)

@@ -1,5 +1,6 @@
 -- A first fault names a line of its text, and is none of want of memory.
-use Rattle.std.proofs.Common.{◌≡◌, ◌≢◌, ℕ, ◌+◌, ◌≤◌, ◌^◌, ◌-◌, Bool, true, false, cond, List, [], ◌∷◌, ◌++◌, Option, Some, None, Result, Ok, Err, ap, subst, ◌∙◌, arith}
+use Rattle.std.proofs.Common.{◌≡◌, ◌≢◌, ℕ, ◌+◌, ◌≤◌, ◌^◌, ◌-◌, Bool, true, false, cond, List, [], ◌∷◌, ◌++◌, Option, Some, None}
+use Rattle.std.proofs.Common.{Result, Ok, Err, ap, subst, ◌∙◌, arith}
 use Rattle.std.specs.Prelude.{codes, nat_le, ◌==◌, ◌&&◌, length}
 use Rattle.std.specs.List.{list_any}
 use Rattle.std.specs.Str.{bytes_eq}
@@ -14,8 +15,11 @@ use Rattle.dbc_tokens.specs.declared.fault.Cause.{Cause}
 use Rattle.dbc_tokens.specs.declared.fault.Cause.TheVariants as causes
 use Rattle.dbc_tokens.specs.declared.fault.ReadFault.{ReadFault}
 use Rattle.dbc_tokens.specs.Tokens.{Token, Cut, End, Fault, ◌▸◌, HasTokens, line_feeds}
-use Rattle.dbc_reader.specs.Classes.{has_word, has_mark, has_name, has_symbol, has_string, has_piece, has_kept_word, has_number, bounded, whole_of, order_digit, order_of, tagged, counted, front, muxed_of, tag_of}
-use Rattle.dbc_reader.specs.Pattern.{Class, Word, Mark, Name, Symbol, String, Whole, Number, Order, Tag as TagClass, Piece, KeptWord, BeginsMessage, BeginsSignal, SignalName, Seen, plain, judged_so, verdict, Pattern, may_end, Left, after, fault_in, ruled, judged, first_fault, nothing_seen}
+use Rattle.dbc_reader.specs.Classes.{has_word, has_mark, has_name, has_symbol, has_string, has_piece, has_kept_word, has_number}
+use Rattle.dbc_reader.specs.Classes.{bounded, whole_of, order_digit, order_of, tagged, counted, front, muxed_of, tag_of}
+use Rattle.dbc_reader.specs.Pattern.{Class, Word, Mark, Name, Symbol, String, Whole, Number, Order, Tag as TagClass, Piece}
+use Rattle.dbc_reader.specs.Pattern.{KeptWord, BeginsMessage, BeginsSignal, SignalName, Seen, plain, judged_so, verdict, Pattern}
+use Rattle.dbc_reader.specs.Pattern.{may_end, Left, after, fault_in, ruled, judged, first_fault, nothing_seen}
 use Rattle.dbc_read.specs.Laws.{FaultsAreOfTexts}
 
 -- ---- causes
@@ -74,12 +78,15 @@ counted_so tag bytes = tagged_so tag (whole_of 0 (2 ^ 64 - 1) bytes) (whole_so 0
 muxed_so : (bytes : List ℕ) → NoMemory (muxed_of bytes)
 unfolding muxed_of
 muxed_so bytes =
-    chosen_so (is_digits bytes) _ _ (counted_so tags.Muxed bytes) (chosen_so (is_digits (front bytes) && bytes_eq bytes (front bytes ++ codes "M")) (counted tags.Both (front bytes)) (Err causes.Statement) (counted_so tags.Both (front bytes)) statement_is)
+    chosen_so (is_digits bytes) _ _ (counted_so tags.Muxed bytes)
+    (chosen_so (is_digits (front bytes) && bytes_eq bytes (front bytes ++ codes "M")) (counted tags.Both (front bytes))
+    (Err causes.Statement) (counted_so tags.Both (front bytes)) statement_is)
 
 tag_so : (bytes : List ℕ) → NoMemory (tag_of bytes)
 unfolding tag_of
 tag_so [] = statement_is
-tag_so (b ∷ bytes) = chosen_so (bytes_eq (b ∷ bytes) (codes "M")) (Ok tags.Switch) _ tt (chosen_so (b == 109) (muxed_of bytes) (Err causes.Statement) (muxed_so bytes) statement_is)
+tag_so (b ∷ bytes) = chosen_so (bytes_eq (b ∷ bytes) (codes "M")) (Ok tags.Switch) _ tt (chosen_so (b == 109) (muxed_of bytes)
+    (Err causes.Statement) (muxed_so bytes) statement_is)
 
 plain_so : (b : Bool) (seen : Seen) → NoMemory (plain b seen)
 plain_so true seen = tt
@@ -101,9 +108,12 @@ verdict_so Order t seen = judged_no (order_of t.bytes) seen (order_so t.bytes)
 verdict_so TagClass t seen = judged_no (tag_of t.bytes) seen (tag_so t.bytes)
 verdict_so Piece t seen = plain_so (has_piece t) seen
 verdict_so KeptWord t seen = plain_so (has_kept_word t) seen
-verdict_so BeginsMessage t seen = chosen_so (has_word (codes "BO_") t) _ (Err causes.Statement) (chosen_so (nat_le 65535 seen.messages) (Err causes.MessagesFull) (Ok _) (λ e. absurd cc) tt) statement_is
-verdict_so BeginsSignal t seen = chosen_so (has_word (codes "SG_") t) _ (Err causes.Statement) (chosen_so (nat_le 999 (length seen.signals)) (Err causes.SignalsFull) (Ok seen) (λ e. absurd cc) tt) statement_is
-verdict_so SignalName t seen = chosen_so (has_name t) _ (Err causes.Statement) (chosen_so (list_any (bytes_eq t.bytes) seen.signals) (Err causes.RepeatedSignal) (Ok _) (λ e. absurd cc) tt) statement_is
+verdict_so BeginsMessage t seen = chosen_so (has_word (codes "BO_") t) _ (Err causes.Statement)
+    (chosen_so (nat_le 65535 seen.messages) (Err causes.MessagesFull) (Ok _) (λ e. absurd cc) tt) statement_is
+verdict_so BeginsSignal t seen = chosen_so (has_word (codes "SG_") t) _ (Err causes.Statement)
+    (chosen_so (nat_le 999 (length seen.signals)) (Err causes.SignalsFull) (Ok seen) (λ e. absurd cc) tt) statement_is
+verdict_so SignalName t seen = chosen_so (has_name t) _ (Err causes.Statement) (chosen_so (list_any (bytes_eq t.bytes) seen.signals)
+    (Err causes.RepeatedSignal) (Ok _) (λ e. absurd cc) tt) statement_is
 
 -- ---- lines
 
@@ -116,19 +126,25 @@ LinesWithin first last (t ▸ cut) = (first ≤ t.line) × (t.line ≤ last) × 
 feeds_both : (xs ys : List ℕ) → line_feeds (xs ++ ys) ≡ line_feeds xs + line_feeds ys
 feeds_both xs ys = sum_by-append (λ b. cond (is_line_feed b) 1 0) xs ys
 
-lines_so : (line last : ℕ) (text : List ℕ) (cut : Cut) → 1 ≤ line → line + line_feeds text ≤ last → HasTokens line text cut → LinesWithin 1 last cut
+lines_so : (line last : ℕ) (text : List ℕ) (cut : Cut) → 1 ≤ line → line + line_feeds text ≤ last → HasTokens line text cut
+    → LinesWithin 1 last cut
 lines_so line last text (End at) low high (gap, e) = omega (arith, low, high, e)
-lines_so line last text (Fault at) low high (gap, rest, same, is, e, some, none, no_token) = within_gap line last at (line_feeds text) (line_feeds gap) (line_feeds rest) (ap line_feeds same ∙ feeds_both gap rest) e low high
+lines_so line last text (Fault at) low high (gap, rest, same, is, e, some, none, no_token) =
+    within_gap line last at (line_feeds text) (line_feeds gap) (line_feeds rest) (ap line_feeds same ∙ feeds_both gap rest) e low
+    high
   where
-    within_gap : (line last at all gap rest : ℕ) → all ≡ gap + rest → at ≡ line + gap → 1 ≤ line → line + all ≤ last → (1 ≤ at) × (at ≤ last)
+    within_gap : (line last at all gap rest : ℕ) → all ≡ gap + rest → at ≡ line + gap → 1 ≤ line → line + all ≤ last → (1 ≤ at)
+        × (at ≤ last)
     within_gap line last at all gap rest e f low high = omega (arith, e, f, low, high)
 lines_so line last text (t ▸ cut) low high (gap, rest, same, is, e, longest, others) =
     let all = ap line_feeds same ∙ feeds_both gap (t.bytes ++ rest) in
     let behind = feeds_both t.bytes rest in
-    let here = within_gap line last t.line (line_feeds text) (line_feeds gap) (line_feeds (t.bytes ++ rest)) (line_feeds t.bytes) (line_feeds rest) all behind e low high in
+    let here = within_gap line last t.line (line_feeds text) (line_feeds gap) (line_feeds (t.bytes ++ rest)) (line_feeds t.bytes)
+    (line_feeds rest) all behind e low high in
     (here.0, here.1, lines_so (t.line + line_feeds t.bytes) last rest cut here.2 here.3 others)
   where
-    within_gap : (line last at all gap more bytes rest : ℕ) → all ≡ gap + more → more ≡ bytes + rest → at ≡ line + gap → 1 ≤ line → line + all ≤ last → (1 ≤ at) × (at ≤ last) × (1 ≤ at + bytes) × ((at + bytes) + rest ≤ last)
+    within_gap : (line last at all gap more bytes rest : ℕ) → all ≡ gap + more → more ≡ bytes + rest → at ≡ line + gap → 1 ≤ line
+        → line + all ≤ last → (1 ≤ at) × (at ≤ last) × (1 ≤ at + bytes) × ((at + bytes) + rest ≤ last)
     within_gap line last at all gap more bytes rest d e f low high = omega (arith, d, e, f, low, high)
 
 -- ---- faults
@@ -136,11 +152,14 @@ lines_so line last text (t ▸ cut) low high (gap, rest, same, is, e, longest, o
 Told : ℕ → ReadFault → Type 0
 Told last fault = (1 ≤ fault.line) × (fault.line ≤ last) × (fault.cause ≢ causes.Memory)
 
-told : (last line : ℕ) (cause : Cause) (fault : ReadFault) → 1 ≤ line → line ≤ last → cause ≢ causes.Memory → Some (fault_in line cause) ≡ Some fault → Told last fault
+told : (last line : ℕ) (cause : Cause) (fault : ReadFault) → 1 ≤ line → line ≤ last → cause ≢ causes.Memory
+    → Some (fault_in line cause) ≡ Some fault → Told last fault
 unfolding Told
-told last line cause fault low high other e = let same : fault_in line cause ≡ fault = cc in subst (λ (f : ReadFault). (1 ≤ f.line) × (f.line ≤ last) × (f.cause ≢ causes.Memory)) same (low, high, other)
+told last line cause fault low high other e = let same : fault_in line cause ≡ fault = cc in subst (λ (f : ReadFault). (1 ≤ f.line)
+    × (f.line ≤ last) × (f.cause ≢ causes.Memory)) same (low, high, other)
 
-faults_told : (last : ℕ) (cut : Cut) → LinesWithin 1 last cut → (p : Pattern) (seen : Seen) (fault : ReadFault) → first_fault p seen cut ≡ Some fault → Told last fault
+faults_told : (last : ℕ) (cut : Cut) → LinesWithin 1 last cut → (p : Pattern) (seen : Seen) (fault : ReadFault)
+    → first_fault p seen cut ≡ Some fault → Told last fault
 unfolding first_fault
 faults_told last (End line) lines p seen fault e = by_end (may_end p) e
   where
@@ -150,14 +169,18 @@ faults_told last (End line) lines p seen fault e = by_end (may_end p) e
 faults_told last (Fault line) lines p seen fault e = told last line causes.Token fault lines.0 lines.1 (λ e. absurd cc) e
 faults_told last (t ▸ cut) lines p seen fault e = by_left (λ q now. faults_told last cut lines.2 q now fault) (after p t seen) e
   where
-    by_verdict : ((q : Pattern) (now : Seen) → first_fault q now cut ≡ Some fault → Told last fault) → (q : Pattern) (o : Result Seen Cause) → NoMemory o → ruled t.line o (λ seen. first_fault q seen cut) ≡ Some fault → Told last fault
+    by_verdict : ((q : Pattern) (now : Seen) → first_fault q now cut ≡ Some fault → Told last fault)
+        → (q : Pattern) (o : Result Seen Cause) → NoMemory o → ruled t.line o (λ seen. first_fault q seen cut) ≡ Some fault
+        → Told last fault
     by_verdict below q (Ok now) other e = below q now e
     by_verdict below q (Err cause) other e = told last t.line cause fault lines.0 lines.1 other e
 
-    by_left : ((q : Pattern) (now : Seen) → first_fault q now cut ≡ Some fault → Told last fault) → (left : Left) → judged left t seen (λ q seen. first_fault q seen cut) ≡ Some fault → Told last fault
+    by_left : ((q : Pattern) (now : Seen) → first_fault q now cut ≡ Some fault → Told last fault) → (left : Left)
+        → judged left t seen (λ q seen. first_fault q seen cut) ≡ Some fault → Told last fault
     by_left below None e = told last t.line causes.Statement fault lines.0 lines.1 statement_is e
     by_left below (Some x) e = by_verdict below x.1 (verdict x.0 t seen) (verdict_so x.0 t seen) e
 
 pub faults_are_of_texts : FaultsAreOfTexts
 unfolding Told
-faults_are_of_texts pattern text fault (cut, has, e) = faults_told (1 + line_feeds text) cut (lines_so 1 (1 + line_feeds text) text cut (omega arith) (omega arith) has) pattern nothing_seen fault e
+faults_are_of_texts pattern text fault (cut, has, e) = faults_told (1 + line_feeds text) cut (lines_so 1 (1 + line_feeds text) text
+    cut (omega arith) (omega arith) has) pattern nothing_seen fault e

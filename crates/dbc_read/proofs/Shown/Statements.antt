@@ -1,5 +1,6 @@
 -- The tokens of each statement's layout spell the statement's form.
-use Rattle.std.proofs.Common.{◌≡◌, ℕ, Bool, true, false, not, List, [], ◌∷◌, ◌++◌, Option, Some, None, length, append_assoc, append-nil, refl, sym, ap, ◌∙◌, arith}
+use Rattle.std.proofs.Common.{◌≡◌, ℕ, Bool, true, false, not, List, [], ◌∷◌, ◌++◌, Option, Some, None, length, append_assoc}
+use Rattle.std.proofs.Common.{append-nil, refl, sym, ap, ◌∙◌, arith}
 use Rattle.std.specs.Prelude.{All, IfSome}
 use Rattle.std.specs.List.{list_all}
 use Rattle.std.proofs.lemmas.Bool.{and_parts}
@@ -9,13 +10,18 @@ use Rattle.dbc_values.specs.Decimals.{Decimal, IsDecimal}
 use Rattle.dbc_values.specs.Names.{IsName}
 use Rattle.dbc_records.specs.Records.{Signal, IsSignal, Message, IsMessage, FloatRow, IsFloatRow}
 use Rattle.dbc_records.specs.Layout.{Item, Mark, Name, Whole, Layout}
-use Rattle.dbc_records.specs.CanonicalText.{blank, number_layout, spaced_number, spaced_mark, spaced_name, line_end, statement_end, timing_numbers, perhaps_numbers, timing_title, timing_layout, signal_name_layout, tag_layout, place_layout, scale_layout, limits_layout, spaced_text, further_receiver, receivers_layout, signal_layout, head_layout, message_layout, float_key, float_kind, float_layout}
+use Rattle.dbc_records.specs.CanonicalText.{blank, number_layout, spaced_number, spaced_mark, spaced_name, line_end, statement_end}
+use Rattle.dbc_records.specs.CanonicalText.{timing_numbers, perhaps_numbers, timing_title, timing_layout, signal_name_layout}
+use Rattle.dbc_records.specs.CanonicalText.{tag_layout, place_layout, scale_layout, limits_layout, spaced_text, further_receiver}
+use Rattle.dbc_records.specs.CanonicalText.{receivers_layout, signal_layout, head_layout, message_layout, float_key, float_kind}
+use Rattle.dbc_records.specs.CanonicalText.{float_layout}
 use Rattle.dbc_reader.specs.Forms.{Is as Shown, Perhaps, Unsigned, of_layout}
 use Rattle.dbc_reader.specs.Spelling.{form, Timing, OfMessage, Float, receivers_form, signal_form}
 use Rattle.dbc_reader.proofs.Sound.Databases.{three_numbers}
 use Rattle.dbc_read.proofs.Items.{IsItem, Printed, Shows}
 use Rattle.dbc_read.proofs.Apart.Statements.{kind_small, float_key_part, head_neat, signal_front_items, timing_title_neat}
-use Rattle.dbc_read.proofs.Shown.{shows_both, shows_none, shows_as, shows_each, shows_space, shows_end, shows_item, shows_perhaps, shows_unsigned, shows_layout}
+use Rattle.dbc_read.proofs.Shown.{shows_both, shows_none, shows_as, shows_each, shows_space, shows_end, shows_item, shows_perhaps}
+use Rattle.dbc_read.proofs.Shown.{shows_unsigned, shows_layout}
 
 module _ (printed : (item : Item) → IsItem item → Printed item) where
   -- ---- bit timing
@@ -36,9 +42,11 @@ module _ (printed : (item : Item) → IsItem item → Printed item) where
   is_positive true e = absurd cc
   is_positive false e = refl
 
-  pub timing_shown : (timing : Option (List Decimal)) → IfSome timing IsBitTiming → timing_fits timing ≡ true → Shows (timing_layout timing) (form (Timing (three_numbers timing)))
+  pub timing_shown : (timing : Option (List Decimal)) → IfSome timing IsBitTiming → timing_fits timing ≡ true
+      → Shows (timing_layout timing) (form (Timing (three_numbers timing)))
   unfolding timing_layout perhaps_numbers timing_numbers
-  timing_shown None is fits = shows_as refl (sym (append-nil (of_layout timing_title))) (shows_both (shows_layout printed timing_title timing_title_neat.items) end_shown)
+  timing_shown None is fits = shows_as refl (sym (append-nil (of_layout timing_title)))
+      (shows_both (shows_layout printed timing_title timing_title_neat.items) end_shown)
   timing_shown (Some []) is fits = absurd cc
   timing_shown (Some (a ∷ [])) is fits = let three : length (a ∷ []) ≡ 3 = is.three in absurd (omega (arith, three))
   timing_shown (Some (a ∷ b ∷ [])) is fits = let three : length (a ∷ b ∷ []) ≡ 3 = is.three in absurd (omega (arith, three))
@@ -48,10 +56,14 @@ module _ (printed : (item : Item) → IsItem item → Printed item) where
       let three = and_parts (not c.negative) true two.1 in
       let behind = All-tail IsDecimal a (b ∷ c ∷ []) is.numbers in
       shows_both (shows_layout printed timing_title timing_title_neat.items)
-      (shows_both (shows_both (spaced_unsigned a (All-head IsDecimal a (b ∷ c ∷ []) is.numbers) (is_positive a.negative one.0)) (shows_both (mark_shown 58 refl)
-      (shows_both (spaced_unsigned b (All-head IsDecimal b (c ∷ []) behind) (is_positive b.negative two.0)) (shows_both (mark_shown 44 refl)
-      (spaced_unsigned c (All-head IsDecimal c [] (All-tail IsDecimal b (c ∷ []) behind)) (is_positive c.negative three.0)))))) end_shown)
-  timing_shown (Some (a ∷ b ∷ c ∷ d ∷ more)) is fits = let three : length (a ∷ b ∷ c ∷ d ∷ more) ≡ 3 = is.three in absurd (omega (arith, three))
+      (shows_both (shows_both (spaced_unsigned a (All-head IsDecimal a (b ∷ c ∷ []) is.numbers) (is_positive a.negative one.0))
+      (shows_both (mark_shown 58 refl)
+      (shows_both (spaced_unsigned b (All-head IsDecimal b (c ∷ []) behind) (is_positive b.negative two.0))
+      (shows_both (mark_shown 44 refl)
+      (spaced_unsigned c (All-head IsDecimal c [] (All-tail IsDecimal b (c ∷ []) behind)) (is_positive c.negative three.0))))))
+      end_shown)
+  timing_shown (Some (a ∷ b ∷ c ∷ d ∷ more)) is fits = let three : length (a ∷ b ∷ c ∷ d ∷ more) ≡ 3 = is.three in
+      absurd (omega (arith, three))
 
   -- ---- float types
 
@@ -59,7 +71,9 @@ module _ (printed : (item : Item) → IsItem item → Printed item) where
   unfolding float_layout float_kind statement_end
   float_shown row is =
       shows_both (shows_layout printed (float_key row) (float_key_part row is).items)
-      (shows_both (shows_both shows_space (shows_both (shows_perhaps printed 58 refl) (shows_both shows_space (shows_item printed (Whole row.kind) (kind_small row.kind is.fits))))) (shows_both (shows_item printed (Mark 59) refl) shows_end))
+      (shows_both (shows_both shows_space (shows_both (shows_perhaps printed 58 refl)
+      (shows_both shows_space (shows_item printed (Whole row.kind) (kind_small row.kind is.fits)))))
+      (shows_both (shows_item printed (Mark 59) refl) shows_end))
 
   -- ---- messages and signals
 
@@ -71,20 +85,27 @@ module _ (printed : (item : Item) → IsItem item → Printed item) where
   unfolding receivers_layout spaced_name
   receivers_shown [] are = shows_none
   receivers_shown (name ∷ names) are =
-      shows_both (shows_both shows_space (shows_item printed (Name name) (All-head IsName name names are))) (shows_each IsName receiver_shown names (All-tail IsName name names are))
+      shows_both (shows_both shows_space (shows_item printed (Name name) (All-head IsName name names are)))
+      (shows_each IsName receiver_shown names (All-tail IsName name names are))
 
   six : (a b c d e f g : Layout) → a ++ (b ++ (c ++ (d ++ (e ++ (f ++ g))))) ≡ (a ++ (b ++ (c ++ (d ++ (e ++ f))))) ++ g
   six a b c d e f g =
-      sym (append_assoc a (b ++ (c ++ (d ++ (e ++ f)))) g ∙ ap (λ (l : Layout). a ++ l) (append_assoc b (c ++ (d ++ (e ++ f))) g ∙ ap (λ (l : Layout). b ++ l) (append_assoc c (d ++ (e ++ f)) g
+      sym (append_assoc a (b ++ (c ++ (d ++ (e ++ f)))) g ∙ ap (λ (l : Layout). a ++ l) (append_assoc b (c ++ (d ++ (e ++ f))) g
+      ∙ ap (λ (l : Layout). b ++ l) (append_assoc c (d ++ (e ++ f)) g
       ∙ ap (λ (l : Layout). c ++ l) (append_assoc d (e ++ f) g ∙ ap (λ (l : Layout). d ++ l) (append_assoc e f g)))))
 
   pub signal_shown : (s : Signal) → IsSignal s → Shows (signal_layout s) (signal_form s)
   unfolding signal_layout
   signal_shown s is =
-      shows_as (six (signal_name_layout s) (tag_layout s.tag) (place_layout s) (scale_layout s) (limits_layout s) (spaced_text s.unit) (receivers_layout s.receivers ++ line_end)) refl
-      (shows_both (shows_layout printed (signal_name_layout s ++ (tag_layout s.tag ++ (place_layout s ++ (scale_layout s ++ (limits_layout s ++ spaced_text s.unit))))) (signal_front_items s is))
-      (shows_as refl (sym (append-nil (receivers_form s.receivers))) (shows_both (receivers_shown s.receivers is.receivers) end_shown)))
+      shows_as (six (signal_name_layout s) (tag_layout s.tag) (place_layout s) (scale_layout s) (limits_layout s)
+      (spaced_text s.unit) (receivers_layout s.receivers ++ line_end)) refl
+      (shows_both (shows_layout printed (signal_name_layout s
+      ++ (tag_layout s.tag ++ (place_layout s ++ (scale_layout s ++ (limits_layout s ++ spaced_text s.unit)))))
+      (signal_front_items s is))
+      (shows_as refl (sym (append-nil (receivers_form s.receivers))) (shows_both (receivers_shown s.receivers is.receivers)
+      end_shown)))
 
   pub message_shown : (message : Message) → IsMessage message → Shows (message_layout message) (form (OfMessage message))
   unfolding message_layout
-  message_shown message is = shows_both (shows_layout printed (head_layout message.head) (head_neat message.head is.head).items) (shows_each IsSignal signal_shown message.signals is.signals)
+  message_shown message is = shows_both (shows_layout printed (head_layout message.head) (head_neat message.head is.head).items)
+      (shows_each IsSignal signal_shown message.signals is.signals)

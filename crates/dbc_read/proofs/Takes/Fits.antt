@@ -1,5 +1,6 @@
 -- The statements of a database, one after another: each is proper, and there is room for each message.
-use Rattle.std.proofs.Common.{◌≡◌, ℕ, suc, ◌+◌, ◌≤◌, true, List, [], ◌∷◌, ◌++◌, length, length-append, Option, refl, sym, ap, subst, inl, inr, ◌⊎◌, arith}
+use Rattle.std.proofs.Common.{◌≡◌, ℕ, suc, ◌+◌, ◌≤◌, true, List, [], ◌∷◌, ◌++◌, length, length-append, Option, refl, sym, ap, subst}
+use Rattle.std.proofs.Common.{inl, inr, ◌⊎◌, arith}
 use Rattle.std.specs.Prelude.{nat_le, nat_lt, All}
 use Rattle.std.specs.List.{flat_map}
 use Rattle.std.proofs.lemmas.Bool.{and_parts}
@@ -13,7 +14,10 @@ use Rattle.dbc_records.specs.Kept.{IsKept}
 use Rattle.dbc_records.specs.Records.{IsTableRow, IsValueRow, IsFloatRow, IsMuxRow, IsMessage}
 use Rattle.dbc_records.specs.Comments.{IsComment}
 use Rattle.dbc_records.specs.Attributes.{IsAttrDef, IsAttrRow}
-use Rattle.dbc_reader.specs.Spelling.{AnyStatement, Symbols, Timing, Nodes, Table, OfMessage, OfComment, Definition, Default, Attribute, Values, Float, Mux, OfKept, timings_of, tables_of, messages_of, comments_of, definitions_of, attributes_of, values_of, floats_of, muxes_of, kept_of, EndsSymbols, FollowOn, ArePlaced}
+use Rattle.dbc_reader.specs.Spelling.{AnyStatement, Symbols, Timing, Nodes, Table, OfMessage, OfComment, Definition, Default}
+use Rattle.dbc_reader.specs.Spelling.{Attribute, Values, Float, Mux, OfKept, timings_of, tables_of, messages_of, comments_of}
+use Rattle.dbc_reader.specs.Spelling.{definitions_of, attributes_of, values_of, floats_of, muxes_of, kept_of, EndsSymbols, FollowOn}
+use Rattle.dbc_reader.specs.Spelling.{ArePlaced}
 use Rattle.dbc_reader.proofs.Sound.Adding.{joined, joined_twice}
 
 -- ---- each statement fits
@@ -39,23 +43,28 @@ AllFit count [] = Unit {0}
 AllFit count (s ∷ more) = Fits count s × AllFit (count + length (flat_map messages_of (s ∷ []))) more
 
 one_of : {X : Type 0} (P : X → Type 0) (xs : List X) (x : X) (ys : List X) → All P (xs ++ x ∷ ys) → P x
-one_of P xs x ys all = All-head P x ys (subst (All P) (drop_at xs (x ∷ ys) (length xs) refl) (All-drop P (length xs) (xs ++ x ∷ ys) all))
+one_of P xs x ys all = All-head P x ys (subst (All P) (drop_at xs (x ∷ ys) (length xs) refl) (All-drop P (length xs) (xs ++ x ∷ ys)
+    all))
 
 room : (n m : ℕ) → nat_le (n + suc m) 65535 ≡ true → nat_lt n 65535 ≡ true
 room n m e = grind (arith, common_steps)
 
-fits_first : (d : Database) (s : AnyStatement) (more : List AnyStatement) → IsDatabase (joined d (s ∷ more)) → Fits (length d.messages) s
+fits_first : (d : Database) (s : AnyStatement) (more : List AnyStatement) → IsDatabase (joined d (s ∷ more))
+    → Fits (length d.messages) s
 fits_first d (Symbols symbols) more is = tt
 fits_first d (Timing numbers) more is = tt
 fits_first d (Nodes nodes) more is = tt
 fits_first d (Table row) more is = one_of IsTableRow d.tables row (flat_map tables_of more) is.tables
 fits_first d (OfMessage message) more is =
-    let count = and_parts (timing_fits d.bit_timing) (nat_le (length (d.messages ++ message ∷ flat_map messages_of more)) 65535) is.fits in (
-      room (length d.messages) (length (flat_map messages_of more)) (subst (λ (n : ℕ). nat_le n 65535 ≡ true) (length-append d.messages (message ∷ flat_map messages_of more)) count.1),
+    let count = and_parts (timing_fits d.bit_timing) (nat_le (length (d.messages ++ message ∷ flat_map messages_of more)) 65535)
+    is.fits in (
+      room (length d.messages) (length (flat_map messages_of more)) (subst (λ (n : ℕ). nat_le n 65535 ≡ true)
+          (length-append d.messages (message ∷ flat_map messages_of more)) count.1),
       one_of IsMessage d.messages message (flat_map messages_of more) is.messages,
     )
 fits_first d (OfComment comment) more is = one_of IsComment d.comments comment (flat_map comments_of more) is.comments
-fits_first d (Definition definition) more is = one_of IsAttrDef d.definitions definition (flat_map definitions_of more) is.definitions
+fits_first d (Definition definition) more is = one_of IsAttrDef d.definitions definition (flat_map definitions_of more)
+    is.definitions
 fits_first d (Default row) more is = tt
 fits_first d (Attribute row) more is = one_of IsAttrRow d.attributes row (flat_map attributes_of more) is.attributes
 fits_first d (Values row) more is = one_of IsValueRow d.values row (flat_map values_of more) is.values
@@ -63,7 +72,8 @@ fits_first d (Float row) more is = one_of IsFloatRow d.floats row (flat_map floa
 fits_first d (Mux row) more is = one_of IsMuxRow d.muxes row (flat_map muxes_of more) is.muxes
 fits_first d (OfKept row) more is = one_of IsKept d.kept row (flat_map kept_of more) is.kept
 
-pub all_fit : (d : Database) (statements : List AnyStatement) → IsDatabase (joined d statements) → AllFit (length d.messages) statements
+pub all_fit : (d : Database) (statements : List AnyStatement) → IsDatabase (joined d statements)
+    → AllFit (length d.messages) statements
 all_fit d [] is = tt
 all_fit d (s ∷ more) is = (
   fits_first d s more is,
@@ -71,7 +81,8 @@ all_fit d (s ∷ more) is = (
       (all_fit (joined d (s ∷ [])) more (subst (λ (e : Database). IsDatabase e) (sym (joined_twice d (s ∷ []) more)) is)),
 )
 
-pub fit_both : (count : ℕ) (xs ys : List AnyStatement) → AllFit count (xs ++ ys) → AllFit count xs × AllFit (count + length (flat_map messages_of xs)) ys
+pub fit_both : (count : ℕ) (xs ys : List AnyStatement) → AllFit count (xs ++ ys) → AllFit count xs
+    × AllFit (count + length (flat_map messages_of xs)) ys
 fit_both count [] ys fit = (tt, subst (λ (n : ℕ). AllFit n ys) (plus_none count) fit)
   where
     plus_none : (n : ℕ) → n ≡ n + 0
@@ -80,8 +91,13 @@ fit_both count (x ∷ xs) ys fit =
     let below = fit_both (count + length (flat_map messages_of (x ∷ []))) xs ys fit.1 in
     ((fit.0, below.0), subst (λ (n : ℕ). AllFit n ys) (counted count x xs) below.1)
   where
-    counted : (count : ℕ) (x : AnyStatement) (xs : List AnyStatement) → (count + length (flat_map messages_of (x ∷ []))) + length (flat_map messages_of xs) ≡ count + length (flat_map messages_of (x ∷ xs))
-    counted count x xs = omega (arith, length-append (flat_map messages_of (x ∷ [])) (flat_map messages_of xs), ap length (flat_map-append messages_of (x ∷ []) xs))
+    counted : (count : ℕ) (x : AnyStatement) (xs : List AnyStatement) → (count + length (flat_map messages_of (x ∷ []))) + length
+        (flat_map messages_of xs) ≡ count + length (flat_map messages_of (x ∷ xs))
+    counted count x xs = omega (
+      arith,
+      length-append (flat_map messages_of (x ∷ [])) (flat_map messages_of xs),
+      ap length (flat_map-append messages_of (x ∷ []) xs),
+    )
 
 -- ---- at most one bit timing
 
@@ -97,7 +113,8 @@ nothing_left : {X : Type 0} (xs : List X) → suc (length xs) ≤ 1 → xs ≡ [
 nothing_left [] h = refl
 nothing_left (x ∷ xs) h = absurd (omega (arith, h))
 
-one_more : (s : AnyStatement) (more : List AnyStatement) → timings_of s ≡ [] → (flat_map timings_of more ≡ []) ⊎ Parted more → (flat_map timings_of (s ∷ more) ≡ []) ⊎ Parted (s ∷ more)
+one_more : (s : AnyStatement) (more : List AnyStatement) → timings_of s ≡ [] → (flat_map timings_of more ≡ []) ⊎ Parted more
+    → (flat_map timings_of (s ∷ more) ≡ []) ⊎ Parted (s ∷ more)
 one_more s more none (inl rest) = inl (rw (none, rest) refl)
 one_more s more none (inr rest) = inr (record {
   before = s ∷ rest.before;
@@ -108,9 +125,17 @@ one_more s more none (inr rest) = inr (record {
   none_behind = rest.none_behind;
 })
 
-pub parted : (statements : List AnyStatement) → length (flat_map timings_of statements) ≤ 1 → (flat_map timings_of statements ≡ []) ⊎ Parted statements
+pub parted : (statements : List AnyStatement) → length (flat_map timings_of statements) ≤ 1 → (flat_map timings_of statements ≡ [])
+    ⊎ Parted statements
 parted [] one = inl refl
-parted (Timing numbers ∷ more) one = inr (record { before = []; numbers = numbers; behind = more; same = refl; none_before = refl; none_behind = nothing_left (flat_map timings_of more) one })
+parted (Timing numbers ∷ more) one = inr (record {
+  before = [];
+  numbers = numbers;
+  behind = more;
+  same = refl;
+  none_before = refl;
+  none_behind = nothing_left (flat_map timings_of more) one;
+})
 parted (Symbols symbols ∷ more) one = one_more (Symbols symbols) more refl (parted more one)
 parted (Nodes nodes ∷ more) one = one_more (Nodes nodes) more refl (parted more one)
 parted (Table row ∷ more) one = one_more (Table row) more refl (parted more one)

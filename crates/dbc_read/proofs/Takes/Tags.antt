@@ -1,5 +1,6 @@
 -- Tags of signals that are spelled are read.
-use Rattle.std.proofs.Common.{◌≡◌, ℕ, ◌*◌, ◌<◌, ◌^◌, ◌-◌, ℤ, pos, true, false, List, [], ◌∷◌, ◌++◌, length, length-append, Ok, append-nil, refl, sym, ap, subst, arith}
+use Rattle.std.proofs.Common.{◌≡◌, ℕ, ◌*◌, ◌<◌, ◌^◌, ◌-◌, ℤ, pos, true, false, List, [], ◌∷◌, ◌++◌, length, length-append, Ok}
+use Rattle.std.proofs.Common.{append-nil, refl, sym, ap, subst, arith}
 use Rattle.std.specs.Prelude.{codes}
 use Rattle.std.specs.List.{list_all}
 use Rattle.std.specs.Str.{bytes_eq}
@@ -31,15 +32,18 @@ spells_digits digits are =
     let parts = digits_are digits are in (
       parts.form,
       subst (λ (z : ℤ). IsWholeNumber (mantissa_of digits) z (digits_value 10 digits)) (sym parts.exponent)
-          (subst (λ (m : ℕ). IsWholeNumber m (pos 0) (digits_value 10 digits)) (sym parts.mantissa) (times_one (digits_value 10 digits))),
+          (subst (λ (m : ℕ). IsWholeNumber m (pos 0) (digits_value 10 digits)) (sym parts.mantissa)
+          (times_one (digits_value 10 digits))),
     )
   where
     times_one : (n : ℕ) → n ≡ n * 10 ^ 0
     times_one n = omega arith
 
-counted_now : (tag : ℕ → Tag) (digits : List ℕ) (n : ℕ) → is_digits digits ≡ true → digits_value 10 digits ≡ n → n < 2 ^ 64 → counted tag digits ≡ Ok (tag n)
+counted_now : (tag : ℕ → Tag) (digits : List ℕ) (n : ℕ) → is_digits digits ≡ true → digits_value 10 digits ≡ n → n < 2 ^ 64
+    → counted tag digits ≡ Ok (tag n)
 counted_now tag digits n are same small =
-    ap (tagged tag) (whole_is 0 (2 ^ 64 - 1) n digits (within 0 (2 ^ 64 - 1) n (omega arith) (omega (arith, small)) small) (subst (SpellsNumber digits) same (spells_digits digits are)))
+    ap (tagged tag) (whole_is 0 (2 ^ 64 - 1) n digits (within 0 (2 ^ 64 - 1) n (omega arith) (omega (arith, small)) small)
+    (subst (SpellsNumber digits) same (spells_digits digits are)))
 
 all_digits : (digits : List ℕ) → is_digits digits ≡ true → list_all is_digit digits ≡ true
 all_digits [] are = refl
@@ -64,12 +68,14 @@ switch_is bytes e = ap tag_of e
 
 muxed_is : (n : ℕ) (bytes : List ℕ) → n < 2 ^ 64 → SpellsTag bytes n [] → tag_of bytes ≡ Ok (tags.Muxed n)
 unfolding tag_of muxed_of
-muxed_is n bytes small (digits, same, are, is) = rw (same, append-nil digits) (rw are (counted_now tags.Muxed digits n are is small))
+muxed_is n bytes small (digits, same, are, is) =
+    rw (same, append-nil digits) (rw are (counted_now tags.Muxed digits n are is small))
 
 both_is : (n : ℕ) (bytes : List ℕ) → n < 2 ^ 64 → SpellsTag bytes n (codes "M") → tag_of bytes ≡ Ok (tags.Both n)
 unfolding tag_of muxed_of
 both_is n bytes small (digits, same, are, is) =
-    rw same (rw (no_digits digits, front_of digits, are, (bytes_eq-Decides (digits ++ codes "M") (digits ++ codes "M")).1 refl) (counted_now tags.Both digits n are is small))
+    rw same (rw (no_digits digits, front_of digits, are, (bytes_eq-Decides (digits ++ codes "M") (digits ++ codes "M")).1 refl)
+    (counted_now tags.Both digits n are is small))
 
 -- a tag is no colon
 colon_no_tag : (bytes rest : List ℕ) → bytes ≡ 109 ∷ rest → bytes_eq bytes (58 ∷ []) ≡ false
@@ -80,11 +86,17 @@ pub tag_takes : (tag : Tag) → IsTag tag → Takes tag_at tag (of_layout (tag_l
 unfolding tag_at tag_token_at tag_layout items_of has_mark
 tag_takes tags.Plain is = record { takes = λ tokens cut none stands. rw none (rw stands refl) }
 tag_takes tags.Switch is =
-    takes_second _ (opens_one (Is Switch) (λ bytes. bytes ≡ codes "M") (λ tokens says. says) (λ t e. ap (λ (b : List ℕ). bytes_eq b (58 ∷ [])) e))
-    (takes_where (takes_one _ tags.Switch (λ bytes. bytes ≡ codes "M") (λ t e. switch_is t.bytes e) (Is Switch) (λ tokens says. says)) (λ cut may. tt))
+    takes_second _ (opens_one (Is Switch) (λ bytes. bytes ≡ codes "M") (λ tokens says. says)
+    (λ t e. ap (λ (b : List ℕ). bytes_eq b (58 ∷ [])) e))
+    (takes_where (takes_one _ tags.Switch (λ bytes. bytes ≡ codes "M") (λ t e. switch_is t.bytes e) (Is Switch)
+    (λ tokens says. says)) (λ cut may. tt))
 tag_takes (tags.Muxed n) is =
-    takes_second _ (opens_one (Is (Muxed n)) (λ bytes. SpellsTag bytes n []) (λ tokens says. says) (λ t e. colon_no_tag t.bytes _ e.1))
-    (takes_where (takes_one _ (tags.Muxed n) (λ bytes. SpellsTag bytes n []) (λ t e. muxed_is n t.bytes is e) (Is (Muxed n)) (λ tokens says. says)) (λ cut may. tt))
+    takes_second _ (opens_one (Is (Muxed n)) (λ bytes. SpellsTag bytes n []) (λ tokens says. says)
+    (λ t e. colon_no_tag t.bytes _ e.1))
+    (takes_where (takes_one _ (tags.Muxed n) (λ bytes. SpellsTag bytes n []) (λ t e. muxed_is n t.bytes is e) (Is (Muxed n))
+    (λ tokens says. says)) (λ cut may. tt))
 tag_takes (tags.Both n) is =
-    takes_second _ (opens_one (Is (Both n)) (λ bytes. SpellsTag bytes n (codes "M")) (λ tokens says. says) (λ t e. colon_no_tag t.bytes _ e.1))
-    (takes_where (takes_one _ (tags.Both n) (λ bytes. SpellsTag bytes n (codes "M")) (λ t e. both_is n t.bytes is e) (Is (Both n)) (λ tokens says. says)) (λ cut may. tt))
+    takes_second _ (opens_one (Is (Both n)) (λ bytes. SpellsTag bytes n (codes "M")) (λ tokens says. says)
+    (λ t e. colon_no_tag t.bytes _ e.1))
+    (takes_where (takes_one _ (tags.Both n) (λ bytes. SpellsTag bytes n (codes "M")) (λ t e. both_is n t.bytes is e) (Is (Both n))
+    (λ tokens says. says)) (λ cut may. tt))

@@ -1,5 +1,6 @@
 -- A text that ends in a line feed, and another behind it, have the tokens of both.
-use Rattle.std.proofs.Common.{◌≡◌, ℕ, ◌+◌, ◌<◌, ◌≤◌, true, false, not, cond, List, [], ◌∷◌, ◌++◌, length, refl, sym, ap, subst, ◌∙◌, append_assoc, arith, ◌⊎◌, inl, inr}
+use Rattle.std.proofs.Common.{◌≡◌, ℕ, ◌+◌, ◌<◌, ◌≤◌, true, false, not, cond, List, [], ◌∷◌, ◌++◌, length, refl, sym, ap, subst, ◌∙◌}
+use Rattle.std.proofs.Common.{append_assoc, arith, ◌⊎◌, inl, inr}
 use Rattle.std.specs.List.{list_all, flat_map}
 use Rattle.std.proofs.lemmas.Bool.{and_parts, not-true}
 use Rattle.std.proofs.lemmas.List.Concat.{flat_map-append}
@@ -7,7 +8,8 @@ use Rattle.std.proofs.lemmas.List.Sums.{sum_by-append, sum_by-cons}
 use Rattle.dbc_tokens.specs.declared.token.Kind.{Kind}
 use Rattle.dbc_tokens.specs.declared.token.Kind.TheVariants.{Text, Word, Number, Mark}
 use Rattle.dbc_values.specs.Lexical.{line_feed, quote, slash, is_line_feed, quoted}
-use Rattle.dbc_tokens.specs.Tokens.{IsToken, IsLongest, Part, Blank, Comment, part_bytes, EndsLine, AreParts, IsGap, Token, Cut, End, Fault, ◌▸◌, line_feeds, HasTokens}
+use Rattle.dbc_tokens.specs.Tokens.{IsToken, IsLongest, Part, Blank, Comment, part_bytes, EndsLine, AreParts, IsGap, Token, Cut}
+use Rattle.dbc_tokens.specs.Tokens.{End, Fault, ◌▸◌, line_feeds, HasTokens}
 use Rattle.dbc_reader.specs.Forms.{◌▸▸◌}
 use Rattle.dbc_read.specs.PrintLaws.{LinesJoin}
 use Rattle.dbc_tokens.proofs.Longest.{token_begins, kind_there}
@@ -54,7 +56,8 @@ ends_more : (b : ℕ) (s t : List ℕ) → (b ≡ line_feed → ⊥) → last_of
 ends_more b [] t other last ends = absurd (other last)
 ends_more b (c ∷ s) t other last ends = ends
 
-parts_join : (b : ℕ) (parts more : List Part) (rest : List ℕ) → AreParts parts [] → last_of b (flat_map part_bytes parts) ≡ line_feed → AreParts more rest → AreParts (parts ++ more) rest
+parts_join : (b : ℕ) (parts more : List Part) (rest : List ℕ) → AreParts parts [] → last_of b (flat_map part_bytes parts)
+    ≡ line_feed → AreParts more rest → AreParts (parts ++ more) rest
 parts_join b [] more rest are last h = h
 parts_join b (Blank c ∷ parts) more rest are last h = (are.0, parts_join c parts more rest are.1 last h)
 parts_join b (Comment body ∷ parts) more rest are last h =
@@ -62,26 +65,42 @@ parts_join b (Comment body ∷ parts) more rest are last h =
     let ends_so : last_of (last_of slash body) behind ≡ line_feed = sym (last_append slash body behind) ∙ last in
     let none = no_last slash body (λ same. let x : slash ≡ line_feed = same in cc) are.0 in
     let whole : behind ++ (flat_map part_bytes more ++ rest) ≡ flat_map part_bytes (parts ++ more) ++ rest =
-    sym (append_assoc behind (flat_map part_bytes more) rest) ∙ ap (λ (l : List ℕ). l ++ rest) (sym (flat_map-append part_bytes parts more)) in
-    (are.0, subst EndsLine whole (ends_more (last_of slash body) behind (flat_map part_bytes more ++ rest) none ends_so are.1), parts_join (last_of slash body) parts more rest are.2 ends_so h)
+    sym (append_assoc behind (flat_map part_bytes more) rest)
+    ∙ ap (λ (l : List ℕ). l ++ rest) (sym (flat_map-append part_bytes parts more)) in (
+      are.0,
+      subst EndsLine whole (ends_more (last_of slash body) behind (flat_map part_bytes more ++ rest) none ends_so are.1),
+      parts_join (last_of slash body) parts more rest are.2 ends_so h,
+    )
 
 gap_join : (text gap rest : List ℕ) → last_of 0 text ≡ line_feed → IsGap text [] → IsGap gap rest → IsGap (text ++ gap) rest
-gap_join text gap rest last (parts, same, are) (more, also, these) =
-    (parts ++ more, rw (same, also) (sym (flat_map-append part_bytes parts more)), parts_join 0 parts more rest are (ap (last_of 0) (sym same) ∙ last) these)
+gap_join text gap rest last (parts, same, are) (more, also, these) = (
+  parts ++ more,
+  rw (same, also) (sym (flat_map-append part_bytes parts more)),
+  parts_join 0 parts more rest are (ap (last_of 0) (sym same) ∙ last) these,
+)
 
 -- a gap before a byte is one whatever stands behind the byte
 parts_before : (parts : List Part) (b : ℕ) (s t : List ℕ) → AreParts parts (b ∷ s) → AreParts parts (b ∷ t)
 parts_before [] b s t are = tt
 parts_before (Blank c ∷ parts) b s t are = (are.0, parts_before parts b s t are.1)
-parts_before (Comment body ∷ parts) b s t are = (are.0, ends_before (flat_map part_bytes parts) are.1, parts_before parts b s t are.2)
+parts_before (Comment body ∷ parts) b s t are = (
+  are.0,
+  ends_before (flat_map part_bytes parts) are.1,
+  parts_before parts b s t are.2,
+)
   where
     ends_before : (u : List ℕ) → EndsLine (u ++ b ∷ s) → EndsLine (u ++ b ∷ t)
     ends_before [] ends = ends
     ends_before (c ∷ u) ends = ends
 
-gap_before : (gap bytes s t : List ℕ) (b : ℕ) (others : List ℕ) → bytes ≡ b ∷ others → IsGap gap (bytes ++ s) → IsGap gap (bytes ++ t)
-gap_before gap bytes s t b others same (parts, whole, are) =
-    (parts, whole, rw same (parts_before parts b (others ++ s) (others ++ t) (subst (λ (l : List ℕ). AreParts parts (l ++ s)) same are)))
+gap_before : (gap bytes s t : List ℕ) (b : ℕ) (others : List ℕ) → bytes ≡ b ∷ others → IsGap gap (bytes ++ s)
+    → IsGap gap (bytes ++ t)
+gap_before gap bytes s t b others same (parts, whole, are) = (
+  parts,
+  whole,
+  rw same (parts_before parts b (others ++ s) (others ++ t) (subst (λ (l : List ℕ). AreParts parts (l ++ s)) same
+      are)),
+)
 
 -- ---- the longest token
 
@@ -92,21 +111,32 @@ Fronts u a = ((w : List ℕ) × (a ≡ u ++ w)) ⊎ ((w : List ℕ) × (u ≡ a 
 front_split : (u v a b : List ℕ) → u ++ v ≡ a ++ b → Fronts u a
 front_split [] v a b e = inl (a, refl)
 front_split (c ∷ u) v [] b e = inr (c ∷ u, refl)
-front_split (c ∷ u) v (d ∷ a) b e = let first : c ≡ d = cc in let rest : u ++ v ≡ a ++ b = cc in both first (front_split u v a b rest)
+front_split (c ∷ u) v (d ∷ a) b e = let first : c ≡ d = cc in let rest : u ++ v ≡ a ++ b = cc in
+    both first (front_split u v a b rest)
   where
     both : c ≡ d → Fronts u a → Fronts (c ∷ u) (d ∷ a)
     both first (inl (w, same)) = inl (w, rw (first, same) refl)
     both first (inr (w, same)) = inr (w, rw (first, same) refl)
 
 -- a token without line feeds stays the longest where more stands behind a line feed
-open_more : (kind : Kind) (bytes rest more : List ℕ) → (kind ≡ Text → ⊥) → 0 < line_feeds rest → IsLongest kind bytes rest → IsLongest kind bytes (rest ++ more)
+open_more : (kind : Kind) (bytes rest more : List ℕ) → (kind ≡ Text → ⊥) → 0 < line_feeds rest → IsLongest kind bytes rest
+    → IsLongest kind bytes (rest ++ more)
 open_more kind bytes rest more other some h = record { token = h.token; longest = bound }
   where
-    within : (k : Kind) (front : List ℕ) → IsToken k front → line_feeds front ≡ 0 → Fronts front (bytes ++ rest) → length front ≤ length bytes
+    within : (k : Kind) (front : List ℕ) → IsToken k front → line_feeds front ≡ 0 → Fronts front (bytes ++ rest)
+        → length front ≤ length bytes
     within k front is none (inl (w, same)) = h.longest k front w (sym same) is
-    within k front is none (inr (w, same)) = absurd (omega (arith, none, some, ap line_feeds same, feeds_append (bytes ++ rest) w, feeds_append bytes rest))
+    within k front is none (inr (w, same)) = absurd (omega (
+      arith,
+      none,
+      some,
+      ap line_feeds same,
+      feeds_append (bytes ++ rest) w,
+      feeds_append bytes rest,
+    ))
 
-    bound : (k : Kind) (front others : List ℕ) → front ++ others ≡ bytes ++ (rest ++ more) → IsToken k front → length front ≤ length bytes
+    bound : (k : Kind) (front others : List ℕ) → front ++ others ≡ bytes ++ (rest ++ more) → IsToken k front
+        → length front ≤ length bytes
     bound k front others whole is =
         let x = token_begins kind bytes h.token in
         let begun : front ++ others ≡ x.0 ∷ (x.1 ++ (rest ++ more)) = whole ∙ ap (λ (l : List ℕ). l ++ (rest ++ more)) x.2 in
@@ -114,7 +144,8 @@ open_more kind bytes rest more other some h = record { token = h.token; longest 
         let none = token_feeds k front is (λ e. other (sym same ∙ e)) in
         within k front is none (front_split front others (bytes ++ rest) more (whole ∙ sym (append_assoc bytes rest more)))
 
-longest_more : (kind : Kind) (bytes rest more : List ℕ) → 0 < line_feeds rest → IsLongest kind bytes rest → IsLongest kind bytes (rest ++ more)
+longest_more : (kind : Kind) (bytes rest more : List ℕ) → 0 < line_feeds rest → IsLongest kind bytes rest
+    → IsLongest kind bytes (rest ++ more)
 longest_more Text bytes rest more some h = closed_longest Text bytes (rest ++ more) (inr refl) h.token
 longest_more Mark bytes rest more some h = closed_longest Mark bytes (rest ++ more) (inl refl) h.token
 longest_more Word bytes rest more some h = open_more Word bytes rest more (λ e. cc) some h
@@ -122,11 +153,18 @@ longest_more Number bytes rest more some h = open_more Number bytes rest more (�
 
 -- ---- what stands behind a token
 
-open_last : (kind : Kind) (bytes : List ℕ) (b : ℕ) (others : List ℕ) → (kind ≡ Text → ⊥) → bytes ≡ b ∷ others → IsToken kind bytes → last_of b others ≡ line_feed → ⊥
-open_last kind bytes b others other same is last = omega (arith, token_feeds kind bytes is other, ap line_feeds same, feeds_last b others last)
+open_last : (kind : Kind) (bytes : List ℕ) (b : ℕ) (others : List ℕ) → (kind ≡ Text → ⊥) → bytes ≡ b ∷ others → IsToken kind bytes
+    → last_of b others ≡ line_feed → ⊥
+open_last kind bytes b others other same is last = omega (
+  arith,
+  token_feeds kind bytes is other,
+  ap line_feeds same,
+  feeds_last b others last,
+)
 
 -- a token doesn't end in a line feed
-token_last : (kind : Kind) (bytes : List ℕ) (b : ℕ) (others : List ℕ) → bytes ≡ b ∷ others → IsToken kind bytes → last_of b others ≡ line_feed → ⊥
+token_last : (kind : Kind) (bytes : List ℕ) (b : ℕ) (others : List ℕ) → bytes ≡ b ∷ others → IsToken kind bytes
+    → last_of b others ≡ line_feed → ⊥
 token_last Text bytes b others same (text, whole, is) last =
     let both : b ∷ others ≡ quoted text = sym same ∙ whole in
     let end : last_of quote (text ++ quote ∷ []) ≡ line_feed = sym (ap (last_of 0) both) ∙ last in
@@ -141,7 +179,8 @@ rest_last b [] other e = absurd (other e)
 rest_last b (c ∷ rest) other e = e
 
 -- what stands behind a token ends in a line feed where the whole does
-behind_last : (kind : Kind) (gap bytes rest : List ℕ) (b : ℕ) (others : List ℕ) → bytes ≡ b ∷ others → IsToken kind bytes → last_of 0 (gap ++ (bytes ++ rest)) ≡ line_feed → last_of 0 rest ≡ line_feed
+behind_last : (kind : Kind) (gap bytes rest : List ℕ) (b : ℕ) (others : List ℕ) → bytes ≡ b ∷ others → IsToken kind bytes
+    → last_of 0 (gap ++ (bytes ++ rest)) ≡ line_feed → last_of 0 rest ≡ line_feed
 behind_last kind gap bytes rest b others same is e =
     let front : last_of 0 (gap ++ (bytes ++ rest)) ≡ last_of (last_of 0 gap) (b ∷ (others ++ rest)) =
     last_append 0 gap (bytes ++ rest) ∙ ap (λ (l : List ℕ). last_of (last_of 0 gap) (l ++ rest)) same in
@@ -151,26 +190,48 @@ behind_last kind gap bytes rest b others same is e =
 -- ---- the tokens of both
 
 abbrev Joins : ℕ → ℕ → List ℕ → List ℕ → List Token → Cut → Type 0
-Joins line at text more tokens cut = HasTokens line text (tokens ▸▸ End at) → HasTokens at more cut → HasTokens line (text ++ more) (tokens ▸▸ cut)
+Joins line at text more tokens cut = HasTokens line text (tokens ▸▸ End at) → HasTokens at more cut
+    → HasTokens line (text ++ more) (tokens ▸▸ cut)
 
 -- line feeds add up
 add_feeds : (line at end : ℕ) (s t : List ℕ) → at ≡ line + line_feeds s → end ≡ at + line_feeds t → end ≡ line + line_feeds (s ++ t)
 add_feeds line at end s t e f = omega (arith, e, f, feeds_append s t)
 
 gap_joins : (line at : ℕ) (text more : List ℕ) (cut : Cut) → last_of 0 text ≡ line_feed → Joins line at text more [] cut
-gap_joins line at text more (End end) last (is, e) (gap, f) = (gap_join text more [] last is gap, add_feeds line at end text more e f)
-gap_joins line at text more (Fault end) last (is, e) (gap, rest, same, more_is, f, some, none, no_token) =
-    (text ++ gap, rest, rw same (sym (append_assoc text gap rest)), gap_join text gap rest last is more_is, add_feeds line at end text gap e f, some, none, no_token)
-gap_joins line at text more (t ▸ cut) last (is, e) (gap, rest, same, more_is, f, longest, others) =
-    (text ++ gap, rest, rw same (sym (append_assoc text gap (t.bytes ++ rest))), gap_join text gap (t.bytes ++ rest) last is more_is, add_feeds line at t.line text gap e f, longest, others)
+gap_joins line at text more (End end) last (is, e) (gap, f) = (
+  gap_join text more [] last is gap,
+  add_feeds line at end text more e f,
+)
+gap_joins line at text more (Fault end) last (is, e) (gap, rest, same, more_is, f, some, none, no_token) = (
+  text ++ gap,
+  rest,
+  rw same (sym (append_assoc text gap rest)),
+  gap_join text gap rest last is more_is,
+  add_feeds line at end text gap e f,
+  some,
+  none,
+  no_token,
+)
+gap_joins line at text more (t ▸ cut) last (is, e) (gap, rest, same, more_is, f, longest, others) = (
+  text ++ gap,
+  rest,
+  rw same (sym (append_assoc text gap (t.bytes ++ rest))),
+  gap_join text gap (t.bytes ++ rest) last is
+      more_is,
+  add_feeds line at t.line text gap e f,
+  longest,
+  others,
+)
 
-joins : (line at : ℕ) (text more : List ℕ) (tokens : List Token) (cut : Cut) → last_of 0 text ≡ line_feed → Joins line at text more tokens cut
+joins : (line at : ℕ) (text more : List ℕ) (tokens : List Token) (cut : Cut) → last_of 0 text ≡ line_feed
+    → Joins line at text more tokens cut
 joins line at text more [] cut last has have = gap_joins line at text more cut last has have
 joins line at text more (t ∷ tokens) cut last (gap, rest, same, is, e, longest, others) have =
     let x = token_begins t.kind t.bytes longest.token in
     let behind = behind_last t.kind gap t.bytes rest x.0 x.1 x.2 longest.token (ap (last_of 0) (sym same) ∙ last) in
     let whole : text ++ more ≡ gap ++ (t.bytes ++ (rest ++ more)) =
-    ap (λ (l : List ℕ). l ++ more) same ∙ append_assoc gap (t.bytes ++ rest) more ∙ ap (λ (l : List ℕ). gap ++ l) (append_assoc t.bytes rest more) in (
+    ap (λ (l : List ℕ). l ++ more) same ∙ append_assoc gap (t.bytes ++ rest) more
+    ∙ ap (λ (l : List ℕ). gap ++ l) (append_assoc t.bytes rest more) in (
       gap,
       rest ++ more,
       whole,
@@ -181,4 +242,5 @@ joins line at text more (t ∷ tokens) cut last (gap, rest, same, is, e, longest
     )
 
 pub lines_join : LinesJoin
-lines_join line at text more tokens cut has have = joins line at (text ++ line_feed ∷ []) more tokens cut (last_append 0 text (line_feed ∷ [])) has have
+lines_join line at text more tokens cut has have = joins line at (text ++ line_feed ∷ []) more tokens cut
+    (last_append 0 text (line_feed ∷ [])) has have

@@ -1,18 +1,22 @@
 -- The text of a layout has the tokens of its items.
-use Rattle.std.proofs.Common.{◌≡◌, ℕ, suc, ◌+◌, pos, negsuc, Bool, true, false, not, cond, ◌||◌, List, [], ◌∷◌, ◌++◌, refl, sym, ap, subst, ◌∙◌, append_assoc, arith, ◌⊎◌, inl, inr}
+use Rattle.std.proofs.Common.{◌≡◌, ℕ, suc, ◌+◌, pos, negsuc, Bool, true, false, not, cond, ◌||◌, List, [], ◌∷◌, ◌++◌, refl, sym, ap}
+use Rattle.std.proofs.Common.{subst, ◌∙◌, append_assoc, arith, ◌⊎◌, inl, inr}
 use Rattle.std.specs.Prelude.{codes, decimal, IsTrue}
 use Rattle.std.specs.List.{flat_map}
 use Rattle.std.proofs.lemmas.Bool.{and_parts}
 use Rattle.std.proofs.lemmas.List.Sums.{sum_by-cons}
 use Rattle.dbc_values.specs.Lexical.{quoted, is_point, is_word_byte, is_mark, is_blank, is_line_feed}
-use Rattle.dbc_records.specs.Layout.{Item, Word, Mark, Name, Symbol, Text, Whole, Int, Number, Switch, Muxed, Both, Order, Piece, magnitude_text, Element, Space, Tab, LineEnd, Is, Layout, item_text, layout_text, element_text, items_of}
+use Rattle.dbc_records.specs.Layout.{Item, Word, Mark, Name, Symbol, Text, Whole, Int, Number, Switch, Muxed, Both, Order, Piece}
+use Rattle.dbc_records.specs.Layout.{magnitude_text, Element, Space, Tab, LineEnd, Is, Layout, item_text, layout_text, element_text}
+use Rattle.dbc_records.specs.Layout.{items_of}
 use Rattle.dbc_tokens.specs.declared.token.Kind.TheVariants as kinds
 use Rattle.dbc_tokens.specs.Tokens.{Token, Cut, End, Fault, ◌▸◌, IsGap, Blank, IsLongest, line_feeds, HasTokens}
 use Rattle.dbc_reader.specs.Forms.{◌▸▸◌}
 use Rattle.dbc_reader.proofs.Sound.{all_then_twice}
 use Rattle.dbc_tokens.proofs.Longest.{any_all}
 use Rattle.dbc_read.proofs.Texts.Longest.{EndsToken, closed_longest, open_longest}
-use Rattle.dbc_read.proofs.Items.{Lexeme, lexeme, sign_lexemes, kind_of_piece, lexemes, AreTokens, HaveLexemes, Printed, ArePrinted, is_closed, ends_item, stand_apart, all_lexemes, LayoutTokens}
+use Rattle.dbc_read.proofs.Items.{Lexeme, lexeme, sign_lexemes, kind_of_piece, lexemes, AreTokens, HaveLexemes, Printed, ArePrinted}
+use Rattle.dbc_read.proofs.Items.{is_closed, ends_item, stand_apart, all_lexemes, LayoutTokens}
 
 -- ---- blanks
 
@@ -22,22 +26,34 @@ gap_more b gap rest blank (parts, same, are) = (Blank b ∷ parts, ap (λ (l : L
 counted : (line : ℕ) (b : ℕ) (bytes : List ℕ) → (line + line_feeds (b ∷ [])) + line_feeds bytes ≡ line + line_feeds (b ∷ bytes)
 counted line b bytes =
     let one : line_feeds (b ∷ []) ≡ cond (is_line_feed b) 1 0 + 0 = sum_by-cons (λ x. cond (is_line_feed x) 1 0) b [] in
-    let all : line_feeds (b ∷ bytes) ≡ cond (is_line_feed b) 1 0 + line_feeds bytes = sum_by-cons (λ x. cond (is_line_feed x) 1 0) b bytes in
+    let all : line_feeds (b ∷ bytes) ≡ cond (is_line_feed b) 1 0 + line_feeds bytes = sum_by-cons (λ x. cond (is_line_feed x) 1 0) b
+    bytes in
     join line (line_feeds (b ∷ [])) (line_feeds bytes) (line_feeds (b ∷ bytes)) (cond (is_line_feed b) 1 0) one all
   where
     join : (line one bytes all n : ℕ) → one ≡ n + 0 → all ≡ n + bytes → (line + one) + bytes ≡ line + all
     join line one bytes all n e f = omega (arith, e, f)
 
 -- a blank before a text
-blank_before : (line b : ℕ) (text : List ℕ) (cut : Cut) → is_blank b ≡ true → HasTokens (line + line_feeds (b ∷ [])) text cut → HasTokens line (b ∷ text) cut
+blank_before : (line b : ℕ) (text : List ℕ) (cut : Cut) → is_blank b ≡ true → HasTokens (line + line_feeds (b ∷ [])) text cut
+    → HasTokens line (b ∷ text) cut
 blank_before line b text (End at) blank (gap, e) = (gap_more b text [] blank gap, e ∙ counted line b text)
-blank_before line b text (Fault at) blank (gap, rest, same, is, e, some, none, no_token) = (b ∷ gap, rest, ap (λ (l : List ℕ). b ∷ l) same, gap_more b gap rest blank is, e ∙ counted line b gap, some, none, no_token)
-blank_before line b text (t ▸ cut) blank (gap, rest, same, is, e, longest, others) = (b ∷ gap, rest, ap (λ (l : List ℕ). b ∷ l) same, gap_more b gap (t.bytes ++ rest) blank is, e ∙ counted line b gap, longest, others)
+blank_before line b text (Fault at) blank (gap, rest, same, is, e, some, none, no_token) =
+    (b ∷ gap, rest, ap (λ (l : List ℕ). b ∷ l) same, gap_more b gap rest blank is, e ∙ counted line b gap, some, none, no_token)
+blank_before line b text (t ▸ cut) blank (gap, rest, same, is, e, longest, others) = (
+  b ∷ gap,
+  rest,
+  ap (λ (l : List ℕ). b ∷ l) same,
+  gap_more b gap (t.bytes ++ rest) blank is,
+  e ∙ counted line b gap,
+  longest,
+  others,
+)
 
 -- ---- one token
 
 -- a token at the front of a text
-token_before : (line : ℕ) (t : Token) (rest : List ℕ) (cut : Cut) → t.line ≡ line → IsLongest t.kind t.bytes rest → HasTokens (t.line + line_feeds t.bytes) rest cut → HasTokens line (t.bytes ++ rest) (t ▸ cut)
+token_before : (line : ℕ) (t : Token) (rest : List ℕ) (cut : Cut) → t.line ≡ line → IsLongest t.kind t.bytes rest
+    → HasTokens (t.line + line_feeds t.bytes) rest cut → HasTokens line (t.bytes ++ rest) (t ▸ cut)
 token_before line t rest cut at longest others = ([], rest, refl, ([], refl, tt), at ∙ plus_none line, longest, others)
   where
     plus_none : (n : ℕ) → n ≡ n + 0
@@ -50,7 +66,8 @@ not_from true e = absurd cc
 not_from false e = refl
 
 mark_ends : (mark : ℕ) → is_mark mark ≡ true → (is_word_byte mark || is_point mark) ≡ false
-mark_ends mark is = not_from (is_word_byte mark || is_point mark) (any_all mark (λ m. not (is_word_byte m || is_point m)) (codes ":;|@()[],+-") is refl)
+mark_ends mark is = not_from (is_word_byte mark || is_point mark) (any_all mark (λ m. not (is_word_byte m || is_point m))
+    (codes ":;|@()[],+-") is refl)
 
 -- the text of a layout that ends an item begins with what ends a token
 layout_ends : (layout : Layout) → ArePrinted layout → ends_item layout ≡ true → EndsToken (layout_text layout)
@@ -87,22 +104,26 @@ pub record Before (line : ℕ) (ls : List Lexeme) (rest : List ℕ) (cut : ℕ �
   pub have : HaveLexemes ls tokens
   pub has : HasTokens behind rest (cut behind) → HasTokens line (text_of ls ++ rest) (tokens ▸▸ cut behind)
 
-before_one : (line : ℕ) (l : Lexeme) (ls : List Lexeme) (rest : List ℕ) (cut : ℕ → Cut) → IsLongest l.kind l.bytes (text_of ls ++ rest) → Before (line + line_feeds l.bytes) ls rest cut → Before line (l ∷ ls) rest cut
+before_one : (line : ℕ) (l : Lexeme) (ls : List Lexeme) (rest : List ℕ) (cut : ℕ → Cut)
+    → IsLongest l.kind l.bytes (text_of ls ++ rest) → Before (line + line_feeds l.bytes) ls rest cut → Before line (l ∷ ls) rest cut
 before_one line l ls rest cut longest more =
     let t : Token = record { kind = l.kind; bytes = l.bytes; line = line } in
     record {
       tokens = t ∷ more.tokens;
       behind = more.behind;
       have = (refl, refl, more.have);
-      has = λ others. subst (λ (text : List ℕ). HasTokens line text (t ▸ (more.tokens ▸▸ cut more.behind))) (sym (append_assoc l.bytes (text_of ls) rest))
+      has = λ others. subst (λ (text : List ℕ). HasTokens line text (t ▸ (more.tokens ▸▸ cut more.behind)))
+          (sym (append_assoc l.bytes (text_of ls) rest))
           (token_before line t (text_of ls ++ rest) (more.tokens ▸▸ cut more.behind) refl longest (more.has others));
     }
 
 before_all : (line : ℕ) (ls : List Lexeme) (rest : List ℕ) (cut : ℕ → Cut) → AreTokens ls → Ends ls rest → Before line ls rest cut
 before_all line [] rest cut are ends = record { tokens = []; behind = line; have = refl; has = λ others. others }
-before_all line (l ∷ []) rest cut are ends = before_one line l [] rest cut ends (before_all (line + line_feeds l.bytes) [] rest cut tt tt)
+before_all line (l ∷ []) rest cut are ends = before_one line l [] rest cut ends (before_all (line + line_feeds l.bytes) [] rest cut
+    tt tt)
 before_all line (l ∷ m ∷ ls) rest cut are ends =
-    before_one line l (m ∷ ls) rest cut (closed_longest l.kind l.bytes (text_of (m ∷ ls) ++ rest) (inl ends.0) are.0) (before_all (line + line_feeds l.bytes) (m ∷ ls) rest cut are.1 ends.1)
+    before_one line l (m ∷ ls) rest cut (closed_longest l.kind l.bytes (text_of (m ∷ ls) ++ rest) (inl ends.0) are.0)
+    (before_all (line + line_feeds l.bytes) (m ∷ ls) rest cut are.1 ends.1)
 
 -- ---- layouts
 
@@ -120,11 +141,15 @@ ends_so (Whole n) rest printed (inr ends) = open_longest kinds.Number (decimal n
 ends_so (Int (pos n)) rest printed (inl closed) = absurd cc
 ends_so (Int (pos n)) rest printed (inr ends) = open_longest kinds.Number (decimal n) rest ends printed.are_tokens.0
 ends_so (Int (negsuc n)) rest printed (inl closed) = absurd cc
-ends_so (Int (negsuc n)) rest printed (inr ends) = (refl, open_longest kinds.Number (decimal (suc n)) rest ends printed.are_tokens.1.0)
+ends_so (Int (negsuc n)) rest printed (inr ends) =
+    (refl, open_longest kinds.Number (decimal (suc n)) rest ends printed.are_tokens.1.0)
 ends_so (Number d) rest printed (inl closed) = absurd cc
-ends_so (Number d) rest printed (inr ends) = number_ends d.negative (magnitude_text (decimal d.mantissa) d.exponent) rest ends printed.are_tokens
+ends_so (Number d) rest printed (inr ends) = number_ends d.negative (magnitude_text (decimal d.mantissa) d.exponent) rest ends
+    printed.are_tokens
   where
-    number_ends : (negative : Bool) (bytes rest : List ℕ) → EndsToken rest → AreTokens (sign_lexemes negative ++ lexeme kinds.Number bytes ∷ []) → Ends (sign_lexemes negative ++ lexeme kinds.Number bytes ∷ []) rest
+    number_ends : (negative : Bool) (bytes rest : List ℕ) → EndsToken rest
+        → AreTokens (sign_lexemes negative ++ lexeme kinds.Number bytes ∷ [])
+        → Ends (sign_lexemes negative ++ lexeme kinds.Number bytes ∷ []) rest
     number_ends true bytes rest ends are = (refl, open_longest kinds.Number bytes rest ends are.1.0)
     number_ends false bytes rest ends are = open_longest kinds.Number bytes rest ends are.0
 ends_so Switch rest printed (inl closed) = absurd cc
@@ -132,9 +157,11 @@ ends_so Switch rest printed (inr ends) = open_longest kinds.Word (codes "M") res
 ends_so (Muxed n) rest printed (inl closed) = absurd cc
 ends_so (Muxed n) rest printed (inr ends) = open_longest kinds.Word (codes "m" ++ decimal n) rest ends printed.are_tokens.0
 ends_so (Both n) rest printed (inl closed) = absurd cc
-ends_so (Both n) rest printed (inr ends) = open_longest kinds.Word (codes "m" ++ (decimal n ++ codes "M")) rest ends printed.are_tokens.0
+ends_so (Both n) rest printed (inr ends) = open_longest kinds.Word (codes "m" ++ (decimal n ++ codes "M")) rest ends
+    printed.are_tokens.0
 ends_so (Order intel) rest printed (inl closed) = absurd cc
-ends_so (Order intel) rest printed (inr ends) = open_longest kinds.Number (cond intel (codes "1") (codes "0")) rest ends printed.are_tokens.0
+ends_so (Order intel) rest printed (inr ends) = open_longest kinds.Number (cond intel (codes "1") (codes "0")) rest ends
+    printed.are_tokens.0
 ends_so (Piece bytes) rest printed (inl closed) = absurd cc
 ends_so (Piece bytes) rest printed (inr ends) = open_longest (kind_of_piece bytes) bytes rest ends printed.are_tokens.0
 
@@ -142,12 +169,14 @@ either_so : (a b : Bool) → (a || b) ≡ true → (a ≡ true) ⊎ (b ≡ true)
 either_so true b e = inl refl
 either_so false b e = inr e
 
-blank_more : (line b : ℕ) (e : Element) (layout : Layout) → is_blank b ≡ true → element_text e ≡ b ∷ [] → all_lexemes (e ∷ layout) ≡ all_lexemes layout → LayoutTokens (line + line_feeds (b ∷ [])) layout → LayoutTokens line (e ∷ layout)
+blank_more : (line b : ℕ) (e : Element) (layout : Layout) → is_blank b ≡ true → element_text e ≡ b ∷ [] → all_lexemes (e ∷ layout)
+    ≡ all_lexemes layout → LayoutTokens (line + line_feeds (b ∷ [])) layout → LayoutTokens line (e ∷ layout)
 unfolding layout_text
 blank_more line b e layout blank text same below = record {
   tokens = below.tokens;
   at = below.at;
-  has = subst (λ (front : List ℕ). HasTokens line (front ++ layout_text layout) (below.tokens ▸▸ End below.at)) (sym text) (blank_before line b (layout_text layout) (below.tokens ▸▸ End below.at) blank below.has);
+  has = subst (λ (front : List ℕ). HasTokens line (front ++ layout_text layout) (below.tokens ▸▸ End below.at)) (sym text)
+      (blank_before line b (layout_text layout) (below.tokens ▸▸ End below.at) blank below.has);
   have = subst (λ (ls : List Lexeme). HaveLexemes ls below.tokens) (sym same) below.have;
 }
 
@@ -156,26 +185,38 @@ have_both [] ys u v h k = subst (λ (l : List Token). HaveLexemes ys (l ++ v)) (
 have_both (x ∷ xs) ys [] v h k = elim h [ ]
 have_both (x ∷ xs) ys (t ∷ u) v h k = (h.0, h.1, have_both xs ys u v h.2 k)
 
-item_more : (line : ℕ) (item : Item) (layout : Layout) → Printed item → (is_closed item ≡ true) ⊎ EndsToken (layout_text layout) → ((line : ℕ) → LayoutTokens line layout) → LayoutTokens line (Is item ∷ layout)
+item_more : (line : ℕ) (item : Item) (layout : Layout) → Printed item → (is_closed item ≡ true) ⊎ EndsToken (layout_text layout)
+    → ((line : ℕ) → LayoutTokens line layout) → LayoutTokens line (Is item ∷ layout)
 unfolding layout_text items_of
 item_more line item layout printed either below =
-    let front = before_all line (lexemes item) (layout_text layout) (λ behind. (below behind).tokens ▸▸ End (below behind).at) printed.are_tokens (ends_so item (layout_text layout) printed either) in
+    let front = before_all line (lexemes item) (layout_text layout) (λ behind. (below behind).tokens ▸▸ End (below behind).at)
+    printed.are_tokens (ends_so item (layout_text layout) printed either) in
     let rest = below front.behind in
     record {
       tokens = front.tokens ++ rest.tokens;
       at = rest.at;
-      has = subst (λ (cut : Cut). HasTokens line (item_text item ++ layout_text layout) cut) (sym (all_then_twice front.tokens rest.tokens (End rest.at)))
-          (subst (λ (text : List ℕ). HasTokens line (text ++ layout_text layout) (front.tokens ▸▸ (rest.tokens ▸▸ End rest.at))) (sym printed.text) (front.has rest.has));
+      has = subst (λ (cut : Cut). HasTokens line (item_text item ++ layout_text layout) cut)
+          (sym (all_then_twice front.tokens rest.tokens (End rest.at)))
+          (subst (λ (text : List ℕ). HasTokens line (text ++ layout_text layout) (front.tokens ▸▸ (rest.tokens ▸▸ End rest.at)))
+          (sym printed.text) (front.has rest.has));
       have = have_both (lexemes item) (all_lexemes layout) front.tokens rest.tokens front.have rest.have;
     }
 
 pub layout_tokens : (layout : Layout) → ArePrinted layout → stand_apart layout ≡ true → (line : ℕ) → LayoutTokens line layout
 unfolding layout_text items_of
 layout_tokens [] are apart line = record { tokens = []; at = line + 0; has = (([], refl, tt), refl); have = refl }
-layout_tokens (Space ∷ layout) are apart line = blank_more line 32 Space layout refl refl refl (layout_tokens layout are apart (line + line_feeds (32 ∷ [])))
-layout_tokens (Tab ∷ layout) are apart line = blank_more line 9 Tab layout refl refl refl (layout_tokens layout are apart (line + line_feeds (9 ∷ [])))
-layout_tokens (LineEnd ∷ layout) are apart line = blank_more line 10 LineEnd layout refl refl refl (layout_tokens layout are apart (line + line_feeds (10 ∷ [])))
+layout_tokens (Space ∷ layout) are apart line = blank_more line 32 Space layout refl refl refl (layout_tokens layout are apart
+    (line + line_feeds (32 ∷ [])))
+layout_tokens (Tab ∷ layout) are apart line = blank_more line 9 Tab layout refl refl refl (layout_tokens layout are apart
+    (line + line_feeds (9 ∷ [])))
+layout_tokens (LineEnd ∷ layout) are apart line = blank_more line 10 LineEnd layout refl refl refl (layout_tokens layout are apart
+    (line + line_feeds (10 ∷ [])))
 layout_tokens (Is item ∷ layout) are apart line =
     let parts = and_parts (is_closed item || ends_item layout) (stand_apart layout) apart in
-    let either : (is_closed item ≡ true) ⊎ EndsToken (layout_text layout) = elim (either_so (is_closed item) (ends_item layout) parts.0) [ inl closed ↦ inl closed | inr ends ↦ inr (layout_ends layout are.1 ends) ] in
+    let either : (is_closed item ≡ true) ⊎ EndsToken (layout_text layout) =
+    elim (either_so (is_closed item) (ends_item layout) parts.0) [
+      | inl closed ↦ inl closed
+      | inr ends ↦ inr
+          (layout_ends layout are.1 ends)
+    ] in
     item_more line item layout are.0 either (layout_tokens layout are.1 parts.1)

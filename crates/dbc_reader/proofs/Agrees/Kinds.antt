@@ -7,13 +7,21 @@ use Rattle.dbc_values.specs.declared.number.Whole.TheVariants.{Fraction, TooLarg
 use Rattle.dbc_tokens.specs.declared.fault.Cause.{Cause}
 use Rattle.dbc_tokens.specs.declared.fault.Cause.TheVariants as causes
 use Rattle.dbc_tokens.specs.Tokens.{Token}
-use Rattle.dbc_reader.specs.Classes.{has_word, has_mark, has_name, has_symbol, has_string, has_piece, has_whole, has_number, is_there, is_whole_number, where_true, bounded, there, text_of, whole_of, number_of, order_of, tag_of}
-use Rattle.dbc_reader.specs.Pattern.{Word, Mark, Name, Symbol, String, Whole as WholeNumber, Number, Order, Tag, Piece, Seen, plain, judged_so, is_of_class, has, Pattern, Done, ◌⇒◌, Either, Repeat, ◌then◌}
+use Rattle.dbc_reader.specs.Classes.{has_word, has_mark, has_name, has_symbol, has_string, has_piece, has_whole, has_number}
+use Rattle.dbc_reader.specs.Classes.{is_there, is_whole_number, where_true, bounded, there, text_of, whole_of, number_of, order_of}
+use Rattle.dbc_reader.specs.Classes.{tag_of}
+use Rattle.dbc_reader.specs.Pattern.{Word, Mark, Name, Symbol, String, Whole as WholeNumber, Number, Order, Tag, Piece, Seen, plain}
+use Rattle.dbc_reader.specs.Pattern.{judged_so, is_of_class, has, Pattern, Done, ◌⇒◌, Either, Repeat, ◌then◌}
 use Rattle.dbc_reader.specs.Grammar as grammar
-use Rattle.dbc_reader.specs.Reading.Parts.{word_at, mark_at, name_at, symbol_at, text_at, piece_at, whole_at, id_at, number_at, order_at, tag_token_at, decimal_at, begins_decimal, int_at, begins_int, pair_at, names_from, symbols_from, pieces_from, comma_at, begins_receiver, receivers_from, receivers_at, texts_from, entry_at, entries_from}
+use Rattle.dbc_reader.specs.Reading.Parts.{word_at, mark_at, name_at, symbol_at, text_at, piece_at, whole_at, id_at, number_at}
+use Rattle.dbc_reader.specs.Reading.Parts.{order_at, tag_token_at, decimal_at, begins_decimal, int_at, begins_int, pair_at}
+use Rattle.dbc_reader.specs.Reading.Parts.{names_from, symbols_from, pieces_from, comma_at, begins_receiver, receivers_from}
+use Rattle.dbc_reader.specs.Reading.Parts.{receivers_at, texts_from, entry_at, entries_from}
 use Rattle.dbc_reader.proofs.Turns.{value_keeps, bind_shrinks, bind_keeps, after_shrinks, keeps}
-use Rattle.dbc_reader.proofs.Turns.Lists.{mark_shrinks, name_shrinks, symbol_shrinks, piece_shrinks, text_shrinks, entry_shrinks, comma_keeps}
-use Rattle.dbc_reader.proofs.Agrees.{Agrees, Same, Rules, Begins, agree_then, agree_value, agree_one, agree_choose, agree_same, begins_one, begins_either, begins_perhaps, begins_then, begins_as}
+use Rattle.dbc_reader.proofs.Turns.Lists.{mark_shrinks, name_shrinks, symbol_shrinks, piece_shrinks, text_shrinks, entry_shrinks}
+use Rattle.dbc_reader.proofs.Turns.Lists.{comma_keeps}
+use Rattle.dbc_reader.proofs.Agrees.{Agrees, Same, Rules, Begins, agree_then, agree_value, agree_one, agree_choose, agree_same}
+use Rattle.dbc_reader.proofs.Agrees.{begins_one, begins_either, begins_perhaps, begins_then, begins_as}
 
 -- ---- classes
 
@@ -25,7 +33,8 @@ within_class : (b : Bool) (n : ℕ) (seen : Seen) → is_of_class (judged_so (co
 within_class true n seen = refl
 within_class false n seen = refl
 
-bounded_class : (least most : ℕ) (o : Option Whole) (seen : Seen) → is_of_class (judged_so (bounded least most o) seen) ≡ is_whole_number o
+bounded_class : (least most : ℕ) (o : Option Whole) (seen : Seen) → is_of_class (judged_so (bounded least most o) seen)
+    ≡ is_whole_number o
 bounded_class least most None seen = refl
 bounded_class least most (Some Fraction) seen = refl
 bounded_class least most (Some TooLarge) seen = refl
@@ -75,7 +84,8 @@ text_agrees seen = agree_one (Same seen) seen String _ (λ t. plain_rules (has_s
 
 pub whole_agrees : (seen : Seen) (least most : ℕ) → Agrees seen (whole_at least most) (WholeNumber least most ⇒ Done) (Same seen)
 unfolding whole_at
-whole_agrees seen least most = agree_one (Same seen) seen (WholeNumber least most) _ (λ t. judged_rules (whole_of least most t.bytes) seen)
+whole_agrees seen least most = agree_one (Same seen) seen (WholeNumber least most) _
+    (λ t. judged_rules (whole_of least most t.bytes) seen)
 
 pub id_agrees : (seen : Seen) → Agrees seen id_at (WholeNumber 0 (2 ^ 32 - 1) ⇒ Done) (Same seen)
 unfolding id_at
@@ -83,7 +93,8 @@ id_agrees seen = whole_agrees seen 0 (2 ^ 32 - 1)
 
 pub number_agrees : (seen : Seen) (negative : Bool) → Agrees seen (number_at negative) (Number negative ⇒ Done) (Same seen)
 unfolding number_at number_of has_number
-number_agrees seen negative = agree_one (Same seen) seen (Number negative) _ (λ t. there_rules (decimal_of_number negative t.bytes) seen)
+number_agrees seen negative = agree_one (Same seen) seen (Number negative) _ (λ t. there_rules (decimal_of_number negative t.bytes)
+    seen)
 
 pub order_agrees : (seen : Seen) → Agrees seen order_at (Order ⇒ Done) (Same seen)
 unfolding order_at
@@ -125,26 +136,33 @@ pub decimal_agrees : (seen : Seen) → Agrees seen decimal_at grammar.decimal (S
 unfolding decimal_at
 decimal_agrees seen =
     agree_choose (has_mark 45) (begins_mark 45 _) (agree_then (mark_agrees seen 45) λ _. number_agrees seen true)
-    (agree_choose (has_mark 43) (begins_mark 43 _) (agree_then (mark_agrees seen 43) λ _. number_agrees seen false) (number_agrees seen false))
+    (agree_choose (has_mark 43) (begins_mark 43 _) (agree_then (mark_agrees seen 43) λ _. number_agrees seen false)
+    (number_agrees seen false))
 
 pub begins_a_decimal : (p : Pattern) → Begins begins_decimal (grammar.decimal then p)
 unfolding begins_decimal
 begins_a_decimal p =
-    begins_as (λ t. refl) (begins_then p (begins_either Done (begins_mark 45 _) (begins_either Done (begins_mark 43 _) (begins_number false _))))
+    begins_as (λ t. refl)
+    (begins_then p (begins_either Done (begins_mark 45 _) (begins_either Done (begins_mark 43 _) (begins_number false _))))
 
 pub int_agrees : (seen : Seen) → Agrees seen int_at grammar.entry_number (Same seen)
 unfolding int_at
 int_agrees seen =
-    agree_choose (has_mark 45) (begins_mark 45 _) (agree_then (mark_agrees seen 45) λ _. agree_then (whole_agrees seen 0 (2 ^ 63)) λ n. agree_value refl)
-    (agree_choose (has_mark 43) (begins_mark 43 _) (agree_then (mark_agrees seen 43) λ _. agree_then (whole_agrees seen 0 (2 ^ 64 - 1)) λ n. agree_value refl)
+    agree_choose (has_mark 45) (begins_mark 45 _) (agree_then (mark_agrees seen 45) λ _. agree_then (whole_agrees seen 0 (2 ^ 63))
+    λ n. agree_value refl)
+    (agree_choose (has_mark 43) (begins_mark 43 _) (agree_then (mark_agrees seen 43) λ _. agree_then
+    (whole_agrees seen 0 (2 ^ 64 - 1)) λ n. agree_value refl)
     (agree_then (whole_agrees seen 0 (2 ^ 64 - 1)) λ n. agree_value refl))
 
 pub begins_an_int : (p : Pattern) → Begins begins_int (grammar.entry_number then p)
 unfolding begins_int
 begins_an_int p =
-    begins_as (λ t. refl) (begins_then p (begins_either Done (begins_mark 45 _) (begins_either Done (begins_mark 43 _) (begins_whole 0 (2 ^ 64 - 1) _))))
+    begins_as (λ t. refl)
+    (begins_then p (begins_either Done (begins_mark 45 _) (begins_either Done (begins_mark 43 _)
+    (begins_whole 0 (2 ^ 64 - 1) _))))
 
-pub pair_agrees : (seen : Seen) (opening between closing : ℕ) → Agrees seen (pair_at opening between closing) (grammar.pair opening between closing) (Same seen)
+pub pair_agrees : (seen : Seen) (opening between closing : ℕ) → Agrees seen (pair_at opening between closing)
+    (grammar.pair opening between closing) (Same seen)
 unfolding pair_at
 pair_agrees seen opening between closing =
     agree_then (mark_agrees seen opening) λ _. agree_then (decimal_agrees seen) λ first. agree_then (mark_agrees seen between) λ _.
@@ -155,17 +173,22 @@ pair_agrees seen opening between closing =
 pub names_agree : (seen : Seen) (names : List (List ℕ)) → Agrees seen (names_from names) (Repeat (Name ⇒ Done) Done) (Same seen)
 unfolding names_from
 names_agree seen names =
-    agree_same has_name _ (λ s. bind_shrinks name_shrinks λ name. value_keeps _) (begins_name Done) (λ s. agree_then (name_agrees seen) λ name. agree_value refl) names
+    agree_same has_name _ (λ s. bind_shrinks name_shrinks λ name. value_keeps _) (begins_name Done)
+    (λ s. agree_then (name_agrees seen) λ name. agree_value refl) names
 
-pub symbols_agree : (seen : Seen) (symbols : List (List ℕ)) → Agrees seen (symbols_from symbols) (Repeat (Symbol ⇒ Done) Done) (Same seen)
+pub symbols_agree : (seen : Seen) (symbols : List (List ℕ)) → Agrees seen (symbols_from symbols) (Repeat (Symbol ⇒ Done) Done)
+    (Same seen)
 unfolding symbols_from
 symbols_agree seen symbols =
-    agree_same has_symbol _ (λ s. bind_shrinks symbol_shrinks λ symbol. value_keeps _) (begins_symbol Done) (λ s. agree_then (symbol_agrees seen) λ symbol. agree_value refl) symbols
+    agree_same has_symbol _ (λ s. bind_shrinks symbol_shrinks λ symbol. value_keeps _) (begins_symbol Done)
+    (λ s. agree_then (symbol_agrees seen) λ symbol. agree_value refl) symbols
 
-pub pieces_agree : (seen : Seen) (pieces : List (List ℕ)) → Agrees seen (pieces_from pieces) (Repeat (Piece ⇒ Done) Done) (Same seen)
+pub pieces_agree : (seen : Seen) (pieces : List (List ℕ)) → Agrees seen (pieces_from pieces) (Repeat (Piece ⇒ Done) Done)
+    (Same seen)
 unfolding pieces_from
 pieces_agree seen pieces =
-    agree_same has_piece _ (λ s. bind_shrinks piece_shrinks λ piece. value_keeps _) (begins_piece Done) (λ s. agree_then (piece_agrees seen) λ piece. agree_value refl) pieces
+    agree_same has_piece _ (λ s. bind_shrinks piece_shrinks λ piece. value_keeps _) (begins_piece Done)
+    (λ s. agree_then (piece_agrees seen) λ piece. agree_value refl) pieces
 
 comma_agrees : (seen : Seen) → Agrees seen comma_at (Either (Mark 44 ⇒ Done) Done Done) (Same seen)
 unfolding comma_at
@@ -175,28 +198,35 @@ begins_a_receiver : Begins begins_receiver (Either (Mark 44 ⇒ Done) Done (Name
 unfolding begins_receiver
 begins_a_receiver = begins_as (λ t. refl) (begins_perhaps (begins_mark 44 Done) (begins_name Done))
 
-further_receivers_agree : (seen : Seen) (names : List (List ℕ)) → Agrees seen (receivers_from names) (Repeat (Either (Mark 44 ⇒ Done) Done (Name ⇒ Done)) Done) (Same seen)
+further_receivers_agree : (seen : Seen) (names : List (List ℕ))
+    → Agrees seen (receivers_from names) (Repeat (Either (Mark 44 ⇒ Done) Done (Name ⇒ Done)) Done) (Same seen)
 unfolding receivers_from
 further_receivers_agree seen names =
-    agree_same begins_receiver _ (λ s. after_shrinks comma_keeps λ _. bind_shrinks name_shrinks λ name. value_keeps _) begins_a_receiver
+    agree_same begins_receiver _ (λ s. after_shrinks comma_keeps λ _. bind_shrinks name_shrinks λ name. value_keeps _)
+    begins_a_receiver
     (λ s. agree_then (comma_agrees seen) λ _. agree_then (name_agrees seen) λ name. agree_value refl) names
 
 pub receivers_agree : (seen : Seen) → Agrees seen receivers_at grammar.receivers (Same seen)
 unfolding receivers_at
 receivers_agree seen =
-    agree_choose has_name (begins_name _) (agree_then (name_agrees seen) λ name. further_receivers_agree seen (name ∷ [])) (agree_value refl)
+    agree_choose has_name (begins_name _) (agree_then (name_agrees seen) λ name. further_receivers_agree seen (name ∷ []))
+    (agree_value refl)
 
-pub texts_agree : (seen : Seen) (texts : List (List ℕ)) → Agrees seen (texts_from texts) (Repeat (Mark 44 ⇒ String ⇒ Done) Done) (Same seen)
+pub texts_agree : (seen : Seen) (texts : List (List ℕ)) → Agrees seen (texts_from texts) (Repeat (Mark 44 ⇒ String ⇒ Done) Done)
+    (Same seen)
 unfolding texts_from
 texts_agree seen texts =
-    agree_same (has_mark 44) _ (λ s. bind_shrinks (mark_shrinks 44) λ _. bind_keeps (keeps text_shrinks) λ text. value_keeps _) (begins_mark 44 _)
+    agree_same (has_mark 44) _ (λ s. bind_shrinks (mark_shrinks 44) λ _. bind_keeps (keeps text_shrinks) λ text. value_keeps _)
+    (begins_mark 44 _)
     (λ s. agree_then (mark_agrees seen 44) λ _. agree_then (text_agrees seen) λ text. agree_value refl) texts
 
 entry_agrees : (seen : Seen) → Agrees seen entry_at (grammar.entry_number then String ⇒ Done) (Same seen)
 unfolding entry_at
 entry_agrees seen = agree_then (int_agrees seen) λ n. agree_then (text_agrees seen) λ text. agree_value refl
 
-pub entries_agree : (seen : Seen) (entries : List _) → Agrees seen (entries_from entries) (Repeat (grammar.entry_number then String ⇒ Done) Done) (Same seen)
+pub entries_agree : (seen : Seen) (entries : List _)
+    → Agrees seen (entries_from entries) (Repeat (grammar.entry_number then String ⇒ Done) Done) (Same seen)
 unfolding entries_from
 entries_agree seen entries =
-    agree_same begins_int _ (λ s. bind_shrinks entry_shrinks λ entry. value_keeps _) (begins_an_int _) (λ s. agree_then (entry_agrees seen) λ entry. agree_value refl) entries
+    agree_same begins_int _ (λ s. bind_shrinks entry_shrinks λ entry. value_keeps _) (begins_an_int _)
+    (λ s. agree_then (entry_agrees seen) λ entry. agree_value refl) entries

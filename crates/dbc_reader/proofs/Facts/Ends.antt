@@ -13,6 +13,8 @@ same_but_last (x ∷ xs) a b = grind (arith, common_steps, same_but_last xs a b)
 split_last : (xs : List ℕ) → 1 ≤ length xs → xs ≡ take (length xs - 1) xs ++ get_or xs (length xs - 1) 0 ∷ []
 split_last xs h = grind (arith, common_steps, take_more xs (length xs - 1) 0)
 
-pub ends_by_last : (bytes : List ℕ) (last : ℕ) → 1 ≤ length bytes → bytes_eq bytes (front bytes ++ last ∷ []) ≡ (get_or bytes (length bytes - 1) 0 == last)
+pub ends_by_last : (bytes : List ℕ) (last : ℕ) → 1 ≤ length bytes → bytes_eq bytes (front bytes ++ last ∷ [])
+    ≡ (get_or bytes (length bytes - 1) 0 == last)
 ends_by_last bytes last h =
-    ap (λ (t : List ℕ). bytes_eq t (front bytes ++ last ∷ [])) (split_last bytes h) ∙ same_but_last (front bytes) (get_or bytes (length bytes - 1) 0) last
+    ap (λ (t : List ℕ). bytes_eq t (front bytes ++ last ∷ [])) (split_last bytes h)
+    ∙ same_but_last (front bytes) (get_or bytes (length bytes - 1) 0) last

@@ -7,6 +7,7 @@ use Rattle.dbc_tokens.specs.Tokens.{Cut}
 use Rattle.dbc_reader.specs.Reading.Readers.{Fails, fault_of}
 use Rattle.dbc_reader.specs.Pattern.{memory_fault}
 
-pub stopped_reading : {A : Type 0} (stopped : Stopped) (read : Result (A × Cut) ReadFault) → Fails stopped read → (fault_of stopped ≡ memory_fault) ⊎ (read ≡ Err (fault_of stopped))
+pub stopped_reading : {A : Type 0} (stopped : Stopped) (read : Result (A × Cut) ReadFault) → Fails stopped read
+    → (fault_of stopped ≡ memory_fault) ⊎ (read ≡ Err (fault_of stopped))
 stopped_reading stops.Memory read h = inl refl
 stopped_reading (stops.Fault fault) read h = inr h

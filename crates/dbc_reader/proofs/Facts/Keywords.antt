@@ -1,5 +1,6 @@
 -- What statement each keyword begins.
-use Rattle.std.proofs.Common.{◌≡◌, ℕ, ◌||◌, ◌&&◌, Bool, true, false, cond, List, [], ◌∷◌, ◌++◌, Option, Some, None, refl, sym, ap, subst, ◌∙◌, inl, inr}
+use Rattle.std.proofs.Common.{◌≡◌, ℕ, ◌||◌, ◌&&◌, Bool, true, false, cond, List, [], ◌∷◌, ◌++◌, Option, Some, None, refl, sym, ap}
+use Rattle.std.proofs.Common.{subst, ◌∙◌, inl, inr}
 use Rattle.std.specs.Prelude.{codes}
 use Rattle.std.specs.List.{list_any}
 use Rattle.std.specs.Str.{bytes_eq}
@@ -21,7 +22,12 @@ use Rattle.dbc_reader.specs.Reading.Parts.{word_at}
 use Rattle.dbc_reader.specs.Reading.Tables.{table_at, values_at, float_at, mux_at}
 use Rattle.dbc_reader.specs.Reading.Attributes.{comment_at, definition_at, default_at, attribute_at}
 use Rattle.dbc_reader.specs.Reading.Keywords.{keyword_words, keyword_among, keyword_of, keyword_at}
-use Rattle.dbc_reader.specs.Reading.Databases.{symbols_into, nodes_into, begins_kept, kept_into, message_into, table_into, values_into, float_into, mux_into, comment_into, definition_into, default_into, attribute_into, object_into, value_row_into, attribute_row_into, object_words, value_words, attribute_words, has_object_word, has_value_word, has_attribute_word, begins_statement, statement_into, table_alone_at, values_alone_at, mux_alone_at, one_of_six_at}
+use Rattle.dbc_reader.specs.Reading.Databases.{symbols_into, nodes_into, begins_kept, kept_into, message_into, table_into}
+use Rattle.dbc_reader.specs.Reading.Databases.{values_into, float_into, mux_into, comment_into, definition_into, default_into}
+use Rattle.dbc_reader.specs.Reading.Databases.{attribute_into, object_into, value_row_into, attribute_row_into, object_words}
+use Rattle.dbc_reader.specs.Reading.Databases.{value_words, attribute_words, has_object_word, has_value_word, has_attribute_word}
+use Rattle.dbc_reader.specs.Reading.Databases.{begins_statement, statement_into, table_alone_at, values_alone_at, mux_alone_at}
+use Rattle.dbc_reader.specs.Reading.Databases.{one_of_six_at}
 use Rattle.dbc_reader.proofs.Facts.KeptBeginnings.{kept_by_tokens}
 
 -- ---- what is read
@@ -35,10 +41,18 @@ Reads keywords.Float cut = (d : Database) → statement_into d cut ≡ float_int
 Reads keywords.Mux cut = (d : Database) → statement_into d cut ≡ mux_into d (with_word (codes "SG_MUL_VAL_") (behind cut))
 Reads keywords.Definition cut = (d : Database) → statement_into d cut ≡ definition_into d (with_word (codes "BA_DEF_") (behind cut))
 Reads keywords.Default cut = (d : Database) → statement_into d cut ≡ default_into d (with_word (codes "BA_DEF_DEF_") (behind cut))
-Reads keywords.Message cut = (starts (has_word (codes "BO_")) cut ≡ true) × ((d : Database) → statement_into d cut ≡ message_into d cut)
-Reads keywords.Values cut = (starts has_name (behind cut) ≡ true → begins_kept cut ≡ true) × ((d : Database) → starts has_name (behind cut) ≡ false → statement_into d cut ≡ values_into d (with_word (codes "VAL_") (behind cut)))
-Reads keywords.Comment cut = (starts (has_word (codes "EV_")) (behind cut) ≡ true → begins_kept cut ≡ true) × ((d : Database) → starts (has_word (codes "EV_")) (behind cut) ≡ false → statement_into d cut ≡ comment_into d (with_word (codes "CM_") (behind cut)))
-Reads keywords.Attribute cut = ((starts (has_word (codes "EV_")) (behind (behind cut)) && starts has_string (behind cut)) ≡ true → begins_kept cut ≡ true) × ((d : Database) → (starts (has_word (codes "EV_")) (behind (behind cut)) && starts has_string (behind cut)) ≡ false → statement_into d cut ≡ attribute_into d (with_word (codes "BA_") (behind cut)))
+Reads keywords.Message cut = (starts (has_word (codes "BO_")) cut ≡ true)
+    × ((d : Database) → statement_into d cut ≡ message_into d cut)
+Reads keywords.Values cut = (starts has_name (behind cut) ≡ true → begins_kept cut ≡ true)
+    × ((d : Database) → starts has_name (behind cut) ≡ false → statement_into d cut
+    ≡ values_into d (with_word (codes "VAL_") (behind cut)))
+Reads keywords.Comment cut = (starts (has_word (codes "EV_")) (behind cut) ≡ true → begins_kept cut ≡ true)
+    × ((d : Database) → starts (has_word (codes "EV_")) (behind cut) ≡ false → statement_into d cut
+    ≡ comment_into d (with_word (codes "CM_") (behind cut)))
+Reads keywords.Attribute cut = ((starts (has_word (codes "EV_")) (behind (behind cut)) && starts has_string (behind cut)) ≡ true
+    → begins_kept cut ≡ true)
+    × ((d : Database) → (starts (has_word (codes "EV_")) (behind (behind cut)) && starts has_string (behind cut)) ≡ false
+    → statement_into d cut ≡ attribute_into d (with_word (codes "BA_") (behind cut)))
 Reads keywords.Kept cut = begins_kept cut ≡ true
 
 abbrev a_word : Kind → ℕ → List ℕ → Token
@@ -48,35 +62,43 @@ abbrev ReadsWord : List ℕ → Keyword → Type 0
 ReadsWord word keyword = (kind : Kind) (line : ℕ) (cut : Cut) → Reads keyword (a_word kind line word ▸ cut)
 
 symbols_read : ReadsWord (codes "NS_") keywords.Symbols
-unfolding statement_into object_into value_row_into attribute_row_into has_object_word has_value_word has_attribute_word has_word has_kept_word starts word_at token_at begins_kept kept_fits symbols_into
+unfolding statement_into object_into value_row_into attribute_row_into has_object_word has_value_word has_attribute_word has_word
+    has_kept_word starts word_at token_at begins_kept kept_fits symbols_into
 symbols_read kind line cut d = refl
 
 nodes_read : ReadsWord (codes "BU_") keywords.Nodes
-unfolding statement_into object_into value_row_into attribute_row_into has_object_word has_value_word has_attribute_word has_word has_kept_word starts word_at token_at begins_kept kept_fits nodes_into
+unfolding statement_into object_into value_row_into attribute_row_into has_object_word has_value_word has_attribute_word has_word
+    has_kept_word starts word_at token_at begins_kept kept_fits nodes_into
 nodes_read kind line cut d = refl
 
 table_read : ReadsWord (codes "VAL_TABLE_") keywords.Table
-unfolding statement_into object_into value_row_into attribute_row_into has_object_word has_value_word has_attribute_word has_word has_kept_word starts word_at token_at begins_kept kept_fits table_into table_at
+unfolding statement_into object_into value_row_into attribute_row_into has_object_word has_value_word has_attribute_word has_word
+    has_kept_word starts word_at token_at begins_kept kept_fits table_into table_at
 table_read kind line cut d = refl
 
 float_read : ReadsWord (codes "SIG_VALTYPE_") keywords.Float
-unfolding statement_into object_into value_row_into attribute_row_into has_object_word has_value_word has_attribute_word has_word has_kept_word starts word_at token_at begins_kept kept_fits float_into float_at
+unfolding statement_into object_into value_row_into attribute_row_into has_object_word has_value_word has_attribute_word has_word
+    has_kept_word starts word_at token_at begins_kept kept_fits float_into float_at
 float_read kind line cut d = refl
 
 mux_read : ReadsWord (codes "SG_MUL_VAL_") keywords.Mux
-unfolding statement_into object_into value_row_into attribute_row_into has_object_word has_value_word has_attribute_word has_word has_kept_word starts word_at token_at begins_kept kept_fits mux_into mux_at
+unfolding statement_into object_into value_row_into attribute_row_into has_object_word has_value_word has_attribute_word has_word
+    has_kept_word starts word_at token_at begins_kept kept_fits mux_into mux_at
 mux_read kind line cut d = refl
 
 definition_read : ReadsWord (codes "BA_DEF_") keywords.Definition
-unfolding statement_into object_into value_row_into attribute_row_into has_object_word has_value_word has_attribute_word has_word has_kept_word starts word_at token_at begins_kept kept_fits definition_into definition_at
+unfolding statement_into object_into value_row_into attribute_row_into has_object_word has_value_word has_attribute_word has_word
+    has_kept_word starts word_at token_at begins_kept kept_fits definition_into definition_at
 definition_read kind line cut d = refl
 
 default_read : ReadsWord (codes "BA_DEF_DEF_") keywords.Default
-unfolding statement_into object_into value_row_into attribute_row_into has_object_word has_value_word has_attribute_word has_word has_kept_word starts word_at token_at begins_kept kept_fits default_into default_at
+unfolding statement_into object_into value_row_into attribute_row_into has_object_word has_value_word has_attribute_word has_word
+    has_kept_word starts word_at token_at begins_kept kept_fits default_into default_at
 default_read kind line cut d = refl
 
 message_read : ReadsWord (codes "BO_") keywords.Message
-unfolding statement_into object_into value_row_into attribute_row_into has_object_word has_value_word has_attribute_word has_word has_kept_word starts word_at token_at begins_kept kept_fits
+unfolding statement_into object_into value_row_into attribute_row_into has_object_word has_value_word has_attribute_word has_word
+    has_kept_word starts word_at token_at begins_kept kept_fits
 message_read kind line cut = (refl, λ d. refl)
 
 either_none : (a : Bool) → (a || false) ≡ a
@@ -94,23 +116,28 @@ unfolding has_word has_kept_word starts
 values_kept kind line cut = kept_by_tokens (a_word kind line (codes "VAL_") ▸ cut) ∙ either_none _
 
 values_read : ReadsWord (codes "VAL_") keywords.Values
-unfolding statement_into object_into value_row_into attribute_row_into has_object_word has_value_word has_attribute_word has_word has_kept_word starts word_at token_at values_into values_at
+unfolding statement_into object_into value_row_into attribute_row_into has_object_word has_value_word has_attribute_word has_word
+    has_kept_word starts word_at token_at values_into values_at
 values_read kind line cut = (λ e. values_kept kind line cut ∙ e, λ d e. rw (values_kept kind line cut, e) refl)
 
-comment_kept : (kind : Kind) (line : ℕ) (cut : Cut) → begins_kept (a_word kind line (codes "CM_") ▸ cut) ≡ starts (has_word (codes "EV_")) cut
+comment_kept : (kind : Kind) (line : ℕ) (cut : Cut) → begins_kept (a_word kind line (codes "CM_") ▸ cut)
+    ≡ starts (has_word (codes "EV_")) cut
 unfolding has_word has_kept_word starts
 comment_kept kind line cut = kept_by_tokens (a_word kind line (codes "CM_") ▸ cut) ∙ either_none _
 
 comment_read : ReadsWord (codes "CM_") keywords.Comment
-unfolding statement_into object_into value_row_into attribute_row_into has_object_word has_value_word has_attribute_word has_word has_kept_word starts word_at token_at comment_into comment_at
+unfolding statement_into object_into value_row_into attribute_row_into has_object_word has_value_word has_attribute_word has_word
+    has_kept_word starts word_at token_at comment_into comment_at
 comment_read kind line cut = (λ e. comment_kept kind line cut ∙ e, λ d e. rw (comment_kept kind line cut, e) refl)
 
-attribute_kept : (kind : Kind) (line : ℕ) (cut : Cut) → begins_kept (a_word kind line (codes "BA_") ▸ cut) ≡ (starts (has_word (codes "EV_")) (behind cut) && starts has_string cut)
+attribute_kept : (kind : Kind) (line : ℕ) (cut : Cut) → begins_kept (a_word kind line (codes "BA_") ▸ cut)
+    ≡ (starts (has_word (codes "EV_")) (behind cut) && starts has_string cut)
 unfolding has_word has_kept_word starts
 attribute_kept kind line cut = kept_by_tokens (a_word kind line (codes "BA_") ▸ cut) ∙ either_order (starts has_string cut) _
 
 attribute_read : ReadsWord (codes "BA_") keywords.Attribute
-unfolding statement_into object_into value_row_into attribute_row_into has_object_word has_value_word has_attribute_word has_word has_kept_word starts word_at token_at attribute_into attribute_at
+unfolding statement_into object_into value_row_into attribute_row_into has_object_word has_value_word has_attribute_word has_word
+    has_kept_word starts word_at token_at attribute_into attribute_at
 attribute_read kind line cut = (λ e. attribute_kept kind line cut ∙ e, λ d e. rw (attribute_kept kind line cut, e) refl)
 
 -- ---- each keyword
@@ -120,28 +147,50 @@ AllRead [] = Unit {0}
 AllRead (one ∷ others) = ReadsWord one.0 one.1 × AllRead others
 
 all_read : AllRead keyword_words
-all_read = (symbols_read, (nodes_read, (message_read, (table_read, (values_read, (float_read, (mux_read, (comment_read, (definition_read, (default_read, (attribute_read, tt)))))))))))
+all_read = (
+  symbols_read,
+  (
+    nodes_read,
+    (
+      message_read,
+      (
+        table_read,
+        (
+          values_read,
+          (float_read, (mux_read, (comment_read, (definition_read, (default_read, (attribute_read, tt)))))),
+        ),
+      ),
+    ),
+  ),
+)
 
-is_first : (b : Bool) (first keyword : Keyword) (rest : Option Keyword) → b ≡ true → cond b (Some first) rest ≡ Some keyword → first ≡ keyword
+is_first : (b : Bool) (first keyword : Keyword) (rest : Option Keyword) → b ≡ true → cond b (Some first) rest ≡ Some keyword
+    → first ≡ keyword
 is_first true first keyword rest h e = cc
 is_first false first keyword rest h e = absurd cc
 
-is_later : (b : Bool) (first keyword : Keyword) (rest : Option Keyword) → b ≡ false → cond b (Some first) rest ≡ Some keyword → rest ≡ Some keyword
+is_later : (b : Bool) (first keyword : Keyword) (rest : Option Keyword) → b ≡ false → cond b (Some first) rest ≡ Some keyword
+    → rest ≡ Some keyword
 is_later true first keyword rest h e = absurd cc
 is_later false first keyword rest h e = e
 
-begins_as_kept : (t : Token) (cut : Cut) (b : Bool) (keyword : Keyword) → is_kept_word t.bytes ≡ b → cond b (Some keywords.Kept) None ≡ Some keyword → Reads keyword (t ▸ cut)
+begins_as_kept : (t : Token) (cut : Cut) (b : Bool) (keyword : Keyword) → is_kept_word t.bytes ≡ b
+    → cond b (Some keywords.Kept) None ≡ Some keyword → Reads keyword (t ▸ cut)
 unfolding has_kept_word starts
 begins_as_kept t cut false keyword h e = absurd cc
-begins_as_kept t cut true keyword h e = subst (λ k. Reads k (t ▸ cut)) (is_first true keywords.Kept keyword None refl e) (kept_by_tokens (t ▸ cut) ∙ rw h refl)
+begins_as_kept t cut true keyword h e = subst (λ k. Reads k (t ▸ cut)) (is_first true keywords.Kept keyword None refl e)
+    (kept_by_tokens (t ▸ cut) ∙ rw h refl)
 
-read_among : (words : List (List ℕ × Keyword)) (t : Token) (cut : Cut) (keyword : Keyword) → AllRead words → keyword_among words t.bytes ≡ Some keyword → Reads keyword (t ▸ cut)
+read_among : (words : List (List ℕ × Keyword)) (t : Token) (cut : Cut) (keyword : Keyword) → AllRead words
+    → keyword_among words t.bytes ≡ Some keyword → Reads keyword (t ▸ cut)
 read_among [] t cut keyword all e = begins_as_kept t cut (is_kept_word t.bytes) keyword refl e
 read_among (one ∷ others) t cut keyword all e = elim (cases_Bool (bytes_eq t.bytes one.0)) [
   | inl same ↦ (
-      let here : Reads one.1 (t ▸ cut) = subst (λ word. Reads one.1 (a_word t.kind t.line word ▸ cut)) (sym ((bytes_eq-Decides t.bytes one.0).0 same)) (all.0 t.kind t.line cut) in
+      let here : Reads one.1 (t ▸ cut) = subst (λ word. Reads one.1 (a_word t.kind t.line word ▸ cut))
+      (sym ((bytes_eq-Decides t.bytes one.0).0 same)) (all.0 t.kind t.line cut) in
       subst (λ k. Reads k (t ▸ cut)) (is_first (bytes_eq t.bytes one.0) one.1 keyword (keyword_among others t.bytes) same e) here)
-  | inr differ ↦ read_among others t cut keyword all.1 (is_later (bytes_eq t.bytes one.0) one.1 keyword (keyword_among others t.bytes) differ e)
+  | inr differ ↦ read_among others t cut keyword all.1 (is_later (bytes_eq t.bytes one.0) one.1 keyword
+      (keyword_among others t.bytes) differ e)
 ]
 
 reads : (keyword : Keyword) (cut : Cut) → keyword_at cut ≡ Some keyword → Reads keyword cut
@@ -150,25 +199,32 @@ reads keyword (End line) e = absurd cc
 reads keyword (Fault line) e = absurd cc
 reads keyword (t ▸ cut) e = read_among keyword_words t cut keyword all_read e
 
-pub symbols_step : (d : Database) (cut : Cut) → keyword_at cut ≡ Some keywords.Symbols → statement_into d cut ≡ symbols_into d (with_word (codes "NS_") (behind cut))
+pub symbols_step : (d : Database) (cut : Cut) → keyword_at cut ≡ Some keywords.Symbols → statement_into d cut
+    ≡ symbols_into d (with_word (codes "NS_") (behind cut))
 symbols_step d cut e = reads keywords.Symbols cut e d
 
-pub nodes_step : (d : Database) (cut : Cut) → keyword_at cut ≡ Some keywords.Nodes → statement_into d cut ≡ nodes_into d (with_word (codes "BU_") (behind cut))
+pub nodes_step : (d : Database) (cut : Cut) → keyword_at cut ≡ Some keywords.Nodes → statement_into d cut
+    ≡ nodes_into d (with_word (codes "BU_") (behind cut))
 nodes_step d cut e = reads keywords.Nodes cut e d
 
-pub table_step : (d : Database) (cut : Cut) → keyword_at cut ≡ Some keywords.Table → statement_into d cut ≡ table_into d (with_word (codes "VAL_TABLE_") (behind cut))
+pub table_step : (d : Database) (cut : Cut) → keyword_at cut ≡ Some keywords.Table → statement_into d cut
+    ≡ table_into d (with_word (codes "VAL_TABLE_") (behind cut))
 table_step d cut e = reads keywords.Table cut e d
 
-pub float_step : (d : Database) (cut : Cut) → keyword_at cut ≡ Some keywords.Float → statement_into d cut ≡ float_into d (with_word (codes "SIG_VALTYPE_") (behind cut))
+pub float_step : (d : Database) (cut : Cut) → keyword_at cut ≡ Some keywords.Float → statement_into d cut
+    ≡ float_into d (with_word (codes "SIG_VALTYPE_") (behind cut))
 float_step d cut e = reads keywords.Float cut e d
 
-pub mux_step : (d : Database) (cut : Cut) → keyword_at cut ≡ Some keywords.Mux → statement_into d cut ≡ mux_into d (with_word (codes "SG_MUL_VAL_") (behind cut))
+pub mux_step : (d : Database) (cut : Cut) → keyword_at cut ≡ Some keywords.Mux → statement_into d cut
+    ≡ mux_into d (with_word (codes "SG_MUL_VAL_") (behind cut))
 mux_step d cut e = reads keywords.Mux cut e d
 
-pub definition_step : (d : Database) (cut : Cut) → keyword_at cut ≡ Some keywords.Definition → statement_into d cut ≡ definition_into d (with_word (codes "BA_DEF_") (behind cut))
+pub definition_step : (d : Database) (cut : Cut) → keyword_at cut ≡ Some keywords.Definition → statement_into d cut
+    ≡ definition_into d (with_word (codes "BA_DEF_") (behind cut))
 definition_step d cut e = reads keywords.Definition cut e d
 
-pub default_step : (d : Database) (cut : Cut) → keyword_at cut ≡ Some keywords.Default → statement_into d cut ≡ default_into d (with_word (codes "BA_DEF_DEF_") (behind cut))
+pub default_step : (d : Database) (cut : Cut) → keyword_at cut ≡ Some keywords.Default → statement_into d cut
+    ≡ default_into d (with_word (codes "BA_DEF_DEF_") (behind cut))
 default_step d cut e = reads keywords.Default cut e d
 
 pub message_begins : (cut : Cut) → keyword_at cut ≡ Some keywords.Message → starts (has_word (codes "BO_")) cut ≡ true
@@ -177,22 +233,30 @@ message_begins cut e = (reads keywords.Message cut e).0
 pub message_step : (d : Database) (cut : Cut) → keyword_at cut ≡ Some keywords.Message → statement_into d cut ≡ message_into d cut
 message_step d cut e = (reads keywords.Message cut e).1 d
 
-pub values_kept_step : (cut : Cut) → keyword_at cut ≡ Some keywords.Values → starts has_name (behind cut) ≡ true → begins_kept cut ≡ true
+pub values_kept_step : (cut : Cut) → keyword_at cut ≡ Some keywords.Values → starts has_name (behind cut) ≡ true
+    → begins_kept cut ≡ true
 values_kept_step cut e = (reads keywords.Values cut e).0
 
-pub values_step : (d : Database) (cut : Cut) → keyword_at cut ≡ Some keywords.Values → starts has_name (behind cut) ≡ false → statement_into d cut ≡ values_into d (with_word (codes "VAL_") (behind cut))
+pub values_step : (d : Database) (cut : Cut) → keyword_at cut ≡ Some keywords.Values → starts has_name (behind cut) ≡ false
+    → statement_into d cut ≡ values_into d (with_word (codes "VAL_") (behind cut))
 values_step d cut e = (reads keywords.Values cut e).1 d
 
-pub comment_kept_step : (cut : Cut) → keyword_at cut ≡ Some keywords.Comment → starts (has_word (codes "EV_")) (behind cut) ≡ true → begins_kept cut ≡ true
+pub comment_kept_step : (cut : Cut) → keyword_at cut ≡ Some keywords.Comment → starts (has_word (codes "EV_")) (behind cut) ≡ true
+    → begins_kept cut ≡ true
 comment_kept_step cut e = (reads keywords.Comment cut e).0
 
-pub comment_step : (d : Database) (cut : Cut) → keyword_at cut ≡ Some keywords.Comment → starts (has_word (codes "EV_")) (behind cut) ≡ false → statement_into d cut ≡ comment_into d (with_word (codes "CM_") (behind cut))
+pub comment_step : (d : Database) (cut : Cut) → keyword_at cut ≡ Some keywords.Comment
+    → starts (has_word (codes "EV_")) (behind cut) ≡ false → statement_into d cut
+    ≡ comment_into d (with_word (codes "CM_") (behind cut))
 comment_step d cut e = (reads keywords.Comment cut e).1 d
 
-pub attribute_kept_step : (cut : Cut) → keyword_at cut ≡ Some keywords.Attribute → (starts (has_word (codes "EV_")) (behind (behind cut)) && starts has_string (behind cut)) ≡ true → begins_kept cut ≡ true
+pub attribute_kept_step : (cut : Cut) → keyword_at cut ≡ Some keywords.Attribute
+    → (starts (has_word (codes "EV_")) (behind (behind cut)) && starts has_string (behind cut)) ≡ true → begins_kept cut ≡ true
 attribute_kept_step cut e = (reads keywords.Attribute cut e).0
 
-pub attribute_step : (d : Database) (cut : Cut) → keyword_at cut ≡ Some keywords.Attribute → (starts (has_word (codes "EV_")) (behind (behind cut)) && starts has_string (behind cut)) ≡ false → statement_into d cut ≡ attribute_into d (with_word (codes "BA_") (behind cut))
+pub attribute_step : (d : Database) (cut : Cut) → keyword_at cut ≡ Some keywords.Attribute
+    → (starts (has_word (codes "EV_")) (behind (behind cut)) && starts has_string (behind cut)) ≡ false → statement_into d cut
+    ≡ attribute_into d (with_word (codes "BA_") (behind cut))
 attribute_step d cut e = (reads keywords.Attribute cut e).1 d
 
 pub begins_kept_step : (cut : Cut) → keyword_at cut ≡ Some keywords.Kept → begins_kept cut ≡ true
@@ -212,17 +276,22 @@ first_there : (b : Bool) (keyword : Keyword) (rest : Option Keyword) → is_ther
 first_there true keyword rest = refl
 first_there false keyword rest = refl
 
-among_words : (words : List (List ℕ × Keyword)) (word : List ℕ) → is_there (keyword_among words word) ≡ (list_any (λ one. bytes_eq word one.0) words || is_kept_word word)
+among_words : (words : List (List ℕ × Keyword)) (word : List ℕ) → is_there (keyword_among words word)
+    ≡ (list_any (λ one. bytes_eq word one.0) words || is_kept_word word)
 among_words [] word = first_there (is_kept_word word) keywords.Kept None ∙ either_none (is_kept_word word)
 among_words (one ∷ others) word =
-    first_there (bytes_eq word one.0) one.1 (keyword_among others word) ∙ ap (λ b. bytes_eq word one.0 || b) (among_words others word) ∙ sym (or_assoc (bytes_eq word one.0) (list_any (λ x. bytes_eq word x.0) others) (is_kept_word word))
+    first_there (bytes_eq word one.0) one.1 (keyword_among others word)
+    ∙ ap (λ b. bytes_eq word one.0 || b) (among_words others word)
+    ∙ sym (or_assoc (bytes_eq word one.0) (list_any (λ x. bytes_eq word x.0) others) (is_kept_word word))
 
 keyword_there : (t : Token) → begins_statement t ≡ is_there (keyword_of t.bytes)
 unfolding begins_statement has_object_word has_value_word has_attribute_word has_kept_word keyword_of
 keyword_there t =
     let p : List ℕ → Bool = bytes_eq t.bytes in
-    let words : (list_any p (object_words ++ (value_words ++ attribute_words)) || is_kept_word t.bytes) ≡ (list_any p object_words || (list_any p value_words || (list_any p attribute_words || is_kept_word t.bytes))) =
-    rw (list_any-append p object_words (value_words ++ attribute_words), list_any-append p value_words attribute_words) (or_assoc (list_any p object_words) _ _ ∙ ap (λ b. list_any p object_words || b) (or_assoc (list_any p value_words) _ _)) in
+    let words : (list_any p (object_words ++ (value_words ++ attribute_words)) || is_kept_word t.bytes)
+    ≡ (list_any p object_words || (list_any p value_words || (list_any p attribute_words || is_kept_word t.bytes))) =
+    rw (list_any-append p object_words (value_words ++ attribute_words), list_any-append p value_words attribute_words)
+    (or_assoc (list_any p object_words) _ _ ∙ ap (λ b. list_any p object_words || b) (or_assoc (list_any p value_words) _ _)) in
     sym words ∙ sym (among_words keyword_words t.bytes)
 
 pub statement_begins : (keyword : Keyword) (cut : Cut) → keyword_at cut ≡ Some keyword → starts begins_statement cut ≡ true
@@ -239,20 +308,28 @@ no_statement_begins (t ▸ cut) e = keyword_there t ∙ rw e refl
 
 -- ---- statements that stand alone
 
-of_word : (R : Reader Statement) (word : List ℕ) → ((kind : Kind) (line : ℕ) (cut : Cut) → one_of_six_at (a_word kind line word ▸ cut) ≡ R (a_word kind line word ▸ cut)) → (cut : Cut) → starts (has_word word) cut ≡ true → one_of_six_at cut ≡ R cut
+of_word : (R : Reader Statement) (word : List ℕ) → ((kind : Kind) (line : ℕ) (cut : Cut)
+    → one_of_six_at (a_word kind line word ▸ cut) ≡ R (a_word kind line word ▸ cut)) → (cut : Cut) → starts (has_word word) cut
+    ≡ true → one_of_six_at cut ≡ R cut
 unfolding starts has_word
 of_word R word h (End line) e = absurd cc
 of_word R word h (Fault line) e = absurd cc
-of_word R word h (t ▸ cut) e = subst (λ bytes. one_of_six_at (a_word t.kind t.line bytes ▸ cut) ≡ R (a_word t.kind t.line bytes ▸ cut)) (sym ((bytes_eq-Decides t.bytes word).0 e)) (h t.kind t.line cut)
+of_word R word h (t ▸ cut) e = subst (λ bytes. one_of_six_at (a_word t.kind t.line bytes ▸ cut)
+    ≡ R (a_word t.kind t.line bytes ▸ cut)) (sym ((bytes_eq-Decides t.bytes word).0 e)) (h t.kind t.line cut)
 
-pub table_alone : (cut : Cut) → starts (has_word (codes "VAL_TABLE_")) cut ≡ true → one_of_six_at cut ≡ table_alone_at (with_word (codes "VAL_TABLE_") (behind cut))
+pub table_alone : (cut : Cut) → starts (has_word (codes "VAL_TABLE_")) cut ≡ true
+    → one_of_six_at cut ≡ table_alone_at (with_word (codes "VAL_TABLE_") (behind cut))
 unfolding one_of_six_at starts has_word table_at word_at token_at
-table_alone = of_word (λ cut. table_alone_at (with_word (codes "VAL_TABLE_") (behind cut))) (codes "VAL_TABLE_") (λ kind line cut. refl)
+table_alone = of_word (λ cut. table_alone_at (with_word (codes "VAL_TABLE_") (behind cut))) (codes "VAL_TABLE_")
+    (λ kind line cut. refl)
 
-pub values_alone : (cut : Cut) → starts (has_word (codes "VAL_")) cut ≡ true → one_of_six_at cut ≡ values_alone_at (with_word (codes "VAL_") (behind cut))
+pub values_alone : (cut : Cut) → starts (has_word (codes "VAL_")) cut ≡ true
+    → one_of_six_at cut ≡ values_alone_at (with_word (codes "VAL_") (behind cut))
 unfolding one_of_six_at starts has_word values_at word_at token_at
 values_alone = of_word (λ cut. values_alone_at (with_word (codes "VAL_") (behind cut))) (codes "VAL_") (λ kind line cut. refl)
 
-pub mux_alone : (cut : Cut) → starts (has_word (codes "SG_MUL_VAL_")) cut ≡ true → one_of_six_at cut ≡ mux_alone_at (with_word (codes "SG_MUL_VAL_") (behind cut))
+pub mux_alone : (cut : Cut) → starts (has_word (codes "SG_MUL_VAL_")) cut ≡ true
+    → one_of_six_at cut ≡ mux_alone_at (with_word (codes "SG_MUL_VAL_") (behind cut))
 unfolding one_of_six_at starts has_word mux_at word_at token_at
-mux_alone = of_word (λ cut. mux_alone_at (with_word (codes "SG_MUL_VAL_") (behind cut))) (codes "SG_MUL_VAL_") (λ kind line cut. refl)
+mux_alone = of_word (λ cut. mux_alone_at (with_word (codes "SG_MUL_VAL_") (behind cut))) (codes "SG_MUL_VAL_")
+    (λ kind line cut. refl)

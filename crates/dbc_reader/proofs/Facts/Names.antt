@@ -4,14 +4,16 @@ use Rattle.std.specs.Prelude.{not}
 use Rattle.std.specs.List.{list_any, list_all, before_first, after_first, prefix_len}
 use Rattle.std.proofs.lemmas.Bool.{cases_Bool}
 use Rattle.std.proofs.lemmas.Grind.{common_steps}
-use Rattle.dbc_values.specs.Lexical.{is_letter, is_digit, is_point, is_exponent_mark, is_word, is_word_byte, is_name, is_keyword, is_mantissa, is_number}
+use Rattle.dbc_values.specs.Lexical.{is_letter, is_digit, is_point, is_exponent_mark, is_word, is_word_byte, is_name, is_keyword}
+use Rattle.dbc_values.specs.Lexical.{is_mantissa, is_number}
 use Rattle.dbc_values.specs.Numbers.{whole_of_number}
 use Rattle.dbc_values.specs.Pieces.{is_piece, is_string, is_mark_but_semicolon}
 use Rattle.dbc_tokens.specs.Tokens.{Token}
 use Rattle.dbc_reader.specs.Classes.{has_name, has_string, has_piece, has_whole}
 
 -- the bytes before the first that passes, where the first byte doesn't
-keeps_first : (test : ℕ → Bool) (b : ℕ) (bytes : List ℕ) → test b ≡ false → (rest : List ℕ) × (before_first test (b ∷ bytes) ≡ b ∷ rest)
+keeps_first : (test : ℕ → Bool) (b : ℕ) (bytes : List ℕ) → test b ≡ false → (rest : List ℕ)
+    × (before_first test (b ∷ bytes) ≡ b ∷ rest)
 keeps_first test b bytes e =
     let count = prefix_len (λ x. not (test x)) bytes in
     let next : 1 + count ≡ suc count = omega arith in
@@ -27,7 +29,8 @@ no_digit_no_number b bytes no_digit no_point = rw no_mantissa refl
   where
     before : (rest : List ℕ) → is_mantissa (b ∷ rest) ≡ false
     before rest = let front = keeps_first is_point b rest no_point in
-        ap (λ front. list_all is_digit front && list_all is_digit (after_first is_point (b ∷ rest)) && list_any is_digit (b ∷ rest)) front.1 ∙ rw no_digit refl
+        ap (λ front. list_all is_digit front && list_all is_digit (after_first is_point (b ∷ rest)) && list_any is_digit (b ∷ rest))
+        front.1 ∙ rw no_digit refl
 
     no_mantissa : is_mantissa (before_first is_exponent_mark (b ∷ bytes)) ≡ false
     no_mantissa = elim (cases_Bool (is_exponent_mark b)) [
@@ -45,12 +48,14 @@ letter_is_no_point b e = grind (arith, common_steps)
 letters_are_no_mantissa : (b : ℕ) (bytes : List ℕ) → is_letter b ≡ true → is_mantissa (b ∷ bytes) ≡ false
 letters_are_no_mantissa b bytes e =
     let front = keeps_first is_point b bytes (letter_is_no_point b e) in
-    ap (λ front. list_all is_digit front && list_all is_digit (after_first is_point (b ∷ bytes)) && list_any is_digit (b ∷ bytes)) front.1 ∙ rw (letter_is_no_digit b e) refl
+    ap (λ front. list_all is_digit front && list_all is_digit (after_first is_point (b ∷ bytes)) && list_any is_digit (b ∷ bytes))
+    front.1 ∙ rw (letter_is_no_digit b e) refl
 
 no_mantissa : (b : ℕ) (bytes : List ℕ) → is_letter b ≡ true → is_mantissa (before_first is_exponent_mark (b ∷ bytes)) ≡ false
 no_mantissa b bytes e = elim (cases_Bool (is_exponent_mark b)) [
   | inl mark ↦ ap is_mantissa (none_first is_exponent_mark b bytes mark)
-  | inr other ↦ (let front = keeps_first is_exponent_mark b bytes other in ap is_mantissa front.1 ∙ letters_are_no_mantissa b front.0 e)
+  | inr other ↦ (let front = keeps_first is_exponent_mark b bytes other in ap is_mantissa front.1
+      ∙ letters_are_no_mantissa b front.0 e)
 ]
 
 name_word : (bytes : List ℕ) → is_name bytes ≡ true → is_word bytes ≡ true
@@ -79,7 +84,8 @@ name_is_no_number t e = rw (word_is_no_number t.bytes (name_word t.bytes e)) ref
 
 pub name_is_piece : (t : Token) → has_name t ≡ true → has_piece t ≡ true
 unfolding has_name has_piece is_piece
-name_is_piece t e = any (is_string t.bytes) (is_word t.bytes) (is_number t.bytes) (is_mark_but_semicolon t.bytes) (name_word t.bytes e)
+name_is_piece t e = any (is_string t.bytes) (is_word t.bytes) (is_number t.bytes) (is_mark_but_semicolon t.bytes)
+    (name_word t.bytes e)
   where
     any : (x y z w : Bool) → y ≡ true → (x || y || z || w) ≡ true
     any true y z w e = refl

@@ -1,5 +1,6 @@
 -- What each statement that is read adds to a database is spelled so.
-use Rattle.std.proofs.Common.{◌≡◌, ℕ, zero, suc, ◌≤◌, Bool, true, false, cond, ◌||◌, ◌&&◌, List, [], ◌∷◌, ◌++◌, length, Result, Ok, refl, sym, ap, subst, ◌∙◌, append_assoc, append-nil, arith}
+use Rattle.std.proofs.Common.{◌≡◌, ℕ, zero, suc, ◌≤◌, Bool, true, false, cond, ◌||◌, ◌&&◌, List, [], ◌∷◌, ◌++◌, length, Result, Ok}
+use Rattle.std.proofs.Common.{refl, sym, ap, subst, ◌∙◌, append_assoc, append-nil, arith}
 use Rattle.std.specs.Prelude.{codes}
 use Rattle.std.specs.List.{flat_map, list_any, list_all}
 use Rattle.std.specs.Str.{bytes_eq}
@@ -11,25 +12,35 @@ use Rattle.dbc_values.specs.Lexical.{kept_words}
 use Rattle.dbc_records.specs.Kept.{Kept}
 use Rattle.dbc_values.specs.Names.{is_symbol}
 use Rattle.dbc_records.specs.Layout.{Word, Mark, Name, Symbol, Piece, items_of}
-use Rattle.dbc_records.specs.CanonicalText.{word_layout, symbol_layout, symbols_title, symbols_layout, nodes_title, nodes_layout, spaced_name, line_end, table_key, table_layout, values_key, values_layout, float_key, mux_key, mux_layout, comment_key, comment_layout, definition_key, definition_layout, default_key, default_layout, attribute_key, attribute_layout, piece_layout, kept_layout, statement_end}
+use Rattle.dbc_records.specs.CanonicalText.{word_layout, symbol_layout, symbols_title, symbols_layout, nodes_title, nodes_layout}
+use Rattle.dbc_records.specs.CanonicalText.{spaced_name, line_end, table_key, table_layout, values_key, values_layout, float_key}
+use Rattle.dbc_records.specs.CanonicalText.{mux_key, mux_layout, comment_key, comment_layout, definition_key, definition_layout}
+use Rattle.dbc_records.specs.CanonicalText.{default_key, default_layout, attribute_key, attribute_layout, piece_layout, kept_layout}
+use Rattle.dbc_records.specs.CanonicalText.{statement_end}
 use Rattle.dbc_tokens.specs.declared.fault.ReadFault.{ReadFault}
 use Rattle.dbc_tokens.specs.Tokens.{Token, Cut, End, Fault, ◌▸◌}
 use Rattle.dbc_reader.specs.Classes.{has_word, has_name, has_string, has_symbol, has_kept_word}
 use Rattle.dbc_reader.specs.Reading.Cursors.{behind}
 use Rattle.dbc_reader.specs.Forms.{Part, Is, ◌▸▸◌}
 use Rattle.dbc_reader.specs.Reading.Readers.{Reader, and_then, ◌>>=◌, value, starts, size, turns, repeated, choose, choose_by}
-use Rattle.dbc_reader.specs.Spelling.{AnyStatement, Symbols, Nodes, Table, OfMessage, OfComment, Definition, Default, Attribute, Values, Float, Mux, OfKept, form, EndsSymbols, FollowOn, symbols_of, timings_of, nodes_of, tables_of, messages_of, comments_of, definitions_of, defaults_of, attributes_of, values_of, floats_of, muxes_of, kept_of}
+use Rattle.dbc_reader.specs.Spelling.{AnyStatement, Symbols, Nodes, Table, OfMessage, OfComment, Definition, Default, Attribute}
+use Rattle.dbc_reader.specs.Spelling.{Values, Float, Mux, OfKept, form, EndsSymbols, FollowOn, symbols_of, timings_of, nodes_of}
+use Rattle.dbc_reader.specs.Spelling.{tables_of, messages_of, comments_of, definitions_of, defaults_of, attributes_of, values_of}
+use Rattle.dbc_reader.specs.Spelling.{floats_of, muxes_of, kept_of}
 use Rattle.dbc_reader.specs.Reading.Parts.{word_at, mark_at, names_from, symbols_from}
 use Rattle.dbc_reader.proofs.Facts.KeptBeginnings.{kept_by_tokens}
 use Rattle.dbc_reader.proofs.Turns.{and_then_ok, Shrinks, bind_shrinks, value_keeps}
 use Rattle.dbc_reader.proofs.Turns.Lists.{symbol_shrinks}
-use Rattle.dbc_reader.specs.Reading.Databases.{symbols_into, nodes_into, begins_kept, kept_at, kept_into, message_into, table_into, values_into, float_into, mux_into, comment_into, definition_into, default_into, attribute_into, object_into, value_row_into, attribute_row_into, statement_into}
+use Rattle.dbc_reader.specs.Reading.Databases.{symbols_into, nodes_into, begins_kept, kept_at, kept_into, message_into, table_into}
+use Rattle.dbc_reader.specs.Reading.Databases.{values_into, float_into, mux_into, comment_into, definition_into, default_into}
+use Rattle.dbc_reader.specs.Reading.Databases.{attribute_into, object_into, value_row_into, attribute_row_into, statement_into}
 use Rattle.dbc_reader.proofs.Sound.Kinds.{symbol_sound, name_sound, pieces_sound, mark_sound, word_sound}
 use Rattle.dbc_reader.proofs.Sound.Rows.{of_layout-append, of_layout-items, table_sound, values_sound, float_sound, mux_sound}
 use Rattle.dbc_reader.proofs.Sound.Notes.{comment_sound, definition_sound, default_sound, attribute_sound}
 use Rattle.dbc_reader.proofs.Sound.Messages.{message_sound}
 use Rattle.dbc_reader.proofs.Turns.{ok_is}
-use Rattle.dbc_reader.proofs.Sound.{Spelt, spelt_both, Sound, Grows, grows_by_one, grows_repeated, sound_start, sound_then, sound_value}
+use Rattle.dbc_reader.proofs.Sound.{Spelt, spelt_both, Sound, Grows, grows_by_one, grows_repeated, sound_start, sound_then}
+use Rattle.dbc_reader.proofs.Sound.{sound_value}
 
 -- ---- a database and statements more
 
@@ -68,8 +79,10 @@ joined_none d =
       append-nil d.kept,
     ) refl
 
-behind_both : {X : Type 0} (f : AnyStatement → List X) (list : List X) (xs ys : List AnyStatement) → (list ++ flat_map f xs) ++ flat_map f ys ≡ list ++ flat_map f (xs ++ ys)
-behind_both f list xs ys = append_assoc list (flat_map f xs) (flat_map f ys) ∙ ap (λ more. list ++ more) (sym (flat_map-append f xs ys))
+behind_both : {X : Type 0} (f : AnyStatement → List X) (list : List X) (xs ys : List AnyStatement) → (list ++ flat_map f xs)
+    ++ flat_map f ys ≡ list ++ flat_map f (xs ++ ys)
+behind_both f list xs ys = append_assoc list (flat_map f xs) (flat_map f ys)
+    ∙ ap (λ more. list ++ more) (sym (flat_map-append f xs ys))
 
 pub joined_twice : (d : Database) (xs ys : List AnyStatement) → joined (joined d xs) ys ≡ joined d (xs ++ ys)
 joined_twice d xs ys =
@@ -110,9 +123,11 @@ adds_choose {d} test {r} {s} h k = record { adds = λ cut x e. by_test (starts t
     by_test false cut x e = k.adds cut x e
 
 -- a value that is read makes a statement
-adds_one : {A : Type 0} {d : Database} {r : Reader A} (put : A → AnyStatement) {add : A → Database} → Sound r (λ a. form (put a)) → ((a : A) → add a ≡ joined d (put a ∷ []))
+adds_one : {A : Type 0} {d : Database} {r : Reader A} (put : A → AnyStatement) {add : A → Database} → Sound r (λ a. form (put a))
+    → ((a : A) → add a ≡ joined d (put a ∷ []))
     → ((a : A) → timings_of (put a) ≡ []) → ((a : A) (behind : List AnyStatement) → FollowOn (put a) behind)
-    → ((a : A) (cut rest : Cut) (behind : List AnyStatement) → Spelt (form (put a)) cut rest → starts has_symbol cut ≡ false → EndsSymbols (put a ∷ behind)) → Adds d (r >>= λ a. value (add a))
+    → ((a : A) (cut rest : Cut) (behind : List AnyStatement) → Spelt (form (put a)) cut rest → starts has_symbol cut ≡ false
+    → EndsSymbols (put a ∷ behind)) → Adds d (r >>= λ a. value (add a))
 adds_one {A} {d} {r} put {add} sound joins no_timing before ends = record {
   adds = λ cut x e. (
       let y = and_then_ok (r cut) _ x e in
@@ -128,12 +143,14 @@ adds_one {A} {d} {r} put {add} sound joins no_timing before ends = record {
 }
 
 -- a statement whose form begins with a word that may be a symbol stands behind no list of symbols
-no_first : (word : List ℕ) (parts : List Part) (cut rest : Cut) → is_symbol word ≡ true → Spelt (Is (Word word) ∷ parts) cut rest → starts has_symbol cut ≡ false → ⊥
+no_first : (word : List ℕ) (parts : List Part) (cut rest : Cut) → is_symbol word ≡ true → Spelt (Is (Word word) ∷ parts) cut rest
+    → starts has_symbol cut ≡ false → ⊥
 unfolding has_symbol starts
 no_first word parts cut rest is h none =
     let first = h.spelled in
     let token = first.3 in
-    let stands : cut ≡ (((token.0 ∷ []) ++ first.1) ▸▸ rest) = h.stands ∙ ap (λ (tokens : List Token). tokens ▸▸ rest) (first.2 ∙ ap (λ (tokens : List Token). tokens ++ first.1) token.1) in
+    let stands : cut ≡ (((token.0 ∷ []) ++ first.1) ▸▸ rest) = h.stands ∙ ap (λ (tokens : List Token). tokens ▸▸ rest) (first.2
+    ∙ ap (λ (tokens : List Token). tokens ++ first.1) token.1) in
     let test : starts has_symbol cut ≡ is_symbol token.0.bytes = ap (starts has_symbol) stands in
     let both : true ≡ false = sym is ∙ ap is_symbol (sym token.2) ∙ sym test ∙ none in
     absurd cc
@@ -143,55 +160,69 @@ no_first word parts cut rest is h none =
 table_adds : (d : Database) → Adds d (table_into d)
 unfolding table_into table_layout table_key word_layout items_of is_symbol
 table_adds d =
-    adds_one (λ row. Table row) table_sound (λ row. ap (λ (e : Database). record e { tables = d.tables ++ row ∷ [] }) (sym (joined_none d))) (λ row. refl) (λ row behind. tt)
+    adds_one (λ row. Table row) table_sound (λ row. ap (λ (e : Database). record e { tables = d.tables ++ row ∷ [] })
+    (sym (joined_none d))) (λ row. refl) (λ row behind. tt)
     (λ row cut rest behind spelt none. absurd (no_first (codes "VAL_TABLE_") _ cut rest refl spelt none))
 
 values_adds : (d : Database) → Adds d (values_into d)
 unfolding values_into values_layout values_key word_layout items_of is_symbol
 values_adds d =
-    adds_one (λ row. Values row) values_sound (λ row. ap (λ (e : Database). record e { values = d.values ++ row ∷ [] }) (sym (joined_none d))) (λ row. refl) (λ row behind. tt)
+    adds_one (λ row. Values row) values_sound (λ row. ap (λ (e : Database). record e { values = d.values ++ row ∷ [] })
+    (sym (joined_none d))) (λ row. refl) (λ row behind. tt)
     (λ row cut rest behind spelt none. absurd (no_first (codes "VAL_") _ cut rest refl spelt none))
 
 float_adds : (d : Database) → Adds d (float_into d)
 unfolding float_into float_key word_layout items_of is_symbol
 float_adds d =
-    adds_one (λ row. Float row) float_sound (λ row. ap (λ (e : Database). record e { floats = d.floats ++ row ∷ [] }) (sym (joined_none d))) (λ row. refl) (λ row behind. tt)
+    adds_one (λ row. Float row) float_sound (λ row. ap (λ (e : Database). record e { floats = d.floats ++ row ∷ [] })
+    (sym (joined_none d))) (λ row. refl) (λ row behind. tt)
     (λ row cut rest behind spelt none. absurd (no_first (codes "SIG_VALTYPE_") _ cut rest refl spelt none))
 
 mux_adds : (d : Database) → Adds d (mux_into d)
 unfolding mux_into mux_layout mux_key word_layout items_of is_symbol
 mux_adds d =
-    adds_one (λ row. Mux row) mux_sound (λ row. ap (λ (e : Database). record e { muxes = d.muxes ++ row ∷ [] }) (sym (joined_none d))) (λ row. refl) (λ row behind. tt)
+    adds_one (λ row. Mux row) mux_sound (λ row. ap (λ (e : Database). record e { muxes = d.muxes ++ row ∷ [] })
+    (sym (joined_none d))) (λ row. refl) (λ row behind. tt)
     (λ row cut rest behind spelt none. absurd (no_first (codes "SG_MUL_VAL_") _ cut rest refl spelt none))
 
 comment_adds : (d : Database) → Adds d (comment_into d)
 unfolding comment_into comment_layout comment_key word_layout items_of is_symbol
 comment_adds d =
-    adds_one (λ comment. OfComment comment) comment_sound (λ comment. ap (λ (e : Database). record e { comments = d.comments ++ comment ∷ [] }) (sym (joined_none d))) (λ comment. refl) (λ comment behind. tt)
+    adds_one (λ comment. OfComment comment) comment_sound
+    (λ comment. ap (λ (e : Database). record e { comments = d.comments ++ comment ∷ [] }) (sym (joined_none d)))
+    (λ comment. refl) (λ comment behind. tt)
     (λ comment cut rest behind spelt none. absurd (no_first (codes "CM_") _ cut rest refl spelt none))
 
 definition_adds : (d : Database) → Adds d (definition_into d)
 unfolding definition_into definition_layout definition_key word_layout items_of is_symbol
 definition_adds d =
-    adds_one (λ definition. Definition definition) definition_sound (λ definition. ap (λ (e : Database). record e { definitions = d.definitions ++ definition ∷ [] }) (sym (joined_none d))) (λ definition. refl) (λ definition behind. tt)
+    adds_one (λ definition. Definition definition) definition_sound
+    (λ definition. ap (λ (e : Database). record e { definitions = d.definitions ++ definition ∷ [] }) (sym (joined_none d)))
+    (λ definition. refl) (λ definition behind. tt)
     (λ definition cut rest behind spelt none. absurd (no_first (codes "BA_DEF_") _ cut rest refl spelt none))
 
 default_adds : (d : Database) → Adds d (default_into d)
 unfolding default_into default_layout default_key word_layout items_of is_symbol
 default_adds d =
-    adds_one (λ row. Default row) default_sound (λ row. ap (λ (e : Database). record e { defaults = d.defaults ++ row ∷ [] }) (sym (joined_none d))) (λ row. refl) (λ row behind. tt)
+    adds_one (λ row. Default row) default_sound (λ row. ap (λ (e : Database). record e { defaults = d.defaults ++ row ∷ [] })
+    (sym (joined_none d))) (λ row. refl) (λ row behind. tt)
     (λ row cut rest behind spelt none. absurd (no_first (codes "BA_DEF_DEF_") _ cut rest refl spelt none))
 
 attribute_adds : (d : Database) → Adds d (attribute_into d)
 unfolding attribute_into attribute_layout attribute_key word_layout items_of is_symbol
 attribute_adds d =
-    adds_one (λ row. Attribute row) attribute_sound (λ row. ap (λ (e : Database). record e { attributes = d.attributes ++ row ∷ [] }) (sym (joined_none d))) (λ row. refl) (λ row behind. tt)
+    adds_one (λ row. Attribute row) attribute_sound (λ row. ap (λ (e : Database). record e {
+      attributes = d.attributes ++ row
+          ∷ [];
+    }) (sym (joined_none d))) (λ row. refl) (λ row behind. tt)
     (λ row cut rest behind spelt none. absurd (no_first (codes "BA_") _ cut rest refl spelt none))
 
 message_adds : (d : Database) → Adds d (message_into d)
 unfolding message_into
 message_adds d =
-    adds_one (λ message. OfMessage message) (message_sound (length d.messages)) (λ message. ap (λ (e : Database). record e { messages = d.messages ++ message ∷ [] }) (sym (joined_none d))) (λ message. refl)
+    adds_one (λ message. OfMessage message) (message_sound (length d.messages))
+    (λ message. ap (λ (e : Database). record e { messages = d.messages ++ message ∷ [] }) (sym (joined_none d)))
+    (λ message. refl)
     (λ message behind. tt) (λ message cut rest behind spelt none. tt)
 
 -- ---- lists of words
@@ -200,9 +231,11 @@ abbrev left : {A : Type 0} → A → Cut → Result (A × Cut) ReadFault
 left a rest = Ok (a, rest)
 
 -- a title of a word and a colon, and a list that grows behind another
-titled_spelt : {X : Type 0} (word : List ℕ) (from : List X → Reader (List X)) {part : X → List Part} (add : List X → Database) → Grows from part → (before : List X) (cut : Cut) (x : Database × Cut)
+titled_spelt : {X : Type 0} (word : List ℕ) (from : List X → Reader (List X)) {part : X → List Part} (add : List X → Database)
+    → Grows from part → (before : List X) (cut : Cut) (x : Database × Cut)
     → (word_at word >>= λ _. (mark_at 58 >>= λ _. (from before >>= λ list. value (add list)))) cut ≡ Ok x
-    → (more : List X) × (x.0 ≡ add (before ++ more)) × Spelt (Is (Word word) ∷ Is (Mark 58) ∷ flat_map part more) cut x.1 × (middle : Cut) × (from before middle ≡ Ok (before ++ more, x.1))
+    → (more : List X) × (x.0 ≡ add (before ++ more)) × Spelt (Is (Word word) ∷ Is (Mark 58) ∷ flat_map part more) cut x.1
+    × (middle : Cut) × (from before middle ≡ Ok (before ++ more, x.1))
 titled_spelt {X} word from {part} add grows before cut x e =
     let a = and_then_ok (word_at word cut) _ x e in
     let b = and_then_ok (mark_at 58 a.0.1) _ x a.2 in
@@ -224,7 +257,8 @@ titled_spelt {X} word from {part} add grows before cut x e =
 -- behind what is repeated no token stands that passes the test
 module _ {S : Type 0} (test : Token → Bool) (r : S → Reader S) (shrinks : (s : S) → Shrinks (r s)) where
   turn_stops : (n : ℕ) → ((s : S) (cut : Cut) (x : S × Cut) → size cut ≤ n → turns n test r s cut ≡ Ok x → starts test x.1 ≡ false)
-      → (s : S) (b : Bool) (cut : Cut) (x : S × Cut) → starts test cut ≡ b → size cut ≤ suc n → cond b (and_then (r s cut) (turns n test r)) (Ok (s, cut)) ≡ Ok x → starts test x.1 ≡ false
+      → (s : S) (b : Bool) (cut : Cut) (x : S × Cut) → starts test cut ≡ b → size cut ≤ suc n
+      → cond b (and_then (r s cut) (turns n test r)) (Ok (s, cut)) ≡ Ok x → starts test x.1 ≡ false
   turn_stops n below s false cut x is fuel e = subst (λ (y : S × Cut). starts test y.1 ≡ false) (ok_is (s, cut) x e) is
   turn_stops n below s true cut x is fuel e =
       let y = and_then_ok (r s cut) (turns n test r) x e in
@@ -241,9 +275,11 @@ module _ {S : Type 0} (test : Token → Bool) (r : S → Reader S) (shrinks : (s
   unfolding repeated
   repeated_stops s cut x e = turns_stop (size cut) s cut x (omega arith) e
 
-symbols_stop : (symbols : List (List ℕ)) (cut : Cut) (x : List (List ℕ) × Cut) → symbols_from symbols cut ≡ Ok x → starts has_symbol x.1 ≡ false
+symbols_stop : (symbols : List (List ℕ)) (cut : Cut) (x : List (List ℕ) × Cut) → symbols_from symbols cut ≡ Ok x
+    → starts has_symbol x.1 ≡ false
 unfolding symbols_from
-symbols_stop symbols cut x e = repeated_stops has_symbol _ (λ s. bind_shrinks symbol_shrinks λ symbol. value_keeps _) symbols cut x e
+symbols_stop symbols cut x e = repeated_stops has_symbol _ (λ s. bind_shrinks symbol_shrinks λ symbol. value_keeps _) symbols
+    cut x e
 
 symbols_grow : Grows symbols_from (λ word. Is (Symbol word) ∷ [])
 unfolding symbols_from
@@ -253,21 +289,27 @@ names_grow : Grows names_from (λ name. Is (Name name) ∷ [])
 unfolding names_from
 names_grow = grows_repeated _ _ (λ name. Is (Name name) ∷ []) (grows_by_one name_sound)
 
-pub symbols_are : (symbols : List (List ℕ)) → Is (Word (codes "NS_")) ∷ Is (Mark 58) ∷ flat_map (λ word. Is (Symbol word) ∷ []) symbols ≡ form (Symbols symbols)
+pub symbols_are : (symbols : List (List ℕ)) → Is (Word (codes "NS_")) ∷ Is (Mark 58) ∷ flat_map (λ word. Is (Symbol word) ∷ [])
+    symbols ≡ form (Symbols symbols)
 unfolding symbols_layout symbols_title symbol_layout items_of
-symbols_are symbols = sym (of_layout-append symbols_title (flat_map symbol_layout symbols) ∙ ap (λ (parts : List Part). Is (Word (codes "NS_")) ∷ Is (Mark 58) ∷ parts) (of_layout-items symbol_layout symbols))
+symbols_are symbols = sym (of_layout-append symbols_title (flat_map symbol_layout symbols)
+    ∙ ap (λ (parts : List Part). Is (Word (codes "NS_")) ∷ Is (Mark 58) ∷ parts) (of_layout-items symbol_layout symbols))
 
-pub nodes_are : (nodes : List (List ℕ)) → Is (Word (codes "BU_")) ∷ Is (Mark 58) ∷ flat_map (λ name. Is (Name name) ∷ []) nodes ≡ form (Nodes nodes)
+pub nodes_are : (nodes : List (List ℕ)) → Is (Word (codes "BU_")) ∷ Is (Mark 58) ∷ flat_map (λ name. Is (Name name) ∷ []) nodes
+    ≡ form (Nodes nodes)
 unfolding nodes_layout nodes_title spaced_name line_end items_of
 nodes_are nodes =
-    sym (of_layout-append nodes_title (flat_map spaced_name nodes ++ line_end) ∙ ap (λ (parts : List Part). Is (Word (codes "BU_")) ∷ Is (Mark 58) ∷ parts)
+    sym (of_layout-append nodes_title (flat_map spaced_name nodes ++ line_end) ∙ ap (λ (parts : List Part). Is (Word (codes "BU_"))
+    ∷ Is (Mark 58) ∷ parts)
     (of_layout-append (flat_map spaced_name nodes) line_end ∙ append-nil _ ∙ of_layout-items spaced_name nodes))
 
 pub symbols_joined : (d : Database) (more : List (List ℕ)) → record d { symbols = d.symbols ++ more } ≡ joined d (Symbols more ∷ [])
-symbols_joined d more = ap (λ (e : Database). record e { symbols = d.symbols ++ more }) (sym (joined_none d)) ∙ ap (λ (list : List (List ℕ)). record (joined d []) { symbols = d.symbols ++ list }) (sym (append-nil more))
+symbols_joined d more = ap (λ (e : Database). record e { symbols = d.symbols ++ more }) (sym (joined_none d))
+    ∙ ap (λ (list : List (List ℕ)). record (joined d []) { symbols = d.symbols ++ list }) (sym (append-nil more))
 
 pub nodes_joined : (d : Database) (more : List (List ℕ)) → record d { nodes = d.nodes ++ more } ≡ joined d (Nodes more ∷ [])
-nodes_joined d more = ap (λ (e : Database). record e { nodes = d.nodes ++ more }) (sym (joined_none d)) ∙ ap (λ (list : List (List ℕ)). record (joined d []) { nodes = d.nodes ++ list }) (sym (append-nil more))
+nodes_joined d more = ap (λ (e : Database). record e { nodes = d.nodes ++ more }) (sym (joined_none d))
+    ∙ ap (λ (list : List (List ℕ)). record (joined d []) { nodes = d.nodes ++ list }) (sym (append-nil more))
 
 symbols_adds : (d : Database) → Adds d (symbols_into d)
 unfolding symbols_into is_symbol
@@ -303,27 +345,32 @@ nodes_adds d = record {
 
 pub piece_form : (row : Kept) → form (OfKept row) ≡ flat_map (λ bytes. Is (Piece bytes) ∷ []) row.tokens ++ Is (Mark 59) ∷ []
 unfolding kept_layout piece_layout statement_end items_of
-piece_form row = of_layout-append (flat_map piece_layout row.tokens) statement_end ∙ ap (λ (parts : List Part). parts ++ Is (Mark 59) ∷ []) (of_layout-items piece_layout row.tokens)
+piece_form row = of_layout-append (flat_map piece_layout row.tokens) statement_end
+    ∙ ap (λ (parts : List Part). parts ++ Is (Mark 59) ∷ []) (of_layout-items piece_layout row.tokens)
 
 kept_sound : Sound kept_at (λ row. form (OfKept row))
 unfolding kept_at
-kept_sound = sound_start (sound_then pieces_sound λ tokens. sound_then (mark_sound 59) λ _. sound_value (piece_form (record { tokens = tokens })))
+kept_sound = sound_start (sound_then pieces_sound λ tokens. sound_then (mark_sound 59) λ _. sound_value
+    (piece_form (record { tokens = tokens })))
 
 pub either_word : (word other : Bool) (P : Type 0) → (word ≡ true → P) → (other ≡ true → P) → (word || other) ≡ true → P
 either_word true other P f g e = f refl
 either_word false other P f g e = g e
 
 -- they begin with words that may be symbols
-are_symbols : (words : List (List ℕ)) (bytes : List ℕ) → list_all is_symbol words ≡ true → list_any (bytes_eq bytes) words ≡ true → is_symbol bytes ≡ true
+are_symbols : (words : List (List ℕ)) (bytes : List ℕ) → list_all is_symbol words ≡ true → list_any (bytes_eq bytes) words ≡ true
+    → is_symbol bytes ≡ true
 are_symbols [] bytes all e = absurd cc
 are_symbols (word ∷ words) bytes all e =
     let both = and_parts (is_symbol word) (list_all is_symbol words) all in
-    either_word (bytes_eq bytes word) (list_any (bytes_eq bytes) words) (is_symbol bytes ≡ true) (λ same. ap is_symbol ((bytes_eq-Decides bytes word).0 same) ∙ both.0) (are_symbols words bytes both.1) e
+    either_word (bytes_eq bytes word) (list_any (bytes_eq bytes) words) (is_symbol bytes ≡ true)
+    (λ same. ap is_symbol ((bytes_eq-Decides bytes word).0 same) ∙ both.0) (are_symbols words bytes both.1) e
 
 abbrev pub first_words : List (List ℕ)
 first_words = codes "VAL_" ∷ codes "CM_" ∷ codes "BA_" ∷ []
 
-pub of_four : (kept a b c x y z : Bool) → (kept || ((a && x) || ((b && y) || (c && z)))) ≡ true → (kept || (a || (b || (c || false)))) ≡ true
+pub of_four : (kept a b c x y z : Bool) → (kept || ((a && x) || ((b && y) || (c && z)))) ≡ true
+    → (kept || (a || (b || (c || false)))) ≡ true
 of_four true a b c x y z e = refl
 of_four false true b c x y z e = refl
 of_four false false true c x y z e = refl
@@ -335,9 +382,12 @@ unfolding starts has_symbol has_kept_word has_word is_symbol
 begins_as_symbol (End line) e = sym (kept_by_tokens (End line)) ∙ e
 begins_as_symbol (Fault line) e = sym (kept_by_tokens (Fault line)) ∙ e
 begins_as_symbol (t ▸ cut) e =
-    either_word (list_any (bytes_eq t.bytes) kept_words) (list_any (bytes_eq t.bytes) first_words) (is_symbol t.bytes ≡ true) (are_symbols kept_words t.bytes refl) (are_symbols first_words t.bytes refl)
-    (of_four (list_any (bytes_eq t.bytes) kept_words) (bytes_eq t.bytes (codes "VAL_")) (bytes_eq t.bytes (codes "CM_")) (bytes_eq t.bytes (codes "BA_")) (starts has_name (behind (t ▸ cut)))
-    (starts (has_word (codes "EV_")) (behind (t ▸ cut))) (starts has_string (behind (t ▸ cut)) && starts (has_word (codes "EV_")) (behind (behind (t ▸ cut)))) (sym (kept_by_tokens (t ▸ cut)) ∙ e))
+    either_word (list_any (bytes_eq t.bytes) kept_words) (list_any (bytes_eq t.bytes) first_words) (is_symbol t.bytes ≡ true)
+    (are_symbols kept_words t.bytes refl) (are_symbols first_words t.bytes refl)
+    (of_four (list_any (bytes_eq t.bytes) kept_words) (bytes_eq t.bytes (codes "VAL_")) (bytes_eq t.bytes (codes "CM_"))
+    (bytes_eq t.bytes (codes "BA_")) (starts has_name (behind (t ▸ cut)))
+    (starts (has_word (codes "EV_")) (behind (t ▸ cut))) (starts has_string (behind (t ▸ cut)) && starts (has_word (codes "EV_"))
+    (behind (behind (t ▸ cut)))) (sym (kept_by_tokens (t ▸ cut)) ∙ e))
 
 kept_adding : (d : Database) (cut : Cut) (x : Database × Cut) → begins_kept cut ≡ true → kept_into d cut ≡ Ok x → Adding d cut x
 unfolding kept_into
@@ -359,7 +409,8 @@ kept_adding d cut x begins e =
 adds_kept : (d : Database) {r : Reader Database} → Adds d r → Adds d (choose_by begins_kept (kept_into d) r)
 adds_kept d {r} h = record { adds = λ cut x e. by_test (begins_kept cut) cut x refl e }
   where
-    by_test : (b : Bool) (cut : Cut) (x : Database × Cut) → begins_kept cut ≡ b → cond b (kept_into d cut) (r cut) ≡ Ok x → Adding d cut x
+    by_test : (b : Bool) (cut : Cut) (x : Database × Cut) → begins_kept cut ≡ b → cond b (kept_into d cut) (r cut) ≡ Ok x
+        → Adding d cut x
     by_test true cut x is e = kept_adding d cut x is e
     by_test false cut x is e = h.adds cut x e
 

@@ -28,7 +28,8 @@ message_target_sound = sound_start (sound_then (word_sound (codes "BO_")) λ _. 
 message_attribute_sound : Sound message_attribute_at (λ row. form (Attribute row))
 unfolding message_attribute_at
 message_attribute_sound =
-    sound_start (sound_then (word_sound (codes "BA_")) λ _. sound_then text_sound λ name. sound_then message_target_sound λ target. sound_then given_sound λ given. sound_then (mark_sound 59) λ _.
+    sound_start (sound_then (word_sound (codes "BA_")) λ _. sound_then text_sound λ name. sound_then message_target_sound λ target.
+    sound_then given_sound λ given. sound_then (mark_sound 59) λ _.
     sound_value (attribute_form (record { name = name; target = target; value = given })))
 
 -- ---- any statement
@@ -40,12 +41,14 @@ one_of_six_sound =
     (sound_choose _ (sound_start (sound_then (signal_sound []) λ signal. sound_value refl))
     (sound_choose _ (sound_start (sound_then table_sound λ row. sound_value refl))
     (sound_choose _ (sound_start (sound_then values_sound λ row. sound_value refl))
-    (sound_choose _ (sound_start (sound_then mux_sound λ row. sound_value refl)) (sound_start (sound_then message_attribute_sound λ row. sound_value refl))))))
+    (sound_choose _ (sound_start (sound_then mux_sound λ row. sound_value refl))
+    (sound_start (sound_then message_attribute_sound λ row. sound_value refl))))))
 
 same_statement : (a b : Statement) (c d : Cut) → value a c ≡ Ok (b, d) → a ≡ b
 same_statement a b c d e = ap (λ (x : Statement × Cut). x.0) (ok_is (a, c) (b, d) e)
 
-pub statement_sound : (cut : Cut) (s : Statement) (rest : Cut) → statement_at cut ≡ Ok (s, rest) → IsStatement s → (tokens : List Token) × (line : ℕ) × (cut ≡ (tokens ▸▸ End line)) × SpellsStatement tokens s
+pub statement_sound : (cut : Cut) (s : Statement) (rest : Cut) → statement_at cut ≡ Ok (s, rest) → IsStatement s
+    → (tokens : List Token) × (line : ℕ) × (cut ≡ (tokens ▸▸ End line)) × SpellsStatement tokens s
 unfolding statement_at
 statement_sound cut s rest e proper =
     let a = and_then_ok (one_of_six_at cut) _ (s, rest) e in
@@ -55,5 +58,9 @@ statement_sound cut s rest e proper =
       spelt.front,
       end.0,
       up_to spelt.front cut a.0.1 end.0 spelt.stands end.1,
-      record { spelled = subst (λ (statement : Statement). Spelled (form_alone statement) spelt.front) (same_statement a.0.0 s b.0.1 rest b.2) spelt.spelled; proper = proper },
+      record {
+        spelled = subst (λ (statement : Statement). Spelled (form_alone statement) spelt.front)
+            (same_statement a.0.0 s b.0.1 rest b.2) spelt.spelled;
+        proper = proper;
+      },
     )

@@ -1,5 +1,6 @@
 -- Digits alone are the whole number that they write, and what is read as a tag or as a byte order is spelled so.
-use Rattle.std.proofs.Common.{◌≡◌, ℕ, ◌*◌, ◌-◌, ◌^◌, ℤ, pos, ◌-ℤ◌, Bool, true, false, cond, ◌&&◌, List, [], ◌∷◌, ◌++◌, length, Option, Some, None, Result, Ok, Err, refl, sym, ap, subst, ◌∙◌, append-nil, arith}
+use Rattle.std.proofs.Common.{◌≡◌, ℕ, ◌*◌, ◌-◌, ◌^◌, ℤ, pos, ◌-ℤ◌, Bool, true, false, cond, ◌&&◌, List, [], ◌∷◌, ◌++◌, length}
+use Rattle.std.proofs.Common.{Option, Some, None, Result, Ok, Err, refl, sym, ap, subst, ◌∙◌, append-nil, arith}
 use Rattle.std.specs.Prelude.{codes, nat_le, ◌==◌}
 use Rattle.std.specs.List.{list_all, list_any, before_first, after_first}
 use Rattle.std.specs.Str.{bytes_eq}
@@ -32,14 +33,21 @@ order_ok (Some Fraction) intel e = absurd cc
 order_ok (Some TooLarge) intel e = absurd cc
 order_ok (Some (Value n)) intel e = ap (λ k. Some (Value k)) (by_one (n == 1) (n == 0) refl refl e)
   where
-    by_one : (one none : Bool) → (n == 1) ≡ one → (n == 0) ≡ none → cond one (Ok true) (cond none (Ok false) (Err causes.Statement)) ≡ Ok intel → n ≡ cond intel 1 0
-    by_one true none is_one is_none e = let same : true ≡ intel = cc in subst (λ (b : Bool). n ≡ cond b 1 0) same (eqb-true n 1 is_one)
-    by_one false true is_one is_none e = let same : false ≡ intel = cc in subst (λ (b : Bool). n ≡ cond b 1 0) same (eqb-true n 0 is_none)
+    by_one : (one none : Bool) → (n == 1) ≡ one → (n == 0) ≡ none → cond one (Ok true) (cond none (Ok false) (Err causes.Statement))
+        ≡ Ok intel → n ≡ cond intel 1 0
+    by_one true none is_one is_none e = let same : true ≡ intel = cc in subst (λ (b : Bool). n ≡ cond b 1 0) same
+        (eqb-true n 1 is_one)
+    by_one false true is_one is_none e = let same : false ≡ intel = cc in subst (λ (b : Bool). n ≡ cond b 1 0) same
+        (eqb-true n 0 is_none)
     by_one false false is_one is_none e = absurd cc
 
 pub order_sound : Sound order_at (λ intel. Is (Order intel) ∷ [])
 unfolding order_at order_of
-order_sound = sound_one _ (λ intel. Is (Order intel)) (λ t intel e. (t, refl, whole_spelled t.bytes (cond intel 1 0) (order_ok (whole_of_number t.bytes) intel e)))
+order_sound = sound_one _ (λ intel. Is (Order intel)) (λ t intel e. (
+  t,
+  refl,
+  whole_spelled t.bytes (cond intel 1 0) (order_ok (whole_of_number t.bytes) intel e),
+))
 
 -- ---- digits alone
 
@@ -84,24 +92,31 @@ digits_are digits are =
     let mark = no_mark digits all in
     let mantissa = before_none is_exponent_mark digits mark in
     let point = no_point digits all in
-    let whole : before_first is_point (before_first is_exponent_mark digits) ≡ digits = ap (before_first is_point) mantissa ∙ before_none is_point digits point in
-    let fraction : after_first is_point (before_first is_exponent_mark digits) ≡ [] = ap (after_first is_point) mantissa ∙ after_none is_point digits point in
+    let whole : before_first is_point (before_first is_exponent_mark digits) ≡ digits = ap (before_first is_point) mantissa
+    ∙ before_none is_point digits point in
+    let fraction : after_first is_point (before_first is_exponent_mark digits) ≡ [] = ap (after_first is_point) mantissa
+    ∙ after_none is_point digits point in
     let exponent : after_first is_exponent_mark digits ≡ [] = after_none is_exponent_mark digits mark in
     record {
       form = rw (whole, fraction, mantissa, mark, all, some_digit digits are) refl;
-      mantissa = ap (λ (front : List ℕ). digits_value 10 (front ++ after_first is_point (before_first is_exponent_mark digits))) whole
+      mantissa = ap (λ (front : List ℕ). digits_value 10 (front ++ after_first is_point (before_first is_exponent_mark digits)))
+          whole
           ∙ ap (λ (back : List ℕ). digits_value 10 (digits ++ back)) fraction ∙ ap (digits_value 10) (append-nil digits);
-      exponent = ap (λ (back : List ℕ). signed_digits_value 10 back -ℤ pos (length (after_first is_point (before_first is_exponent_mark digits)))) exponent
+      exponent =
+          ap (λ (back : List ℕ). signed_digits_value 10 back -ℤ pos
+          (length (after_first is_point (before_first is_exponent_mark digits)))) exponent
           ∙ ap (λ (back : List ℕ). signed_digits_value 10 [] -ℤ pos (length back)) fraction;
     }
 
 -- digits alone are the number that they write
-pub digits_number : (digits : List ℕ) (n : ℕ) → is_digits digits ≡ true → whole_of_number digits ≡ Some (Value n) → digits_value 10 digits ≡ n
+pub digits_number : (digits : List ℕ) (n : ℕ) → is_digits digits ≡ true → whole_of_number digits ≡ Some (Value n)
+    → digits_value 10 digits ≡ n
 unfolding IsWholeNumber
 digits_number digits n are e =
     let parts = digits_are digits are in
     let spelled = (whole_spelled digits n e).1 in
-    sym (power_none n (digits_value 10 digits) (subst (λ (m : ℕ). IsWholeNumber m (pos 0) n) parts.mantissa (subst (λ (z : ℤ). IsWholeNumber (mantissa_of digits) z n) parts.exponent spelled)))
+    sym (power_none n (digits_value 10 digits) (subst (λ (m : ℕ). IsWholeNumber m (pos 0) n) parts.mantissa
+    (subst (λ (z : ℤ). IsWholeNumber (mantissa_of digits) z n) parts.exponent spelled)))
 
 -- ---- tags
 
@@ -120,7 +135,8 @@ tagged_is tag (Ok n) t e = (n, refl, cc)
 tagged_is tag (Err cause) t e = absurd cc
 
 -- digits as the number of a tag
-counted_is : (tag : ℕ → Tag) (digits : List ℕ) (t : Tag) → is_digits digits ≡ true → counted tag digits ≡ Ok t → (n : ℕ) × (t ≡ tag n) × (digits_value 10 digits ≡ n)
+counted_is : (tag : ℕ → Tag) (digits : List ℕ) (t : Tag) → is_digits digits ≡ true → counted tag digits ≡ Ok t → (n : ℕ)
+    × (t ≡ tag n) × (digits_value 10 digits ≡ n)
 unfolding whole_of
 counted_is tag digits t are e =
     let found = tagged_is tag (bounded 0 (2 ^ 64 - 1) (whole_of_number digits)) t e in
@@ -137,15 +153,27 @@ muxed_is : (bytes : List ℕ) (t : Tag) → muxed_of bytes ≡ Ok t → TagBytes
 unfolding muxed_of
 muxed_is bytes t e = by_digits (is_digits bytes) (is_digits (front bytes) && bytes_eq bytes (front bytes ++ codes "M")) refl refl e
   where
-    by_digits : (digits both : Bool) → is_digits bytes ≡ digits → (is_digits (front bytes) && bytes_eq bytes (front bytes ++ codes "M")) ≡ both
-        → cond digits (counted tags.Muxed bytes) (cond both (counted tags.Both (front bytes)) (Err causes.Statement)) ≡ Ok t → TagBytes t (109 ∷ bytes)
+    by_digits : (digits both : Bool) → is_digits bytes ≡ digits
+        → (is_digits (front bytes) && bytes_eq bytes (front bytes ++ codes "M")) ≡ both
+        → cond digits (counted tags.Muxed bytes) (cond both (counted tags.Both (front bytes)) (Err causes.Statement)) ≡ Ok t
+        → TagBytes t (109 ∷ bytes)
     by_digits true both are are_both e =
         let found = counted_is tags.Muxed bytes t are e in
-        subst (λ (tag : Tag). TagBytes tag (109 ∷ bytes)) (sym found.1) (bytes, ap (λ (l : List ℕ). 109 ∷ l) (sym (append-nil bytes)), are, found.2)
+        subst (λ (tag : Tag). TagBytes tag (109 ∷ bytes)) (sym found.1) (
+          bytes,
+          ap (λ (l : List ℕ). 109 ∷ l) (sym (append-nil bytes)),
+          are,
+          found.2,
+        )
     by_digits false true are are_both e =
         let parts = and_parts (is_digits (front bytes)) (bytes_eq bytes (front bytes ++ codes "M")) are_both in
         let found = counted_is tags.Both (front bytes) t parts.0 e in
-        subst (λ (tag : Tag). TagBytes tag (109 ∷ bytes)) (sym found.1) (front bytes, ap (λ (l : List ℕ). 109 ∷ l) ((bytes_eq-Decides bytes (front bytes ++ codes "M")).0 parts.1), parts.0, found.2)
+        subst (λ (tag : Tag). TagBytes tag (109 ∷ bytes)) (sym found.1) (
+          front bytes,
+          ap (λ (l : List ℕ). 109 ∷ l) ((bytes_eq-Decides bytes (front bytes ++ codes "M")).0 parts.1),
+          parts.0,
+          found.2,
+        )
     by_digits false false are are_both e = absurd cc
 
 tag_is : (bytes : List ℕ) (t : Tag) → tag_of bytes ≡ Ok t → TagBytes t bytes
@@ -153,11 +181,13 @@ unfolding tag_of
 tag_is [] t e = absurd cc
 tag_is (b ∷ bytes) t e = by_letter (bytes_eq (b ∷ bytes) (codes "M")) (b == 109) refl refl e
   where
-    by_letter : (switch muxed : Bool) → bytes_eq (b ∷ bytes) (codes "M") ≡ switch → (b == 109) ≡ muxed → cond switch (Ok tags.Switch) (cond muxed (muxed_of bytes) (Err causes.Statement)) ≡ Ok t → TagBytes t (b ∷ bytes)
+    by_letter : (switch muxed : Bool) → bytes_eq (b ∷ bytes) (codes "M") ≡ switch → (b == 109) ≡ muxed
+        → cond switch (Ok tags.Switch) (cond muxed (muxed_of bytes) (Err causes.Statement)) ≡ Ok t → TagBytes t (b ∷ bytes)
     by_letter true muxed is_switch is_muxed e =
         let same : tags.Switch ≡ t = cc in
         subst (λ (tag : Tag). TagBytes tag (b ∷ bytes)) same ((bytes_eq-Decides (b ∷ bytes) (codes "M")).0 is_switch)
-    by_letter false true is_switch is_muxed e = subst (λ (first : ℕ). TagBytes t (first ∷ bytes)) (sym (eqb-true b 109 is_muxed)) (muxed_is bytes t e)
+    by_letter false true is_switch is_muxed e = subst (λ (first : ℕ). TagBytes t (first ∷ bytes)) (sym (eqb-true b 109 is_muxed))
+        (muxed_is bytes t e)
     by_letter false false is_switch is_muxed e = absurd cc
 
 tag_says : (t : Token) (tag : Tag) → TagBytes tag t.bytes → Spelled (of_layout (tag_layout tag)) (t ∷ [])
@@ -169,10 +199,19 @@ tag_says t (tags.Both n) is = (t ∷ [], [], refl, (t, refl, is), refl)
 
 pub tag_token_sound : Sound tag_token_at (λ tag. of_layout (tag_layout tag))
 unfolding tag_token_at
-tag_token_sound = record { spelt = λ cut x e. (let y = tag_reads.reads cut x e in record { front = y.0; stands = y.1; spelled = tag_spelled x.0 y.0 y.2 }) }
+tag_token_sound = record {
+  spelt = λ cut x e. (let y = tag_reads.reads cut x e in record {
+    front = y.0;
+    stands = y.1;
+    spelled = tag_spelled x.0 y.0 y.2;
+  });
+}
   where
     tag_reads : Reads tag_token_at (λ tag tokens. (t : Token) × (tokens ≡ t ∷ []) × TagBytes tag t.bytes)
-    tag_reads = reads_one _ (λ tag tokens. (t : Token) × (tokens ≡ t ∷ []) × TagBytes tag t.bytes) (λ t tag e. (t, refl, tag_is t.bytes tag e))
+    tag_reads = reads_one _ (λ tag tokens. (t : Token) × (tokens ≡ t ∷ []) × TagBytes tag t.bytes)
+        (λ t tag e. (t, refl, tag_is t.bytes tag e))
 
-    tag_spelled : (tag : Tag) (tokens : List Token) → (t : Token) × (tokens ≡ t ∷ []) × TagBytes tag t.bytes → Spelled (of_layout (tag_layout tag)) tokens
-    tag_spelled tag tokens found = subst (λ (tokens : List Token). Spelled (of_layout (tag_layout tag)) tokens) (sym found.1) (tag_says found.0 tag found.2)
+    tag_spelled : (tag : Tag) (tokens : List Token) → (t : Token) × (tokens ≡ t ∷ []) × TagBytes tag t.bytes
+        → Spelled (of_layout (tag_layout tag)) tokens
+    tag_spelled tag tokens found = subst (λ (tokens : List Token). Spelled (of_layout (tag_layout tag)) tokens) (sym found.1)
+        (tag_says found.0 tag found.2)

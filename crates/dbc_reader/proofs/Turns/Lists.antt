@@ -11,13 +11,20 @@ use Rattle.dbc_tokens.specs.declared.fault.ReadFault.{ReadFault}
 use Rattle.dbc_reader.specs.declared.stopped.Stopped.{Stopped}
 use Rattle.dbc_reader.specs.declared.stopped.Stopped.TheVariants as stops
 use Rattle.dbc_tokens.specs.Tokens.{Cut}
-use Rattle.dbc_reader.specs.Classes.{has_word, has_mark, has_name, has_symbol, has_piece, where_true, text_of, whole_of, number_of, order_of, tag_of}
+use Rattle.dbc_reader.specs.Classes.{has_word, has_mark, has_name, has_symbol, has_piece, where_true, text_of, whole_of, number_of}
+use Rattle.dbc_reader.specs.Classes.{order_of, tag_of}
 use Rattle.dbc_reader.specs.Reading.Readers.{Reader, and_then, ◌>>=◌, value, starts, size, Fails}
-use Rattle.dbc_reader.specs.Reading.Parts.{word_at, mark_at, name_at, symbol_at, text_at, piece_at, whole_at, id_at, number_at, order_at, tag_token_at, decimal_at, int_at, begins_int, pair_at, names_from, symbols_from, pieces_from, comma_at, begins_receiver, receivers_from, receivers_at, texts_from, entry_at, entries_from}
+use Rattle.dbc_reader.specs.Reading.Parts.{word_at, mark_at, name_at, symbol_at, text_at, piece_at, whole_at, id_at, number_at}
+use Rattle.dbc_reader.specs.Reading.Parts.{order_at, tag_token_at, decimal_at, int_at, begins_int, pair_at, names_from}
+use Rattle.dbc_reader.specs.Reading.Parts.{symbols_from, pieces_from, comma_at, begins_receiver, receivers_from, receivers_at}
+use Rattle.dbc_reader.specs.Reading.Parts.{texts_from, entry_at, entries_from}
 use Rattle.dbc_reader.specs.Reading.Tables.{range_at, ranges_from}
-use Rattle.dbc_reader.proofs.Turns.{Shrinks, Keeps, one_shrinks, value_keeps, keeps, bind_shrinks, bind_keeps, after_shrinks, choose_shrinks, choose_keeps, goes_on, fails, ends, repeated_keeps, repeated_holds, and_then_ok, ok_is}
+use Rattle.dbc_reader.proofs.Turns.{Shrinks, Keeps, one_shrinks, value_keeps, keeps, bind_shrinks, bind_keeps, after_shrinks}
+use Rattle.dbc_reader.proofs.Turns.{choose_shrinks, choose_keeps, goes_on, fails, ends, repeated_keeps, repeated_holds, and_then_ok}
+use Rattle.dbc_reader.proofs.Turns.{ok_is}
 
-pub fails_bind : {A B : Type 0} (e : Stopped) (o : Result (A × Cut) ReadFault) (f : A → Reader B) → Fails e o → Fails e (and_then o f)
+pub fails_bind : {A B : Type 0} (e : Stopped) (o : Result (A × Cut) ReadFault) (f : A → Reader B) → Fails e o
+    → Fails e (and_then o f)
 fails_bind stops.Memory o f h = tt
 fails_bind (stops.Fault fault) o f h = rw h refl
 
@@ -79,12 +86,14 @@ pub int_shrinks : Shrinks int_at
 unfolding int_at
 int_shrinks =
     choose_shrinks _ (bind_shrinks (mark_shrinks 45) λ _. bind_keeps (keeps (whole_shrinks _ _)) λ n. value_keeps _)
-    (choose_shrinks _ (bind_shrinks (mark_shrinks 43) λ _. bind_keeps (keeps (whole_shrinks _ _)) λ n. value_keeps _) (bind_shrinks (whole_shrinks _ _) λ n. value_keeps _))
+    (choose_shrinks _ (bind_shrinks (mark_shrinks 43) λ _. bind_keeps (keeps (whole_shrinks _ _)) λ n. value_keeps _)
+    (bind_shrinks (whole_shrinks _ _) λ n. value_keeps _))
 
 pub pair_shrinks : (opening between closing : ℕ) → Shrinks (pair_at opening between closing)
 unfolding pair_at
 pair_shrinks opening between closing =
-    bind_shrinks (mark_shrinks opening) λ _. bind_keeps (keeps decimal_shrinks) λ first. bind_keeps (keeps (mark_shrinks between)) λ _.
+    bind_shrinks (mark_shrinks opening) λ _. bind_keeps (keeps decimal_shrinks) λ first. bind_keeps (keeps (mark_shrinks between))
+    λ _.
     bind_keeps (keeps decimal_shrinks) λ second. bind_keeps (keeps (mark_shrinks closing)) λ _. value_keeps _
 
 pub entry_shrinks : Shrinks entry_at
@@ -97,7 +106,8 @@ comma_keeps = choose_keeps _ (keeps (mark_shrinks 44)) (value_keeps _)
 
 pub range_shrinks : Shrinks range_at
 unfolding range_at
-range_shrinks = bind_shrinks (whole_shrinks _ _) λ first. bind_keeps (keeps (mark_shrinks 45)) λ _. bind_keeps (keeps (whole_shrinks _ _)) λ last. value_keeps _
+range_shrinks = bind_shrinks (whole_shrinks _ _) λ first. bind_keeps (keeps (mark_shrinks 45)) λ _. bind_keeps
+    (keeps (whole_shrinks _ _)) λ last. value_keeps _
 
 -- ---- names
 
@@ -108,16 +118,21 @@ names_shrink : (names : List (List ℕ)) → Shrinks (names_turn names)
 unfolding names_turn
 names_shrink names = bind_shrinks name_shrinks λ name. value_keeps _
 
-pub names_on : (names new : List (List ℕ)) (name : (List ℕ)) (cut rest : Cut) (total : Result (List (List ℕ) × Cut) ReadFault) → starts has_name cut ≡ true → name_at cut ≡ Ok (name, rest) → new ≡ names ++ name ∷ []
+pub names_on : (names new : List (List ℕ)) (name : (List ℕ)) (cut rest : Cut) (total : Result (List (List ℕ) × Cut) ReadFault)
+    → starts has_name cut ≡ true → name_at cut ≡ Ok (name, rest) → new ≡ names ++ name ∷ []
     → names_from names cut ≡ total → names_from new rest ≡ total
 unfolding names_from names_turn
-names_on names new name cut rest total t h is so_far = goes_on has_name names_turn names_shrink names new cut rest total t (rw (h, is) refl) so_far
+names_on names new name cut rest total t h is so_far = goes_on has_name names_turn names_shrink names new cut rest total t
+    (rw (h, is) refl) so_far
 
-pub names_fail : (e : Stopped) (names : List (List ℕ)) (cut : Cut) (total : Result (List (List ℕ) × Cut) ReadFault) → starts has_name cut ≡ true → Fails e (name_at cut) → names_from names cut ≡ total → Fails e total
+pub names_fail : (e : Stopped) (names : List (List ℕ)) (cut : Cut) (total : Result (List (List ℕ) × Cut) ReadFault)
+    → starts has_name cut ≡ true → Fails e (name_at cut) → names_from names cut ≡ total → Fails e total
 unfolding names_from names_turn
-names_fail e names cut total t h so_far = fails has_name names_turn names_shrink e names cut total t (fails_bind e (name_at cut) _ h) so_far
+names_fail e names cut total t h so_far = fails has_name names_turn names_shrink e names cut total t
+    (fails_bind e (name_at cut) _ h) so_far
 
-pub names_end : (names : List (List ℕ)) (cut : Cut) (total : Result (List (List ℕ) × Cut) ReadFault) → starts has_name cut ≡ false → names_from names cut ≡ total → total ≡ Ok (names, cut)
+pub names_end : (names : List (List ℕ)) (cut : Cut) (total : Result (List (List ℕ) × Cut) ReadFault) → starts has_name cut ≡ false
+    → names_from names cut ≡ total → total ≡ Ok (names, cut)
 unfolding names_from names_turn
 names_end names cut total t so_far = ends has_name names_turn names_shrink names cut total t so_far
 
@@ -133,16 +148,21 @@ symbols_shrink : (symbols : List (List ℕ)) → Shrinks (symbols_turn symbols)
 unfolding symbols_turn
 symbols_shrink symbols = bind_shrinks symbol_shrinks λ symbol. value_keeps _
 
-pub symbols_on : (symbols new : List (List ℕ)) (symbol : (List ℕ)) (cut rest : Cut) (total : Result (List (List ℕ) × Cut) ReadFault) → starts has_symbol cut ≡ true → symbol_at cut ≡ Ok (symbol, rest) → new ≡ symbols ++ symbol ∷ []
+pub symbols_on : (symbols new : List (List ℕ)) (symbol : (List ℕ)) (cut rest : Cut) (total : Result (List (List ℕ) × Cut) ReadFault)
+    → starts has_symbol cut ≡ true → symbol_at cut ≡ Ok (symbol, rest) → new ≡ symbols ++ symbol ∷ []
     → symbols_from symbols cut ≡ total → symbols_from new rest ≡ total
 unfolding symbols_from symbols_turn
-symbols_on symbols new symbol cut rest total t h is so_far = goes_on has_symbol symbols_turn symbols_shrink symbols new cut rest total t (rw (h, is) refl) so_far
+symbols_on symbols new symbol cut rest total t h is so_far = goes_on has_symbol symbols_turn symbols_shrink symbols new cut rest
+    total t (rw (h, is) refl) so_far
 
-pub symbols_fail : (e : Stopped) (symbols : List (List ℕ)) (cut : Cut) (total : Result (List (List ℕ) × Cut) ReadFault) → starts has_symbol cut ≡ true → Fails e (symbol_at cut) → symbols_from symbols cut ≡ total → Fails e total
+pub symbols_fail : (e : Stopped) (symbols : List (List ℕ)) (cut : Cut) (total : Result (List (List ℕ) × Cut) ReadFault)
+    → starts has_symbol cut ≡ true → Fails e (symbol_at cut) → symbols_from symbols cut ≡ total → Fails e total
 unfolding symbols_from symbols_turn
-symbols_fail e symbols cut total t h so_far = fails has_symbol symbols_turn symbols_shrink e symbols cut total t (fails_bind e (symbol_at cut) _ h) so_far
+symbols_fail e symbols cut total t h so_far = fails has_symbol symbols_turn symbols_shrink e symbols cut total t
+    (fails_bind e (symbol_at cut) _ h) so_far
 
-pub symbols_end : (symbols : List (List ℕ)) (cut : Cut) (total : Result (List (List ℕ) × Cut) ReadFault) → starts has_symbol cut ≡ false → symbols_from symbols cut ≡ total → total ≡ Ok (symbols, cut)
+pub symbols_end : (symbols : List (List ℕ)) (cut : Cut) (total : Result (List (List ℕ) × Cut) ReadFault) → starts has_symbol cut
+    ≡ false → symbols_from symbols cut ≡ total → total ≡ Ok (symbols, cut)
 unfolding symbols_from symbols_turn
 symbols_end symbols cut total t so_far = ends has_symbol symbols_turn symbols_shrink symbols cut total t so_far
 
@@ -158,16 +178,21 @@ pieces_shrink : (pieces : List (List ℕ)) → Shrinks (pieces_turn pieces)
 unfolding pieces_turn
 pieces_shrink pieces = bind_shrinks piece_shrinks λ piece. value_keeps _
 
-pub pieces_on : (pieces new : List (List ℕ)) (piece : (List ℕ)) (cut rest : Cut) (total : Result (List (List ℕ) × Cut) ReadFault) → starts has_piece cut ≡ true → piece_at cut ≡ Ok (piece, rest) → new ≡ pieces ++ piece ∷ []
+pub pieces_on : (pieces new : List (List ℕ)) (piece : (List ℕ)) (cut rest : Cut) (total : Result (List (List ℕ) × Cut) ReadFault)
+    → starts has_piece cut ≡ true → piece_at cut ≡ Ok (piece, rest) → new ≡ pieces ++ piece ∷ []
     → pieces_from pieces cut ≡ total → pieces_from new rest ≡ total
 unfolding pieces_from pieces_turn
-pieces_on pieces new piece cut rest total t h is so_far = goes_on has_piece pieces_turn pieces_shrink pieces new cut rest total t (rw (h, is) refl) so_far
+pieces_on pieces new piece cut rest total t h is so_far = goes_on has_piece pieces_turn pieces_shrink pieces new cut rest total t
+    (rw (h, is) refl) so_far
 
-pub pieces_fail : (e : Stopped) (pieces : List (List ℕ)) (cut : Cut) (total : Result (List (List ℕ) × Cut) ReadFault) → starts has_piece cut ≡ true → Fails e (piece_at cut) → pieces_from pieces cut ≡ total → Fails e total
+pub pieces_fail : (e : Stopped) (pieces : List (List ℕ)) (cut : Cut) (total : Result (List (List ℕ) × Cut) ReadFault)
+    → starts has_piece cut ≡ true → Fails e (piece_at cut) → pieces_from pieces cut ≡ total → Fails e total
 unfolding pieces_from pieces_turn
-pieces_fail e pieces cut total t h so_far = fails has_piece pieces_turn pieces_shrink e pieces cut total t (fails_bind e (piece_at cut) _ h) so_far
+pieces_fail e pieces cut total t h so_far = fails has_piece pieces_turn pieces_shrink e pieces cut total t
+    (fails_bind e (piece_at cut) _ h) so_far
 
-pub pieces_end : (pieces : List (List ℕ)) (cut : Cut) (total : Result (List (List ℕ) × Cut) ReadFault) → starts has_piece cut ≡ false → pieces_from pieces cut ≡ total → total ≡ Ok (pieces, cut)
+pub pieces_end : (pieces : List (List ℕ)) (cut : Cut) (total : Result (List (List ℕ) × Cut) ReadFault) → starts has_piece cut
+    ≡ false → pieces_from pieces cut ≡ total → total ≡ Ok (pieces, cut)
 unfolding pieces_from pieces_turn
 pieces_end pieces cut total t so_far = ends has_piece pieces_turn pieces_shrink pieces cut total t so_far
 
@@ -183,16 +208,21 @@ entries_shrink : (entries : List Entry) → Shrinks (entries_turn entries)
 unfolding entries_turn
 entries_shrink entries = bind_shrinks entry_shrinks λ entry. value_keeps _
 
-pub entries_on : (entries new : List Entry) (entry : Entry) (cut rest : Cut) (total : Result (List Entry × Cut) ReadFault) → starts begins_int cut ≡ true → entry_at cut ≡ Ok (entry, rest) → new ≡ entries ++ entry ∷ []
+pub entries_on : (entries new : List Entry) (entry : Entry) (cut rest : Cut) (total : Result (List Entry × Cut) ReadFault)
+    → starts begins_int cut ≡ true → entry_at cut ≡ Ok (entry, rest) → new ≡ entries ++ entry ∷ []
     → entries_from entries cut ≡ total → entries_from new rest ≡ total
 unfolding entries_from entries_turn
-entries_on entries new entry cut rest total t h is so_far = goes_on begins_int entries_turn entries_shrink entries new cut rest total t (rw (h, is) refl) so_far
+entries_on entries new entry cut rest total t h is so_far = goes_on begins_int entries_turn entries_shrink entries new cut rest
+    total t (rw (h, is) refl) so_far
 
-pub entries_fail : (e : Stopped) (entries : List Entry) (cut : Cut) (total : Result (List Entry × Cut) ReadFault) → starts begins_int cut ≡ true → Fails e (entry_at cut) → entries_from entries cut ≡ total → Fails e total
+pub entries_fail : (e : Stopped) (entries : List Entry) (cut : Cut) (total : Result (List Entry × Cut) ReadFault)
+    → starts begins_int cut ≡ true → Fails e (entry_at cut) → entries_from entries cut ≡ total → Fails e total
 unfolding entries_from entries_turn
-entries_fail e entries cut total t h so_far = fails begins_int entries_turn entries_shrink e entries cut total t (fails_bind e (entry_at cut) _ h) so_far
+entries_fail e entries cut total t h so_far = fails begins_int entries_turn entries_shrink e entries cut total t
+    (fails_bind e (entry_at cut) _ h) so_far
 
-pub entries_end : (entries : List Entry) (cut : Cut) (total : Result (List Entry × Cut) ReadFault) → starts begins_int cut ≡ false → entries_from entries cut ≡ total → total ≡ Ok (entries, cut)
+pub entries_end : (entries : List Entry) (cut : Cut) (total : Result (List Entry × Cut) ReadFault) → starts begins_int cut ≡ false
+    → entries_from entries cut ≡ total → total ≡ Ok (entries, cut)
 unfolding entries_from entries_turn
 entries_end entries cut total t so_far = ends begins_int entries_turn entries_shrink entries cut total t so_far
 
@@ -208,24 +238,34 @@ receivers_shrink : (receivers : List (List ℕ)) → Shrinks (receivers_turn rec
 unfolding receivers_turn
 receivers_shrink receivers = after_shrinks comma_keeps λ _. (bind_shrinks name_shrinks λ name. value_keeps _)
 
-pub receivers_on : (receivers new : List (List ℕ)) (name : (List ℕ)) (cut mid rest : Cut) (total : Result (List (List ℕ) × Cut) ReadFault) → starts begins_receiver cut ≡ true → comma_at cut ≡ Ok (tt, mid) → name_at mid ≡ Ok (name, rest) → new ≡ receivers ++ name ∷ []
+pub receivers_on : (receivers new : List (List ℕ)) (name : (List ℕ)) (cut mid rest : Cut) (total : Result (List (List ℕ)
+    × Cut) ReadFault) → starts begins_receiver cut ≡ true → comma_at cut ≡ Ok (tt, mid) → name_at mid ≡ Ok (name, rest)
+    → new ≡ receivers ++ name ∷ []
     → receivers_from receivers cut ≡ total → receivers_from new rest ≡ total
 unfolding receivers_from receivers_turn
-receivers_on receivers new name cut mid rest total t h k is so_far = goes_on begins_receiver receivers_turn receivers_shrink receivers new cut rest total t (rw (h, k, is) refl) so_far
+receivers_on receivers new name cut mid rest total t h k is so_far = goes_on begins_receiver receivers_turn receivers_shrink
+    receivers new cut rest total t (rw (h, k, is) refl) so_far
 
-pub receivers_fail_first : (e : Stopped) (receivers : List (List ℕ)) (cut : Cut) (total : Result (List (List ℕ) × Cut) ReadFault) → starts begins_receiver cut ≡ true → Fails e (comma_at cut) → receivers_from receivers cut ≡ total → Fails e total
+pub receivers_fail_first : (e : Stopped) (receivers : List (List ℕ)) (cut : Cut) (total : Result (List (List ℕ) × Cut) ReadFault)
+    → starts begins_receiver cut ≡ true → Fails e (comma_at cut) → receivers_from receivers cut ≡ total → Fails e total
 unfolding receivers_from receivers_turn
-receivers_fail_first e receivers cut total t h so_far = fails begins_receiver receivers_turn receivers_shrink e receivers cut total t (fails_bind e (comma_at cut) _ h) so_far
+receivers_fail_first e receivers cut total t h so_far = fails begins_receiver receivers_turn receivers_shrink e receivers cut total
+    t (fails_bind e (comma_at cut) _ h) so_far
 
-pub receivers_fail : (e : Stopped) (receivers : List (List ℕ)) (cut mid : Cut) (total : Result (List (List ℕ) × Cut) ReadFault) → starts begins_receiver cut ≡ true → comma_at cut ≡ Ok (tt, mid) → Fails e (name_at mid) → receivers_from receivers cut ≡ total → Fails e total
+pub receivers_fail : (e : Stopped) (receivers : List (List ℕ)) (cut mid : Cut) (total : Result (List (List ℕ) × Cut) ReadFault)
+    → starts begins_receiver cut ≡ true → comma_at cut ≡ Ok (tt, mid) → Fails e (name_at mid) → receivers_from receivers cut ≡ total
+    → Fails e total
 unfolding receivers_from receivers_turn
-receivers_fail e receivers cut mid total t h k so_far = fails begins_receiver receivers_turn receivers_shrink e receivers cut total t (rw h (fails_bind e (name_at mid) _ k)) so_far
+receivers_fail e receivers cut mid total t h k so_far = fails begins_receiver receivers_turn receivers_shrink e receivers cut total
+    t (rw h (fails_bind e (name_at mid) _ k)) so_far
 
-pub receivers_end : (receivers : List (List ℕ)) (cut : Cut) (total : Result (List (List ℕ) × Cut) ReadFault) → starts begins_receiver cut ≡ false → receivers_from receivers cut ≡ total → total ≡ Ok (receivers, cut)
+pub receivers_end : (receivers : List (List ℕ)) (cut : Cut) (total : Result (List (List ℕ) × Cut) ReadFault)
+    → starts begins_receiver cut ≡ false → receivers_from receivers cut ≡ total → total ≡ Ok (receivers, cut)
 unfolding receivers_from receivers_turn
 receivers_end receivers cut total t so_far = ends begins_receiver receivers_turn receivers_shrink receivers cut total t so_far
 
-pub receivers_less : (name : (List ℕ)) (cut mid rest : Cut) → comma_at cut ≡ Ok (tt, mid) → name_at mid ≡ Ok (name, rest) → size rest < size cut
+pub receivers_less : (name : (List ℕ)) (cut mid rest : Cut) → comma_at cut ≡ Ok (tt, mid) → name_at mid ≡ Ok (name, rest)
+    → size rest < size cut
 receivers_less name cut mid rest h k = omega (arith, comma_keeps.less cut (tt, mid) h, name_shrinks.less mid (name, rest) k)
 
 -- ---- texts
@@ -237,24 +277,33 @@ texts_shrink : (texts : List (List ℕ)) → Shrinks (texts_turn texts)
 unfolding texts_turn
 texts_shrink texts = bind_shrinks (mark_shrinks 44) λ _. bind_keeps (keeps text_shrinks) λ text. value_keeps _
 
-pub texts_on : (texts new : List (List ℕ)) (text : (List ℕ)) (cut mid rest : Cut) (total : Result (List (List ℕ) × Cut) ReadFault) → starts (has_mark 44) cut ≡ true → mark_at 44 cut ≡ Ok (tt, mid) → text_at mid ≡ Ok (text, rest) → new ≡ texts ++ text ∷ []
+pub texts_on : (texts new : List (List ℕ)) (text : (List ℕ)) (cut mid rest : Cut) (total : Result (List (List ℕ) × Cut) ReadFault)
+    → starts (has_mark 44) cut ≡ true → mark_at 44 cut ≡ Ok (tt, mid) → text_at mid ≡ Ok (text, rest) → new ≡ texts ++ text ∷ []
     → texts_from texts cut ≡ total → texts_from new rest ≡ total
 unfolding texts_from texts_turn
-texts_on texts new text cut mid rest total t h k is so_far = goes_on (has_mark 44) texts_turn texts_shrink texts new cut rest total t (rw (h, k, is) refl) so_far
+texts_on texts new text cut mid rest total t h k is so_far = goes_on (has_mark 44) texts_turn texts_shrink texts new cut rest total
+    t (rw (h, k, is) refl) so_far
 
-pub texts_fail_first : (e : Stopped) (texts : List (List ℕ)) (cut : Cut) (total : Result (List (List ℕ) × Cut) ReadFault) → starts (has_mark 44) cut ≡ true → Fails e (mark_at 44 cut) → texts_from texts cut ≡ total → Fails e total
+pub texts_fail_first : (e : Stopped) (texts : List (List ℕ)) (cut : Cut) (total : Result (List (List ℕ) × Cut) ReadFault)
+    → starts (has_mark 44) cut ≡ true → Fails e (mark_at 44 cut) → texts_from texts cut ≡ total → Fails e total
 unfolding texts_from texts_turn
-texts_fail_first e texts cut total t h so_far = fails (has_mark 44) texts_turn texts_shrink e texts cut total t (fails_bind e (mark_at 44 cut) _ h) so_far
+texts_fail_first e texts cut total t h so_far = fails (has_mark 44) texts_turn texts_shrink e texts cut total t
+    (fails_bind e (mark_at 44 cut) _ h) so_far
 
-pub texts_fail : (e : Stopped) (texts : List (List ℕ)) (cut mid : Cut) (total : Result (List (List ℕ) × Cut) ReadFault) → starts (has_mark 44) cut ≡ true → mark_at 44 cut ≡ Ok (tt, mid) → Fails e (text_at mid) → texts_from texts cut ≡ total → Fails e total
+pub texts_fail : (e : Stopped) (texts : List (List ℕ)) (cut mid : Cut) (total : Result (List (List ℕ) × Cut) ReadFault)
+    → starts (has_mark 44) cut ≡ true → mark_at 44 cut ≡ Ok (tt, mid) → Fails e (text_at mid) → texts_from texts cut ≡ total
+    → Fails e total
 unfolding texts_from texts_turn
-texts_fail e texts cut mid total t h k so_far = fails (has_mark 44) texts_turn texts_shrink e texts cut total t (rw h (fails_bind e (text_at mid) _ k)) so_far
+texts_fail e texts cut mid total t h k so_far = fails (has_mark 44) texts_turn texts_shrink e texts cut total t
+    (rw h (fails_bind e (text_at mid) _ k)) so_far
 
-pub texts_end : (texts : List (List ℕ)) (cut : Cut) (total : Result (List (List ℕ) × Cut) ReadFault) → starts (has_mark 44) cut ≡ false → texts_from texts cut ≡ total → total ≡ Ok (texts, cut)
+pub texts_end : (texts : List (List ℕ)) (cut : Cut) (total : Result (List (List ℕ) × Cut) ReadFault) → starts (has_mark 44) cut
+    ≡ false → texts_from texts cut ≡ total → total ≡ Ok (texts, cut)
 unfolding texts_from texts_turn
 texts_end texts cut total t so_far = ends (has_mark 44) texts_turn texts_shrink texts cut total t so_far
 
-pub texts_less : (text : (List ℕ)) (cut mid rest : Cut) → mark_at 44 cut ≡ Ok (tt, mid) → text_at mid ≡ Ok (text, rest) → size rest < size cut
+pub texts_less : (text : (List ℕ)) (cut mid rest : Cut) → mark_at 44 cut ≡ Ok (tt, mid) → text_at mid ≡ Ok (text, rest)
+    → size rest < size cut
 texts_less text cut mid rest h k = omega (arith, (mark_shrinks 44).less cut (tt, mid) h, text_shrinks.less mid (text, rest) k)
 
 -- ---- ranges
@@ -266,24 +315,33 @@ ranges_shrink : (ranges : List Range) → Shrinks (ranges_turn ranges)
 unfolding ranges_turn
 ranges_shrink ranges = bind_shrinks (mark_shrinks 44) λ _. bind_keeps (keeps range_shrinks) λ range. value_keeps _
 
-pub ranges_on : (ranges new : List Range) (range : Range) (cut mid rest : Cut) (total : Result (List Range × Cut) ReadFault) → starts (has_mark 44) cut ≡ true → mark_at 44 cut ≡ Ok (tt, mid) → range_at mid ≡ Ok (range, rest) → new ≡ ranges ++ range ∷ []
+pub ranges_on : (ranges new : List Range) (range : Range) (cut mid rest : Cut) (total : Result (List Range × Cut) ReadFault)
+    → starts (has_mark 44) cut ≡ true → mark_at 44 cut ≡ Ok (tt, mid) → range_at mid ≡ Ok (range, rest) → new ≡ ranges ++ range ∷ []
     → ranges_from ranges cut ≡ total → ranges_from new rest ≡ total
 unfolding ranges_from ranges_turn
-ranges_on ranges new range cut mid rest total t h k is so_far = goes_on (has_mark 44) ranges_turn ranges_shrink ranges new cut rest total t (rw (h, k, is) refl) so_far
+ranges_on ranges new range cut mid rest total t h k is so_far = goes_on (has_mark 44) ranges_turn ranges_shrink ranges new cut rest
+    total t (rw (h, k, is) refl) so_far
 
-pub ranges_fail_first : (e : Stopped) (ranges : List Range) (cut : Cut) (total : Result (List Range × Cut) ReadFault) → starts (has_mark 44) cut ≡ true → Fails e (mark_at 44 cut) → ranges_from ranges cut ≡ total → Fails e total
+pub ranges_fail_first : (e : Stopped) (ranges : List Range) (cut : Cut) (total : Result (List Range × Cut) ReadFault)
+    → starts (has_mark 44) cut ≡ true → Fails e (mark_at 44 cut) → ranges_from ranges cut ≡ total → Fails e total
 unfolding ranges_from ranges_turn
-ranges_fail_first e ranges cut total t h so_far = fails (has_mark 44) ranges_turn ranges_shrink e ranges cut total t (fails_bind e (mark_at 44 cut) _ h) so_far
+ranges_fail_first e ranges cut total t h so_far = fails (has_mark 44) ranges_turn ranges_shrink e ranges cut total t
+    (fails_bind e (mark_at 44 cut) _ h) so_far
 
-pub ranges_fail : (e : Stopped) (ranges : List Range) (cut mid : Cut) (total : Result (List Range × Cut) ReadFault) → starts (has_mark 44) cut ≡ true → mark_at 44 cut ≡ Ok (tt, mid) → Fails e (range_at mid) → ranges_from ranges cut ≡ total → Fails e total
+pub ranges_fail : (e : Stopped) (ranges : List Range) (cut mid : Cut) (total : Result (List Range × Cut) ReadFault)
+    → starts (has_mark 44) cut ≡ true → mark_at 44 cut ≡ Ok (tt, mid) → Fails e (range_at mid) → ranges_from ranges cut ≡ total
+    → Fails e total
 unfolding ranges_from ranges_turn
-ranges_fail e ranges cut mid total t h k so_far = fails (has_mark 44) ranges_turn ranges_shrink e ranges cut total t (rw h (fails_bind e (range_at mid) _ k)) so_far
+ranges_fail e ranges cut mid total t h k so_far = fails (has_mark 44) ranges_turn ranges_shrink e ranges cut total t
+    (rw h (fails_bind e (range_at mid) _ k)) so_far
 
-pub ranges_end : (ranges : List Range) (cut : Cut) (total : Result (List Range × Cut) ReadFault) → starts (has_mark 44) cut ≡ false → ranges_from ranges cut ≡ total → total ≡ Ok (ranges, cut)
+pub ranges_end : (ranges : List Range) (cut : Cut) (total : Result (List Range × Cut) ReadFault) → starts (has_mark 44) cut ≡ false
+    → ranges_from ranges cut ≡ total → total ≡ Ok (ranges, cut)
 unfolding ranges_from ranges_turn
 ranges_end ranges cut total t so_far = ends (has_mark 44) ranges_turn ranges_shrink ranges cut total t so_far
 
-pub ranges_less : (range : Range) (cut mid rest : Cut) → mark_at 44 cut ≡ Ok (tt, mid) → range_at mid ≡ Ok (range, rest) → size rest < size cut
+pub ranges_less : (range : Range) (cut mid rest : Cut) → mark_at 44 cut ≡ Ok (tt, mid) → range_at mid ≡ Ok (range, rest)
+    → size rest < size cut
 ranges_less range cut mid rest h k = omega (arith, (mark_shrinks 44).less cut (tt, mid) h, range_shrinks.less mid (range, rest) k)
 
 pub names_keep : (names : List (List ℕ)) → Keeps (names_from names)
@@ -318,7 +376,8 @@ pub receivers_keep_all : Keeps receivers_at
 unfolding receivers_at
 receivers_keep_all = choose_keeps _ (bind_keeps (keeps name_shrinks) λ name. receivers_keep _) (value_keeps _)
 
-some_texts_kept : (texts : List (List ℕ)) (cut : Cut) (x : List (List ℕ) × Cut) → IsTrue (nat_le 1 (length texts)) → texts_turn texts cut ≡ Ok x → IsTrue (nat_le 1 (length x.0))
+some_texts_kept : (texts : List (List ℕ)) (cut : Cut) (x : List (List ℕ) × Cut) → IsTrue (nat_le 1 (length texts))
+    → texts_turn texts cut ≡ Ok x → IsTrue (nat_le 1 (length x.0))
 unfolding texts_turn
 some_texts_kept texts cut x h e =
     let y = and_then_ok (mark_at 44 cut) _ x e in
@@ -327,11 +386,14 @@ some_texts_kept texts cut x h e =
     rw (← same) (grind (arith, common_steps))
 
 -- there is at least the first
-pub some_texts : (first : (List ℕ)) (texts : List (List ℕ)) (cut rest : Cut) → texts_from (first ∷ []) cut ≡ Ok (texts, rest) → IsTrue (nat_le 1 (length texts))
+pub some_texts : (first : (List ℕ)) (texts : List (List ℕ)) (cut rest : Cut) → texts_from (first ∷ []) cut ≡ Ok (texts, rest)
+    → IsTrue (nat_le 1 (length texts))
 unfolding texts_from texts_turn
-some_texts first texts cut rest e = repeated_holds (λ xs. IsTrue (nat_le 1 (length xs))) (has_mark 44) texts_turn some_texts_kept (first ∷ []) cut (texts, rest) refl e
+some_texts first texts cut rest e = repeated_holds (λ xs. IsTrue (nat_le 1 (length xs))) (has_mark 44) texts_turn some_texts_kept
+    (first ∷ []) cut (texts, rest) refl e
 
-some_ranges_kept : (ranges : List Range) (cut : Cut) (x : List Range × Cut) → IsTrue (nat_le 1 (length ranges)) → ranges_turn ranges cut ≡ Ok x → IsTrue (nat_le 1 (length x.0))
+some_ranges_kept : (ranges : List Range) (cut : Cut) (x : List Range × Cut) → IsTrue (nat_le 1 (length ranges))
+    → ranges_turn ranges cut ≡ Ok x → IsTrue (nat_le 1 (length x.0))
 unfolding ranges_turn
 some_ranges_kept ranges cut x h e =
     let y = and_then_ok (mark_at 44 cut) _ x e in
@@ -340,6 +402,8 @@ some_ranges_kept ranges cut x h e =
     rw (← same) (grind (arith, common_steps))
 
 -- there is at least the first
-pub some_ranges : (first : Range) (ranges : List Range) (cut rest : Cut) → ranges_from (first ∷ []) cut ≡ Ok (ranges, rest) → IsTrue (nat_le 1 (length ranges))
+pub some_ranges : (first : Range) (ranges : List Range) (cut rest : Cut) → ranges_from (first ∷ []) cut ≡ Ok (ranges, rest)
+    → IsTrue (nat_le 1 (length ranges))
 unfolding ranges_from ranges_turn
-some_ranges first ranges cut rest e = repeated_holds (λ xs. IsTrue (nat_le 1 (length xs))) (has_mark 44) ranges_turn some_ranges_kept (first ∷ []) cut (ranges, rest) refl e
+some_ranges first ranges cut rest e = repeated_holds (λ xs. IsTrue (nat_le 1 (length xs))) (has_mark 44) ranges_turn
+    some_ranges_kept (first ∷ []) cut (ranges, rest) refl e

@@ -1,5 +1,6 @@
 -- What each part's reader reads is proper.
-use Rattle.std.proofs.Common.{◌≡◌, ℕ, ℤ, pos, neg_ℤ, ◌<◌, ◌^◌, ◌-◌, zero, suc, Bool, true, false, cond, ◌&&◌, not, List, [], ◌∷◌, All, length, Option, Some, None, Ok, Err, refl, subst, arith, inl, inr}
+use Rattle.std.proofs.Common.{◌≡◌, ℕ, ℤ, pos, neg_ℤ, ◌<◌, ◌^◌, ◌-◌, zero, suc, Bool, true, false, cond, ◌&&◌, not, List, [], ◌∷◌}
+use Rattle.std.proofs.Common.{All, length, Option, Some, None, Ok, Err, refl, subst, arith, inl, inr}
 use Rattle.std.specs.Prelude.{nat_le, IsTrue}
 use Rattle.std.specs.Ordering.{int_eq}
 use Rattle.std.proofs.lemmas.List.Elements.{All-nil, All-push}
@@ -16,10 +17,13 @@ use Rattle.dbc_values.specs.declared.number.Whole.{Whole as WholeNumber}
 use Rattle.dbc_values.specs.declared.number.Whole.TheVariants.{Fraction, TooLarge, Value}
 use Rattle.dbc_tokens.specs.declared.fault.Cause.TheVariants as causes
 use Rattle.dbc_reader.specs.Classes.{where_true, bounded, text_of, whole_of}
-use Rattle.dbc_reader.specs.Reading.Parts.{name_at, symbol_at, text_at, piece_at, whole_at, id_at, number_at, decimal_at, int_at, pair_at, names_from, symbols_from, pieces_from, receivers_from, receivers_at, texts_from, entry_at, entries_from}
+use Rattle.dbc_reader.specs.Reading.Parts.{name_at, symbol_at, text_at, piece_at, whole_at, id_at, number_at, decimal_at, int_at}
+use Rattle.dbc_reader.specs.Reading.Parts.{pair_at, names_from, symbols_from, pieces_from, receivers_from, receivers_at, texts_from}
+use Rattle.dbc_reader.specs.Reading.Parts.{entry_at, entries_from}
 use Rattle.dbc_reader.proofs.Turns.Lists.{some_texts}
 use Rattle.dbc_reader.proofs.Sound.Kinds.{number_spelled_by}
-use Rattle.dbc_reader.proofs.Yields.{Yields, Both, yields_both, yields_one, yields_then, yields_after, yields_value, yields_as, yields_choose, yields_repeated, yields_more}
+use Rattle.dbc_reader.proofs.Yields.{Yields, Both, yields_both, yields_one, yields_then, yields_after, yields_value, yields_as}
+use Rattle.dbc_reader.proofs.Yields.{yields_choose, yields_repeated, yields_more}
 
 -- ---- one token
 
@@ -29,23 +33,28 @@ where_true_ok false x a e = absurd cc
 
 pub name_proper : Yields name_at IsName
 unfolding name_at
-name_proper = yields_one _ IsName (λ t a e. (let ok = where_true_ok (is_name t.bytes) t.bytes a e in subst (λ bytes. is_name bytes ≡ true) ok.1 ok.0))
+name_proper = yields_one _ IsName (λ t a e. (let ok = where_true_ok (is_name t.bytes) t.bytes a e in
+    subst (λ bytes. is_name bytes ≡ true) ok.1 ok.0))
 
 pub symbol_proper : Yields symbol_at IsSymbol
 unfolding symbol_at
-symbol_proper = yields_one _ IsSymbol (λ t a e. (let ok = where_true_ok (is_symbol t.bytes) t.bytes a e in subst (λ bytes. is_symbol bytes ≡ true) ok.1 ok.0))
+symbol_proper = yields_one _ IsSymbol (λ t a e. (let ok = where_true_ok (is_symbol t.bytes) t.bytes a e in
+    subst (λ bytes. is_symbol bytes ≡ true) ok.1 ok.0))
 
 pub piece_proper : Yields piece_at IsPiece
 unfolding piece_at
-piece_proper = yields_one _ IsPiece (λ t a e. (let ok = where_true_ok (is_piece t.bytes) t.bytes a e in subst (λ bytes. is_piece bytes ≡ true) ok.1 ok.0))
+piece_proper = yields_one _ IsPiece (λ t a e. (let ok = where_true_ok (is_piece t.bytes) t.bytes a e in
+    subst (λ bytes. is_piece bytes ≡ true) ok.1 ok.0))
 
 inside_text : (bytes text : List ℕ) → is_string bytes ≡ true → inside bytes ≡ text → is_text text ≡ true
 unfolding is_string
-inside_text bytes text e is = subst (λ (t : List ℕ). is_text t ≡ true) is (and_parts (bytes_eq bytes (quoted (inside bytes))) (is_text (inside bytes)) e).1
+inside_text bytes text e is = subst (λ (t : List ℕ). is_text t ≡ true) is (and_parts (bytes_eq bytes (quoted (inside bytes)))
+    (is_text (inside bytes)) e).1
 
 pub text_proper : Yields text_at IsText
 unfolding text_at text_of
-text_proper = yields_one _ IsText (λ t a e. (let ok = where_true_ok (is_string t.bytes) (inside t.bytes) a e in inside_text t.bytes a ok.0 ok.1))
+text_proper = yields_one _ IsText (λ t a e. (let ok = where_true_ok (is_string t.bytes) (inside t.bytes) a e in
+    inside_text t.bytes a ok.0 ok.1))
 
 -- ---- whole numbers
 
@@ -53,7 +62,8 @@ pub record Between (least most n : ℕ) : Type 0 where
   pub low : nat_le least n ≡ true
   pub high : nat_le n most ≡ true
 
-within_ok : (least most n m : ℕ) (b : Bool) → (nat_le least n && nat_le n most) ≡ b → cond b (Ok n) (Err causes.Limit) ≡ Ok m → Between least most m
+within_ok : (least most n m : ℕ) (b : Bool) → (nat_le least n && nat_le n most) ≡ b → cond b (Ok n) (Err causes.Limit) ≡ Ok m
+    → Between least most m
 within_ok least most n m true is e =
     let same : n ≡ m = cc in
     let parts = and_parts (nat_le least n) (nat_le n most) is in
@@ -68,7 +78,8 @@ bounded_between least most (Some (Value m)) n e = within_ok least most m n (nat_
 
 pub whole_proper : (least most : ℕ) → Yields (whole_at least most) (λ n. Between least most n)
 unfolding whole_at whole_of
-whole_proper least most = yields_one _ (λ n. Between least most n) (λ t n e. bounded_between least most (whole_of_number t.bytes) n e)
+whole_proper least most = yields_one _ (λ n. Between least most n) (λ t n e. bounded_between least most (whole_of_number t.bytes)
+    n e)
 
 pub below_32 : (n : ℕ) → Between 0 (2 ^ 32 - 1) n → n < 2 ^ 32
 below_32 n h = let high = h.high in grind (arith, high)
@@ -91,7 +102,8 @@ number_proper negative = yields_one _ IsDecimal (λ t d e. record { fits = (numb
 
 pub decimal_proper : Yields decimal_at IsDecimal
 unfolding decimal_at
-decimal_proper = yields_choose _ (yields_after _ λ _. number_proper true) (yields_choose _ (yields_after _ λ _. number_proper false) (number_proper false))
+decimal_proper = yields_choose _ (yields_after _ λ _. number_proper true) (yields_choose _ (yields_after _ λ _. number_proper false)
+    (number_proper false))
 
 pub record AreDecimals (pair : Decimal × Decimal) : Type 0 where
   pub first : IsDecimal pair.0
@@ -100,7 +112,8 @@ pub record AreDecimals (pair : Decimal × Decimal) : Type 0 where
 pub pair_proper : (opening between closing : ℕ) → Yields (pair_at opening between closing) (λ pair. AreDecimals pair)
 unfolding pair_at
 pair_proper opening between closing =
-    yields_after _ λ _. yields_then decimal_proper λ first is_first. yields_after _ λ _. yields_then decimal_proper λ second is_second. yields_after _ λ _.
+    yields_after _ λ _. yields_then decimal_proper λ first is_first. yields_after _ λ _. yields_then decimal_proper λ second
+    is_second. yields_after _ λ _.
     yields_value (record { first = is_first; second = is_second })
 
 -- a number without a sign
@@ -108,7 +121,8 @@ pub record IsUnsigned (d : Decimal) : Type 0 where
   pub decimal : IsDecimal d
   pub positive : d.negative ≡ false
 
-of_zero : (negative : Bool) (mantissa : ℕ) (exponent : ℤ) → mantissa ≡ 0 → IsTrue (decimal_fits negative mantissa exponent) → negative ≡ false
+of_zero : (negative : Bool) (mantissa : ℕ) (exponent : ℤ) → mantissa ≡ 0 → IsTrue (decimal_fits negative mantissa exponent)
+    → negative ≡ false
 unfolding decimal_fits
 of_zero negative mantissa exponent none fits =
     let parts : (not negative && int_eq exponent (pos 0)) ≡ true = rw (eq-eqb mantissa 0 none) at fits in
@@ -124,7 +138,10 @@ pub unsigned_proper : Yields (number_at false) (λ d. IsUnsigned d)
 unfolding number_at
 unsigned_proper =
     yields_one _ (λ d. IsUnsigned d)
-    (λ t d e. (let spells = number_spelled_by false t d e in record { decimal = record { fits = spells.is.fits }; positive = not_negative (mantissa_of t.bytes) (exponent_of t.bytes) d spells.is }))
+    (λ t d e. (let spells = number_spelled_by false t d e in record {
+      decimal = record { fits = spells.is.fits };
+      positive = not_negative (mantissa_of t.bytes) (exponent_of t.bytes) d spells.is;
+    }))
 
 -- ---- whole numbers with a sign
 
@@ -159,13 +176,16 @@ pieces_proper = yields_repeated (All IsPiece) _ _ (yields_more piece_proper) [] 
 pub receivers_proper : Yields receivers_at (All IsName)
 unfolding receivers_at receivers_from
 receivers_proper =
-    yields_choose _ (yields_then name_proper λ name is. yields_repeated (All IsName) _ _ (λ names all. yields_after _ λ _. yields_more name_proper names all) (name ∷ []) (All-push IsName [] name (All-nil IsName) is))
+    yields_choose _ (yields_then name_proper λ name is. yields_repeated (All IsName) _ _ (λ names all. yields_after _ λ _.
+    yields_more name_proper names all) (name ∷ []) (All-push IsName [] name (All-nil IsName) is))
     (yields_value (All-nil IsName))
 
-pub texts_proper : (first : List ℕ) → IsText first → Yields (texts_from (first ∷ [])) (Both (All IsText) (λ texts. IsTrue (nat_le 1 (length texts))))
+pub texts_proper : (first : List ℕ) → IsText first
+    → Yields (texts_from (first ∷ [])) (Both (All IsText) (λ texts. IsTrue (nat_le 1 (length texts))))
 unfolding texts_from
 texts_proper first is =
-    yields_both (yields_repeated (All IsText) _ _ (λ texts all. yields_after _ λ _. yields_more text_proper texts all) (first ∷ []) (All-push IsText [] first (All-nil IsText) is))
+    yields_both (yields_repeated (All IsText) _ _ (λ texts all. yields_after _ λ _. yields_more text_proper texts all) (first ∷ [])
+    (All-push IsText [] first (All-nil IsText) is))
     (record { holds = λ cut x e. some_texts first x.0 cut x.1 e })
 
 entry_proper : Yields entry_at (λ entry. IsEntry entry)

@@ -11,8 +11,10 @@ use Rattle.dbc_reader.specs.declared.keyword.Keyword.TheVariants as keywords
 abbrev pub keyword_words : List (List ℕ × Keyword)
 keyword_words =
     (codes "NS_", keywords.Symbols) ∷ (codes "BU_", keywords.Nodes) ∷ (codes "BO_", keywords.Message)
-    ∷ (codes "VAL_TABLE_", keywords.Table) ∷ (codes "VAL_", keywords.Values) ∷ (codes "SIG_VALTYPE_", keywords.Float) ∷ (codes "SG_MUL_VAL_", keywords.Mux)
-    ∷ (codes "CM_", keywords.Comment) ∷ (codes "BA_DEF_", keywords.Definition) ∷ (codes "BA_DEF_DEF_", keywords.Default) ∷ (codes "BA_", keywords.Attribute) ∷ []
+    ∷ (codes "VAL_TABLE_", keywords.Table) ∷ (codes "VAL_", keywords.Values) ∷ (codes "SIG_VALTYPE_", keywords.Float)
+    ∷ (codes "SG_MUL_VAL_", keywords.Mux)
+    ∷ (codes "CM_", keywords.Comment) ∷ (codes "BA_DEF_", keywords.Definition) ∷ (codes "BA_DEF_DEF_", keywords.Default)
+    ∷ (codes "BA_", keywords.Attribute) ∷ []
 
 -- by one of these words, or by one of the words of kept statements
 abbrev pub keyword_among : List (List ℕ × Keyword) → List ℕ → Option Keyword

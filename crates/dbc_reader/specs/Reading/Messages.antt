@@ -1,11 +1,13 @@
 -- Reading of messages with their signals.
 -- Source: the DBC file format, "Message Definitions" and "Signal Definitions". The counts, and that the names of a
 -- message's signals differ, are the profile of candesk.
-use Rattle.std.specs.Prelude.{ℕ, ◌^◌, ◌-◌, nat_lt, Bool, true, false, List, [], ◌∷◌, ◌++◌, length, codes, Result, Ok, Err, if◌then◌else◌}
+use Rattle.std.specs.Prelude.{ℕ, ◌^◌, ◌-◌, nat_lt, Bool, true, false, List, [], ◌∷◌, ◌++◌, length, codes, Result, Ok, Err}
+use Rattle.std.specs.Prelude.{if◌then◌else◌}
 use Rattle.std.specs.List.{list_any}
 use Rattle.std.specs.Str.{bytes_eq}
 use Rattle.dbc_records.specs.Databases.{most_messages}
-use Rattle.dbc_values.specs.Lexical.{is_name, opening_parenthesis, closing_parenthesis, plus, comma, minus, colon, at_sign, opening_bracket, closing_bracket, bar}
+use Rattle.dbc_values.specs.Lexical.{is_name, opening_parenthesis, closing_parenthesis, plus, comma, minus, colon, at_sign}
+use Rattle.dbc_values.specs.Lexical.{opening_bracket, closing_bracket, bar}
 use Rattle.dbc_records.specs.Records.{Head, Signal, Message, names_of, most_bytes, most_bits, most_signals}
 use Rattle.dbc_records.specs.declared.tag.Tag.{Tag}
 use Rattle.dbc_records.specs.declared.tag.Tag.TheVariants as tags
@@ -14,7 +16,8 @@ use Rattle.dbc_tokens.specs.declared.fault.Cause.TheVariants as causes
 use Rattle.dbc_reader.specs.declared.messages.Place.{Place}
 use Rattle.dbc_reader.specs.Classes.{has_word, has_mark}
 use Rattle.dbc_reader.specs.Reading.Readers.{Reader, ◌>>=◌, value, one, choose, repeated}
-use Rattle.dbc_reader.specs.Reading.Parts.{mark_at, name_at, text_at, whole_at, id_at, order_at, tag_token_at, pair_at, receivers_at}
+use Rattle.dbc_reader.specs.Reading.Parts.{mark_at, name_at, text_at, whole_at, id_at, order_at, tag_token_at, pair_at}
+use Rattle.dbc_reader.specs.Reading.Parts.{receivers_at}
 
 -- ---- heads
 
@@ -47,7 +50,8 @@ unfoldable pub begin_signal_at : ℕ → Reader (Unit {0})
 begin_signal_at count = one (λ t. begun (has_word (codes "SG_") t) (nat_lt count most_signals) causes.SignalsFull)
 
 abbrev pub fresh : List (List ℕ) → List ℕ → Result (List ℕ) Cause
-fresh names name = if is_name name then (if list_any (bytes_eq name) names then Err causes.RepeatedSignal else Ok name) else Err causes.Statement
+fresh names name = if is_name name then (if list_any (bytes_eq name) names then Err causes.RepeatedSignal else Ok name) else Err
+    causes.Statement
 
 -- the name of a signal, in a message whose signals have these
 unfoldable pub signal_name_at : List (List ℕ) → Reader (List ℕ)

@@ -8,7 +8,8 @@ use Rattle.dbc_values.specs.Names.{is_symbol}
 use Rattle.dbc_records.specs.Records.{Entry}
 use Rattle.dbc_records.specs.declared.tag.Tag.{Tag}
 use Rattle.dbc_tokens.specs.Tokens.{Token}
-use Rattle.dbc_reader.specs.Classes.{has_word, has_mark, has_name, has_symbol, has_piece, has_whole, has_number, where_true, text_of, whole_of, number_of, order_of, tag_of}
+use Rattle.dbc_reader.specs.Classes.{has_word, has_mark, has_name, has_symbol, has_piece, has_whole, has_number, where_true}
+use Rattle.dbc_reader.specs.Classes.{text_of, whole_of, number_of, order_of, tag_of}
 use Rattle.dbc_reader.specs.Reading.Readers.{Reader, ◌>>=◌, value, one, choose, repeated}
 
 -- ---- one token

@@ -1,9 +1,11 @@
 -- The tokens of a text as a function of it, from left to right: how long the gap at the front is, how long the token
 -- behind it is, and so on with the rest. What these tokens are is told apart from it, in `Tokens`.
-use Rattle.std.specs.Prelude.{ℕ, zero, suc, ◌+◌, Bool, true, false, ◌&&◌, not, ◌==◌, if◌then◌else◌, List, [], ◌∷◌, length, take, drop, Option, Some, None}
+use Rattle.std.specs.Prelude.{ℕ, zero, suc, ◌+◌, Bool, true, false, ◌&&◌, not, ◌==◌, if◌then◌else◌, List, [], ◌∷◌, length, take}
+use Rattle.std.specs.Prelude.{drop, Option, Some, None}
 use Rattle.std.specs.List.{prefix_len}
 use Rattle.std.specs.Option.{option_map}
-use Rattle.dbc_values.specs.Lexical.{quote, point, slash, backslash, is_blank, is_line_feed, is_digit, is_letter, is_word_byte, is_mark, is_sign, is_exponent_mark}
+use Rattle.dbc_values.specs.Lexical.{quote, point, slash, backslash, is_blank, is_line_feed, is_digit, is_letter, is_word_byte}
+use Rattle.dbc_values.specs.Lexical.{is_mark, is_sign, is_exponent_mark}
 use Rattle.dbc_tokens.specs.declared.token.Kind.{Kind}
 use Rattle.dbc_tokens.specs.declared.token.Kind.TheVariants.{Text, Word, Number, Mark}
 use Rattle.dbc_tokens.specs.Tokens.{Cut, End, Fault, ◌▸◌, line_feeds}
@@ -70,7 +72,8 @@ token_at (b ∷ bytes) =
 -- the token that was found at the front, and then what `go` finds behind it
 abbrev pub token_then : (ℕ → List ℕ → Cut) → ℕ → List ℕ → Option (Kind × ℕ) → Cut
 token_then go line rest None = Fault line
-token_then go line rest (Some t) = record { kind = t.0; bytes = take t.1 rest; line = line } ▸ go (line + line_feeds (take t.1 rest)) (drop t.1 rest)
+token_then go line rest (Some t) = record { kind = t.0; bytes = take t.1 rest; line = line } ▸ go
+    (line + line_feeds (take t.1 rest)) (drop t.1 rest)
 
 -- behind the gap: the end of the text, or the token there and then what `go` finds
 abbrev pub rest_then : (ℕ → List ℕ → Cut) → ℕ → List ℕ → Cut

@@ -11,5 +11,6 @@ returns-in_err-count g c =
 pub loop-done-preserved : goal.loop-done-preserved
 loop-done-preserved g c = record {
   in_range = search rules;
-  wrote = Wrote-more _ _ _ c.loop-done.done c.in_ok-count.count c.args.bytes.now (rw c.split_at.ensures.back at c.in_ok-count.ensures.wrote) c.loop-done.invariant.wrote;
+  wrote = Wrote-more _ _ _ c.loop-done.done c.in_ok-count.count c.args.bytes.now
+      (rw c.split_at.ensures.back at c.in_ok-count.ensures.wrote) c.loop-done.invariant.wrote;
 }

@@ -12,8 +12,10 @@ loop-byte-preserved c =
     let fields : List Field = c.args.fields.now in
     let old : List ℕ = c.args.text.now.items in
     let byte : ℕ = c.loop-byte.byte in
-    let line : cells_line c.in_ok-table.table.cells.items byte ≡ byte_line fields byte = same_line c.args.size fields c.in_ok-table.table.cells.items byte c.in_ok-table.ensures c.loop-byte-test.true in
-    let next : range_with_len 0 (byte + 1) ≡ range_with_len 0 byte ++ byte ∷ [] = range_more 0 byte ∙ ap (λ (n : ℕ). range_with_len 0 byte ++ n ∷ []) (omega arith) in
+    let line : cells_line c.in_ok-table.table.cells.items byte ≡ byte_line fields byte =
+    same_line c.args.size fields c.in_ok-table.table.cells.items byte c.in_ok-table.ensures c.loop-byte-test.true in
+    let next : range_with_len 0 (byte + 1) ≡ range_with_len 0 byte ++ byte ∷ [] = range_more 0 byte
+    ∙ ap (λ (n : ℕ). range_with_len 0 byte ++ n ∷ []) (omega arith) in
     c.in_ok-push_byte_line.ensures
     ∙ ap (λ (text : List ℕ). c.loop-byte.text.items ++ text) line
     ∙ ap (λ (text : List ℕ). text ++ byte_line fields byte) c.loop-byte.invariant

@@ -12,7 +12,8 @@ loop-column-preserved c =
     record {
       within = omega (arith, c.loop-column-test.true);
       pushed = rw (c.in_ok-push.ensures.items) (ap (λ (text : List ℕ). text ++ space ∷ []) c.loop-column.invariant.pushed
-          ∙ append_assoc old (replicate so_far space) (space ∷ []) ∙ ap (λ (blanks : List ℕ). old ++ blanks) (sym (replicate_next so_far space)) ∙ ap (λ (n : ℕ). old ++ replicate n space) next);
+          ∙ append_assoc old (replicate so_far space) (space ∷ []) ∙ ap (λ (blanks : List ℕ). old ++ blanks)
+          (sym (replicate_next so_far space)) ∙ ap (λ (n : ℕ). old ++ replicate n space) next);
     }
 
 pub returns : goal.returns
@@ -20,6 +21,11 @@ unfolding right
 returns c =
     let old : List ℕ = c.args.text.now.items in
     let word : List ℕ = c.args.word.now in
-    let all : c.loop-column._column - length word ≡ 4 - length word = omega (arith, c.loop-column.invariant.within, c.loop-column-test.false) in
+    let all : c.loop-column._column - length word ≡ 4 - length word = omega (
+      arith,
+      c.loop-column.invariant.within,
+      c.loop-column-test.false,
+    ) in
     rw (c.in_ok-extend_from_slice.ensures.items) (ap (λ (text : List ℕ). text ++ word) c.loop-column.invariant.pushed
-    ∙ append_assoc old (replicate (c.loop-column._column - length word) space) word ∙ ap (λ (n : ℕ). old ++ (replicate n space ++ word)) all)
+    ∙ append_assoc old (replicate (c.loop-column._column - length word) space) word
+    ∙ ap (λ (n : ℕ). old ++ (replicate n space ++ word)) all)

@@ -12,7 +12,10 @@ returns-then-field c =
     let some : 0 < run = omega (arith, c.min-run.ensures, c.requires.inside) in
     let inside : c.args.place + run ≤ c.args.field.length = omega (arith, c.min-run.ensures, c.requires.inside) in
     let fills : c.args.place + run < c.args.field.length → p % 8 + run ≡ 8 = λ more. omega (arith, more, c.min-run.ensures) in
-    record { run = rw c.from.ensures (is_intel_run c.args.field c.args.place run p c.of_run.result c.if-field.true at within fills some inside c.of_run.ensures.valid c.of_run.ensures.takes) }
+    record {
+      run = rw c.from.ensures (is_intel_run c.args.field c.args.place run p c.of_run.result c.if-field.true at within fills
+          some inside c.of_run.ensures.valid c.of_run.ensures.takes);
+    }
 
 pub returns-else-field : goal.returns-else-field
 returns-else-field c =
@@ -24,4 +27,8 @@ returns-else-field c =
     let some : 0 < run = omega (arith, c.min-run.ensures, c.requires.inside) in
     let inside : c.args.place + run + (left - run) ≡ c.args.field.length = omega (arith, c.min-run.ensures, c.requires.inside) in
     let fills : c.args.place + run < c.args.field.length → q % 8 + run ≡ 8 = λ more. omega (arith, more, c.min-run.ensures) in
-    record { run = rw c.from-else-field.ensures (is_motorola_run c.args.field c.args.place run q (8 - q % 8 - run) (left - run) c.of_run-else-field.result c.if-field.false at within inside fills some c.of_run-else-field.ensures.valid c.of_run-else-field.ensures.takes) }
+    record {
+      run = rw c.from-else-field.ensures (is_motorola_run c.args.field c.args.place run q (8 - q % 8 - run) (left - run)
+          c.of_run-else-field.result c.if-field.false at within inside fills some c.of_run-else-field.ensures.valid
+          c.of_run-else-field.ensures.takes);
+    }

@@ -5,4 +5,5 @@ use Rattle.can_check.proofs.all.push_messages.Given as goal
 
 -- the messages so far
 abbrev pub invariant-loop-message : goal.invariant-loop-message
-invariant-loop-message g l = l.found.items ≡ l.initial.found.items ++ flat_map (message_faults l.known) (take l.message-index l.messages)
+invariant-loop-message g l = l.found.items ≡ l.initial.found.items ++ flat_map (message_faults l.known)
+    (take l.message-index l.messages)

@@ -10,4 +10,5 @@ abbrev pub invariant-loop-place : goal.invariant-loop-place
 invariant-loop-place g l =
     l.found.items
     ≡ l.initial.found.items
-    ++ flat_map (λ placed. where_true (walk_passes (g.T.WalkTest.passes l.test) (slice_get l.walks placed.0)) (of_signal l.code l.head placed.1)) (take l.place (enumerate_from 0 l.signals))
+    ++ flat_map (λ placed. where_true (walk_passes (g.T.WalkTest.passes l.test) (slice_get l.walks placed.0))
+    (of_signal l.code l.head placed.1)) (take l.place (enumerate_from 0 l.signals))

@@ -5,4 +5,5 @@ use Rattle.can_check.proofs.value_rules.push_all_repeated.Given as goal
 
 -- the signals so far
 abbrev pub invariant-loop-signal : goal.invariant-loop-signal
-invariant-loop-signal g l = l.found.items ≡ l.initial.found.items ++ flat_map (repeated_in l.rows l.head) (take l.signal-index l.signals)
+invariant-loop-signal g l = l.found.items ≡ l.initial.found.items ++ flat_map (repeated_in l.rows l.head)
+    (take l.signal-index l.signals)

@@ -9,5 +9,10 @@ returns g c =
     let streamed = c.stream_texts-ended.ensures in
     let lines = streamed.0 in
     let made : c.swap-2.new.y ≡ repeated (length lines) with_line c.args.meter.now =
-    c.swap-2.ensures.y_after ∙ behind-counts _ _ _ lines streamed.1 (λ decoded. decoded.meter) (λ decoded line. refl) ∙ ap (repeated (length lines) with_line) c.swap.ensures.x_after in
-    (lines, rw c.remembering.ensures at streamed.2, c.count_refused.ensures ∙ ap (repeated (refused_count c.stream_texts-ended.result) with_line) made)
+    c.swap-2.ensures.y_after ∙ behind-counts _ _ _ lines streamed.1 (λ decoded. decoded.meter) (λ decoded line. refl)
+    ∙ ap (repeated (length lines) with_line) c.swap.ensures.x_after in (
+      lines,
+      rw c.remembering.ensures at streamed.2,
+      c.count_refused.ensures
+          ∙ ap (repeated (refused_count c.stream_texts-ended.result) with_line) made,
+    )

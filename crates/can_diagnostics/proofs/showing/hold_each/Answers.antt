@@ -7,8 +7,10 @@ use Rattle.can_diagnostics.proofs.showing.hold_each.Goals as goal
 pub returns-in_err-hold_blanked : goal.returns-in_err-hold_blanked
 returns-in_err-hold_blanked g c =
     MatchResult-from_err c.from_residual.result _ _ c.from_residual.ensures.0
-    (λ _. Lost-item g.W.Sink.written (λ piece. blanked piece.now) c.args.pieces.now c.loop-piece.piece-index _ _ _ _ _ c.loop-piece-test.true refl c.loop-piece.invariant c.in_err-hold_blanked.ensures)
+    (λ _. Lost-item g.W.Sink.written (λ piece. blanked piece.now) c.args.pieces.now c.loop-piece.piece-index _ _ _ _ _
+    c.loop-piece-test.true refl c.loop-piece.invariant c.in_err-hold_blanked.ensures)
 
 pub loop-piece-preserved : goal.loop-piece-preserved
 loop-piece-preserved g c =
-    Took-item g.W.Sink.written (λ piece. blanked piece.now) c.args.pieces.now c.loop-piece.piece-index _ _ _ _ _ c.loop-piece-test.true refl c.loop-piece.invariant c.in_ok-hold_blanked.ensures
+    Took-item g.W.Sink.written (λ piece. blanked piece.now) c.args.pieces.now c.loop-piece.piece-index _ _ _ _ _
+    c.loop-piece-test.true refl c.loop-piece.invariant c.in_ok-hold_blanked.ensures

@@ -6,4 +6,5 @@ use Rattle.can_diagnostics.proofs.writing.hold_lines.Given as goal
 
 abbrev pub invariant-loop-diagnostic : goal.invariant-loop-diagnostic
 invariant-loop-diagnostic g l =
-    Took g.W.Sink.written l.initial.out l.out (flat_map (λ diagnostic. line_text diagnostic ++ codes "\n") (take l.diagnostic-index l.found))
+    Took g.W.Sink.written l.initial.out l.out (flat_map (λ diagnostic. line_text diagnostic ++ codes "\n")
+    (take l.diagnostic-index l.found))

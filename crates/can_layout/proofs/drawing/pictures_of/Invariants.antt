@@ -6,6 +6,7 @@ use Rattle.can_layout.proofs.drawing.pictures_of.Given as goal
 -- the pictures of the messages so far, each counted
 abbrev pub invariant-loop-message : goal.invariant-loop-message
 invariant-loop-message g l = record {
-  pictures : map (λ picture. picture.items) l.pictures.items ≡ map (picture_of (g.L.Lookup.whole l.lookup)) (take l.message-index l.messages);
+  pictures : map (λ picture. picture.items) l.pictures.items ≡ map (picture_of (g.L.Lookup.whole l.lookup))
+      (take l.message-index l.messages);
   counted : l.meter ≡ repeated l.message-index with_picture l.initial.meter;
 }

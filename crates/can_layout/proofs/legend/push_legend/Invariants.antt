@@ -10,4 +10,5 @@ abbrev pub invariant-loop-place : goal.invariant-loop-place
 invariant-loop-place g l =
     l.text.items
     ≡ l.initial.text.items
-    ++ flat_map (λ placed. legend_line l.signals placed.0 placed.1 (cause_of l.rows l.size placed.1) (walk_of l.aboves placed.0)) (take l.place (enumerate_from 0 l.signals))
+    ++ flat_map (λ placed. legend_line l.signals placed.0 placed.1 (cause_of l.rows l.size placed.1) (walk_of l.aboves placed.0))
+    (take l.place (enumerate_from 0 l.signals))

@@ -19,8 +19,10 @@ loop-passed-preserved c =
     let kept : own_at own owner ≡ Some link = sym c.in-Some.ensures.value in
     let free : of_switch own owners link.switch ≡ None = ap (of_switch own owners) is ∙ c.if-not-is_free.ensures refl in
     let room : link.switch < length owners = omega (arith, is, c.if-switch-owners.false) in
-    let goes = goes_on walks own owners links c.loop-passed._passed owner link c.loop-passed-test.true c.in-Some.ensures.step kept c.loop-passed.invariant.0 in
-    let entered = one_entered walks own owners links c.loop-passed._passed owner link c.loop-passed-test.true c.in-Some.ensures.step kept c.loop-passed.invariant.0 room free c.loop-passed.invariant.1 in (
+    let goes = goes_on walks own owners links c.loop-passed._passed owner link c.loop-passed-test.true c.in-Some.ensures.step kept
+    c.loop-passed.invariant.0 in
+    let entered = one_entered walks own owners links c.loop-passed._passed owner link c.loop-passed-test.true c.in-Some.ensures.step
+    kept c.loop-passed.invariant.0 room free c.loop-passed.invariant.1 in (
       ap (slice_get walks) c.switch-switch.ensures ∙ goes,
       subst (λ (n : ℕ). AreEntered own (set owners n owner) (take (c.loop-passed._passed + 1) links)) is entered,
     )

@@ -6,4 +6,5 @@ use Rattle.can_overlap.proofs.beside.enter_all.Given as goal
 
 -- the links passed are entered, and the others are the way at the owner
 abbrev pub invariant-loop-passed : goal.invariant-loop-passed
-invariant-loop-passed l = (slice_get l.ways.walks l.owner ≡ Some (Chain (drop l._passed l.links))) × AreEntered l.ways.own l.owners (take l._passed l.links)
+invariant-loop-passed l = (slice_get l.ways.walks l.owner ≡ Some (Chain (drop l._passed l.links)))
+    × AreEntered l.ways.own l.owners (take l._passed l.links)

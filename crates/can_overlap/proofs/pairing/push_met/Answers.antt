@@ -39,20 +39,23 @@ loop-next-preserved c =
       done =
           let a : ℕ = c.loop-next.next - from in
           let later : List Walk = drop from walks in
-          let done : ℕ → List Pair = λ n. c.args.found.now.items ++ flat_map (met_pair c.args.first links words) (take n (enumerate_from from later)) in
+          let done : ℕ → List Pair = λ n. c.args.found.now.items ++ flat_map (met_pair c.args.first links words)
+          (take n (enumerate_from from later)) in
           let here : from + a ≡ c.loop-next.next = omega (arith, forward) in
           let left : length later ≡ length walks - from = length-drop from walks in
           let below : c.loop-next.next < length walks = omega (arith, c.count-end.ensures, c.loop-next-test.true) in
           let inside : from + a < length walks = omega (arith, here, below) in
           let within : a < length later = omega (arith, left, inside) in
           c.in_ok-push_pair.ensures.found
-          ∙ ap (λ ys. ys ++ pair_where (goes_at links walks c.loop-next.next) c.args.first c.loop-next.next) c.loop-next.invariant.done
+          ∙ ap (λ ys. ys ++ pair_where (goes_at links walks c.loop-next.next) c.args.first c.loop-next.next)
+          c.loop-next.invariant.done
           ∙ ap (λ n. done a ++ pair_where (goes_at links walks n) c.args.first n) (sym here)
           ∙ ap (λ b. done a ++ pair_where b c.args.first (from + a)) (goes_behind links walks from a Loop inside)
           ∙ next_met c.args.first links words from later
           c.args.found.now.items a (c.next_from-next-in-loop-next.result - from) (0, Loop)
           (omega (arith, onward, forward)) within (ap (has words) here ∙ c.loop-next.invariant.met (omega arith))
-          (λ k low high most. c.next_from-next-in-loop-next.ensures.none_between (from + k) (omega (arith, low)) (omega (arith, high)));
+          (λ k low high most. c.next_from-next-in-loop-next.ensures.none_between (from + k) (omega (arith, low))
+          (omega (arith, high)));
     }
 
 pub returns : goal.returns
@@ -62,4 +65,5 @@ returns c =
     let left : length later ≡ length c.args.beside.now.walks - from = length-drop from c.args.beside.now.walks in
     c.loop-next.invariant.done
     ∙ ap (λ ys. c.args.found.now.items ++ flat_map (met_pair c.args.first c.args.beside.now.links c.args.met.now.words) ys)
-    (all_met c.args.first c.args.beside.now.links c.args.met.now.words from later (c.loop-next.next - from) (omega (arith, left, c.count-end.ensures, c.loop-next-test.false, c.loop-next.invariant.forward)))
+    (all_met c.args.first c.args.beside.now.links c.args.met.now.words from later (c.loop-next.next - from)
+    (omega (arith, left, c.count-end.ensures, c.loop-next-test.false, c.loop-next.invariant.forward)))

@@ -11,7 +11,8 @@ invariant-loop-next l = record {
   forward : l.first + 1 ≤ l.next;
   met : l.next < 1024 → has l.met.words l.next ≡ true;
   noted : AreNoted l.beside l.noted;
-  done : l.found.items ≡ l.fn.found.items ++ flat_map (met_pair l.first l.beside.links l.met.words) (take (l.next - (l.first + 1)) (enumerate_from (l.first + 1) (drop (l.first + 1) l.beside.walks)));
+  done : l.found.items ≡ l.fn.found.items ++ flat_map (met_pair l.first l.beside.links l.met.words)
+      (take (l.next - (l.first + 1)) (enumerate_from (l.first + 1) (drop (l.first + 1) l.beside.walks)));
 }
 
 abbrev pub decreases-loop-next : goal.decreases-loop-next

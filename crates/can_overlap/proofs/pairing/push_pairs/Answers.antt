@@ -1,4 +1,5 @@
-use Rattle.std.proofs.Common.{append-nil, ◌≡◌, ℕ, ◌+◌, ◌-◌, ◌<◌, List, ◌++◌, length, get_or, drop, length-drop, false, arith, ap, sym, ◌∙◌}
+use Rattle.std.proofs.Common.{append-nil, ◌≡◌, ℕ, ◌+◌, ◌-◌, ◌<◌, List, ◌++◌, length, get_or, drop, length-drop, false, arith, ap}
+use Rattle.std.proofs.Common.{sym, ◌∙◌}
 use Rattle.std.proofs.lemmas.List.{get_or_default, get_or-drop}
 use Rattle.can_bits.specs.declared.field.Field.{Field}
 use Rattle.can_layout.specs.declared.walk.Walk.{Walk}
@@ -17,10 +18,13 @@ returns-in_ok-push_chained-in-Some c = λ field walk.
     let walks : List Walk = c.args.ways.now.walks in
     let first : ℕ = c.args.first in
     let inside : first < length walks = omega (arith, c.requires.place, c.requires.lengths) in
-    let is : get_or walks first walk ≡ Chain c.in-Some.links.now = chain_there walks first walk c.in-Some.links.now inside c.in-Some.ensures in
+    let is : get_or walks first walk ≡ Chain c.in-Some.links.now = chain_there walks first walk c.in-Some.links.now inside
+    c.in-Some.ensures in
     let left : length (drop (first + 1) fields) ≡ length fields - (first + 1) = length-drop (first + 1) fields in
-    let lengths : length (drop (first + 1) walks) ≡ length (drop (first + 1) fields) = length-drop (first + 1) walks ∙ ap (λ (n : ℕ). n - (first + 1)) c.requires.lengths ∙ sym left in
-    let shares : (k : ℕ) (d : Field) → k < length (drop (first + 1) fields) → has c.met_by-met.result.words (first + 1 + k) ≡ share (get_or fields first field) (get_or (drop (first + 1) fields) k d) =
+    let lengths : length (drop (first + 1) walks) ≡ length (drop (first + 1) fields) = length-drop (first + 1) walks
+    ∙ ap (λ (n : ℕ). n - (first + 1)) c.requires.lengths ∙ sym left in
+    let shares : (k : ℕ) (d : Field) → k < length (drop (first + 1) fields) → has c.met_by-met.result.words (first + 1 + k)
+    ≡ share (get_or fields first field) (get_or (drop (first + 1) fields) k d) =
     (λ k d h.
     let there : first + 1 + k < length fields = omega (arith, left, h) in
     c.met_by-met.ensures (first + 1 + k)
@@ -28,7 +32,9 @@ returns-in_ok-push_chained-in-Some c = λ field walk.
     ∙ ap (λ f. share f (get_or fields (first + 1 + k) d)) (get_or_default fields first _ field c.requires.place)
     ∙ ap (share (get_or fields first field)) (sym (get_or-drop (first + 1) fields k d))) in
     c.in_ok-push_chained-in-Some.ensures
-    ∙ ap (λ (pairs : List Pair). c.args.found.now.items ++ pairs) (chained (laid_at fields walks first field walk) c.in-Some.links.now is c.met_by-met.result.words (first + 1) (drop (first + 1) fields) (drop (first + 1) walks) lengths shares)
+    ∙ ap (λ (pairs : List Pair). c.args.found.now.items ++ pairs) (chained (laid_at fields walks first field walk)
+    c.in-Some.links.now is c.met_by-met.result.words (first + 1) (drop (first + 1) fields) (drop (first + 1) walks) lengths
+    shares)
 
 pub returns-in-None : goal.returns-in-None
 returns-in-None c = λ field walk.
@@ -36,6 +42,8 @@ returns-in-None c = λ field walk.
     let walks : List Walk = c.args.ways.now.walks in
     let first : ℕ = c.args.first in
     let inside : first < length walks = omega (arith, c.requires.place, c.requires.lengths) in
-    let never : (other : Walk) → together (get_or walks first walk) other ≡ false = λ other. never_there walks first walk other inside c.in-None.ensures in
-    sym (ap (λ (pairs : List Pair). c.args.found.now.items ++ pairs) (unchained (laid_at fields walks first field walk) never (laid_from (first + 1) (drop (first + 1) fields) (drop (first + 1) walks)))
+    let never : (other : Walk) → together (get_or walks first walk) other ≡ false = λ other. never_there walks first walk other
+    inside c.in-None.ensures in
+    sym (ap (λ (pairs : List Pair). c.args.found.now.items ++ pairs) (unchained (laid_at fields walks first field walk) never
+    (laid_from (first + 1) (drop (first + 1) fields) (drop (first + 1) walks)))
     ∙ append-nil c.args.found.now.items)

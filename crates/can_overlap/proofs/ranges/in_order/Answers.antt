@@ -10,7 +10,8 @@ returns c =
     let after : List Range = c.sort_by_key.new.self.items in
     record {
       order = in_order after
-          (All-permutation (λ x. x.first ≤ x.last) before after c.in_ok-sort_by_key.ensures.permutation c.in_ok-ordered.ensures.hold)
+          (All-permutation (λ x. x.first ≤ x.last) before after c.in_ok-sort_by_key.ensures.permutation
+          c.in_ok-ordered.ensures.hold)
           (IsNonDecreasingBy-from_sort_by_key (λ x. x.first) after c.in_ok-sort_by_key.ensures.sorted (λ a r q k. search rules));
       same = λ test none.
           sym (list_any-IsPermutation test before after c.in_ok-sort_by_key.ensures.permutation)

@@ -13,8 +13,10 @@ loop-range-preserved c =
     elim c.if-holds_some.branch [
       | then-holds_some+in_ok-push w ↦
           subst Here (sym w.in_ok-push.ensures.items ∙ ap (λ whole. whole.items) (sym w.whole-is))
-          (one_kept c.loop-range.whole.items ranges c.loop-range.range-index d c.loop-range-test.true (sym c.holds_some.ensures ∙ w.if-holds_some.true) c.loop-range.invariant)
+          (one_kept c.loop-range.whole.items ranges c.loop-range.range-index d c.loop-range-test.true (sym c.holds_some.ensures
+          ∙ w.if-holds_some.true) c.loop-range.invariant)
       | else-holds_some w ↦
           subst Here (ap (λ whole. whole.items) (sym w.whole-is))
-          (one_left c.loop-range.whole.items ranges c.loop-range.range-index d c.loop-range-test.true (sym c.holds_some.ensures ∙ w.if-holds_some.false) c.loop-range.invariant)
+          (one_left c.loop-range.whole.items ranges c.loop-range.range-index d c.loop-range-test.true (sym c.holds_some.ensures
+          ∙ w.if-holds_some.false) c.loop-range.invariant)
     ]

@@ -5,4 +5,5 @@ use Rattle.can_overlap.proofs.table.clear.Given as goal
 
 -- the rows at the positions of the first bits are empty
 abbrev pub invariant-loop-bit : goal.invariant-loop-bit
-invariant-loop-bit l = (position other : ℕ) → is_marked l.rows position other ≡ (is_marked l.fn.rows position other && not (has_below l.field l.bit position))
+invariant-loop-bit l = (position other : ℕ) → is_marked l.rows position other
+    ≡ (is_marked l.fn.rows position other && not (has_below l.field l.bit position))

@@ -12,5 +12,6 @@ returns c = λ position place.
     let all : length c.args.fields.now ≤ c.loop-field.field-index = omega arith in
     let nowhere : Field = record { start = 0; length = 0; intel = false } in
     c.loop-field.invariant position place
-    ∙ ap (λ (fields : List Field). is_marked c.args.rows.now position place && not (list_any (λ field. has_position field position) fields)) (take_all c.loop-field.field-index c.args.fields.now all)
+    ∙ ap (λ (fields : List Field). is_marked c.args.rows.now position place && not (list_any (λ field. has_position field position)
+    fields)) (take_all c.loop-field.field-index c.args.fields.now all)
     ∙ none_left c.args.fields.now c.args.rows.now nowhere c.requires.marked position place

@@ -6,4 +6,5 @@ use Rattle.can_overlap.proofs.table.clear_all.Given as goal
 
 -- the rows of the first fields are empty
 abbrev pub invariant-loop-field : goal.invariant-loop-field
-invariant-loop-field l = (position other : ℕ) → is_marked l.rows position other ≡ (is_marked l.fn.rows position other && not (list_any (λ field. has_position field position) (take l.field-index l.fields)))
+invariant-loop-field l = (position other : ℕ) → is_marked l.rows position other
+    ≡ (is_marked l.fn.rows position other && not (list_any (λ field. has_position field position) (take l.field-index l.fields)))

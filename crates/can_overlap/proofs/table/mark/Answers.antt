@@ -13,9 +13,18 @@ bounds-rows-position c =
 pub loop-bit-preserved : goal.loop-bit-preserved
 loop-bit-preserved c = λ position other.
     let below = below_reach c.args.field c.loop-bit.bit c.loop-bit-test.true in
-    let within : c.position.result < length c.loop-bit.rows = omega (arith, below, c.position.ensures, c.requires.room, c.loop-bit.auto.rows) in
+    let within : c.position.result < length c.loop-bit.rows = omega (
+      arith,
+      below,
+      c.position.ensures,
+      c.requires.room,
+      c.loop-bit.auto.rows,
+    ) in
     let before = is_marked c.args.rows.now position other in
     let held = has_below c.args.field c.loop-bit.bit position in
-    is_marked-insert c.loop-bit.rows c.position.result c.args.place c.insert.new.self within c.insert.ensures before held position other (c.loop-bit.invariant position other)
-    ∙ ap (λ q. is_marked c.args.rows.now position other || ((has_below c.args.field c.loop-bit.bit position || eqb q position) && eqb other c.args.place)) c.position.ensures
-    ∙ ap (λ b. is_marked c.args.rows.now position other || (b && eqb other c.args.place)) (sym (any_more (λ place. eqb (position_of c.args.field place) position) c.loop-bit.bit))
+    is_marked-insert c.loop-bit.rows c.position.result c.args.place c.insert.new.self within c.insert.ensures before held position
+    other (c.loop-bit.invariant position other)
+    ∙ ap (λ q. is_marked c.args.rows.now position other || ((has_below c.args.field c.loop-bit.bit position || eqb q position)
+    && eqb other c.args.place)) c.position.ensures
+    ∙ ap (λ b. is_marked c.args.rows.now position other || (b && eqb other c.args.place))
+    (sym (any_more (λ place. eqb (position_of c.args.field place) position) c.loop-bit.bit))

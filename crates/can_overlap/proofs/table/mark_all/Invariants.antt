@@ -6,4 +6,5 @@ use Rattle.can_overlap.proofs.table.mark_all.Given as goal
 
 -- the fields before this place have their marks
 abbrev pub invariant-loop-place : goal.invariant-loop-place
-invariant-loop-place l = (position other : ℕ) (d : Field) → is_marked l.rows position other ≡ (ltb other l.place && has_position (get_or l.fields other d) position)
+invariant-loop-place l = (position other : ℕ) (d : Field) → is_marked l.rows position other
+    ≡ (ltb other l.place && has_position (get_or l.fields other d) position)

@@ -15,5 +15,6 @@ pub loop-bit-preserved : goal.loop-bit-preserved
 loop-bit-preserved c = λ place.
     c.insert_all.ensures place
     ∙ ap (λ b. b || is_marked c.args.rows.now c.position.result place) (c.loop-bit.invariant place)
-    ∙ ap (λ q. list_any (λ bit. is_marked c.args.rows.now (position_of c.args.field bit) place) (range_with_len 0 c.loop-bit.bit) || is_marked c.args.rows.now q place) c.position.ensures
+    ∙ ap (λ q. list_any (λ bit. is_marked c.args.rows.now (position_of c.args.field bit) place) (range_with_len 0 c.loop-bit.bit)
+    || is_marked c.args.rows.now q place) c.position.ensures
     ∙ sym (any_more (λ bit. is_marked c.args.rows.now (position_of c.args.field bit) place) c.loop-bit.bit)

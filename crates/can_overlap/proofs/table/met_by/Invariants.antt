@@ -7,4 +7,5 @@ use Rattle.can_overlap.proofs.table.met_by.Given as goal
 
 -- the set has the places at the positions of the first bits
 abbrev pub invariant-loop-bit : goal.invariant-loop-bit
-invariant-loop-bit l = (place : ℕ) → has l.met.words place ≡ list_any (λ bit. is_marked l.rows (position_of l.field bit) place) (range_with_len 0 l.bit)
+invariant-loop-bit l = (place : ℕ) → has l.met.words place ≡ list_any (λ bit. is_marked l.rows (position_of l.field bit) place)
+    (range_with_len 0 l.bit)

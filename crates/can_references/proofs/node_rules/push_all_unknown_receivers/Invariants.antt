@@ -5,4 +5,5 @@ use Rattle.can_references.proofs.node_rules.push_all_unknown_receivers.Given as 
 
 -- the signals so far
 abbrev pub invariant-loop-signal : goal.invariant-loop-signal
-invariant-loop-signal g l = l.found.items ≡ l.initial.found.items ++ flat_map (unknown_receivers l.known l.head) (take l.signal-index l.signals)
+invariant-loop-signal g l = l.found.items ≡ l.initial.found.items ++ flat_map (unknown_receivers l.known l.head)
+    (take l.signal-index l.signals)

@@ -5,4 +5,5 @@ use Rattle.can_references.proofs.node_rules.push_unknown_nodes_of.Given as goal
 
 -- the nodes so far
 abbrev pub invariant-loop-node : goal.invariant-loop-node
-invariant-loop-node g l = l.found.items ≡ l.initial.found.items ++ flat_map (unknown_receiver l.known l.head l.signal) (take l.node-index l.nodes)
+invariant-loop-node g l = l.found.items ≡ l.initial.found.items ++ flat_map (unknown_receiver l.known l.head l.signal)
+    (take l.node-index l.nodes)

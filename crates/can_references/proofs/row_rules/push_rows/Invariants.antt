@@ -6,6 +6,7 @@ use Rattle.can_references.proofs.row_rules.push_rows.Given as goal
 -- the rows so far
 abbrev pub invariant-loop-row : goal.invariant-loop-row
 invariant-loop-row g l = record {
-  found : l.found.items ≡ l.initial.found.items ++ each_after (row_fault l.known) l.initial.seen (map g.R.Row.key_of (take l.row-index l.rows));
+  found : l.found.items ≡ l.initial.found.items ++ each_after (row_fault l.known) l.initial.seen
+      (map g.R.Row.key_of (take l.row-index l.rows));
   seen : l.seen ≡ l.initial.seen ++ map g.R.Row.key_of (take l.row-index l.rows);
 }

@@ -4,11 +4,13 @@ use Rattle.can_rows.proofs.laws.first_of_key.Goals as goal
 
 pub returns-clause-values : goal.returns-clause-values
 unfolding rows_of
-returns-clause-values c = λ database number name. first_of_number (λ row. row.number) (λ row. row.signal) number name database.values
+returns-clause-values c = λ database number name. first_of_number (λ row. row.number) (λ row. row.signal) number name
+    database.values
 
 pub returns-clause-floats : goal.returns-clause-floats
 unfolding rows_of
-returns-clause-floats c = λ database number name. first_of_number (λ row. row.number) (λ row. row.signal) number name database.floats
+returns-clause-floats c = λ database number name. first_of_number (λ row. row.number) (λ row. row.signal) number name
+    database.floats
 
 pub returns-clause-muxes : goal.returns-clause-muxes
 unfolding rows_of

@@ -4,4 +4,5 @@ use Rattle.can_rows.proofs.row.first_attributed.Given as goal
 
 -- none of the statements so far is of the attribute
 abbrev pub invariant-loop-statement : goal.invariant-loop-statement
-invariant-loop-statement g l = find (λ statement. bytes_eq (g.R.Attributed.attribute_of statement) l.name) (drop l.statement-index l.statements) ≡ find (λ statement. bytes_eq (g.R.Attributed.attribute_of statement) l.name) l.statements
+invariant-loop-statement g l = find (λ statement. bytes_eq (g.R.Attributed.attribute_of statement) l.name)
+    (drop l.statement-index l.statements) ≡ find (λ statement. bytes_eq (g.R.Attributed.attribute_of statement) l.name) l.statements

@@ -7,6 +7,7 @@ abbrev pub invariant-loop-message : goal.invariant-loop-message
 invariant-loop-message g l =
     let database = g.L.Lookup.whole l.lookup in
     record {
-      compiled : map (λ one. one.value) l.all.items ++ map (compiled_of database) (drop l.message-index l.messages) ≡ map (compiled_of database) l.messages;
+      compiled : map (λ one. one.value) l.all.items ++ map (compiled_of database) (drop l.message-index l.messages)
+          ≡ map (compiled_of database) l.messages;
       made : Raised l.message-index 0 l.initial.meter l.meter;
     }

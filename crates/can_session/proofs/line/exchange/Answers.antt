@@ -18,14 +18,18 @@ loop-place-preserved c =
     let found : Line = c.index_mut.result.now in
     let there : found ≡ slice_index_or lines fresh.place found = c.index_mut.ensures.value in
     let line : Line = record { bytes = found.bytes; number = found.number; decoded = fresh.text } in
-    let same : bytes_of line ≡ bytes_of (slice_index_or lines fresh.place line) = ap bytes_of there ∙ ap bytes_of (get_or_default lines fresh.place found line place) in
+    let same : bytes_of line ≡ bytes_of (slice_index_or lines fresh.place line) = ap bytes_of there
+    ∙ ap bytes_of (get_or_default lines fresh.place found line place) in
     record {
       bytes = map-set_same bytes_of lines fresh.place line line same ∙ c.loop-place.invariant.bytes;
-      numbered = λ all. let before = c.loop-place.invariant.numbered all in numbered_still lines fresh.place line place (subst IsNumbered (sym there) (before fresh.place found place)) before;
+      numbered = λ all. let before = c.loop-place.invariant.numbered all in numbered_still lines fresh.place line place
+          (subst IsNumbered (sym there) (before fresh.place found place)) before;
       within = rw length-set (all_but_last (λ (text : Fresh). text.place < length lines) rest fresh within);
-      completes = λ bus completes. one_given bus lines line rest fresh same refl (rw split at (c.loop-place.invariant.completes bus completes));
+      completes = λ bus completes. one_given bus lines line rest fresh same refl
+          (rw split at (c.loop-place.invariant.completes bus completes));
     }
 
 pub returns-clause-decoded : goal.returns-clause-decoded
 returns-clause-decoded c = λ bus completes.
-    all_given bus c.loop-place.lines.items c.loop-place.fresh.items (omega (arith, c.in_default.ensures.cases)) (c.loop-place.invariant.completes bus completes)
+    all_given bus c.loop-place.lines.items c.loop-place.fresh.items (omega (arith, c.in_default.ensures.cases))
+    (c.loop-place.invariant.completes bus completes)

@@ -17,12 +17,20 @@ returns-clause-log c =
     let split : c.args.lines.now.items ≡ line ∷ rest = c.in-Some.ensures.items in
     let log = rw split at c.requires in
     let number : line.number ≡ data_number (bytes_of line) = log.numbered zero line (omega arith) in
-    let fits : length (map bytes_of rest) < 2 ^ 64 = omega (arith, length-map rest bytes_of, c.pop_front.new.self.ok.0, c.pop_front.new.self.small.0, c.pop_front.new.self.small.1) in
+    let fits : length (map bytes_of rest) < 2 ^ 64 = omega (
+      arith,
+      length-map rest bytes_of,
+      c.pop_front.new.self.ok.0,
+      c.pop_front.new.self.small.0,
+      c.pop_front.new.self.small.1,
+    ) in
     record {
       indexed = elim c.match-line.branch [
-        | in-Some-number w ↦ rw w.index-is (listed_first first (bytes_of line) (map bytes_of rest) w.in-Some-number.number c.args.index.now w.drop_first.new.self log.serial fits
+        | in-Some-number w ↦ rw w.index-is (listed_first first (bytes_of line) (map bytes_of rest) w.in-Some-number.number
+            c.args.index.now w.drop_first.new.self log.serial fits
             (sym number ∙ w.in-Some-number.is) log.indexed w.drop_first.ensures)
-        | in_default-number w ↦ rw w.index-is (unlisted_first first (bytes_of line) (map bytes_of rest) c.args.index.now log.serial fits (sym number ∙ w.in_default-number.is) log.indexed)
+        | in_default-number w ↦ rw w.index-is (unlisted_first first (bytes_of line) (map bytes_of rest) c.args.index.now log.serial
+            fits (sym number ∙ w.in_default-number.is) log.indexed)
       ];
       numbered = All-tail IsNumbered line rest log.numbered;
       serial = mod_below (first + 1) (2 ^ 64) (omega arith);

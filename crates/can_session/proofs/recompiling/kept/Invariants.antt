@@ -8,6 +8,7 @@ abbrev pub invariant-loop-message : goal.invariant-loop-message
 invariant-loop-message l =
     let messages = l.before.messages in
     record {
-      kept : map (λ one. one.value) l.kept.items ++ map (compiled_of l.before) (filter (is_elsewhere l.numbers) (drop l.message-index messages)) ≡ map (compiled_of l.before) (filter (is_elsewhere l.numbers) messages);
+      kept : map (λ one. one.value) l.kept.items ++ map (compiled_of l.before) (filter (is_elsewhere l.numbers)
+          (drop l.message-index messages)) ≡ map (compiled_of l.before) (filter (is_elsewhere l.numbers) messages);
       rest : map (λ one. one.value) l.rest ≡ map (compiled_of l.before) (drop l.message-index messages);
     }

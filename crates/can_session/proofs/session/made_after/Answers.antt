@@ -3,8 +3,10 @@ use Rattle.can_session.proofs.session.made_after.Goals as goal
 
 pub returns-in_err-fresh-clause-made : goal.returns-in_err-fresh-clause-made
 returns-in_err-fresh-clause-made c =
-    made_then_decoded _ _ c.args.meter.now c.remade.new.meter c.decode_touched.new.meter c.remade.ensures.made (rw c.in_ok-remade.ensures.same at c.decode_touched.ensures.lines)
+    made_then_decoded _ _ c.args.meter.now c.remade.new.meter c.decode_touched.new.meter c.remade.ensures.made
+    (rw c.in_ok-remade.ensures.same at c.decode_touched.ensures.lines)
 
 pub returns-clause-made : goal.returns-clause-made
 returns-clause-made c =
-    made_then_decoded _ _ c.args.meter.now c.remade.new.meter c.decode_touched.new.meter c.remade.ensures.made (rw c.in_ok-remade.ensures.same at c.decode_touched.ensures.lines)
+    made_then_decoded _ _ c.args.meter.now c.remade.new.meter c.decode_touched.new.meter c.remade.ensures.made
+    (rw c.in_ok-remade.ensures.same at c.decode_touched.ensures.lines)

@@ -25,8 +25,10 @@ pub returns-clause-completes : goal.returns-clause-completes
 returns-clause-completes c =
     let remade = c.args.remade.now in
     let short = c.args.short in
-    all_done (record { database = remade.before; short = short }) (record { database = remade.after; short = short }) (numbers_of remade) c.args.log.now c.in_ok-places.places.items c.in_ok-fresh.fresh.items
-    (λ line untouched. c.untouched_lines_stay.ensures short remade.before remade.after remade.edit line c.shown.ensures.done untouched)
+    all_done (record { database = remade.before; short = short }) (record { database = remade.after; short = short })
+    (numbers_of remade) c.args.log.now c.in_ok-places.places.items c.in_ok-fresh.fresh.items
+    (λ line untouched. c.untouched_lines_stay.ensures short remade.before remade.after remade.edit line c.shown.ensures.done
+    untouched)
     c.requires
     (rw c.numbers.ensures at c.in_ok-places.ensures)
     (rw (c.as_slice.ensures.value, c.shown.ensures.shown) at c.in_ok-fresh.ensures.texts)

@@ -5,4 +5,5 @@ use Rattle.candesk_calls.proofs.dumping.draw.Given as goal
 
 -- the pictures of the messages so far are written
 abbrev pub invariant-loop-message : goal.invariant-loop-message
-invariant-loop-message g l = Wrote (g.W.Sink.written l.initial.sink) (g.W.Sink.written l.sink) (pictures_text (g.L.Lookup.whole l.lookup) (take l.message-index l.messages))
+invariant-loop-message g l = Wrote (g.W.Sink.written l.initial.sink) (g.W.Sink.written l.sink)
+    (pictures_text (g.L.Lookup.whole l.lookup) (take l.message-index l.messages))

@@ -6,4 +6,5 @@ use Rattle.dbc_edits.proofs.attributes.is_defined.Given as goal
 
 abbrev pub invariant-loop-definition : goal.invariant-loop-definition
 invariant-loop-definition l =
-    list_any {X = AttrDef} (λ definition. bytes_eq definition.name l.name) (drop l.definition-index l.definitions) ≡ list_any {X = AttrDef} (λ definition. bytes_eq definition.name l.name) l.definitions
+    list_any {X = AttrDef} (λ definition. bytes_eq definition.name l.name) (drop l.definition-index l.definitions)
+    ≡ list_any {X = AttrDef} (λ definition. bytes_eq definition.name l.name) l.definitions

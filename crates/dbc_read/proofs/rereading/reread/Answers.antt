@@ -15,9 +15,12 @@ returns-in-Ok-clause-same c =
 pub returns-in-Ok-clause-bytes : goal.returns-in-Ok-clause-bytes
 returns-in-Ok-clause-bytes c =
     let has = subst (λ text. HasDatabase text c.in-Ok.again) (c.deref.ensures.value ∙ c.in_ok-text.ensures) c.in-Ok.ensures in
-    ap canonical_text (printed_read c.args.database.now c.in-Ok.again has (subst IsDatabase c.database.view_is c.database.invariant))
+    ap canonical_text (printed_read c.args.database.now c.in-Ok.again has (subst IsDatabase c.database.view_is
+    c.database.invariant))
 
 pub unreachable-requires : goal.unreachable-requires
 unreachable-requires c =
-    let found = subst (λ text. (c.in-Err.fault ≡ memory_fault) ⊎ HasFirstFault grammar.text text c.in-Err.fault) (c.deref.ensures.value ∙ c.in_ok-text.ensures) c.in-Err.ensures in
-    printed_faultless c.args.database.now c.in-Err.fault found c.in_default.not-Memory (subst IsDatabase c.database.view_is c.database.invariant)
+    let found = subst (λ text. (c.in-Err.fault ≡ memory_fault) ⊎ HasFirstFault grammar.text text c.in-Err.fault)
+    (c.deref.ensures.value ∙ c.in_ok-text.ensures) c.in-Err.ensures in
+    printed_faultless c.args.database.now c.in-Err.fault found c.in_default.not-Memory (subst IsDatabase c.database.view_is
+    c.database.invariant)

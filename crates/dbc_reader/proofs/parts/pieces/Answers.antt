@@ -7,4 +7,5 @@ use Rattle.dbc_reader.proofs.parts.pieces.Goals as goal
 pub returns-in_err-found : goal.returns-in_err-found
 returns-in_err-found c =
     let p = err_from_is_err_and c.from_residual.result c.from_residual.ensures.1 in
-    rw (p.1, p.2) (pieces_fail _ c.pieces.pieces (left_at c.pieces.at) _ (sym c.pieces-test.ensures) c.in_err-found.ensures c.pieces.invariant)
+    rw (p.1, p.2) (pieces_fail _ c.pieces.pieces (left_at c.pieces.at) _ (sym c.pieces-test.ensures) c.in_err-found.ensures
+    c.pieces.invariant)

@@ -21,6 +21,8 @@ invariant_of-database c = record {
   kept = c.database.invariant.kept;
   bit_timing = c.in_ok-database-inside.ensures.valid;
   fits =
-      both (timing_fits c.in_ok-database-inside.field-0) (nat_le (length c.database.inside.messages) 65535) c.in_ok-database-inside.ensures.fits
-      (fits (timing_fits c.database.inside.bit_timing) (nat_le (length c.database.inside.messages) 65535) c.database.invariant.fits);
+      both (timing_fits c.in_ok-database-inside.field-0) (nat_le (length c.database.inside.messages) 65535)
+      c.in_ok-database-inside.ensures.fits
+      (fits (timing_fits c.database.inside.bit_timing) (nat_le (length c.database.inside.messages) 65535)
+      c.database.invariant.fits);
 }

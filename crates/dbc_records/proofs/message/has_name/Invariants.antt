@@ -5,4 +5,5 @@ use Rattle.dbc_records.specs.Records.{names_of}
 use Rattle.dbc_records.proofs.message.has_name.Given as goal
 
 abbrev pub invariant-loop-signal : goal.invariant-loop-signal
-invariant-loop-signal l = list_any (bytes_eq l.name) (names_of (drop l.signal-index l.signals)) ≡ list_any (bytes_eq l.name) (names_of l.signals)
+invariant-loop-signal l = list_any (bytes_eq l.name) (names_of (drop l.signal-index l.signals)) ≡ list_any (bytes_eq l.name)
+    (names_of l.signals)

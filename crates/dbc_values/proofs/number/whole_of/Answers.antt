@@ -9,4 +9,8 @@ returns-in_err-read-clause-value c = rw c.from_residual.ensures (whole_is_made c
 pub returns-clause-value : goal.returns-clause-value
 returns-clause-value c =
     whole_is_made c.args.number.now (Some c.whole.result)
-    (record { form = c.in_ok-read.ensures.0; is = c.whole.ensures (mantissa_of c.args.number.now) (exponent_of c.args.number.now) c.in_ok-read.ensures.1 })
+    (record {
+      form = c.in_ok-read.ensures.0;
+      is = c.whole.ensures (mantissa_of c.args.number.now) (exponent_of c.args.number.now)
+          c.in_ok-read.ensures.1;
+    })

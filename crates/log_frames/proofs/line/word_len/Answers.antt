@@ -3,5 +3,6 @@ use Rattle.log_frames.proofs.line.word_len.Goals as goal
 
 pub loop-run-preserved : goal.loop-run-preserved
 loop-run-preserved c =
-    let both = further c.loop-run.from c.args.bytes.now c.in-Some.run'.now _ c.in-Some.ensures.cases c.if-has_blank.ensures c.loop-run.invariant.in_range c.loop-run.invariant.rest in
+    let both = further c.loop-run.from c.args.bytes.now c.in-Some.run'.now _ c.in-Some.ensures.cases c.if-has_blank.ensures
+    c.loop-run.invariant.in_range c.loop-run.invariant.rest in
     record { in_range = both.0; rest = both.1 }

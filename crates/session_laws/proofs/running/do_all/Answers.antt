@@ -11,7 +11,12 @@ loop-command-preserved c =
     let item = c.command-item.result in
     record {
       ran =
-          rw (take_more commands i item c.loop-command-test.true, ← c.command-item.is, map-append command_of (take i commands) _, c.in-Ok.ensures.items)
+          rw (
+            take_more commands i item c.loop-command-test.true,
+            ← c.command-item.is,
+            map-append command_of (take i commands) _,
+            c.in-Ok.ensures.items,
+          )
           (runs-append _ _ _ _ _ _ _ c.loop-command.invariant.ran c.perform.ensures);
       len = omega (arith, c.in-Ok.ensures.len);
       room = omega (arith, c.in-Ok.ensures.capacity);

@@ -9,8 +9,10 @@ loop-place-preserved c =
     record {
       plans =
           rw c.in_ok-push.ensures.items
-          (next_of_map (λ plan. plan.now) (plan_of database) database.messages c.loop-place.place c.loop-place.plans.items c.plan.result c.plan.ensures c.loop-place.invariant.plans);
+          (next_of_map (λ plan. plan.now) (plan_of database) database.messages c.loop-place.place c.loop-place.plans.items
+          c.plan.result c.plan.ensures c.loop-place.invariant.plans);
       pictures =
           rw c.in_ok-push-2.ensures.items
-          (next_of_map (λ picture. picture.now) (picture_of database) database.messages c.loop-place.place c.loop-place.pictures.items c.picture.result c.picture.ensures c.loop-place.invariant.pictures);
+          (next_of_map (λ picture. picture.now) (picture_of database) database.messages c.loop-place.place
+          c.loop-place.pictures.items c.picture.result c.picture.ensures c.loop-place.invariant.pictures);
     }

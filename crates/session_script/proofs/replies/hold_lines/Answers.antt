@@ -11,13 +11,27 @@ pub returns-in_err-hold_line : goal.returns-in_err-hold_line
 returns-in_err-hold_line g c =
     let state = c.args.session.now.state in
     let n : ℕ = c.loop-n.n in
-    let within : n < length (decoded_texts state) = omega (arith, c.loop-n-test.true, c.line_count-n-end.ensures, length-map state.lines (decoded_line state.options.short state.database)) in
+    let within : n < length (decoded_texts state) = omega (
+      arith,
+      c.loop-n-test.true,
+      c.line_count-n-end.ensures,
+      length-map state.lines (decoded_line state.options.short state.database),
+    ) in
     MatchResult-from_err c.from_residual.result _ _ c.from_residual.ensures.0
-    (λ _. Lost-item g.W.Sink.written (λ text. text ++ codes "\n") (decoded_texts state) n c.decoded.result.now [] _ _ _ within (at_place (decoded_line state.options.short state.database) state.lines n c.decoded.result.now [] c.decoded.ensures) c.loop-n.invariant c.in_err-hold_line.ensures)
+    (λ _. Lost-item g.W.Sink.written (λ text. text ++ codes "\n") (decoded_texts state) n c.decoded.result.now [] _ _ _ within
+    (at_place (decoded_line state.options.short state.database) state.lines n c.decoded.result.now [] c.decoded.ensures)
+    c.loop-n.invariant c.in_err-hold_line.ensures)
 
 pub loop-n-preserved : goal.loop-n-preserved
 loop-n-preserved g c =
     let state = c.args.session.now.state in
     let n : ℕ = c.loop-n.n in
-    let within : n < length (decoded_texts state) = omega (arith, c.loop-n-test.true, c.line_count-n-end.ensures, length-map state.lines (decoded_line state.options.short state.database)) in
-    Took-item g.W.Sink.written (λ text. text ++ codes "\n") (decoded_texts state) n c.decoded.result.now [] _ _ _ within (at_place (decoded_line state.options.short state.database) state.lines n c.decoded.result.now [] c.decoded.ensures) c.loop-n.invariant c.in_ok-hold_line.ensures
+    let within : n < length (decoded_texts state) = omega (
+      arith,
+      c.loop-n-test.true,
+      c.line_count-n-end.ensures,
+      length-map state.lines (decoded_line state.options.short state.database),
+    ) in
+    Took-item g.W.Sink.written (λ text. text ++ codes "\n") (decoded_texts state) n c.decoded.result.now [] _ _ _ within
+    (at_place (decoded_line state.options.short state.database) state.lines n c.decoded.result.now [] c.decoded.ensures)
+    c.loop-n.invariant c.in_ok-hold_line.ensures

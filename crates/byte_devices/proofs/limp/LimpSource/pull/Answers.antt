@@ -1,9 +1,11 @@
-use Rattle.std.proofs.Common.{◌≡◌, ◌≤◌, ◌+◌, ◌-◌, ◌++◌, ℕ, List, length, take, drop, refl, sym, ap, ◌∙◌, arith, length-take, length-drop, take-append-drop}
+use Rattle.std.proofs.Common.{◌≡◌, ◌≤◌, ◌+◌, ◌-◌, ◌++◌, ℕ, List, length, take, drop, refl, sym, ap, ◌∙◌, arith, length-take}
+use Rattle.std.proofs.Common.{length-drop, take-append-drop}
 use Rattle.std.proofs.lemmas.List.{take_at, take_rest, drop-drop}
 use Rattle.byte_devices.proofs.limp.LimpSource.pull.Goals as goal
 
 -- what is copied to the front of the piece, and what stays, make the bytes that were left
-moved : (bytes source front more : List ℕ) (place n : ℕ) → source ≡ bytes → front ≡ take n (take (length source - place) (drop place source)) → place + n ≤ length bytes
+moved : (bytes source front more : List ℕ) (place n : ℕ) → source ≡ bytes
+    → front ≡ take n (take (length source - place) (drop place source)) → place + n ≤ length bytes
     → drop place bytes ≡ take n (front ++ more) ++ drop (place + n) bytes
 moved bytes source front more place n same copied fits =
     let is_front : front ≡ take n (drop place bytes) = copied ∙ ap (take n) (take_rest source place ∙ ap (drop place) same) in
@@ -18,6 +20,7 @@ returns-clause-pulled c =
     let behind = length-drop c.args.self.now.place c.deref.result.now in
     let same = ap length lent.value in
     record {
-      bytes = moved c.args.self.now.bytes.items c.deref.result.now c.copy_from_slice.new.self _ c.args.self.now.place c.min-count.result lent.value copied.after (omega arith);
+      bytes = moved c.args.self.now.bytes.items c.deref.result.now c.copy_from_slice.new.self _ c.args.self.now.place
+          c.min-count.result lent.value copied.after (omega arith);
       failures = refl;
     }

@@ -6,8 +6,10 @@ use Rattle.byte_devices.proofs.sending.Out.send_pieces.Goals as goal
 pub returns-in_err-send : goal.returns-in_err-send
 returns-in_err-send g c =
     MatchResult-from_err c.from_residual.result _ _ c.from_residual.ensures.0
-    (λ _. Lost-item g.W.Sink.written (λ piece. piece.now) c.args.pieces.now c.loop-piece.piece-index _ _ _ _ _ c.loop-piece-test.true refl c.loop-piece.invariant c.in_err-send.ensures)
+    (λ _. Lost-item g.W.Sink.written (λ piece. piece.now) c.args.pieces.now c.loop-piece.piece-index _ _ _ _ _
+    c.loop-piece-test.true refl c.loop-piece.invariant c.in_err-send.ensures)
 
 pub loop-piece-preserved : goal.loop-piece-preserved
 loop-piece-preserved g c =
-    Took-item g.W.Sink.written (λ piece. piece.now) c.args.pieces.now c.loop-piece.piece-index _ _ _ _ _ c.loop-piece-test.true refl c.loop-piece.invariant c.in_ok-send.ensures
+    Took-item g.W.Sink.written (λ piece. piece.now) c.args.pieces.now c.loop-piece.piece-index _ _ _ _ _ c.loop-piece-test.true refl
+    c.loop-piece.invariant c.in_ok-send.ensures

@@ -11,9 +11,16 @@ returns-clause-each c = λ position within.
     let field : Field = c.args.field in
     let start : ℕ = passed_at field 0 in
     let top : ℕ = 8 * c.args.self.now.size in
-    let end : c.min-end.result ≡ min (start + field.length) top = rw (← c.passed-start.ensures, ← c.from.ensures, ← c.from-2.ensures) c.min-end.ensures in
-    let no_further : start ≤ c.min-end.result → c.loop-passed.passed ≤ c.min-end.result = rw (← c.passed-start.ensures) c.loop-passed.auto.passed-end in
+    let end : c.min-end.result ≡ min (start + field.length) top = rw (
+      ← c.passed-start.ensures,
+      ← c.from.ensures,
+      ← c.from-2.ensures,
+    ) c.min-end.ensures in
+    let no_further : start ≤ c.min-end.result → c.loop-passed.passed ≤ c.min-end.result =
+    rw (← c.passed-start.ensures) c.loop-passed.auto.passed-end in
     let walked : covers start c.loop-passed.passed (numbered field.intel position) ≡ has_position field position =
-    covers_all start field.length top c.min-end.result c.loop-passed.passed (numbered field.intel position) (numbered_within field.intel position c.args.self.now.size within) end c.loop-passed-test.false no_further
+    covers_all start field.length top c.min-end.result c.loop-passed.passed (numbered field.intel position)
+    (numbered_within field.intel position c.args.self.now.size within) end c.loop-passed-test.false no_further
     ∙ sym (has_position_is field position) in
-    c.loop-passed.invariant.each position within ∙ ap (λ (has : Bool). marked_if has (cell_at c.args.self.now.cells.items position) c.args.place) walked
+    c.loop-passed.invariant.each position within ∙ ap (λ (has : Bool). marked_if has (cell_at c.args.self.now.cells.items position)
+    c.args.place) walked

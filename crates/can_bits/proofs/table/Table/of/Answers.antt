@@ -11,16 +11,24 @@ loop-place-preserved c =
     let fields : List Field = c.args.fields.now in
     let place : ℕ = c.loop-place.place in
     let size : c.mark.new.self.size ≡ c.args.size = c.mark.ensures.size ∙ c.loop-place.invariant.size in
-    let count : length c.mark.new.self.cells.items ≡ 8 * c.args.size = omega (arith, c.mark.new.self.covers_bytes, c.mark.new.self.cells.ok.0, size) in
-    let marked = marked_table c.args.size (take place (enumerate_from 0 fields)) place _ c.loop-place.table.cells.items c.mark.new.self.cells.items c.loop-place.invariant.marked count
+    let count : length c.mark.new.self.cells.items ≡ 8 * c.args.size = omega (
+      arith,
+      c.mark.new.self.covers_bytes,
+      c.mark.new.self.cells.ok.0,
+      size,
+    ) in
+    let marked = marked_table c.args.size (take place (enumerate_from 0 fields)) place _ c.loop-place.table.cells.items
+    c.mark.new.self.cells.items c.loop-place.invariant.marked count
     (λ position within. c.mark.ensures.each position (rw c.loop-place.invariant.size within)) in
     record {
       size = size;
-      marked = subst (λ (placed : List (ℕ × Field)). IsTable c.args.size placed c.mark.new.self.cells.items) (sym (more_placed fields place _ c.loop-place-test.true)) marked;
+      marked = subst (λ (placed : List (ℕ × Field)). IsTable c.args.size placed c.mark.new.self.cells.items)
+          (sym (more_placed fields place _ c.loop-place-test.true)) marked;
     }
 
 pub returns : goal.returns
 returns c =
     let fields : List Field = c.args.fields.now in
     subst (λ (placed : List (ℕ × Field)). IsTable c.args.size placed c.loop-place.table.cells.items)
-    (take_all c.loop-place.place (enumerate_from 0 fields) (omega (arith, c.loop-place-test.false, length-enumerate_from 0 fields))) c.loop-place.invariant.marked
+    (take_all c.loop-place.place (enumerate_from 0 fields) (omega (arith, c.loop-place-test.false, length-enumerate_from 0 fields)))
+    c.loop-place.invariant.marked

@@ -15,7 +15,8 @@ returns c = elim c.if-field.branch [
       let end : field.start + field.length ≤ 64 = omega (arith, first, c.if-end-gt64.false, c.from.ensures) in
       record {
         within = omega (arith, at, end, c.if-length-eq0.false);
-        same = λ bytes small enough. in_window bytes small enough field c.if-field.shift c.ones_of.result c.ones_of.ensures (inl (w.if-field.true, at, end));
+        same = λ bytes small enough. in_window bytes small enough field c.if-field.shift c.ones_of.result c.ones_of.ensures
+            (inl (w.if-field.true, at, end));
       }
   | else-field w ↦
       let field : Field = c.args.field in
@@ -24,6 +25,7 @@ returns c = elim c.if-field.branch [
       let at : c.if-field.shift ≡ 64 - (mirrored field.start + field.length) = omega (arith, w.shift-is, first, c.from.ensures) in
       record {
         within = omega (arith, at, end, c.if-length-eq0.false);
-        same = λ bytes small enough. in_window bytes small enough field c.if-field.shift c.ones_of.result c.ones_of.ensures (inr (w.if-field.false, at, end));
+        same = λ bytes small enough. in_window bytes small enough field c.if-field.shift c.ones_of.result c.ones_of.ensures
+            (inr (w.if-field.false, at, end));
       }
 ]

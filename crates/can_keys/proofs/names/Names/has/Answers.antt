@@ -6,4 +6,5 @@ use Rattle.can_keys.proofs.names.Names.has.Goals as goal
 pub returns : goal.returns
 returns c =
     c.contains.ensures ∙ c.once.ensures c.args.name
-    ∙ sym (list_any-map (bytes_eq c.args.name.now) (λ name. name.now) c.self.inside.keys) ∙ ap (list_any (bytes_eq c.args.name.now)) c.self.view_is
+    ∙ sym (list_any-map (bytes_eq c.args.name.now) (λ name. name.now) c.self.inside.keys) ∙ ap (list_any (bytes_eq c.args.name.now))
+    c.self.view_is

@@ -13,5 +13,6 @@ pub returns-clause-is_new : goal.returns-clause-is_new
 returns-clause-is_new c =
     subst (λ there. IfOk c.add.result (λ is_new. is_new ≡ not there))
     (ap (λ (test : Key → Bool). list_any test c.self.inside.keys) (fun_ext (λ key. same_keys c.args.key key))
-    ∙ sym (list_any-map (same_key (row_key c.args.key)) row_key c.self.inside.keys) ∙ ap (list_any (same_key (row_key c.args.key))) c.self.view_is)
+    ∙ sym (list_any-map (same_key (row_key c.args.key)) row_key c.self.inside.keys) ∙ ap (list_any (same_key (row_key c.args.key)))
+    c.self.view_is)
     c.add.ensures.is_new

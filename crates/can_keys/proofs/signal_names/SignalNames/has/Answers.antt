@@ -7,4 +7,5 @@ use Rattle.can_keys.proofs.signal_names.SignalNames.has.Goals as goal
 pub returns : goal.returns
 returns c =
     c.contains.ensures ∙ c.once.ensures c.args.key
-    ∙ sym (list_any-map (same_signal (c.args.key.0, c.args.key.1.now)) (λ key. (key.0, key.1.now)) c.self.inside.keys) ∙ ap (list_any (same_signal (c.args.key.0, c.args.key.1.now))) c.self.view_is
+    ∙ sym (list_any-map (same_signal (c.args.key.0, c.args.key.1.now)) (λ key. (key.0, key.1.now)) c.self.inside.keys)
+    ∙ ap (list_any (same_signal (c.args.key.0, c.args.key.1.now))) c.self.view_is

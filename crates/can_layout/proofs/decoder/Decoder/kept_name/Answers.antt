@@ -11,5 +11,7 @@ returns c =
     let found = c.in_ok-name.ensures.lookup in
     let entries : c.self.inside.entries ≡ c.args.self.now.entries = ap (λ (decoder : Decoder). decoder.entries) c.self.view_is in
     c.as_ref.ensures.value
-    ∙ found_name c.self.inside.entries c.as_slice.result.now c.args.raw c.try_from.result c.in-Ok.place c.in_ok-name.name.now (rw c.as_slice.ensures.value c.self.invariant.2) (rw (to_z-of_z w128 c.args.raw c.ranges.raw) at c.try_from.ensures) c.in-Ok.is found.0 found.1
+    ∙ found_name c.self.inside.entries c.as_slice.result.now c.args.raw c.try_from.result c.in-Ok.place c.in_ok-name.name.now
+    (rw c.as_slice.ensures.value c.self.invariant.2) (rw (to_z-of_z w128 c.args.raw c.ranges.raw) at c.try_from.ensures)
+    c.in-Ok.is found.0 found.1
     ∙ ap (λ (entries : List Entry). name_of c.args.raw entries) entries

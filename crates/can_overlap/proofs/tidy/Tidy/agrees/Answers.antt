@@ -13,7 +13,8 @@ returns-else-switch c =
     c.meet.ensures
     ∙ ap (λ (ranges : List Range). ranges_meet ranges c.deref-else-switch.result.now) c.deref.ensures.value
     ∙ ap (λ (ranges : List Range). ranges_meet c.self.inside.ranges.items ranges) c.deref-else-switch.ensures.value
-    ∙ meet_alike c.self.inside.ranges.items c.other.inside.ranges.items c.self.inside.link.now.ranges c.other.inside.link.now.ranges c.self.invariant c.other.invariant
+    ∙ meet_alike c.self.inside.ranges.items c.other.inside.ranges.items c.self.inside.link.now.ranges c.other.inside.link.now.ranges
+    c.self.invariant c.other.invariant
     ∙ ap (λ (one : Link). ranges_meet one.ranges c.other.inside.link.now.ranges) c.self.view_is
     ∙ ap (λ (one : Link). ranges_meet these.ranges one.ranges) c.other.view_is
     ∙ ap (λ b. not b || ranges_meet these.ranges those.ranges) (sym (eq-eqb these.switch those.switch switch))

@@ -11,12 +11,14 @@ pub invariant_of-result : goal.invariant_of-result
 invariant_of-result g c =
     let whole = g.L.Lookup.whole c.args.lookup.now in
     let same = c.database.view_is ∙ c.database-database.ensures in
-    let messages : c.as_slice-messages.result.now ≡ whole.messages = c.as_slice-messages.ensures.value ∙ ap (λ (d : Database). d.messages) same in
+    let messages : c.as_slice-messages.result.now ≡ whole.messages = c.as_slice-messages.ensures.value
+    ∙ ap (λ (d : Database). d.messages) same in
     record {
       all_numbers = c.in_ok-numbers.ensures ∙ ap (map (λ (m : Message). m.head.number)) messages;
       all_names = c.in_ok-names.ensures ∙ ap (map (λ (m : Message). m.head.name)) messages;
       all_groups = c.in_ok-groups.ensures ∙ ap (flat_map (λ (m : Message). perhaps (group_of m.head.number whole))) messages;
       all_signals = c.in_ok-signals.ensures ∙ ap (flat_map signals_in) messages;
       all_nodes = c.in_ok-nodes.ensures ∙ c.as_slice.ensures.value ∙ ap (λ (d : Database). d.nodes) same;
-      all_defined = c.in_ok-defined.ensures ∙ ap (map (λ (d : AttrDef). d.name)) (c.as_slice-2.ensures.value ∙ ap (λ (d : Database). d.definitions) same);
+      all_defined = c.in_ok-defined.ensures ∙ ap (map (λ (d : AttrDef). d.name)) (c.as_slice-2.ensures.value
+          ∙ ap (λ (d : Database). d.definitions) same);
     }

@@ -6,4 +6,5 @@ use Rattle.can_session.proofs.keyed_serials.Serials.places.Given as goal
 
 -- those of the numbers so far are there
 abbrev pub invariant-loop-serial : goal.invariant-loop-serial
-invariant-loop-serial l = l.places.items ++ map (place_from l.first) (deque_iter_rest l.serial-iterator) ≡ map (place_from l.first) (numbers_in l.self)
+invariant-loop-serial l = l.places.items ++ map (place_from l.first) (deque_iter_rest l.serial-iterator) ≡ map (place_from l.first)
+    (numbers_in l.self)

@@ -10,5 +10,11 @@ loop-at-init c = rw c.new-places.ensures.items (covers_none (map bytes_of c.args
 pub loop-at-preserved : goal.loop-at-preserved
 loop-at-preserved c =
     let numbers = c.args.numbers.now in
-    rw (take_more numbers c.loop-at.at 0 c.loop-at-test.true, c.in_ok-add_places.ensures, c.as_slice.ensures.value, c.in_ok-found.ensures)
-    (covers_more (take c.loop-at.at numbers) (get_or numbers c.loop-at.at 0) (map bytes_of c.args.self.now) c.loop-at.places.items c.loop-at.invariant)
+    rw (
+      take_more numbers c.loop-at.at 0 c.loop-at-test.true,
+      c.in_ok-add_places.ensures,
+      c.as_slice.ensures.value,
+      c.in_ok-found.ensures,
+    )
+    (covers_more (take c.loop-at.at numbers) (get_or numbers c.loop-at.at 0) (map bytes_of c.args.self.now) c.loop-at.places.items
+    c.loop-at.invariant)

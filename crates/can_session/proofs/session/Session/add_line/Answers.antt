@@ -1,4 +1,5 @@
-use Rattle.std.proofs.Common.{◌≡◌, ◌<◌, ◌≤◌, ◌+◌, false, List, [], ◌∷◌, ◌++◌, Ok, length, length-append, map, drop, refl, sym, ap, ◌∙◌, arith}
+use Rattle.std.proofs.Common.{◌≡◌, ◌<◌, ◌≤◌, ◌+◌, false, List, [], ◌∷◌, ◌++◌, Ok, length, length-append, map, drop, refl, sym, ap}
+use Rattle.std.proofs.Common.{◌∙◌, arith}
 use Rattle.std.proofs.lemmas.List.{map_push, length-map, length-drop, drop-map}
 use Rattle.std.proofs.lemmas.List.Elements.{All-push, All-drop}
 use Rattle.can_decode.specs.DecodedLines.{Bus}
@@ -15,8 +16,14 @@ invariant_of-self-then-len-most c =
     let all = c.in_ok-retain.ensures.ok in
     let left : c.drop_first.new.self ≡ drop 1 (log ++ c.in_ok-made.made ∷ []) = c.drop_first.ensures ∙ ap (drop 1) all in
     rw left record {
-      decoded = All-drop (IsDecoded bus) 1 (log ++ c.in_ok-made.made ∷ []) (All-push (IsDecoded bus) log c.in_ok-made.made c.self.invariant.decoded c.in_ok-made.ensures.decoded);
-      few = omega (arith, c.self.invariant.few, length-drop 1 (log ++ c.in_ok-made.made ∷ []), length-append log (c.in_ok-made.made ∷ []));
+      decoded = All-drop (IsDecoded bus) 1 (log ++ c.in_ok-made.made ∷ []) (All-push (IsDecoded bus) log c.in_ok-made.made
+          c.self.invariant.decoded c.in_ok-made.ensures.decoded);
+      few = omega (
+        arith,
+        c.self.invariant.few,
+        length-drop 1 (log ++ c.in_ok-made.made ∷ []),
+        length-append log (c.in_ok-made.made ∷ []),
+      );
     }
 
 pub invariant_of-self-else-len-most : goal.invariant_of-self-else-len-most
@@ -37,9 +44,24 @@ returns-then-len-most-clause-step c =
     let line = c.args.line.now in
     let all = c.in_ok-retain.ensures.ok in
     let many = length-map log bytes_of in
-    let room : is_full keep (length lines) ≡ false = ap (is_full keep) (many ∙ sym c.len.ensures) ∙ sym c.is_full.ensures ∙ c.if-is_full.false in
-    let over : most_kept keep < length lines + 1 = omega (arith, many, c.if-len-most.true, c.len-2.ensures, c.most.ensures, ap length all, length-append log (c.in_ok-made.made ∷ [])) in
+    let room : is_full keep (length lines) ≡ false = ap (is_full keep) (many ∙ sym c.len.ensures) ∙ sym c.is_full.ensures
+    ∙ c.if-is_full.false in
+    let over : most_kept keep < length lines + 1 = omega (
+      arith,
+      many,
+      c.if-len-most.true,
+      c.len-2.ensures,
+      c.most.ensures,
+      ap length all,
+      length-append log (c.in_ok-made.made ∷ []),
+    ) in
     let few : length lines ≤ most_kept keep = omega (arith, many, c.self.invariant.few) in
     let left : map bytes_of c.drop_first.new.self ≡ drop 1 (lines ++ line ∷ []) =
-    ap (map bytes_of) (c.drop_first.ensures ∙ ap (drop 1) all) ∙ sym (drop-map bytes_of 1 (log ++ c.in_ok-made.made ∷ [])) ∙ ap (drop 1) (map_push bytes_of log c.in_ok-made.made ∙ ap (λ bytes. lines ++ bytes ∷ []) c.in_ok-made.ensures.bytes) in
-    rw (← c.self.view_is) (open_with_line keep lines line room c.if-line-gt-LONGEST_LINE.false ∙ ap Ok (one_goes keep lines line few room over ∙ sym left), refl, refl)
+    ap (map bytes_of) (c.drop_first.ensures ∙ ap (drop 1) all) ∙ sym (drop-map bytes_of 1 (log ++ c.in_ok-made.made ∷ []))
+    ∙ ap (drop 1) (map_push bytes_of log c.in_ok-made.made ∙ ap (λ bytes. lines ++ bytes ∷ []) c.in_ok-made.ensures.bytes) in
+    rw (← c.self.view_is) (
+      open_with_line keep lines line room c.if-line-gt-LONGEST_LINE.false
+          ∙ ap Ok (one_goes keep lines line few room over ∙ sym left),
+      refl,
+      refl,
+    )

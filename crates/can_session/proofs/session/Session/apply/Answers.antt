@@ -17,6 +17,13 @@ pub invariant_of-self-2 : goal.invariant_of-self-2
 invariant_of-self-2 c =
     let lines = c.exchange.ensures.lines in
     record {
-      decoded = c.exchange.ensures.decoded (record { database = c.in_ok-shown.shown; short = c.self.inside.options.short }) (rw c.in_ok-shown.ensures.shown c.in_ok-shown.ensures.fresh);
-      few = omega (arith, c.self.invariant.few, ap length lines, length-map c.exchange.new.self bytes_of, length-map c.self.inside.log bytes_of);
+      decoded = c.exchange.ensures.decoded (record { database = c.in_ok-shown.shown; short = c.self.inside.options.short })
+          (rw c.in_ok-shown.ensures.shown c.in_ok-shown.ensures.fresh);
+      few = omega (
+        arith,
+        c.self.invariant.few,
+        ap length lines,
+        length-map c.exchange.new.self bytes_of,
+        length-map c.self.inside.log bytes_of,
+      );
     }

@@ -9,4 +9,5 @@ returns g c =
     let d = c.decimal.inside in
     let kept : to_z w16 (of_z w16 d.exponent) ≡ d.exponent = search rules in
     let magnitude = Sends-as _ _ _ _ _ _ (ap (magnitude_text (decimal d.mantissa)) kept) c.hold_unsigned.ensures in
-    rw (← c.decimal.view_is) (Sends-after _ _ _ _ c.hold_unsigned.result (sign_text d.negative) (magnitude_text (decimal d.mantissa) d.exponent) c.in_ok-hold_sign.ensures magnitude)
+    rw (← c.decimal.view_is) (Sends-after _ _ _ _ c.hold_unsigned.result (sign_text d.negative) (magnitude_text (decimal d.mantissa)
+    d.exponent) c.in_ok-hold_sign.ensures magnitude)

@@ -13,4 +13,5 @@ returns-else-digits-behind g c =
     let most : c.args.behind ≤ 20 = search rules in
     let front = c.split_at-else-digits-behind.ensures.front ∙ take-replicate k 20 48 (omega (arith, most)) in
     let text = ap (λ t. t ++ (digits ++ [])) front ∙ ap (λ t. zeros k ++ t) (append-nil digits) in
-    Sends-as _ _ _ _ _ _ (ap (λ t. 48 ∷ 46 ∷ t) text ∙ sym (fraction_filled c.args.behind digits few)) c.send_pieces-else-digits-behind.ensures
+    Sends-as _ _ _ _ _ _ (ap (λ t. 48 ∷ 46 ∷ t) text ∙ sym (fraction_filled c.args.behind digits few))
+    c.send_pieces-else-digits-behind.ensures

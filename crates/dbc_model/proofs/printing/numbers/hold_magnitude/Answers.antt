@@ -15,4 +15,5 @@ returns-then-digits-count-le-PLAIN_DIGITS g c =
     let fits : length digits + count ≤ 20 = subst (λ n. length digits + n ≤ 20) is most in
     let sign : pos 0 ≤ℤ c.args.exponent = search rules in
     let front = c.split_at.ensures.front ∙ take-replicate c.unsigned_abs-count.result 20 48 (omega (arith, most)) ∙ ap zeros is in
-    Sends-as _ _ _ _ _ _ (ap (λ t. digits ++ t) (append-nil _ ∙ front) ∙ sym (magnitude_whole digits c.args.exponent sign fits)) c.send_pieces.ensures
+    Sends-as _ _ _ _ _ _ (ap (λ t. digits ++ t) (append-nil _ ∙ front) ∙ sym (magnitude_whole digits c.args.exponent sign fits))
+    c.send_pieces.ensures

@@ -7,4 +7,5 @@ pub returns : goal.returns
 unfolding float_key
 returns g c =
     let row = c.row.inside in
-    rw (← c.row.view_is) (Sends-then _ _ _ _ c.hold_signal_key.result (word_layout (codes "SIG_VALTYPE_")) (signal_key row.number row.signal) c.in_ok-hold_word.ensures c.hold_signal_key.ensures)
+    rw (← c.row.view_is) (Sends-then _ _ _ _ c.hold_signal_key.result (word_layout (codes "SIG_VALTYPE_"))
+    (signal_key row.number row.signal) c.in_ok-hold_word.ensures c.hold_signal_key.ensures)

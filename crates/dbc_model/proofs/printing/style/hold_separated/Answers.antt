@@ -11,11 +11,14 @@ returns-in-empty g c =
 
 pub returns-in_ok-hold_item-in-len1-up : goal.returns-in_ok-hold_item-in-len1-up
 returns-in_ok-hold_item-in-len1-up g c =
-    Sends-as _ _ _ _ _ _ (ap layout_text (separated-some g.F.Style.layout g.S.Style.layout c.args.items.now c.first-item.result _ c.in-len1-up.len_at_least c.first-item.is))
+    Sends-as _ _ _ _ _ _ (ap layout_text (separated-some g.F.Style.layout g.S.Style.layout c.args.items.now c.first-item.result _
+    c.in-len1-up.len_at_least c.first-item.is))
     (Sends-then _ _ _ _ _ _ _ c.in_ok-hold_item-in-len1-up.ensures c.hold_items.ensures)
 
 pub returns-in_err-hold_item-in-len1-up : goal.returns-in_err-hold_item-in-len1-up
 returns-in_err-hold_item-in-len1-up g c =
     let further = take (length c.args.items.now - 1) (drop 1 c.args.items.now) in
-    Sends-as _ _ _ _ _ _ (ap layout_text (separated-some g.F.Style.layout g.S.Style.layout c.args.items.now c.first-item.result _ c.in-len1-up.len_at_least c.first-item.is))
-    (Sends-broke _ _ _ _ (g.F.Style.layout c.first-item.result) (flat_map g.S.Style.layout further) c.from_residual.ensures.0 c.in_err-hold_item-in-len1-up.ensures)
+    Sends-as _ _ _ _ _ _ (ap layout_text (separated-some g.F.Style.layout g.S.Style.layout c.args.items.now c.first-item.result _
+    c.in-len1-up.len_at_least c.first-item.is))
+    (Sends-broke _ _ _ _ (g.F.Style.layout c.first-item.result) (flat_map g.S.Style.layout further) c.from_residual.ensures.0
+    c.in_err-hold_item-in-len1-up.ensures)

@@ -7,7 +7,8 @@ returns-then-digit-eq0-clause-value c m h = rw c.if-digit-eq0.true (zero_behind 
 
 pub returns-in-Some-clause-value : goal.returns-in-Some-clause-value
 returns-in-Some-clause-value c m h =
-    digit_behind_some m c.in-Some.front c.args.self.zeros c.args.digit (rw c.in-Some.is at h) (omega arith) c.requires.digit c.appended-front.result c.appended-front.ensures
+    digit_behind_some m c.in-Some.front c.args.self.zeros c.args.digit (rw c.in-Some.is at h) (omega arith) c.requires.digit
+    c.appended-front.result c.appended-front.ensures
 
 pub returns-in-None-clause-value : goal.returns-in-None-clause-value
 returns-in-None-clause-value c m h =

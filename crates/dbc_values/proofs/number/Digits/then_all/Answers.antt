@@ -8,5 +8,6 @@ loop-digit-preserved c = record {
   few = omega arith;
   value = λ m h.
       rw (value_more m c.args.digits.now c.loop-digit.digit-index (omega arith) c.requires.digits)
-      (c.then-all.ensures.value (digits_value_after 10 m (take c.loop-digit.digit-index c.args.digits.now)) (c.loop-digit.invariant.value m h));
+      (c.then-all.ensures.value (digits_value_after 10 m (take c.loop-digit.digit-index c.args.digits.now))
+      (c.loop-digit.invariant.value m h));
 }

@@ -6,19 +6,22 @@ use Rattle.std.specs.Str.Parse.{digits_value_after}
 use Rattle.std.specs.List.{after_first}
 use Rattle.dbc_values.specs.Lexical.{is_exponent_mark}
 use Rattle.dbc_values.specs.Numbers.{digits_before_point, digits_behind_point, written_exponent, StandsFor}
-use Rattle.dbc_values.proofs.NumberTexts.{digits_before, digits_behind, digits_of_exponent, before_is, behind_is, exponent_is, reduced, no_digits}
+use Rattle.dbc_values.proofs.NumberTexts.{digits_before, digits_behind, digits_of_exponent, before_is, behind_is, exponent_is}
+use Rattle.dbc_values.proofs.NumberTexts.{reduced, no_digits}
 use Rattle.dbc_values.proofs.number.Reduced.read.Goals as goal
 
 pub then_all-requires-clause-digits : goal.then_all-requires-clause-digits
 then_all-requires-clause-digits c =
     let part : c.split_around-2.result.0.now ≡ digits_before_point c.args.number.now =
-    before_is _ _ _ _ _ c.exponent_place.ensures.value c.split_around.ensures.front c.point_place.ensures.value c.split_around-2.ensures.front in
+    before_is _ _ _ _ _ c.exponent_place.ensures.value c.split_around.ensures.front c.point_place.ensures.value
+    c.split_around-2.ensures.front in
     rw part (digits_before c.args.number.now (search rules))
 
 pub then_all-digits-requires-clause-digits : goal.then_all-digits-requires-clause-digits
 then_all-digits-requires-clause-digits c =
     let part : c.split_around-2.result.1.now ≡ digits_behind_point c.args.number.now =
-    behind_is _ _ _ _ _ c.exponent_place.ensures.value c.split_around.ensures.front c.point_place.ensures.value c.split_around-2.ensures.back in
+    behind_is _ _ _ _ _ c.exponent_place.ensures.value c.split_around.ensures.front c.point_place.ensures.value
+    c.split_around-2.ensures.back in
     rw part (digits_behind c.args.number.now (search rules))
 
 pub signed_up_to_far-written-requires : goal.signed_up_to_far-written-requires
@@ -30,19 +33,25 @@ signed_up_to_far-written-requires c =
 pub returns : goal.returns
 returns c =
     let before : c.split_around-2.result.0.now ≡ digits_before_point c.args.number.now =
-    before_is _ _ _ _ _ c.exponent_place.ensures.value c.split_around.ensures.front c.point_place.ensures.value c.split_around-2.ensures.front in
+    before_is _ _ _ _ _ c.exponent_place.ensures.value c.split_around.ensures.front c.point_place.ensures.value
+    c.split_around-2.ensures.front in
     let behind : c.split_around-2.result.1.now ≡ digits_behind_point c.args.number.now =
-    behind_is _ _ _ _ _ c.exponent_place.ensures.value c.split_around.ensures.front c.point_place.ensures.value c.split_around-2.ensures.back in
+    behind_is _ _ _ _ _ c.exponent_place.ensures.value c.split_around.ensures.front c.point_place.ensures.value
+    c.split_around-2.ensures.back in
     let exponent : c.split_around.result.1.now ≡ after_first is_exponent_mark c.args.number.now =
     exponent_is _ _ _ c.exponent_place.ensures.value c.split_around.ensures.back in
     let written_fits : SFits w128 c.signed_up_to_far-written.result = search rules in
     let fits : SFits w128 c.reduced_exponent.result = search rules in
-    let near : StandsFor (10 ^ 30) (written_exponent c.args.number.now) c.signed_up_to_far-written.result = rw exponent at c.signed_up_to_far-written.ensures.value in
-    let passed : StandsFor (10 ^ 30) (written_exponent c.args.number.now) (to_z w128 (of_z w128 c.signed_up_to_far-written.result)) =
+    let near : StandsFor (10 ^ 30) (written_exponent c.args.number.now) c.signed_up_to_far-written.result =
+    rw exponent at c.signed_up_to_far-written.ensures.value in
+    let passed : StandsFor (10 ^ 30) (written_exponent c.args.number.now)
+    (to_z w128 (of_z w128 c.signed_up_to_far-written.result)) =
     rw (to_z-of_z w128 c.signed_up_to_far-written.result written_fits) near in
-    let has = c.then_all-digits.ensures.value (digits_value_after 10 0 c.split_around-2.result.0.now) (c.then_all.ensures.value 0 no_digits) in (
+    let has = c.then_all-digits.ensures.value (digits_value_after 10 0 c.split_around-2.result.0.now)
+    (c.then_all.ensures.value 0 no_digits) in (
       search rules,
       rw (to_z-of_z w128 c.reduced_exponent.result fits)
-          (reduced c.args.number.now c.split_around-2.result.0.now c.split_around-2.result.1.now c.then_all-digits.result.front c.then_all-digits.result.zeros c.reduced_exponent.result before behind has
+          (reduced c.args.number.now c.split_around-2.result.0.now c.split_around-2.result.1.now c.then_all-digits.result.front
+          c.then_all-digits.result.zeros c.reduced_exponent.result before behind has
           (c.reduced_exponent.ensures (written_exponent c.args.number.now) passed)),
     )

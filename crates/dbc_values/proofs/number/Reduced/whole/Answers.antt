@@ -11,7 +11,8 @@ pub returns-then-self-lt0 : goal.returns-then-self-lt0
 returns-then-self-lt0 c m e r =
     let long : IsReduced m e None c.args.self.exponent = rw c.in_default.is at r in
     let less : c.args.self.exponent <ℤ pos 0 = grind (arith, ints) in
-    fraction m e c.args.self.exponent None long (λ zero. absurd (omega (arith, dropped_is long.front.front long.front.kept, zero))) less
+    fraction m e c.args.self.exponent None long (λ zero. absurd (omega (arith, dropped_is long.front.front long.front.kept, zero)))
+    less
 
 pub returns-else-self-lt0 : goal.returns-else-self-lt0
 returns-else-self-lt0 c m e r =
@@ -35,4 +36,5 @@ returns c m e r =
     let short : IsReduced m e (Some c.in-Some.digits) c.args.self.exponent = rw c.in-Some.is at r in
     let more : pos 0 ≤ℤ c.args.self.exponent = grind (arith, ints) in
     let fits : SFits w128 c.args.self.exponent = search rules in
-    rw c.whole_with_zeros.ensures (with_zeros_at m c.in-Some.digits e c.args.self.exponent _ (to_z-of_z w128 c.args.self.exponent fits) short c.if-digits-eq0.false more)
+    rw c.whole_with_zeros.ensures (with_zeros_at m c.in-Some.digits e c.args.self.exponent _ (to_z-of_z w128 c.args.self.exponent
+    fits) short c.if-digits-eq0.false more)

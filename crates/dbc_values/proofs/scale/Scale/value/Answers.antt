@@ -21,8 +21,14 @@ overflow_add-result c =
     let offset : SFits w128 c.self.inside.offset = search rules in
     let raw : SFits w128 c.args.raw = search rules in
     let small : unsigned_abs c.args.raw ≤ 2 ^ c.self.inside.length = rw (← c.self.view_is) at c.requires in
-    let product = product_fits c.self.inside.factor c.self.inside.offset c.args.raw c.self.inside.length c.self.invariant.reach small in
-    rw (to_z-of_z w128 c.self.inside.factor factor, to_z-of_z w128 c.args.raw raw, to_z-of_z w128 c.self.inside.offset offset, to_z-of_z w128 (c.self.inside.factor *ℤ c.args.raw) product)
+    let product = product_fits c.self.inside.factor c.self.inside.offset c.args.raw c.self.inside.length c.self.invariant.reach
+    small in
+    rw (
+      to_z-of_z w128 c.self.inside.factor factor,
+      to_z-of_z w128 c.args.raw raw,
+      to_z-of_z w128 c.self.inside.offset offset,
+      to_z-of_z w128 (c.self.inside.factor *ℤ c.args.raw) product,
+    )
     (value_fits c.self.inside.factor c.self.inside.offset c.args.raw c.self.inside.length c.self.invariant.reach small)
 
 pub returns : goal.returns
@@ -31,7 +37,8 @@ returns c =
     let offset : SFits w128 c.self.inside.offset = search rules in
     let raw : SFits w128 c.args.raw = search rules in
     let small : unsigned_abs c.args.raw ≤ 2 ^ c.self.inside.length = rw (← c.self.view_is) at c.requires in
-    let product = product_fits c.self.inside.factor c.self.inside.offset c.args.raw c.self.inside.length c.self.invariant.reach small in
+    let product = product_fits c.self.inside.factor c.self.inside.offset c.args.raw c.self.inside.length c.self.invariant.reach
+    small in
     let value = value_fits c.self.inside.factor c.self.inside.offset c.args.raw c.self.inside.length c.self.invariant.reach small in
     rw (
       to_z-of_z w128 c.self.inside.factor factor,

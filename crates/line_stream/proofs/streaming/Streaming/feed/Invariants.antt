@@ -11,7 +11,9 @@ invariant-loop-head g l =
     × Cuts (l.initial.line.items ++ l.piece) lines (l.line.items ++ l.rest)
     × HasNoLineFeed l.line.items
     × (l.count ≡ min (length lines) (2 ^ 64 - 1))
-    × HandledBut (g.H.Handler.rules l.handler) g.row.MOST (g.H.Handler.view l.initial.state) (g.W.Sink.written l.initial.self.out.sink.now) lines (g.H.Handler.view l.state) (g.W.Sink.written l.self.out.sink.now) l.self.out.held.items
+    × HandledBut (g.H.Handler.rules l.handler) g.row.MOST (g.H.Handler.view l.initial.state)
+    (g.W.Sink.written l.initial.self.out.sink.now) lines (g.H.Handler.view l.state) (g.W.Sink.written l.self.out.sink.now)
+    l.self.out.held.items
     × SameSink l.initial.self.out l.self.out
 
 abbrev pub decreases-loop-head : goal.decreases-loop-head

@@ -1,7 +1,8 @@
 use Rattle.std.proofs.Common.{◌≡◌, ◌<◌, [], ◌∷◌, length, Err, refl, sym, ap, rules}
 use Rattle.std.proofs.lemmas.Result.{err_from_is_err_and}
 use Rattle.line_stream.specs.declared.fault.StreamFault.TheVariants.{Memory, Write}
-use Rattle.line_stream.proofs.Handling.{HandledBut-none, HandledBut-next, Handled-flush, StopsAmong-at, BreaksAmong-at, BreaksAmong-behind}
+use Rattle.line_stream.proofs.Handling.{HandledBut-none, HandledBut-next, Handled-flush, StopsAmong-at, BreaksAmong-at}
+use Rattle.line_stream.proofs.Handling.{BreaksAmong-behind}
 use Rattle.line_stream.proofs.Reading.{lines_of-unended}
 use Rattle.line_stream.proofs.streaming.Streaming.finish.Goals as goal
 
@@ -11,9 +12,11 @@ returns-in_err-emit-clause-memory g c = λ is.
     let was : c.in_err-emit.field-0.0 ≡ Memory = cc in
     let some : 0 < length c.args.line.now = search rules in
     let h = g.H.Handler in
-    let none = HandledBut-none (h.rules c.args.handler.now) g.row.MOST (h.view c.args.state.now) (g.W.Sink.written c.args.self.now.out.sink.now) (g.met.H.Handler.nothing_waits c.args.handler.now) in
+    let none = HandledBut-none (h.rules c.args.handler.now) g.row.MOST (h.view c.args.state.now)
+    (g.W.Sink.written c.args.self.now.out.sink.now) (g.met.H.Handler.nothing_waits c.args.handler.now) in
     rw (lines_of-unended c.args.line.now c.requires.no_line_feed some)
-    (StopsAmong-at (h.rules c.args.handler.now) g.row.MOST _ _ _ _ _ _ [] c.args.line.now [] none (rw c.requires.empty at (c.in_err-emit.ensures.memory (ap Err was))))
+    (StopsAmong-at (h.rules c.args.handler.now) g.row.MOST _ _ _ _ _ _ [] c.args.line.now [] none
+    (rw c.requires.empty at (c.in_err-emit.ensures.memory (ap Err was))))
 
 pub returns-in_err-emit-clause-write : goal.returns-in_err-emit-clause-write
 returns-in_err-emit-clause-write g c = λ is.
@@ -21,27 +24,35 @@ returns-in_err-emit-clause-write g c = λ is.
     let was : c.in_err-emit.field-0.0 ≡ Write = cc in
     let some : 0 < length c.args.line.now = search rules in
     let h = g.H.Handler in
-    let none = HandledBut-none (h.rules c.args.handler.now) g.row.MOST (h.view c.args.state.now) (g.W.Sink.written c.args.self.now.out.sink.now) (g.met.H.Handler.nothing_waits c.args.handler.now) in
+    let none = HandledBut-none (h.rules c.args.handler.now) g.row.MOST (h.view c.args.state.now)
+    (g.W.Sink.written c.args.self.now.out.sink.now) (g.met.H.Handler.nothing_waits c.args.handler.now) in
     rw (lines_of-unended c.args.line.now c.requires.no_line_feed some)
-    (BreaksAmong-at (h.rules c.args.handler.now) g.row.MOST _ _ _ _ _ _ [] c.args.line.now [] none (rw c.requires.empty at (c.in_err-emit.ensures.write (ap Err was))))
+    (BreaksAmong-at (h.rules c.args.handler.now) g.row.MOST _ _ _ _ _ _ [] c.args.line.now [] none
+    (rw c.requires.empty at (c.in_err-emit.ensures.write (ap Err was))))
 
 pub returns-in-Err-clause-write : goal.returns-in-Err-clause-write
 returns-in-Err-clause-write g c = λ _.
     let some : 0 < length c.args.line.now = search rules in
     let h = g.H.Handler in
-    let none = HandledBut-none (h.rules c.args.handler.now) g.row.MOST (h.view c.args.state.now) (g.W.Sink.written c.args.self.now.out.sink.now) (g.met.H.Handler.nothing_waits c.args.handler.now) in
-    let one = HandledBut-next (h.rules c.args.handler.now) g.row.MOST _ _ _ _ _ _ [] c.args.line.now [] c.emit.new.self.out.held.items none c.requires.short (rw c.requires.empty at c.in_ok-emit.ensures.ok) in
+    let none = HandledBut-none (h.rules c.args.handler.now) g.row.MOST (h.view c.args.state.now)
+    (g.W.Sink.written c.args.self.now.out.sink.now) (g.met.H.Handler.nothing_waits c.args.handler.now) in
+    let one = HandledBut-next (h.rules c.args.handler.now) g.row.MOST _ _ _ _ _ _ [] c.args.line.now []
+    c.emit.new.self.out.held.items none c.requires.short (rw c.requires.empty at c.in_ok-emit.ensures.ok) in
     rw (lines_of-unended c.args.line.now c.requires.no_line_feed some)
-    (BreaksAmong-behind (h.rules c.args.handler.now) g.row.MOST _ _ _ _ _ _ (c.args.line.now ∷ []) [] c.emit.new.self.out.held.items one refl c.in-Err.ensures.some c.in-Err.ensures.prints)
+    (BreaksAmong-behind (h.rules c.args.handler.now) g.row.MOST _ _ _ _ _ _ (c.args.line.now ∷ []) [] c.emit.new.self.out.held.items
+    one refl c.in-Err.ensures.some c.in-Err.ensures.prints)
 
 pub returns-clause-ok : goal.returns-clause-ok
 returns-clause-ok g c =
     let some : 0 < length c.args.line.now = search rules in
     let h = g.H.Handler in
-    let none = HandledBut-none (h.rules c.args.handler.now) g.row.MOST (h.view c.args.state.now) (g.W.Sink.written c.args.self.now.out.sink.now) (g.met.H.Handler.nothing_waits c.args.handler.now) in
-    let one = HandledBut-next (h.rules c.args.handler.now) g.row.MOST _ _ _ _ _ _ [] c.args.line.now [] c.emit.new.self.out.held.items none c.requires.short (rw c.requires.empty at c.in_ok-emit.ensures.ok) in
+    let none = HandledBut-none (h.rules c.args.handler.now) g.row.MOST (h.view c.args.state.now)
+    (g.W.Sink.written c.args.self.now.out.sink.now) (g.met.H.Handler.nothing_waits c.args.handler.now) in
+    let one = HandledBut-next (h.rules c.args.handler.now) g.row.MOST _ _ _ _ _ _ [] c.args.line.now []
+    c.emit.new.self.out.held.items none c.requires.short (rw c.requires.empty at c.in_ok-emit.ensures.ok) in
     rw (lines_of-unended c.args.line.now c.requires.no_line_feed some)
-    (Handled-flush (h.rules c.args.handler.now) g.row.MOST _ _ _ _ _ _ (c.args.line.now ∷ []) c.emit.new.self.out.held.items one refl c.in_default.ensures.prints)
+    (Handled-flush (h.rules c.args.handler.now) g.row.MOST _ _ _ _ _ _ (c.args.line.now ∷ []) c.emit.new.self.out.held.items one
+    refl c.in_default.ensures.prints)
 
 pub returns-clause-count : goal.returns-clause-count
 returns-clause-count g c =

@@ -3,21 +3,34 @@ use Rattle.std.proofs.lemmas.Result.{err_from_is_err_and}
 use Rattle.line_stream.specs.declared.fault.StreamFault.TheVariants.{LongLine, Write, Memory}
 use Rattle.line_stream.specs.Lines.{lines_of}
 use Rattle.line_stream.specs.Runs.{StopsAmong, BreaksAmong}
-use Rattle.line_stream.proofs.Handling.{Handled-none, Handled-then, StopsAmong-then, BreaksAmong-then, BreaksAmong-rises, Leads-then, Handled-leads, StopsAmong-leads, BreaksAmong-leads, at-fault}
-use Rattle.line_stream.proofs.Reading.{Pulled-nil, Pulled-then, Pulled-none, PullFailed-then, Cuts-nil, Cuts-more, exit-read, exit-long, exit-memory, exit-write, exit-end, exit-ok}
+use Rattle.line_stream.proofs.Handling.{Handled-none, Handled-then, StopsAmong-then, BreaksAmong-then, BreaksAmong-rises}
+use Rattle.line_stream.proofs.Handling.{Leads-then, Handled-leads, StopsAmong-leads, BreaksAmong-leads, at-fault}
+use Rattle.line_stream.proofs.Reading.{Pulled-nil, Pulled-then, Pulled-none, PullFailed-then, Cuts-nil, Cuts-more, exit-read}
+use Rattle.line_stream.proofs.Reading.{exit-long, exit-memory, exit-write, exit-end, exit-ok}
 use Rattle.line_stream.proofs.streaming.Streaming.run_lines.Goals as goal
 
 pub loop-len-init : goal.loop-len-init
 loop-len-init g c =
-    let h = g.H.Handler in
-    ([], [], Pulled-nil _, Cuts-nil _ c.requires.empty, rw c.requires.empty tt, rw c.requires.empty (omega arith), refl {a = 0}, Handled-none (h.rules c.args.handler.now) g.row.MOST _ _, c.requires.nothing_waits, refl)
+    let h = g.H.Handler in (
+      [],
+      [],
+      Pulled-nil _,
+      Cuts-nil _ c.requires.empty,
+      rw c.requires.empty tt,
+      rw c.requires.empty (omega arith),
+      refl {a = 0},
+      Handled-none (h.rules c.args.handler.now) g.row.MOST _ _,
+      c.requires.nothing_waits,
+      refl,
+    )
 
 pub returns-in-Err-clause-read : goal.returns-in-Err-clause-read
 returns-in-Err-clause-read g c = λ _.
     let h = g.H.Handler in
     let so_far = c.loop-len.invariant in
     let failed = PullFailed-then _ _ _ so_far.0 so_far.2 c.in-Err.ensures.failed in
-    exit-read (h.rules c.args.handler.now) g.row.MOST _ _ _ _ _ _ so_far.0 so_far.1 c.loop-len.line.items failed.bytes so_far.3 _ _ so_far.4 so_far.5 failed so_far.7
+    exit-read (h.rules c.args.handler.now) g.row.MOST _ _ _ _ _ _ so_far.0 so_far.1 c.loop-len.line.items failed.bytes so_far.3 _ _
+    so_far.4 so_far.5 failed so_far.7
 
 pub returns-in_err-fed-clause-long : goal.returns-in_err-fed-clause-long
 returns-in_err-fed-clause-long g c = λ is.
@@ -53,7 +66,8 @@ returns-in_err-fed-clause-sink_failed g c = λ is.
     let fault = c.in_err-fed.ensures.write (ap Err was) in
     let h = g.H.Handler in
     let so_far = c.loop-len.invariant in
-    BreaksAmong-rises (h.rules c.args.handler.now) g.row.MOST _ _ _ _ _ (BreaksAmong-then (h.rules c.args.handler.now) g.row.MOST _ _ _ _ _ _ so_far.1 fault.0 so_far.7 fault.3)
+    BreaksAmong-rises (h.rules c.args.handler.now) g.row.MOST _ _ _ _ _ (BreaksAmong-then (h.rules c.args.handler.now) g.row.MOST _
+    _ _ _ _ _ so_far.1 fault.0 so_far.7 fault.3)
 
 pub returns-in_err-fed-clause-memory : goal.returns-in_err-fed-clause-memory
 returns-in_err-fed-clause-memory g c = λ is.
@@ -95,9 +109,12 @@ returns-in_err-last-clause-write g c = λ is.
     exit-end _ _ so_far.0 so_far.1 c.loop-len.line.items
     (Pulled-none _ _ _ so_far.0 c.pull.new.piece c.in-Ok.len so_far.2 c.in-Ok.ensures.pulled c.if-len-eq0.true).bytes
     so_far.3
-    (λ ls. BreaksAmong (h.rules c.args.handler.now) g.row.MOST (h.view c.args.state.now) (g.W.Sink.written c.args.self.now.out.sink.now) ls (h.view c.finish.new.state) (g.W.Sink.written c.finish.new.self.out.sink.now))
+    (λ ls. BreaksAmong (h.rules c.args.handler.now) g.row.MOST (h.view c.args.state.now)
+    (g.W.Sink.written c.args.self.now.out.sink.now) ls (h.view c.finish.new.state)
+    (g.W.Sink.written c.finish.new.self.out.sink.now))
     (c.in-Ok.ensures.end c.if-len-eq0.true (omega arith))
-    (BreaksAmong-then (h.rules c.args.handler.now) g.row.MOST _ _ _ _ _ _ so_far.1 (lines_of c.loop-len.line.items) so_far.7 (rw (sym c.as_slice.ensures.value) (c.in_err-last.ensures.write (ap Err was))))
+    (BreaksAmong-then (h.rules c.args.handler.now) g.row.MOST _ _ _ _ _ _ so_far.1 (lines_of c.loop-len.line.items) so_far.7
+    (rw (sym c.as_slice.ensures.value) (c.in_err-last.ensures.write (ap Err was))))
 
 pub returns-in_err-last-clause-sink_failed : goal.returns-in_err-last-clause-sink_failed
 returns-in_err-last-clause-sink_failed g c = λ is.
@@ -106,7 +123,8 @@ returns-in_err-last-clause-sink_failed g c = λ is.
     let h = g.H.Handler in
     let fault = c.in_err-last.ensures.write (ap Err was) in
     let so_far = c.loop-len.invariant in
-    BreaksAmong-rises (h.rules c.args.handler.now) g.row.MOST _ _ _ _ _ (BreaksAmong-then (h.rules c.args.handler.now) g.row.MOST _ _ _ _ _ _ so_far.1 _ so_far.7 fault)
+    BreaksAmong-rises (h.rules c.args.handler.now) g.row.MOST _ _ _ _ _ (BreaksAmong-then (h.rules c.args.handler.now) g.row.MOST _
+    _ _ _ _ _ so_far.1 _ so_far.7 fault)
 
 pub returns-in_err-last-clause-memory : goal.returns-in_err-last-clause-memory
 returns-in_err-last-clause-memory g c = λ is.
@@ -117,9 +135,12 @@ returns-in_err-last-clause-memory g c = λ is.
     exit-end _ _ so_far.0 so_far.1 c.loop-len.line.items
     (Pulled-none _ _ _ so_far.0 c.pull.new.piece c.in-Ok.len so_far.2 c.in-Ok.ensures.pulled c.if-len-eq0.true).bytes
     so_far.3
-    (λ ls. StopsAmong (h.rules c.args.handler.now) g.row.MOST (h.view c.args.state.now) (g.W.Sink.written c.args.self.now.out.sink.now) ls (h.view c.finish.new.state) (g.W.Sink.written c.finish.new.self.out.sink.now))
+    (λ ls. StopsAmong (h.rules c.args.handler.now) g.row.MOST (h.view c.args.state.now)
+    (g.W.Sink.written c.args.self.now.out.sink.now) ls (h.view c.finish.new.state)
+    (g.W.Sink.written c.finish.new.self.out.sink.now))
     (c.in-Ok.ensures.end c.if-len-eq0.true (omega arith))
-    (StopsAmong-then (h.rules c.args.handler.now) g.row.MOST _ _ _ _ _ _ so_far.1 (lines_of c.loop-len.line.items) so_far.7 (rw (sym c.as_slice.ensures.value) (c.in_err-last.ensures.memory (ap Err was))))
+    (StopsAmong-then (h.rules c.args.handler.now) g.row.MOST _ _ _ _ _ _ so_far.1 (lines_of c.loop-len.line.items) so_far.7
+    (rw (sym c.as_slice.ensures.value) (c.in_err-last.ensures.memory (ap Err was))))
 
 pub returns-clause-ok : goal.returns-clause-ok
 returns-clause-ok g c =
@@ -131,7 +152,8 @@ returns-clause-ok g c =
     so_far.3
     c.saturating_add.result
     (c.in-Ok.ensures.end c.if-len-eq0.true (omega arith))
-    (Handled-then (h.rules c.args.handler.now) g.row.MOST _ _ _ _ _ _ so_far.1 (lines_of c.loop-len.line.items) so_far.7 (rw (sym c.as_slice.ensures.value) c.in_ok-last.ensures.ok))
+    (Handled-then (h.rules c.args.handler.now) g.row.MOST _ _ _ _ _ _ so_far.1 (lines_of c.loop-len.line.items) so_far.7
+    (rw (sym c.as_slice.ensures.value) c.in_ok-last.ensures.ok))
     (omega (arith, c.in_ok-last.ensures.count))
 
 pub returns-in_err-fed-clause-handler_stops : goal.returns-in_err-fed-clause-handler_stops
@@ -149,7 +171,8 @@ returns-in_err-last-clause-handler_stops g c = λ is.
     (_, fault.line, fault.stops)
 
 pub returns-in-Err-clause-leads : goal.returns-in-Err-clause-leads
-returns-in-Err-clause-leads g c = Handled-leads (g.H.Handler.rules c.args.handler.now) g.row.MOST _ _ _ _ c.loop-len.invariant.1 c.loop-len.invariant.7
+returns-in-Err-clause-leads g c = Handled-leads (g.H.Handler.rules c.args.handler.now) g.row.MOST _ _ _ _ c.loop-len.invariant.1
+    c.loop-len.invariant.7
 
 pub returns-in_err-fed-clause-leads : goal.returns-in_err-fed-clause-leads
 returns-in_err-fed-clause-leads g c =
@@ -179,4 +202,5 @@ pub returns-clause-leads : goal.returns-clause-leads
 returns-clause-leads g c =
     let rules = g.H.Handler.rules c.args.handler.now in
     let so_far = c.loop-len.invariant in
-    Leads-then rules g.row.MOST _ _ _ (Handled-leads rules g.row.MOST _ _ _ _ so_far.1 so_far.7) (Handled-leads rules g.row.MOST _ _ _ _ _ c.in_ok-last.ensures.ok)
+    Leads-then rules g.row.MOST _ _ _ (Handled-leads rules g.row.MOST _ _ _ _ so_far.1 so_far.7) (Handled-leads rules g.row.MOST _ _
+    _ _ _ c.in_ok-last.ensures.ok)

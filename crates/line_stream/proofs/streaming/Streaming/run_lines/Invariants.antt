@@ -6,7 +6,8 @@ use Rattle.line_stream.specs.Cuts.{Cuts, HasNoLineFeed}
 use Rattle.line_stream.specs.Runs.{Handled}
 use Rattle.line_stream.proofs.streaming.Streaming.run_lines.Given as goal
 
--- those lines of what was read that have their LF were handled and all their text written, the unfinished one is kept, and nothing is held
+-- those lines of what was read that have their LF were handled and all their text written, the unfinished one is kept, and nothing
+-- is held
 abbrev pub invariant-loop-len : goal.invariant-loop-len
 invariant-loop-len g l =
     (read : List ℕ) × (lines : List (List ℕ))
@@ -15,7 +16,8 @@ invariant-loop-len g l =
     × HasNoLineFeed l.line.items
     × IsShort g.row.MOST l.line.items
     × (l.count ≡ min (length lines) (2 ^ 64 - 1))
-    × Handled (g.H.Handler.rules l.handler) g.row.MOST (g.H.Handler.view l.initial.state) (g.W.Sink.written l.initial.self.out.sink.now) lines (g.H.Handler.view l.state) (g.W.Sink.written l.self.out.sink.now)
+    × Handled (g.H.Handler.rules l.handler) g.row.MOST (g.H.Handler.view l.initial.state)
+    (g.W.Sink.written l.initial.self.out.sink.now) lines (g.H.Handler.view l.state) (g.W.Sink.written l.self.out.sink.now)
     × (l.self.out.held.items ≡ [])
     × SameSink l.initial.self.out l.self.out
 
