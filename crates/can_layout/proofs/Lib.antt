@@ -1,8 +1,10 @@
+pub mod Chains
 pub mod Decoders
 pub mod EntryPlaces
 pub mod Meters
 pub mod Names
 pub mod Placed
 pub mod Pushing
+pub mod Reaching
 pub mod WalkLaws
 pub mod Walks

@@ -6,7 +6,7 @@ use Rattle.std.specs.List.{list_any, IsDistinct, AllByRecursion}
 use Rattle.std.proofs.lemmas.Option.{slice_get_within}
 use Rattle.std.proofs.lemmas.Map.Steps.{length-le_from_distinct_below}
 use Rattle.can_layout.specs.Links.{Link}
-use Rattle.can_layout.specs.Walks.{above_or_missing, above_at, Leads, IsChain, IsAbsent, IsLoop, IsWalk, with_link, walk_above}
+use Rattle.can_layout.specs.Walks.{above_or_missing, above_at, Leads, IsChain, IsAbsent, IsLoop, IsWalk, with_link, walk_above, links_in}
 use Rattle.can_layout.specs.Walks.{walk_up, walk_of}
 use Rattle.can_layout.specs.declared.above.Above.{Above}
 use Rattle.can_layout.specs.declared.above.Above.TheVariants.{Nothing, Missing, Switch}
@@ -143,11 +143,6 @@ module _ (aboves : List Above) where
 
   -- ---- what the walk finds
 
-  abbrev links_in : Walk → List Link
-  links_in (Chain links) = links
-  links_in (Absent own) = []
-  links_in Loop = []
-
   links_in-of : (walk : Walk) (links : List Link) → walk ≡ Chain links → links_in walk ≡ links
   links_in-of walk links is = ap links_in is
 
@@ -280,3 +275,31 @@ module _ (aboves : List Above) where
       (omega arith)) (λ is. let no : Absent own ≡ Loop = is in cc) in
       is_absent place own (length aboves + 1) absent (omega (arith, soon))
   there place Loop loop = loops (length aboves + 1) place loop
+
+  -- the way from a signal is its link and then the way of its switch
+  along_link : (place : ℕ) (link : Link) → above_at aboves place ≡ Switch link → (walk : Walk) → IsWalk aboves link.switch walk
+      → IsWalk aboves place (with_link link walk)
+  along_link place link is (Chain links) chain = record { top = chain.top; leads = (is, chain.leads); ends = chain.ends }
+  along_link place link is (Absent own) absent =
+      let some : (length (link ∷ absent.links) == 0) ≡ false = grind arith in
+      record {
+        top = absent.top;
+        links = link ∷ absent.links;
+        leads = (is, absent.leads);
+        ends = absent.ends;
+        first = sym some;
+      }
+  along_link place link is Loop loop = record {
+    again = loop.again;
+    before = link ∷ loop.before;
+    round = loop.round;
+    leads = (is, loop.leads);
+    returns = loop.returns;
+    some = loop.some;
+  }
+
+  pub further : (place : ℕ) (link : Link) → above_at aboves place ≡ Switch link
+      → walk_of aboves place ≡ with_link link (walk_of aboves link.switch)
+  further place link is =
+      there place (with_link link (walk_of aboves link.switch))
+      (along_link place link is (walk_of aboves link.switch) (found link.switch (walk_of aboves link.switch) refl))

@@ -3,7 +3,7 @@
 -- Source: the DBC file format, "Signal Definitions", "Signal Extended Value Type Definitions", "Signal Value Descriptions",
 -- "Extended Multiplexing"; that a signal is read once its switches have their numbers is the decoding of cantools. Which
 -- signals are refused is the profile of candesk.
-use Rattle.std.specs.Prelude.{ℕ, ℤ, pos, nat_le, nat_lt, Bool, false, not, ◌==◌, ◌&&◌, List, [], ◌++◌, length, codes, map, Option}
+use Rattle.std.specs.Prelude.{ℕ, ℤ, pos, nat_lt, Bool, false, not, ◌==◌, ◌&&◌, List, [], ◌++◌, length, codes, map, Option}
 use Rattle.std.specs.Prelude.{Some, None, slice_get, if◌then◌else◌}
 use Rattle.std.specs.List.{list_any, list_all, enumerate_from}
 use Rattle.std.specs.Option.{option_map, option_and_then}
@@ -14,6 +14,7 @@ use Rattle.dbc_records.specs.declared.mux_row.Range.{Range}
 use Rattle.can_bits.specs.Bits.{field_of, is_outside, bits_of, unsigned_raw, raw_value}
 use Rattle.can_rows.specs.Rows.{SignalRows, rows_of, first_values, first_float}
 use Rattle.can_layout.specs.Links.{Link}
+use Rattle.can_layout.specs.Ranges.{in_range}
 use Rattle.can_layout.specs.Walks.{walk_of}
 use Rattle.can_layout.specs.Switches.{aboves_of}
 use Rattle.can_layout.specs.declared.above.Above.{Above}
@@ -123,10 +124,6 @@ raw_value_in bytes (Read decoder) = raw_value bytes decoder.signed decoder.bits
 abbrev pub raw_value_at : List ℕ → Option Row → ℤ
 raw_value_at bytes None = pos 0
 raw_value_at bytes (Some row) = raw_value_in bytes row.reading
-
--- both ends are in a range
-abbrev pub in_range : ℕ → Range → Bool
-in_range raw range = nat_le range.first raw && nat_le raw range.last
 
 -- a switch has one of the numbers, as an unsigned number; one that is refused has none
 abbrev pub has_number : List ℕ → List Range → Reading → Bool

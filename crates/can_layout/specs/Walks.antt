@@ -63,6 +63,12 @@ walk_above Nothing further = Chain []
 walk_above Missing further = Absent true
 walk_above (Switch link) further = with_link link (further link.switch)
 
+-- the links of a chain; of a walk that ends otherwise none
+abbrev pub links_in : Walk → List Link
+links_in (Chain links) = links
+links_in (Absent own) = []
+links_in Loop = []
+
 -- the way past at most so many signals
 abbrev pub walk_up : ℕ → List Above → ℕ → Walk
 walk_up zero aboves place = Loop

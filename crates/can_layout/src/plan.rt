@@ -1,26 +1,32 @@
 //! Decode plans.
-ghost use Rattle.std.specs.Prelude.{◌≡◌, ◌<◌, IfOk, Some, length, map, slice_get};
-ghost use Rattle.std.specs.List.{list_any, list_all};
+ghost use Rattle.std.specs.Prelude.{◌≡◌, ℕ, List, ◌<◌, IfOk, Some, is_some, length, map, slice_get};
 ghost use Rattle.can_layout.specs.Plans.{entries_of, reading_of, chain_of, row_of, plan_rows, label_of, plan_in, raw_at};
-ghost use Rattle.can_layout.specs.Plans.{raw_value_at, has_number, is_met, is_present, in_range};
+ghost use Rattle.can_layout.specs.Plans.{raw_value_at, has_number, is_met, are_met, is_present};
+ghost use Rattle.can_layout.specs.Presence.{AreKnown, chain_at};
+ghost use Rattle.can_layout.specs.Walks.{walk_of};
+ghost use Rattle.can_layout.specs.declared.above.Above.{Above as PlainAbove};
 ghost use Rattle.can_rows.specs.Rows.{first_values};
 ghost use Rattle.can_layout.specs.Switches.{aboves_of};
 
 use crate::above::Above;
 use crate::decoder::Decoder;
 use crate::link::Link;
+use crate::order::order_of;
+use crate::presence::known_at;
 use crate::refusal::cause_of;
 use crate::row::{Reading, Row};
 use crate::rows::MessageRows;
+use crate::switch_chain::Chain;
 use crate::switches::aboves_of;
-use crate::walk::{Walk, walk_of};
+use crate::walk::above_at;
 use can_bits::{Field, Steps};
 use can_rows::Lookup;
-use dbc_records::{Entry, Message, Range, Signal};
+use dbc_records::{Entry, Message, Signal};
 use dbc_values::{Copied, List, Memory, Scale};
 use ready_texts::{ReadyText, push_bytes};
 use std::alloc::Global;
 use std::marker::Model;
+use std::rc::Rc;
 
 /// How the data of a message is decoded: its size, and a row for each signal.
 #[derive(Drop)]
@@ -29,17 +35,22 @@ pub struct Plan {
     rows: List<Row>,
     // What stands between the value of each signal and that of the one before.
     labels: Vec<ReadyText>,
+    // What stands above the signals.
+    aboves: Rc<List<Above>>,
+    // Where switches stand under switches: the places, each behind that of its switch.
+    order: Vec<usize>,
 }
 
 impl Model for Plan {
     ghost use Rattle.std.specs.Prelude.{◌≡◌, map};
     ghost use Rattle.can_layout.specs.Plans as plans;
+    ghost use Rattle.can_layout.specs.Presence.{AreChained};
 
     ghost Value = { plans.Plan };
 
     ghost view = { λ a. record { size = a.size; rows = a.rows } };
 
-    ghost invariant = { λ a. a.labels.items ≡ map plans.label_of a.rows };
+    ghost invariant = { λ a. (a.labels.items ≡ map plans.label_of a.rows) × AreChained a.rows a.aboves.value };
 }
 
 fn entries_of<L: Lookup>(
@@ -77,28 +88,17 @@ fn reading_of<L: Lookup>(
     Ok(Reading::Read(decoder))
 }
 
-fn chain_of(walk: Walk) -> Option<List<Link>>
-    ensures { result ≡ chain_of walk }
-{
-    match walk {
-        Walk::Chain(links) => Some(links),
-        Walk::Absent { own: _ } => None,
-        Walk::Loop => None,
-    }
-}
-
 fn row_of<L: Lookup>(
     alloc: Global,
     rows: &MessageRows<'_, L>,
-    aboves: &[Above],
+    chain: Option<Chain>,
     size: u16,
-    place: usize,
     signal: &Signal,
 ) -> Result<Row, Memory>
-    ensures { IfOk result (λ row. row ≡ row_of rows.now aboves.now size place signal.now) }
+    ensures { IfOk result (λ row. (aboves : List PlainAbove) (place : ℕ) → chain ≡ chain_of (walk_of aboves place)
+        → row ≡ row_of rows.now aboves size place signal.now) }
 {
     let name = signal.name.copy()?;
-    let chain = chain_of(walk_of(alloc, aboves, place)?);
     let reading = reading_of(alloc, rows, size, signal)?;
     Ok(Row {
         name,
@@ -111,15 +111,16 @@ fn row_of<L: Lookup>(
 fn plan_rows<L: Lookup>(
     alloc: Global,
     rows: &MessageRows<'_, L>,
-    aboves: &[Above],
+    aboves: &Rc<List<Above>>,
     size: u16,
     signals: &[Signal],
 ) -> Result<List<Row>, Memory>
-    ensures { IfOk result (λ made. made ≡ plan_rows rows.now aboves.now size signals.now) }
+    ensures { IfOk result (λ made. made ≡ plan_rows rows.now aboves.now.value size signals.now) }
 {
     let mut made = List::new(alloc);
     for (place, signal) in signals.iter().enumerate() {
-        made.push(row_of(alloc, rows, aboves, size, place, signal)?)?;
+        let chain = Chain::of(aboves, place)?;
+        made.push(row_of(alloc, rows, chain, size, signal)?)?;
     }
     Ok(made)
 }
@@ -156,33 +157,25 @@ pub(crate) fn plan_in<L: Lookup>(
     let size = message.head.size;
     let signals = message.signals.as_slice();
     let aboves = aboves_of(alloc, rows, signals)?;
-    let made = plan_rows(alloc, rows, aboves.as_slice(), size, signals)?;
+    let order = order_of(alloc, aboves.as_slice())?;
+    let aboves = Rc::new(alloc, aboves)?;
+    let made = plan_rows(alloc, rows, &aboves, size, signals)?;
     let labels = labels_of(alloc, made.as_slice())?;
     Ok(Plan {
         size,
         rows: made,
         labels,
+        aboves,
+        order,
     })
 }
 
-fn in_range(range: Range, raw: u64) -> bool
-    ensures { result ≡ in_range raw range }
-{
-    range.first <= raw && raw <= range.last
-}
-
-fn in_ranges(ranges: &[Range], raw: u64) -> bool
-    ensures { result ≡ list_any (in_range raw) ranges.now }
-{
-    ranges.iter().any(|range| in_range(*range, raw))
-}
-
 // Whether a switch has one of the numbers.
-fn has_number(reading: &Reading, ranges: &[Range], bytes: &[u8]) -> bool
-    ensures { result ≡ has_number bytes.now ranges.now reading.now }
+fn has_number(reading: &Reading, link: &Link, bytes: &[u8]) -> bool
+    ensures { result ≡ has_number bytes.now link.now.ranges reading.now }
 {
     match reading {
-        Reading::Read(decoder) => in_ranges(ranges, decoder.bits.raw(bytes)),
+        Reading::Read(decoder) => link.has(decoder.bits.raw(bytes)),
         Reading::Refused(_) => false,
     }
 }
@@ -192,17 +185,34 @@ fn is_met(rows: &[Row], link: &Link, bytes: &[u8]) -> bool
     ensures { result ≡ is_met bytes.now rows.now link.now }
 {
     match rows.get(link.switch) {
-        Some(row) => {
-            row.is_whole(bytes) && has_number(&row.reading, link.ranges.as_slice(), bytes)
-        }
+        Some(row) => row.is_whole(bytes) && has_number(&row.reading, link, bytes),
         None => false,
     }
 }
 
-fn are_met(rows: &[Row], links: &[Link], bytes: &[u8]) -> bool
-    ensures { result ≡ list_all (is_met bytes.now rows.now) links.now }
+// Whether the signal at a place has a chain.
+fn has_chain(rows: &[Row], place: usize) -> bool
+    ensures { result ≡ is_some (chain_at rows.now place) }
 {
-    links.iter().all(|link| is_met(rows, link, bytes))
+    match rows.get(place) {
+        Some(row) => row.chain.is_some(),
+        None => false,
+    }
+}
+
+// Whether the way up from a place is a chain of which each switch has one of its numbers.
+fn are_met(rows: &[Row], aboves: &[Above], place: usize, bytes: &[u8]) -> bool
+    ensures { result ≡ are_met bytes.now rows.now (chain_of (walk_of aboves.now place)) }
+{
+    let mut current = place;
+    for _passed in 0..aboves.len() + 1 {
+        match above_at(aboves, current) {
+            Some(Above::Nothing) => return true,
+            Some(Above::Switch(link)) if is_met(rows, link, bytes) => current = link.switch,
+            _ => return false,
+        }
+    }
+    false
 }
 
 impl Plan {
@@ -244,11 +254,46 @@ impl Plan {
         requires { signal < length self.now.rows }
         ensures { result ≡ is_present bytes.now self.now.rows (slice_get self.now.rows signal) }
     {
+        are_met(
+            self.rows.as_slice(),
+            self.aboves.as_ref().as_slice(),
+            signal,
+            bytes,
+        )
+    }
+
+    /// Where switches stand under switches: the places of the signals, each behind that of its switch. Else it is empty.
+    pub(crate) fn order(&self) -> &[usize] {
+        self.order.as_slice()
+    }
+
+    // Whether the signal at a place is there in data, by what is known of others.
+    pub(crate) fn present_by(&self, known: &[Option<bool>], place: usize, bytes: &[u8]) -> bool
+        requires { AreKnown bytes.now self.now.rows known.now }
+        ensures { result ≡ is_present bytes.now self.now.rows (slice_get self.now.rows place) }
+    {
         let rows = self.rows.as_slice();
-        match &rows[signal].chain {
-            Some(links) => are_met(rows, links.as_slice(), bytes),
-            None => false,
+        if !has_chain(rows, place) {
+            return false;
         }
+        match above_at(self.aboves.as_ref().as_slice(), place) {
+            Some(Above::Nothing) => true,
+            Some(Above::Switch(link)) => {
+                is_met(rows, link, bytes) && self.known_or_found(known, link.switch, bytes)
+            }
+            _ => false,
+        }
+    }
+
+    // Whether the signal at a place is there, where it is known, or else by its way up.
+    fn known_or_found(&self, known: &[Option<bool>], place: usize, bytes: &[u8]) -> bool
+        requires { AreKnown bytes.now self.now.rows known.now }
+        ensures { result ≡ is_present bytes.now self.now.rows (slice_get self.now.rows place) }
+    {
+        if let Some(there) = known_at(known, place) {
+            return there;
+        }
+        place < self.rows.len() && self.present(place, bytes)
     }
 
     /// The raw bits of the signal at a place, without sign, and 0 where it is refused. Bits behind the end of the data

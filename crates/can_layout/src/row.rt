@@ -3,10 +3,10 @@ ghost use Rattle.std.specs.Prelude.{◌≡◌};
 ghost use Rattle.can_layout.specs.Plans.{is_whole};
 
 use crate::decoder::Decoder;
-use crate::link::Link;
 use crate::refusal::Cause;
+use crate::switch_chain::Chain;
 use can_bits::Field;
-use dbc_values::{Checked, List, Name};
+use dbc_values::{Checked, Name};
 
 /// How a signal is read, or why it can't be.
 #[derive(Drop)]
@@ -25,7 +25,7 @@ pub struct Row {
     /// Where its bits lie, also where it can't be decoded.
     pub field: Field,
     /// The switches above it, from its own up, where the way up is a chain.
-    pub chain: Option<List<Link>>,
+    pub chain: Option<Chain>,
     /// How it is read.
     pub reading: Reading,
 }

@@ -55,12 +55,12 @@ fn only_switch(signals: &[Signal]) -> Option<usize>
     }
 }
 
-fn under(switch: Option<usize>, ranges: List<Range>) -> Above
-    ensures { result ≡ under switch ranges }
+fn under(alloc: Global, switch: Option<usize>, ranges: List<Range>) -> Result<Above, Memory>
+    ensures { IfOk result (λ above. above ≡ under switch ranges) }
 {
     match switch {
-        Some(switch) => Above::Switch(Link { switch, ranges }),
-        None => Above::Missing,
+        Some(switch) => Ok(Above::Switch(Link::new(alloc, switch, ranges)?)),
+        None => Ok(Above::Missing),
     }
 }
 
@@ -80,7 +80,7 @@ fn by_tag(alloc: Global, only: Option<usize>, tag: Tag) -> Result<Above, Memory>
 {
     match tag {
         Tag::Plain | Tag::Switch => Ok(Above::Nothing),
-        Tag::Muxed(number) | Tag::Both(number) => Ok(under(only, just(alloc, number)?)),
+        Tag::Muxed(number) | Tag::Both(number) => under(alloc, only, just(alloc, number)?),
     }
 }
 
@@ -99,7 +99,7 @@ fn above_of<L: Lookup>(
     match rows.mux(&signal.name) {
         Some(row) => {
             let ranges = row.ranges.copy()?;
-            Ok(under(place_named(row.switch.as_bytes(), signals), ranges))
+            under(alloc, place_named(row.switch.as_bytes(), signals), ranges)
         }
         None => by_tag(alloc, only, signal.tag),
     }

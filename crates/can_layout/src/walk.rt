@@ -25,7 +25,7 @@ pub enum Walk {
 }
 
 // What stands right above the signal at a place, where there is one.
-fn above_at<'a>(aboves: &'a [Above], place: usize) -> Option<&'a Above>
+pub(crate) fn above_at<'a>(aboves: &'a [Above], place: usize) -> Option<&'a Above>
     ensures { option_map (λ above. above.now) result ≡ slice_get aboves.now place }
 {
     aboves.get(place)

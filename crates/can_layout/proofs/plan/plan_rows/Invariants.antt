@@ -5,5 +5,5 @@ use Rattle.can_layout.proofs.plan.plan_rows.Given as goal
 
 -- a row for each signal so far
 abbrev pub invariant-loop-place : goal.invariant-loop-place
-invariant-loop-place g l = l.made ≡ map (λ placed. row_of l.rows l.aboves l.size placed.0 placed.1)
+invariant-loop-place g l = l.made ≡ map (λ placed. row_of l.rows l.aboves.value l.size placed.0 placed.1)
     (take l.place (enumerate_from 0 l.signals))

@@ -1,0 +1,9 @@
+use Rattle.std.proofs.Common.{◌≡◌, ◌-◌, is_some}
+use Rattle.can_layout.specs.Plans.{chain_of}
+use Rattle.can_layout.specs.Walks.{walk_of, walk_up}
+use Rattle.can_layout.proofs.switch_chain.is_chain.Given as goal
+
+-- the way on is a chain where the whole way is
+abbrev pub invariant-loop-passed : goal.invariant-loop-passed
+invariant-loop-passed l = is_some (chain_of (walk_of l.aboves l.place))
+    ≡ is_some (chain_of (walk_up (l._passed-end - l._passed) l.aboves l.current))

@@ -1,0 +1,88 @@
+//! The switches above a signal, which all signals of a message share.
+ghost use Rattle.std.specs.Prelude.{◌≡◌, IfOk, slice_get, is_some};
+ghost use Rattle.std.specs.Option.{option_map};
+ghost use Rattle.can_layout.specs.Plans.{chain_of};
+ghost use Rattle.can_layout.specs.Presence.{link_of};
+ghost use Rattle.can_layout.specs.Walks.{walk_of, above_at};
+
+use crate::above::Above;
+use crate::link::Link;
+use crate::walk::above_at;
+use dbc_values::{List, Memory};
+use std::marker::Model;
+use std::rc::Rc;
+
+/// The switches above a signal, from its own up to one that isn't multiplexed. It takes the memory of a place: what stands above
+/// the signals of a message is there once.
+#[derive(Drop)]
+pub struct Chain {
+    aboves: Rc<List<Above>>,
+    place: usize,
+}
+
+impl Model for Chain {
+    ghost use Rattle.std.specs.Prelude.{◌≡◌, List as Items};
+    ghost use Rattle.can_layout.specs.Links as links;
+    ghost use Rattle.can_layout.specs.Walks.{walk_of, links_in};
+    ghost use Rattle.can_layout.specs.declared.walk.Walk.TheVariants.{Chain as IsOf};
+
+    ghost Value = { Items links.Link };
+
+    ghost view = { λ chain. links_in (walk_of chain.aboves.value chain.place) };
+
+    ghost invariant = { λ chain. walk_of chain.aboves.value chain.place
+        ≡ IsOf (links_in (walk_of chain.aboves.value chain.place)) };
+}
+
+// Whether the way up from a place is a chain.
+fn is_chain(aboves: &[Above], place: usize) -> bool
+    ensures { result ≡ is_some (chain_of (walk_of aboves.now place)) }
+{
+    let mut current = place;
+    for _passed in 0..aboves.len() + 1 {
+        match above_at(aboves, current) {
+            Some(Above::Nothing) => return true,
+            Some(Above::Switch(link)) => current = link.switch,
+            _ => return false,
+        }
+    }
+    false
+}
+
+// The link of the signal at a place to its switch.
+fn link_at(aboves: &[Above], place: usize) -> Option<&Link>
+    ensures { option_map (λ link. link.now) result ≡ link_of (above_at aboves.now place) }
+{
+    match aboves.get(place) {
+        Some(Above::Switch(link)) => Some(link),
+        _ => None,
+    }
+}
+
+impl Chain {
+    /// The chain of the signal at a place, where its way up is one.
+    pub(crate) fn of(aboves: &Rc<List<Above>>, place: usize) -> Result<Option<Chain>, Memory>
+        ensures { IfOk result (λ chain. chain ≡ chain_of (walk_of aboves.now.value place)) }
+    {
+        if !is_chain(aboves.as_ref().as_slice(), place) {
+            return Ok(None);
+        }
+        let aboves = aboves.clone()?;
+        Ok(Some(Chain { aboves, place }))
+    }
+
+    /// The link so many switches up: 0 is that to the signal's own switch. It is found by going up.
+    pub fn link(&self, up: usize) -> Option<&Link>
+        ensures { option_map (λ link. link.now) result ≡ slice_get self.now up }
+    {
+        let aboves = self.aboves.as_ref().as_slice();
+        let mut current = self.place;
+        for _passed in 0..up {
+            match link_at(aboves, current) {
+                Some(link) => current = link.switch,
+                None => return None,
+            }
+        }
+        link_at(aboves, current)
+    }
+}
