@@ -7,7 +7,7 @@ ghost use Rattle.byte_devices.specs.Outs.{SameSink, Sends};
 use crate::device::{Sink, WriteFault, put_all};
 use arrayvec::ArrayVec;
 
-const ROOM: usize = 65536;
+const ROOM: usize = 16_384;
 
 /// A sink, and the bytes that wait before they are put to it, so that many short texts cost one call. What waits is lost where it
 /// isn't [flushed](Out::flush).

@@ -2,6 +2,7 @@ pub mod Pushing
 pub mod Signals
 pub mod Targets
 pub mod Indexes
+pub mod LogParts
 pub mod Named
 pub mod Labels
 pub mod Counting

@@ -13,6 +13,8 @@ use Rattle.can_layout.specs.declared.row.Row.{Row}
 use Rattle.log_frames.specs.Frames.{Frame, body_of, frame_of}
 use Rattle.log_frames.specs.declared.frame.Kind.{Kind}
 use Rattle.log_frames.specs.declared.frame.Kind.TheVariants.{Classic, Fd, Remote, Error}
+use Rattle.line_stream.specs.Lines.{lines_of}
+use Rattle.line_stream.specs.LineTexts.{texts}
 use Rattle.can_decode.specs.declared.short.Short.{Short}
 use Rattle.can_decode.specs.declared.short.Short.TheVariants.{Refuse, Show}
 use Rattle.can_decode.specs.Values.{reading_text}
@@ -136,3 +138,7 @@ pub record Bus : Type 0 where
 
 abbrev pub bus_line : Bus → List ℕ → List ℕ
 bus_line bus line = decoded_line bus.short bus.database line
+
+-- what is written for a whole log, where no line of it is too long
+abbrev pub decoded_log : Bus → List ℕ → List ℕ
+decoded_log bus input = texts (bus_line bus) (lines_of input)

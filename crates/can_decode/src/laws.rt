@@ -1,8 +1,10 @@
 //! Laws of the definitions. The functions do nothing: what they ensure is the law.
-ghost use Rattle.std.specs.Prelude.{◌≡◌, ◌<◌, ◌≤◌, ◌^◌, ℕ, ℤ, List, unsigned_abs, false};
+ghost use Rattle.std.specs.Prelude.{◌≡◌, ◌<◌, ◌≤◌, ◌^◌, ◌++◌, ℕ, ℤ, List, [], ◌∷◌, unsigned_abs, false};
+ghost use Rattle.dbc_values.specs.Lexical.{line_feed};
 ghost use Rattle.dbc_values.specs.Scales.{Scale, IsScale};
 ghost use Rattle.log_frames.specs.Frames.{Frame, IsFrame, number_of};
 ghost use Rattle.can_rows.specs.Groups.{is_bad_number};
+ghost use Rattle.can_decode.specs.DecodedLines.{Bus, decoded_log};
 ghost use Rattle.can_decode.specs.Values.{scaled, scaled_text};
 ghost use Rattle.can_decode.specs.ScaledTexts.{IsScaledText};
 
@@ -19,4 +21,12 @@ pub fn one_scaled_text()
     ensures back { (a b : ℤ) (places : ℕ) (text : List ℕ) → IsScaledText a places text → IsScaledText b places text → a ≡ b }
     ensures of_scale { (scale : Scale) (raw : ℤ) → IsScale scale → unsigned_abs raw ≤ 2 ^ scale.length
         → IsScaledText (scaled scale raw) scale.places (scaled_text (scaled scale raw) scale.places) }
+{}
+
+/// A log in two parts, of which the first ends in a line feed, is decoded as the first part and then the second: so logs may be cut
+/// at line ends, and the parts decoded apart.
+#[tactic(auto, using(crate::proofs::LogParts::decoded_parts))]
+pub fn parts_of_a_log()
+    ensures { (bus : Bus) (front back : List ℕ) → decoded_log bus (front ++ line_feed ∷ back)
+        ≡ decoded_log bus (front ++ line_feed ∷ []) ++ decoded_log bus back }
 {}

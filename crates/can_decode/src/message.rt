@@ -1,14 +1,14 @@
 //! What a frame says by its message, as text.
 ghost use Rattle.std.specs.Prelude.{◌≡◌, ◌<◌, ◌++◌, false, length, slice_get, OnOk, codes, decimal, if◌then◌else◌};
 ghost use Rattle.std.specs.Option.{option_map_or};
-ghost use Rattle.can_layout.specs.Plans.{label_of};
+ghost use Rattle.can_layout.specs.Plans.{is_present, label_of};
 ghost use Rattle.can_decode.specs.DecodedLines.{signal_text, further_signal, is_shown, shown_rows, signals_text, destination_text};
 ghost use Rattle.can_decode.specs.DecodedLines.{group_text, bracket_text, message_text};
 
 use crate::j1939::J1939;
 use crate::target::Target;
 use crate::value::push_reading;
-use can_layout::{Plan, Row};
+use can_layout::{Plan, Presence, Row};
 use dbc_values::Memory;
 use itoa::Buffer;
 use log_frames::Frame;
@@ -50,13 +50,14 @@ fn push_next(
     push_reading(text, &row.reading, bytes)
 }
 
-// Whether the signal at a place is shown.
-fn is_shown(plan: &Plan, signal: usize, bytes: &[u8]) -> bool
-    requires { signal < length plan.now.rows }
+// Whether the signal at a place is shown, where `there` says whether it is in the data.
+fn is_shown(plan: &Plan, there: bool, signal: usize, bytes: &[u8]) -> bool
+    requires place { signal < length plan.now.rows }
+    requires there { there ≡ is_present bytes.now plan.now.rows (slice_get plan.now.rows signal) }
     ensures { result ≡ option_map_or (is_shown bytes.now plan.now) (slice_get plan.now.rows signal) false }
 {
     let row = plan.row(signal);
-    plan.present(signal, bytes) && (bytes.len() >= usize::from(plan.size()) || row.is_whole(bytes))
+    there && (bytes.len() >= usize::from(plan.size()) || row.is_whole(bytes))
 }
 
 // The signals that are shown, a comma and a blank between them.
@@ -64,9 +65,10 @@ fn push_signals(text: &mut Vec<u8>, plan: &Plan, bytes: &[u8]) -> Result<(), Mem
     ensures { OnOk result (text.new.items ≡ text.old.items ++ signals_text bytes.now
         (shown_rows bytes.now plan.now plan.now.rows)) }
 {
+    let presence = Presence::of(*text.allocator(), plan, bytes)?;
     let mut some = false;
     for signal in 0..plan.signals() {
-        if is_shown(plan, signal, bytes) {
+        if is_shown(plan, presence.has(signal), signal, bytes) {
             let (label, row) = plan.labelled(signal);
             push_next(text, some, label, row, bytes)?;
             some = true;

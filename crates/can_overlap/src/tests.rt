@@ -16,7 +16,7 @@ fn switched(alloc: Global, first: u64, last: u64) -> Result<Walk, Memory> {
     let mut ranges = List::new(alloc);
     ranges.push(Range { first, last })?;
     let mut links = List::new(alloc);
-    links.push(Link { switch: 0, ranges })?;
+    links.push(Link::new(alloc, 0, ranges)?)?;
     Ok(Walk::Chain(links))
 }
 
@@ -102,7 +102,7 @@ fn link_below(alloc: Global, switch: usize, last: u64) -> Result<Link, Memory> {
     ranges.push(Range { first: 9, last: 0 })?;
     let last = if switch == 2 { last } else { 7 };
     ranges.push(Range { first: 7, last })?;
-    Ok(Link { switch, ranges })
+    Link::new(alloc, switch, ranges)
 }
 
 // The way up from the signal at a place, where each is under the one before.

@@ -50,6 +50,7 @@ fn say_all<W: Sink>(alloc: Global, database: &Database, sink: &mut W) -> Result<
 
 /// Reads the database text to its end, looks at all of the database, and then writes a line for each thing that is doubtful
 /// in it, in the order of messages and then of rows.
+#[inline(never)]
 pub fn check_run<W: Sink>(alloc: Global, text: &[u8], sink: &mut W) -> Result<Verdict, CheckFault>
     ensures { ChecksAll text.now (W.written sink.old) (W.written sink.new) result }
 {

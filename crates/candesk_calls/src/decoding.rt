@@ -48,6 +48,7 @@ fn decode_log<R: Source, W: Sink>(
 /// and an LF for each line of it. `short` tells what is said of frames that are shorter than their message. It answers how many
 /// lines
 /// there are, up to `u64::MAX`.
+#[inline(never)]
 pub fn decode_run<R: Source, W: Sink>(
     alloc: Global,
     text: &[u8],

@@ -40,6 +40,7 @@ fn draw_all<W: Sink>(alloc: Global, database: &Database, sink: &mut W) -> Result
 }
 
 /// Reads the database text to its end, and then writes the pictures of its messages in order, each as soon as it is made.
+#[inline(never)]
 pub fn dump_run<W: Sink>(alloc: Global, text: &[u8], sink: &mut W) -> Result<(), DumpFault>
     ensures { DumpsPictures text.now (W.written sink.old) (W.written sink.new) result }
 {

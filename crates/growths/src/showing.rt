@@ -4,11 +4,10 @@ ghost use Rattle.std.specs.Prelude.{◌<◌, length};
 use crate::saying::{put, put_line, say};
 use byte_devices::Sink;
 use can_check::{Diagnostic, write_lines};
-use can_layout::{Decoder, Link, Meter, Plan, Reading};
+use can_layout::{Chain, Decoder, Link, Meter, Plan, Reading};
 use can_session::Session;
 use dbc_model::print;
 use dbc_records::Database;
-use dbc_values::List;
 
 // What signals are read from, bit and bit about.
 const DATA: [u8; 8] = [0xA5; 8];
@@ -42,14 +41,16 @@ fn show_link<W: Sink>(sink: &mut W, link: &Link) {
 }
 
 // The way up from a signal.
-fn show_chain<W: Sink>(sink: &mut W, chain: &Option<List<Link>>) {
-    match chain {
-        Some(links) => {
-            for link in links.as_slice() {
-                show_link(sink, link);
-            }
+fn show_chain<W: Sink>(sink: &mut W, chain: &Option<Chain>, most: usize) {
+    let Some(chain) = chain else {
+        say(sink, "never");
+        return;
+    };
+    for up in 0..most {
+        match chain.link(up) {
+            Some(link) => show_link(sink, link),
+            None => return,
         }
-        None => say(sink, "never"),
     }
 }
 
@@ -93,7 +94,7 @@ fn show_row<W: Sink>(sink: &mut W, plan: &Plan, signal: usize)
     put_line(sink, row.name.as_bytes());
     let field = row.field;
     say(sink, format_args!("{field:?}"));
-    show_chain(sink, &row.chain);
+    show_chain(sink, &row.chain, plan.signals());
     show_reading(sink, &row.reading);
     show_value(sink, plan, signal, &DATA);
     show_value(sink, plan, signal, &OTHER_DATA);

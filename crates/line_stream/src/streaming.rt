@@ -16,7 +16,7 @@ use byte_devices::{Broken, Out, Sink, Source, WriteFault};
 use memchr::memchr;
 use std::alloc::Global;
 
-const PIECE: usize = 65536;
+const PIECE: usize = 16_384;
 
 /// Where the texts of lines are made, and where they go.
 #[derive(Drop)]

@@ -1,10 +1,12 @@
 //! The script as a stream of lines.
+ghost use Rattle.std.specs.Prelude.{◌≡◌, [], IfOk};
 ghost use Rattle.session_script.specs.Serving.{Serves};
 
 use crate::performing::reply;
 use arrayvec::ArrayVec;
 use byte_devices::{Out, Sink, Source, WriteFault};
 use can_session::Session;
+use dbc_values::Memory;
 use line_stream::{Handler, Stop, StreamFault, stream_lines};
 use std::alloc::Global;
 
@@ -46,6 +48,17 @@ impl Handler for Script {
     ghost nothing_waits = { λ handler. refl };
 }
 
+// Room for a line. It is made on the stack and then moved, which nothing else should have to stand on.
+#[inline(never)]
+fn line_room(alloc: Global) -> Result<Box<ArrayVec<u8, LONGEST>>, Memory>
+    ensures { IfOk result (λ line. line.value.items ≡ []) }
+{
+    match Box::new(alloc, ArrayVec::new()) {
+        Ok(line) => Ok(line),
+        Err(_) => Err(Memory),
+    }
+}
+
 /// Runs a script to its end: each line is a command, and its reply is written before the next is done. It answers how many commands
 /// there are, up to `u64::MAX`. A line has at most 65,536 bytes.
 ///
@@ -60,7 +73,7 @@ pub fn serve<R: Source, W: Sink>(
     ensures { Serves session.old.state (W.written sink.old) (R.unread source.old) (R.unread source.new) session.new.state
         (W.written sink.new) result }
 {
-    let Ok(mut line) = Box::new(alloc, ArrayVec::<u8, LONGEST>::new()) else {
+    let Ok(mut line) = line_room(alloc) else {
         return Err(StreamFault::Memory);
     };
     let script = Script { alloc };
