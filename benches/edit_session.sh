@@ -1,7 +1,7 @@
 #!/usr/bin/env bash
 # How long an edit of a session takes: milliseconds of processor time for one edit, the mean of twenty, with databases of 100,
-# 1,000 and 10,000 messages of four signals with named values and no log; and with 1,000 messages and 1,000,000 retained lines, of 1,000
-# numbers and of one.
+# 1,000 and 10,000 messages of four signals with named values and no log; and with 1,000 messages and 1,000,000 retained lines, of
+# 1,000 numbers and of one.
 #
 #     edit_session.sh [PROGRAM]
 set -eu

@@ -128,5 +128,6 @@ for name, sink in (("/dev/null", os.devnull), ("a file", text + ".out")):
     with open(sink, "wb") as file:
         both = best([program], file)
         cat = best(["cat", text], file)
-    print(f"print of {size:.1f} MB to {name}: {size / max(both - build, 1e-6):.0f} MB/s (build {build:.2f} s), cat: {size / cat:.0f} MB/s")
+    speed = size / max(both - build, 1e-6)
+    print(f"print of {size:.1f} MB to {name}: {speed:.0f} MB/s (build {build:.2f} s), cat: {size / cat:.0f} MB/s")
 REPORT

@@ -18,7 +18,8 @@ program, folder = sys.argv[1:]
 
 def write(path, messages):
     with open(path, "w") as out:
-        out.write('VERSION "generated"\n\nNS_ :\n\tCM_\n\tBA_\n\nBS_:\n\nBU_: ' + " ".join("Node%d" % n for n in range(30)) + "\n\n")
+        nodes = " ".join("Node%d" % n for n in range(30))
+        out.write('VERSION "generated"\n\nNS_ :\n\tCM_\n\tBA_\n\nBS_:\n\nBU_: ' + nodes + "\n\n")
         for message in range(messages):
             out.write("BO_ %d Message%d: 8 Node%d\n" % (2147483648 + message, message, message % 30))
             for signal in range(4):
@@ -33,7 +34,8 @@ def write(path, messages):
 def run(words, sink):
     """Seconds, and the most memory in MB."""
     start = time.monotonic()
-    child = os.posix_spawnp(words[0], words, os.environ, file_actions=[(os.POSIX_SPAWN_OPEN, 1, sink, os.O_WRONLY | os.O_CREAT | os.O_TRUNC, 0o600)])
+    opened = (os.POSIX_SPAWN_OPEN, 1, sink, os.O_WRONLY | os.O_CREAT | os.O_TRUNC, 0o600)
+    child = os.posix_spawnp(words[0], words, os.environ, file_actions=[opened])
     _, status, used = os.wait4(child, 0)
     if status != 0:
         sys.exit("%s ended with status %d" % (words[0], os.waitstatus_to_exitcode(status)))

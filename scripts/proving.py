@@ -138,7 +138,7 @@ def program_sources(root=ROOT):
 
 
 def is_program_current():
-    """Whether the program in the checkout is the one that was built of the sources as they are, by the kit that is here if one is."""
+    """Whether the program in the checkout is that built of the sources as they are, by the kit that is here if one is."""
     try:
         with open(STAMP, encoding="utf-8") as stamp:
             kit, *rest = stamp.read().splitlines()

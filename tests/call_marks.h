@@ -1,5 +1,6 @@
-/* The calls that a program marks: it writes the line `begin` before each and `end` behind it, each in one write to standard output. What
-   is preloaded works inside the call whose number, counted from 1, is that of the environment; where none is told there, everywhere. */
+/* The calls that a program marks: it writes the line `begin` before each and `end` behind it, each in one write to standard output.
+   What is preloaded works inside the call whose number, counted from 1, is that of the environment; where none is told there,
+   everywhere. */
 #include <stdlib.h>
 #include <string.h>
 #include <sys/types.h>

@@ -1,5 +1,6 @@
-/* Preloaded into a program, refuses its allocation of number REFUSE_ALLOCATION, counted from 1, or each one where that is `all`. Only those
-   inside the call that IN_CALL tells count (call_marks.h). Where an allocation was refused, the file REFUSE_ALLOCATION_MET is made. */
+/* Preloaded into a program, refuses its allocation of number REFUSE_ALLOCATION, counted from 1, or each one where that is `all`.
+   Only those inside the call that IN_CALL tells count (call_marks.h). Where an allocation was refused, the file
+   REFUSE_ALLOCATION_MET is made. */
 #define _GNU_SOURCE
 #include <dlfcn.h>
 #include <errno.h>
