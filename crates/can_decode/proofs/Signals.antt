@@ -69,7 +69,8 @@ module _ (test : Row → Bool) (bytes : List ℕ) (rows : List Row) (i : ℕ) wh
   with_row row is there before mid now some so q p =
       let within : i < length rows = slice_get_within rows i row (sym is) in
       let same : get_or rows i row ≡ row = get_or_from_slice_get rows i row row (sym is) in
-      let present : test (get_or rows i row) ≡ true = ap test same ∙ ap (λ found. option_map_or test found false) is ∙ sym there in (
+      let present : test (get_or rows i row) ≡ true =
+      ap test same ∙ ap (λ found. option_map_or test found false) is ∙ sym there in (
         text_more test bytes rows i row within present before mid now some so q (p
             ∙ ap (λ row. mid ++ (if some then further_signal bytes row else signal_text bytes row)) (sym same)),
         some_more test bytes rows i row within present,

@@ -6,8 +6,8 @@ use Rattle.std.specs.List.{list_any, IsDistinct, AllByRecursion}
 use Rattle.std.proofs.lemmas.Option.{slice_get_within}
 use Rattle.std.proofs.lemmas.Map.Steps.{length-le_from_distinct_below}
 use Rattle.can_layout.specs.Links.{Link}
-use Rattle.can_layout.specs.Walks.{above_or_missing, above_at, Leads, IsChain, IsAbsent, IsLoop, IsWalk, with_link, walk_above, links_in}
-use Rattle.can_layout.specs.Walks.{walk_up, walk_of}
+use Rattle.can_layout.specs.Walks.{above_or_missing, above_at, Leads, IsChain, IsAbsent, IsLoop, IsWalk, with_link}
+use Rattle.can_layout.specs.Walks.{walk_above, links_in, walk_up, walk_of}
 use Rattle.can_layout.specs.declared.above.Above.{Above}
 use Rattle.can_layout.specs.declared.above.Above.TheVariants.{Nothing, Missing, Switch}
 use Rattle.can_layout.specs.declared.walk.Walk.{Walk}

@@ -1,4 +1,4 @@
-//! Fault lines, and that calls succeed where memory is there. `scripts/run_rows` tries the built program on more words,
+//! Fault lines, and that calls succeed where memory is there. `tests/run_rows` tries the built program on more words,
 //! databases and logs.
 
 use byte_devices::limp::Limp;

@@ -35,7 +35,8 @@ impl Model for MuxRow {
 
     ghost view = { λ a. record { number = a.number; signal = a.signal; switch = a.switch; ranges = a.ranges } };
 
-    ghost invariant = { λ a. records.IsMuxRow (record { number = a.number; signal = a.signal; switch = a.switch; ranges = a.ranges }) };
+    ghost invariant = { λ a.
+        records.IsMuxRow (record { number = a.number; signal = a.signal; switch = a.switch; ranges = a.ranges }) };
 }
 
 impl MuxRow {

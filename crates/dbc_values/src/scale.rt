@@ -24,7 +24,8 @@ impl Model for Scale {
 
     ghost view = { λ a. record { factor = a.factor; offset = a.offset; places = a.places; length = a.length } };
 
-    ghost invariant = { λ a. scales.IsScale (record { factor = a.factor; offset = a.offset; places = a.places; length = a.length }) };
+    ghost invariant = { λ a.
+        scales.IsScale (record { factor = a.factor; offset = a.offset; places = a.places; length = a.length }) };
 
     ghost inverse = { λ s. record { factor = s.factor; offset = s.offset; places = s.places; length = s.length } };
 }

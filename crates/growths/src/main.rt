@@ -4,7 +4,7 @@
 //! what is
 //! preloaded can refuse the allocations of one call alone, or fail its reads and writes. It isn't installed, and what it writes is
 //! judged
-//! by `scripts/refused_calls` and `scripts/failing_devices`.
+//! by `tests/refused_calls` and `tests/failing_devices`.
 #![tactic(auto)]
 
 mod calls;

@@ -170,15 +170,15 @@ module _ {State : Type 0} (rules : Rules State) (most : ℕ) (before after : Opt
           ∙ whole_lines-cut lines rest cuts.each h)) p;
     }
 
-    pub exit-memory : StopsAmong rules most s old lines u new → IfSome before (λ input. StopsAmong rules most s old (lines_of input) u
-        new)
+    pub exit-memory : StopsAmong rules most s old lines u new
+        → IfSome before (λ input. StopsAmong rules most s old (lines_of input) u new)
     exit-memory p =
         told before after read (λ input. StopsAmong rules most s old (lines_of input) u new) consumed (λ left.
         subst (λ ls. StopsAmong rules most s old ls u new) (sym (input-lines left)) (StopsAmong-more rules most s u old new lines
         (lines_of (rest ++ left)) p))
 
-    pub exit-write : BreaksAmong rules most s old lines u new → IfSome before (λ input. BreaksAmong rules most s old (lines_of input)
-        u new)
+    pub exit-write : BreaksAmong rules most s old lines u new
+        → IfSome before (λ input. BreaksAmong rules most s old (lines_of input) u new)
     exit-write p =
         told before after read (λ input. BreaksAmong rules most s old (lines_of input) u new) consumed (λ left.
         subst (λ ls. BreaksAmong rules most s old ls u new) (sym (input-lines left)) (BreaksAmong-more rules most s u old new lines
@@ -188,8 +188,8 @@ module _ {State : Type 0} (rules : Rules State) (most : ℕ) (before after : Opt
         → count ≡ min (length lines + length (lines_of rest)) (2 ^ 64 - 1)
         → IfSome before (λ input. HandlesAll rules most s old input after u new count)
     exit-ok count end p counted =
-        let P = λ (input : List ℕ). (count ≡ min (length (lines_of input)) (2 ^ 64 - 1)) × Handled rules most s old (lines_of input) u
-        new in
+        let P = λ (input : List ℕ). (count ≡ min (length (lines_of input)) (2 ^ 64 - 1))
+        × Handled rules most s old (lines_of input) u new in
         IfSome-weaker before (λ input. (after ≡ Some []) × P input) (λ input. HandlesAll rules most s old input after u new count)
         (λ input q. record { ended = q.0; counted = q.1.0; handled = q.1.1 })
         (told-end before after read P consumed end (

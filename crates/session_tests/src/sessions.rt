@@ -1,5 +1,5 @@
 //! What no contract says: that edits are accepted where memory is there, what a session then shows, and that the meter rises as
-//! far as it has to. `scripts/session_rows` tries the refusals over the built program.
+//! far as it has to. `tests/session_rows` tries the refusals over the built program.
 
 use crate::runs::{ALL, Devices, Run, Standing, all_done};
 use session_script::{Keep, LineCount};

@@ -7,7 +7,12 @@ use Rattle.can_layout.proofs.plan.plan_rows.Goals as goal
 
 pub loop-place-preserved : goal.loop-place-preserved
 loop-place-preserved g c =
-    rw (c.in_ok-push.ensures.ok, c.in_ok-row_of.ensures c.args.aboves.now.value c.loop-place.place c.in_ok-chain.ensures, c.loop-place.invariant, c.index-signals-place.is)
+    rw (
+      c.in_ok-push.ensures.ok,
+      c.in_ok-row_of.ensures c.args.aboves.now.value c.loop-place.place c.in_ok-chain.ensures,
+      c.loop-place.invariant,
+      c.index-signals-place.is,
+    )
     (sym (more_placed (λ (placed : ℕ × Signal). row_of c.args.rows.now c.args.aboves.now.value c.args.size placed.0 placed.1)
     c.args.signals.now c.loop-place.place c.index-signals-place.result c.loop-place-test.true))
 
