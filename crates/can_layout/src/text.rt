@@ -132,7 +132,7 @@ fn push_link(text: &mut Vec<u8>, signals: &[Signal], link: &Link) -> Result<(), 
     push_bytes(text, b" when ")?;
     push_name_at(text, signals, link.switch)?;
     push_bytes(text, b" ")?;
-    push_ranges(text, link.ranges.as_slice())
+    push_ranges(text, link.ranges())
 }
 
 fn push_links(text: &mut Vec<u8>, signals: &[Signal], links: &[Link]) -> Result<(), Memory>

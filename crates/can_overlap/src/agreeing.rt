@@ -28,7 +28,7 @@ fn ranges_meet(a: &[Range], b: &[Range]) -> bool
 pub(crate) fn agree(a: &Link, b: &Link) -> bool
     ensures { result ≡ agree a.now b.now }
 {
-    a.switch != b.switch || ranges_meet(a.ranges.as_slice(), b.ranges.as_slice())
+    a.switch != b.switch || ranges_meet(a.ranges(), b.ranges())
 }
 
 /// Whether a link agrees with each of a chain.

@@ -32,7 +32,7 @@ impl<'a> Tidy<'a> {
     pub(crate) fn of(alloc: Global, link: &'a Link) -> Result<Tidy<'a>, Memory>
         ensures { IfOk result (λ tidy. tidy ≡ link.now) }
     {
-        let ranges = in_order(alloc, link.ranges.as_slice())?;
+        let ranges = in_order(alloc, link.ranges())?;
         Ok(Tidy { link, ranges })
     }
 

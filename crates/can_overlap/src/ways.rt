@@ -48,7 +48,7 @@ fn same_ranges(these: &[Range], those: &[Range]) -> bool
 fn is_same(this: &Link, that: &Link) -> bool
     ensures { IsTrue result → this.now ≡ that.now }
 {
-    this.switch == that.switch && same_ranges(this.ranges.as_slice(), that.ranges.as_slice())
+    this.switch == that.switch && same_ranges(this.ranges(), that.ranges())
 }
 
 fn are_same(these: &[Link], those: &[Link]) -> bool

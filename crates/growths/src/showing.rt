@@ -34,7 +34,7 @@ pub(crate) fn show_diagnostics<W: Sink>(sink: &mut W, diagnostics: &[Diagnostic]
 fn show_link<W: Sink>(sink: &mut W, link: &Link) {
     let switch = link.switch;
     say(sink, format_args!("below {switch}"));
-    for range in link.ranges.as_slice() {
+    for range in link.ranges() {
         let (first, last) = (range.first, range.last);
         say(sink, format_args!("from {first} to {last}"));
     }
