@@ -16,14 +16,6 @@ one_goes (Last count) lines line few room over =
     let one : length (lines ++ line ∷ []) - count ≡ 1 = omega (arith, length-append lines (line ∷ []), few, over) in
     ap (λ n. drop n (lines ++ line ∷ [])) one
 
--- with fewer none does
-pub none_goes : {X : Type 0} (keep : Keep) (lines : List X) (line : X) → length lines + 1 ≤ most_kept keep
-    → kept keep (lines ++ line ∷ []) ≡ lines ++ line ∷ []
-none_goes All lines line fits = refl
-none_goes (Last count) lines line fits =
-    let none : length (lines ++ line ∷ []) - count ≡ 0 = omega (arith, length-append lines (line ∷ []), fits) in
-    ap (λ n. drop n (lines ++ line ∷ [])) none
-
 -- a line that is not too long, where there is room for it
 pub open_with_line : (keep : Keep) (lines : List (List ℕ)) (line : List ℕ) → is_full keep (length lines) ≡ false
     → length line ≤ longest_line

@@ -1,15 +1,11 @@
 //! How many lines are retained.
 ghost use Rattle.std.specs.Prelude.{◌≡◌};
-ghost use Rattle.can_session.specs.declared.keep.Keep.TheVariants.{All};
 ghost use Rattle.can_session.specs.Counts.{count_of};
 ghost use Rattle.can_session.specs.States.{most_kept, is_full};
 
 use std::marker::Model;
 
-// The most lines that are retained where all are.
-const MOST_LINES: u32 = 1_048_576;
-
-/// A number of lines, from 1 to 1,048,576.
+/// A number of lines, from 1 to [`LineCount::MOST`].
 #[derive(Clone, Copy, Debug, PartialEq, Eq)]
 pub struct LineCount {
     count: u32,
@@ -29,11 +25,14 @@ impl Model for LineCount {
 }
 
 impl LineCount {
-    /// That of a number; none where it is 0 or over 1,048,576.
+    /// The most lines: so many are retained where all are.
+    pub const MOST: u64 = 1_048_576;
+
+    /// That of a number; none where it is 0 or over the most.
     pub fn new(count: u64) -> Option<LineCount>
         ensures { result ≡ count_of count }
     {
-        if count == 0 || count > u64::from(MOST_LINES) {
+        if count == 0 || count > LineCount::MOST {
             return None;
         }
         Some(LineCount {
@@ -52,24 +51,14 @@ impl LineCount {
 /// Which of the lines that were added are retained.
 #[derive(Clone, Copy, Debug, PartialEq, Eq)]
 pub enum Keep {
-    /// All of them. There is room for 1,048,576, and a line more is refused.
+    /// All of them. There is room for [`LineCount::MOST`], and a line more is refused.
     All,
     /// The last so many: where there are more, the oldest goes.
     Last(LineCount),
 }
 
-impl Default for Keep {
-    fn default() -> Keep
-        ensures { result ≡ All }
-    {
-        Keep::All
-    }
-}
-
 impl Keep {
-    /// Whether there is no room for a line more behind so many: of all lines 1,048,576 are the most, and for one of the last ones
-    /// the
-    /// oldest goes.
+    /// Whether a line more behind so many is refused. Of the last lines none is, since the oldest goes for it.
     pub fn is_full(self, lines: usize) -> bool
         ensures { result ≡ is_full self lines }
     {
@@ -84,7 +73,7 @@ impl Keep {
         ensures { result ≡ most_kept self }
     {
         match self {
-            Keep::All => MOST_LINES as usize,
+            Keep::All => LineCount::MOST as usize,
             Keep::Last(count) => count.get(),
         }
     }

@@ -106,8 +106,8 @@ const NO_MEMORY: ReadFault = ReadFault {
 };
 
 impl Session {
-    /// The session of a text's database, in which frames that are shorter than their message are refused. Where the text has no
-    /// database, its first fault is answered; that memory ran out is a fault of line 0.
+    /// The session of a text's database, in which frames that are shorter than their message are refused and all lines are
+    /// retained. Where the text has no database, its first fault is answered; that memory ran out is a fault of line 0.
     pub fn open(alloc: Global, text: &[u8]) -> Result<Session, ReadFault>
         ensures { Opens text.now usual result }
     {
@@ -215,7 +215,7 @@ impl Session {
         self.log.len()
     }
 
-    /// The line at a place, in order of arrival.
+    /// The line at a place, in order of arrival: 0 is the oldest that is retained.
     pub fn line(&self, n: usize) -> &[u8]
         requires { n < length self.now.state.lines }
         ensures { Some result.now ≡ slice_get self.now.state.lines n }
@@ -223,8 +223,8 @@ impl Session {
         self.log.line(n).bytes.as_slice()
     }
 
-    /// The decoded text of the line at a place: what decoding it by itself, with the database as it is and by the session's choice,
-    /// gives.
+    /// The decoded text of the line at a place, of which 0 is the oldest that is retained: what decoding it by itself gives, with
+    /// the database as it is and by the session's choice.
     pub fn decoded(&self, n: usize) -> &[u8]
         requires { n < length self.now.state.lines }
         ensures { Some result.now ≡ option_map (decoded_line self.now.state.options.short self.now.state.database)

@@ -5,15 +5,13 @@ ghost use Rattle.clap.specs.declared.builder.command.Command.TheViews.{out-Comma
 ghost use Rattle.candesk_words.specs.Words.{before_command, on_file, on_frames, on_session, with_command, command_line};
 
 use crate::notes;
+use can_session::LineCount;
 use clap::builder::ValueParser;
 use clap::{Arg, ArgAction, Command};
 use std::alloc::{AllocError, Global};
 
 // What `--version` says behind the program's name.
 const VERSION: &str = "0.1.0";
-
-// The most lines that `--keep` may name.
-const MOST_LINES: u64 = 1_048_576;
 
 // The words before a command.
 #[tactic(auto, unfolding(crate::specs::Words::before_command))]
@@ -77,7 +75,7 @@ fn on_session<'a>(alloc: Global, about: &'a str, notes: &'a str) -> Result<Comma
         .long("keep")
         .value_name("N")
         .action(ArgAction::Set)
-        .value_parser(ValueParser::unsigned(1, MOST_LINES))
+        .value_parser(ValueParser::unsigned(1, LineCount::MOST))
         .help("Retain the last N lines, from 1 to 1048576; without it all are retained");
     on_frames(alloc, "session", about, notes)?.arg(keep)
 }

@@ -12,7 +12,7 @@ mod editing;
 mod key;
 mod messages;
 mod refusal;
-mod rename;
+mod renamed_rows;
 mod renaming;
 mod renumbering;
 mod rows;

@@ -7,7 +7,7 @@ ghost use Rattle.dbc_edits.specs.Edits.{has_named, has_signal, with_message, wit
 use crate::databases::{has_row, with_message};
 use crate::key::{OfSignal, OfSwitch};
 use crate::refusal::Refusal;
-use crate::rename::{Renaming, rename_all, rename_rows};
+use crate::renamed_rows::{Renaming, rename_all, rename_rows};
 use crate::rows::has_any;
 use crate::signals::{has_named, has_signal, with_signals};
 use dbc_records::{Database, Message};

@@ -1,7 +1,7 @@
 use Rattle.std.proofs.Common.{◌≡◌}
 use Rattle.std.specs.Prelude.{All}
 use Rattle.dbc_edits.proofs.Changing.{first_changed}
-use Rattle.dbc_edits.proofs.rename.rename_all.Given as goal
+use Rattle.dbc_edits.proofs.renamed_rows.rename_all.Given as goal
 
 -- the items so far are changed
 abbrev pub invariant-loop-place : goal.invariant-loop-place

@@ -1,7 +1,7 @@
 use Rattle.std.proofs.Common.{◌≡◌, ◌<◌, length, get_or, refl, sym, ap, ◌∙◌, arith}
 use Rattle.std.specs.Prelude.{slice_set}
-use Rattle.dbc_edits.proofs.rename.rename_all.Goals as goal
-use Rattle.dbc_edits.proofs.rename.rename_all.Goals.{in-Some, in_default}
+use Rattle.dbc_edits.proofs.renamed_rows.rename_all.Goals as goal
+use Rattle.dbc_edits.proofs.renamed_rows.rename_all.Goals.{in-Some, in_default}
 use Rattle.dbc_edits.proofs.Changing.{first_changed, as_many, next_is, one_set, one_kept, all_changed}
 
 pub offset_bounds-as_slice-place : goal.offset_bounds-as_slice-place
