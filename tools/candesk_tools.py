@@ -77,6 +77,10 @@ def run_tool(main):
     sys.exit(status)
 
 
+def counted(count, word):
+    return f"{count} {word}" + ("" if count == 1 else "s")
+
+
 # ---- the program
 
 

@@ -174,7 +174,7 @@ class Shell:
         gone = list((collections.Counter(old) - collections.Counter(self.found)).elements())
         came = list((collections.Counter(self.found) - collections.Counter(old)).elements())
         change = f"{len(gone)} went, {len(came)} came" if gone or came else "as before"
-        self.say(f"{done}; {counted(len(self.found), 'diagnostic')}, {change}")
+        self.say(f"{done}; {tools.counted(len(self.found), 'diagnostic')}, {change}")
         for sign, lines in ((b"- ", gone), (b"+ ", came)):
             for line in lines[:TOLD]:
                 self.say(sign + line)
@@ -265,7 +265,7 @@ class Shell:
             raise refused("log takes a FILE, a line of a log, |COMMAND, or stop")
 
     def tell_log(self, taken, refusal):
-        text = f"{counted(taken, 'line')}; {len(self.session.retained)} retained"
+        text = f"{tools.counted(taken, 'line')}; {len(self.session.retained)} retained"
         self.say(text + (f"; others: {refusal.decode()}" if refusal else ""))
 
     def listen(self, command):
@@ -287,10 +287,6 @@ class Shell:
             self.listening.wait()
             self.listening = None
             self.say(f"{len(self.session.retained)} retained")
-
-
-def counted(count, word):
-    return f"{count} {word}" + ("" if count == 1 else "s")
 
 
 # ---- completion
