@@ -91,7 +91,7 @@ def program():
     for path in [named] if named else [*beside, os.path.join(os.path.dirname(HERE), "candesk"), shutil.which("candesk")]:
         if path and os.path.isfile(path) and os.access(path, os.X_OK):
             return os.path.abspath(path)
-    raise Fault("there is no candesk%s" % (f" at {named}, which CANDESK names" if named else " beside it or on the PATH"), BAD_FILES)
+    raise Fault(f"there is no candesk at {named}, which CANDESK names" if named else "there is no candesk on the PATH", BAD_FILES)
 
 
 def said_by(errors):

@@ -1,4 +1,4 @@
-"""What decode_many and decode_dask share: which logs there are, where their outputs go, and blocks of a log that end at line ends.
+"""What the two tools for many logs share: which logs there are, where their outputs go, and blocks of a log that end at line ends.
 
 Each line of a log is decoded by itself. So what is written of a log whose last byte is a line feed, and then of another, is what is
 written of the two as one; and blocks that end at line ends, decoded apart, give the bytes of the whole when they are put together.

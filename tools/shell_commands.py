@@ -98,7 +98,8 @@ class Shell:
             place = whole_number(word[1:])
             found = [it for it in self.messages if it.place == place]
         elif number is not None:
-            found = [it for it in self.messages if it.number == number] or [it for it in self.messages if it.number == number | BIT_31]
+            numbers = [number] if any(it.number == number for it in self.messages) else [number | BIT_31]
+            found = [it for it in self.messages if it.number in numbers]
         else:
             found = [it for it in self.messages if it.name == word]
         if not found:
@@ -305,9 +306,10 @@ def statements_of(shell, message):
 
 def files_at(word):
     folder, _, begun = word.rpartition("/")
+    before = folder + "/" if "/" in word else ""
     with contextlib.suppress(OSError):
-        names = sorted(it.name + ("/" if it.is_dir() else "") for it in os.scandir(folder + "/" if folder or word[:1] == "/" else "."))
-        return [(folder + "/" if "/" in word else "") + it for it in names if begun or not it.startswith(".")]
+        names = sorted(it.name + ("/" if it.is_dir() else "") for it in os.scandir(before or "."))
+        return [before + it for it in names if begun or not it.startswith(".")]
     return []
 
 
