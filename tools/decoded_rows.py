@@ -87,11 +87,12 @@ class Fork:
         self.fault = None
         for sink, waiting in zip(sinks, self.queues):
             threading.Thread(target=self.hand_on, args=(waiting, sink), daemon=True).start()
-        threading.Thread(target=self.read, args=(source,), daemon=True).start()
+        # (a descriptor of its own, since whoever has the source may close it)
+        threading.Thread(target=self.read, args=(os.dup(source.fileno()),), daemon=True).start()
 
-    def read(self, source):
+    def read(self, number):
         try:
-            for chunk in iter(lambda: os.read(source.fileno(), CHUNK), b""):
+            for chunk in iter(lambda: os.read(number, CHUNK), b""):
                 with self.room:
                     self.room.wait_for(lambda: min(it.qsize() for it in self.queues) < WAITING)
                 for waiting in self.queues:

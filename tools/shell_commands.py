@@ -3,6 +3,7 @@
 import collections
 import contextlib
 import os
+import signal
 import subprocess
 import tempfile
 import threading
@@ -274,7 +275,7 @@ class Shell:
         if self.listening:
             raise refused("log stop ends what is listened to; then another can be")
         streams = {"stdin": subprocess.DEVNULL, "stdout": subprocess.PIPE}
-        self.listening = subprocess.Popen(["sh", "-c", "exec " + command], start_new_session=True, **streams)
+        self.listening = subprocess.Popen(["sh", "-c", command], start_new_session=True, **streams)
         threading.Thread(target=self.take_lines, args=(self.listening,), daemon=True).start()
 
     def take_lines(self, source):
@@ -284,7 +285,9 @@ class Shell:
 
     def stop_listening(self):
         if self.listening:
-            self.listening.terminate()
+            # (the command's own group of processes, as a shell may have started several)
+            with contextlib.suppress(ProcessLookupError):
+                os.killpg(self.listening.pid, signal.SIGTERM)
             self.listening.wait()
             self.listening = None
             self.say(f"{len(self.session.retained)} retained")
