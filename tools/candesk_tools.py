@@ -52,9 +52,8 @@ class Words(argparse.ArgumentParser):
 
 def words_parser(described):
     """A parser that shows a tool's own text as its help."""
-    parser = Words(prog=TOOL, description=described, formatter_class=argparse.RawDescriptionHelpFormatter, allow_abbrev=False)
-    parser._optionals.title = "options"
-    return parser
+    shape = argparse.RawDescriptionHelpFormatter
+    return Words(prog=TOOL, usage=argparse.SUPPRESS, description=described, formatter_class=shape, allow_abbrev=False)
 
 
 def run_tool(main):

@@ -128,6 +128,7 @@ class Exact:
         self.messages = tools.messages_of(canonical)
         self.units = units_of(canonical)
         self.database = database
+        self.only = None
         self.is_live = not os.path.isfile(f"/proc/self/fd/{log.fileno()}")
         self.folder = tempfile.TemporaryDirectory(prefix="candesk-")
         self.programs = []
@@ -161,8 +162,10 @@ class Exact:
 
     def __iter__(self):
         numbers, names = self.programs
+        # (what is looked for may stand in the log's own line too, so whoever wants one message looks at the row's place as well)
+        wanted = BEHIND if self.only is None else b"%s%s%d" % (BEHIND, NUMBERS, self.only)
         for first, second in zip(numbers.stdout, names.stdout):
-            if first != second:
+            if first != second and wanted in first:
                 yield self.row(first.rstrip(b"\n"), second.rstrip(b"\n"))
         self.judge_end()
 

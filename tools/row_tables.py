@@ -96,6 +96,7 @@ def write_message(source, options):
         write_plain_message(source, options)
         return
     message = chosen(source, options.message)
+    source.only = message.place
     table = Table(sys.stdout.buffer, source.is_live)
     table.put(header_of(source, message, options))
     for row in source:

@@ -2,6 +2,7 @@
 
 import collections
 import contextlib
+import itertools
 import os
 import signal
 import subprocess
@@ -45,6 +46,8 @@ BIT_31 = 1 << 31
 # how many databases of before are kept for undo, and how many diagnostics that came or went are shown
 UNDONE = 100
 TOLD = 10
+# how many lines of a file are handed to the session before it is looked whether that was interrupted
+AT_ONCE = 20000
 
 
 def refused(text):
@@ -72,6 +75,7 @@ class Shell:
         self.session = shell_session.Session(path, is_short, keep)
         self.before = collections.deque(maxlen=UNDONE)
         self.listening = None
+        self.is_interrupted = False
         # (a session is changed for another, and lines come, one after another)
         self.changing = threading.RLock()
         self.look()
@@ -165,7 +169,8 @@ class Shell:
         with self.changing:
             reply = self.session.ask(raw(command))[0]
             if reply != b"ok":
-                raise refused(reply.decode())
+                told = "bad command: a statement has a fault, or a word is none that it takes"
+                raise refused(told if reply == b"bad command" else reply.decode())
             self.before.append(self.text)
             self.look()
         self.tell_change("ok")
@@ -260,11 +265,24 @@ class Shell:
         elif rest.startswith("|"):
             self.listen(rest[1:].strip())
         elif rest:
-            with open(rest, "rb") as file:
-                lines = file.read().split(b"\n")
-            self.tell_log(*self.session.log(lines[:-1] if lines[-1] == b"" else lines))
+            self.log_file(rest)
         else:
             raise refused("log takes a FILE, a line of a log, |COMMAND, or stop")
+
+    def log_file(self, path):
+        """The lines of a file, up to where it is interrupted."""
+        all_taken, first_refusal = 0, b""
+        self.is_interrupted = False
+        with open(path, "rb") as file:
+            while lines := [it.removesuffix(b"\n") for it in itertools.islice(file, AT_ONCE)]:
+                with self.changing:
+                    taken, refusal = self.session.log(lines)
+                all_taken += taken
+                first_refusal = first_refusal or refusal
+                if self.is_interrupted:
+                    first_refusal = first_refusal or b"interrupted"
+                    break
+        self.tell_log(all_taken, first_refusal)
 
     def tell_log(self, taken, refusal):
         text = f"{tools.counted(taken, 'line')}; {len(self.session.retained)} retained"
