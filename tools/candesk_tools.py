@@ -60,20 +60,30 @@ def run_tool(main):
     """Runs a tool and ends with its status. A fault is one line; a reader that went away is no fault to tell of."""
     signal.signal(signal.SIGTERM, lambda *_: sys.exit(128 + signal.SIGTERM))
     try:
-        status = main(sys.argv[1:])
+        try:
+            status = main(sys.argv[1:])
+        except SystemExit as end:
+            status = end.code
         sys.stdout.flush()
     except Fault as fault:
         print(f"{TOOL}: {fault}", file=sys.stderr)
         status = fault.status
     except BrokenPipeError:
-        os.dup2(os.open(os.devnull, os.O_WRONLY), sys.stdout.fileno())
+        let_output_go()
         status = BAD_FILES
     except KeyboardInterrupt:
         status = 128 + signal.SIGINT
     except OSError as error:
-        print(f"{TOOL}: {error.filename or 'a file'}: {error.strerror}", file=sys.stderr)
+        print(f"{TOOL}: {error.filename or 'standard output'}: {error.strerror}", file=sys.stderr)
+        if not error.filename:
+            let_output_go()
         status = BAD_FILES
     sys.exit(status)
+
+
+def let_output_go():
+    """Lets go what still waits for a standard output that can't be written, so that nothing more is said of it."""
+    os.dup2(os.open(os.devnull, os.O_WRONLY), sys.stdout.fileno())
 
 
 def counted(count, word):
@@ -183,7 +193,10 @@ def messages_of(canonical):
 def replacing(path):
     """A new file in place of another: written beside it, and renamed once it is whole. Mode and owner stay."""
     path = os.path.realpath(path)
-    number, room = tempfile.mkstemp(prefix=".candesk-", dir=os.path.dirname(path))
+    try:
+        number, room = tempfile.mkstemp(prefix=".candesk-", dir=os.path.dirname(path))
+    except OSError as error:
+        raise Fault(f"{path}: {error.strerror}", BAD_FILES) from error
     try:
         with os.fdopen(number, "wb") as file:
             yield file

@@ -35,7 +35,7 @@ class Session:
         words += ["--short"] if is_short else []
         words += ["--keep", str(keep)] if keep else []
         streams = {"stdin": subprocess.PIPE, "stdout": subprocess.PIPE, "stderr": subprocess.PIPE}
-        self.running = subprocess.Popen([*words, path], start_new_session=True, **streams)
+        self.running = subprocess.Popen([*words, "--", path], start_new_session=True, **streams)
         self.diagnostics()
 
     def close(self):
