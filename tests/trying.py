@@ -163,7 +163,7 @@ class Counted:
     """What passed and failed; what failed is printed at once."""
 
     def __init__(self):
-        self.passed = self.failed = 0
+        self.passed = self.failed = self.skipped = 0
 
     def note(self, name, fault=None):
         """Counts a case by its fault, which is none where it passed, and answers whether it did."""
@@ -180,7 +180,12 @@ class Counted:
     def note_true(self, name, holds, fault="it isn't so"):
         return self.note(name, None if holds else fault)
 
+    def skip(self, name, missing):
+        """Tells a case that isn't tried, since it needs something that isn't at hand."""
+        self.skipped += 1
+        print(f"{name}: skipped, as {missing} isn't at hand", flush=True)
+
     def end(self):
         """Prints the last line, and answers the exit status."""
-        print(f"{self.passed} passed, {self.failed} failed")
+        print(f"{self.passed} passed, {self.failed} failed" + (f", {self.skipped} skipped" if self.skipped else ""))
         return 1 if self.failed or not self.passed else 0

@@ -1,0 +1,363 @@
+"""The commands of candesk-shell: those of a session, with messages by name or number, and a few of its own."""
+
+import collections
+import contextlib
+import itertools
+import os
+import signal
+import subprocess
+import tempfile
+import threading
+
+import candesk_tools as tools
+import shell_session
+
+HELP = """\
+MESSAGE is a name, a number as in BO_ (0x.. too; without bit 31 where that is meant), or @P for the place P.
+
+list                                messages, with place, number, size and signals
+show diagnostics                    what `candesk check` would write
+show layout MESSAGE                 its picture
+show lines [N]                      the decoded lines that are retained, or the last N
+print                               the database in its canonical form
+log FILE                            retains the lines of a log
+log (1.0) can0 123#00               retains this line
+log |COMMAND, log stop              retains each line of a command such as `candump -L can0` as it comes; ends that
+add-message [MESSAGE] BO_ ..        before the message, or last
+remove-message MESSAGE
+change-message MESSAGE NAME SIZE SENDER
+renumber MESSAGE N
+add-signal MESSAGE [SIGNAL] SG_ ..  before the signal, or last
+remove-signal MESSAGE NAME
+change-signal MESSAGE SG_ ..        in place of the signal of its name
+rename-signal MESSAGE OLD NEW
+set-values VAL_ ..    set-mux SG_MUL_VAL_ ..    set-table VAL_TABLE_ ..    set-attribute BA_ .. BO_ ..
+drop-values MESSAGE NAME    drop-mux MESSAGE NAME    drop-table NAME    drop-attribute MESSAGE "NAME"
+undo                                the database as it was before the last edit
+save [FILE] [--drop-comments]       writes the database into FILE, or the one that was opened
+help, quit
+"""
+SETTING = ("set-mux", "set-values", "set-table", "set-attribute", "drop-table")
+ON_MESSAGE = ("remove-message", "change-message", "remove-signal", "change-signal", "rename-signal")
+ON_NUMBER = ("drop-mux", "drop-values", "drop-attribute")
+EDITS = (*SETTING, *ON_MESSAGE, *ON_NUMBER, "add-message", "add-signal", "renumber")
+OWN = ("list", "show", "print", "log", "undo", "save", "help", "quit")
+BIT_31 = 1 << 31
+# how many databases of before are kept for undo, and how many diagnostics that came or went are shown
+UNDONE = 100
+TOLD = 10
+# how many lines of a file are handed to the session before it is looked whether that was interrupted
+AT_ONCE = 20000
+
+
+def refused(text):
+    return tools.Fault(text, tools.REFUSED)
+
+
+def whole_number(word):
+    try:
+        return int(word, 0)
+    except ValueError:
+        return None
+
+
+def raw(text):
+    return text.encode("utf-8", "surrogateescape")
+
+
+class Shell:
+    """A database that is open, with what was before, and what is written for each command."""
+
+    def __init__(self, path, is_short, keep, say):
+        with open(path, "rb") as file:
+            self.read_text = file.read()
+        self.path, self.say = path, say
+        self.session = shell_session.Session(path, is_short, keep)
+        self.before = collections.deque(maxlen=UNDONE)
+        self.listening = None
+        self.is_interrupted = False
+        # (a session is changed for another, and lines come, one after another)
+        self.changing = threading.RLock()
+        self.look()
+        self.saved = self.text
+        self.found = self.session.diagnostics()
+
+    def close(self):
+        self.stop_listening()
+        self.session.close()
+
+    @property
+    def is_edited(self):
+        return self.text != self.saved
+
+    def look(self):
+        """What the session prints, and the messages in it."""
+        self.text = self.session.text()
+        self.messages = tools.messages_of(self.text)
+
+    # ---- messages and signals by name
+
+    def message(self, word):
+        number = whole_number(word)
+        if word.startswith("@"):
+            place = whole_number(word[1:])
+            found = [it for it in self.messages if it.place == place]
+        elif number is not None:
+            numbers = [number] if any(it.number == number for it in self.messages) else [number | BIT_31]
+            found = [it for it in self.messages if it.number in numbers]
+        else:
+            found = [it for it in self.messages if it.name == word]
+        if not found:
+            raise refused(f"there is no message {word}")
+        if len(found) > 1:
+            raise refused(f"{word} is more than one message: give " + " or ".join(f"@{it.place}" for it in found))
+        return found[0]
+
+    def number(self, word):
+        """The number of a message, or a number that no message has."""
+        number = whole_number(word)
+        return self.message(word).number if number is None or any(it.number == number | BIT_31 for it in self.messages) else number
+
+    # ---- commands
+
+    def do(self, line):
+        """Does what a line asks for. False where it asks to end."""
+        word, _, rest = line.strip().partition(" ")
+        rest = rest.strip()
+        if word in EDITS:
+            self.edit(self.command_of(word, rest))
+        elif word == "quit":
+            return False
+        elif word in OWN:
+            getattr(self, "do_" + word)(rest)
+        elif word:
+            raise refused(f"there is no command {word}; help lists them")
+        return True
+
+    def command_of(self, word, rest):
+        """The session's own command of an edit: with places and numbers for messages."""
+        first, _, others = rest.partition(" ")
+        others = others.strip()
+        if not first:
+            raise refused(f"{word} takes more words; help lists them")
+        if word in SETTING:
+            return f"{word} {rest}"
+        if word in ON_NUMBER:
+            return f"{word} {self.number(first)} {others}"
+        if word == "add-message":
+            place = len(self.messages) if first == "BO_" else self.message(first).place
+            return f"{word} {place} {rest if first == 'BO_' else others}"
+        message = self.message(first)
+        if word == "renumber":
+            number = whole_number(others)
+            return f"{word} {message.place} {others if number is None else number}"
+        if word == "add-signal":
+            return self.added_signal(message, others)
+        words = others.split() if word != "change-signal" else [others]
+        return " ".join([word, str(message.place), *words])
+
+    def added_signal(self, message, rest):
+        before, _, statement = rest.partition(" ")
+        if before == "SG_":
+            return f"add-signal {message.place} {len(message.signals)} {rest}"
+        place = whole_number(before[1:]) if before.startswith("@") else None
+        if place is None and before not in message.signals:
+            raise refused(f"{message.name} has no signal {before}")
+        return f"add-signal {message.place} {message.signals.index(before) if place is None else place} {statement.strip()}"
+
+    def edit(self, command):
+        with self.changing:
+            reply = self.session.ask(raw(command))[0]
+            if reply != b"ok":
+                told = "bad command: a statement has a fault, or a word is none that it takes"
+                raise refused(told if reply == b"bad command" else reply.decode())
+            self.before.append(self.text)
+            self.look()
+        self.tell_change("ok")
+
+    def tell_change(self, done):
+        """How many diagnostics there are, and which came and went."""
+        old, self.found = self.found, self.session.diagnostics()
+        gone = list((collections.Counter(old) - collections.Counter(self.found)).elements())
+        came = list((collections.Counter(self.found) - collections.Counter(old)).elements())
+        change = f"{len(gone)} went, {len(came)} came" if gone or came else "as before"
+        self.say(f"{done}; {tools.counted(len(self.found), 'diagnostic')}, {change}")
+        for sign, lines in ((b"- ", gone), (b"+ ", came)):
+            for line in lines[:TOLD]:
+                self.say(sign + line)
+            if len(lines) > TOLD:
+                self.say(sign.decode() + f"and {len(lines) - TOLD} more")
+
+    def do_list(self, _):
+        for it in self.messages:
+            hexadecimal = f"0x{it.number & ~BIT_31:X}" + (" (29 bits)" if it.number & BIT_31 else "")
+            self.say(f"@{it.place} {it.name} {it.number} {hexadecimal}: {' '.join(it.signals)}")
+
+    def do_show(self, rest):
+        what, _, word = rest.partition(" ")
+        if what == "diagnostics" and not word:
+            lines = self.session.diagnostics()
+        elif what == "layout" and word:
+            lines = self.session.ask(b"show layout %d" % self.message(word).place)[1]
+        elif what == "lines" and (not word or word.isdecimal()):
+            lines = self.session.shown_lines()
+            lines = lines[max(0, len(lines) - int(word)) :] if word else lines
+        else:
+            raise refused("show takes diagnostics, layout MESSAGE, or lines [N]")
+        for line in lines:
+            self.say(line)
+
+    def do_print(self, _):
+        self.say(self.text.removesuffix(b"\n"))
+
+    def do_help(self, _):
+        self.say(HELP.rstrip("\n"))
+
+    def do_undo(self, _):
+        """A session of its own on the database of before, with the lines that are retained."""
+        if not self.before:
+            raise refused("there is nothing to undo")
+        with tempfile.NamedTemporaryFile(prefix="candesk-", suffix=".dbc") as file, self.changing:
+            file.write(self.before[-1])
+            file.flush()
+            opened = shell_session.Session(file.name, self.session.is_short, self.session.keep)
+            opened.path = self.path
+            opened.log(list(self.session.retained))
+            old, self.session = self.session, opened
+            old.close()
+        self.before.pop()
+        self.look()
+        self.tell_change("undone")
+
+    def do_save(self, rest):
+        words = rest.split()
+        drops = "--drop-comments" in words
+        words = [it for it in words if it != "--drop-comments"]
+        if len(words) > 1:
+            raise refused("save takes one FILE")
+        path = words[0] if words else self.path
+        there = b""
+        with contextlib.suppress(FileNotFoundError), open(path, "rb") as file:
+            there = file.read()
+        is_own = os.path.exists(path) and os.path.samefile(path, self.path)
+        if is_own and there != self.read_text:
+            raise refused(f"{path} was changed by another since it was read: save to another file")
+        if there and not is_own and words and tools.comment_line(there) and not drops:
+            raise refused(f"{path} is there, and has // comments: save to another file, or --drop-comments lets them go")
+        if is_own and tools.comment_line(there) and not drops:
+            raise refused(f"{path} has // comments, which are not printed: save to another file, or --drop-comments lets them go")
+        with tools.replacing(path) as file:
+            file.write(self.text)
+        if is_own:
+            self.read_text = self.text
+        self.saved = self.text
+        self.say(f"saved {path}")
+
+    # ---- logs
+
+    def do_log(self, rest):
+        if rest.startswith("("):
+            self.tell_log(*self.session.log([raw(rest)]))
+        elif rest == "stop":
+            if not self.listening:
+                raise refused("nothing is listened to")
+            self.stop_listening()
+        elif rest.startswith("|"):
+            self.listen(rest[1:].strip())
+        elif rest:
+            self.log_file(rest)
+        else:
+            raise refused("log takes a FILE, a line of a log, |COMMAND, or stop")
+
+    def log_file(self, path):
+        """The lines of a file, up to where it is interrupted."""
+        all_taken, first_refusal = 0, b""
+        self.is_interrupted = False
+        with open(path, "rb") as file:
+            while lines := [it.removesuffix(b"\n") for it in itertools.islice(file, AT_ONCE)]:
+                with self.changing:
+                    taken, refusal = self.session.log(lines)
+                all_taken += taken
+                first_refusal = first_refusal or refusal
+                if self.is_interrupted:
+                    first_refusal = first_refusal or b"interrupted"
+                    break
+        self.tell_log(all_taken, first_refusal)
+
+    def tell_log(self, taken, refusal):
+        text = f"{tools.counted(taken, 'line')}; {len(self.session.retained)} retained"
+        self.say(text + (f"; others: {refusal.decode()}" if refusal else ""))
+
+    def listen(self, command):
+        """Starts a command, each line of which is retained as it comes."""
+        if self.listening:
+            raise refused("log stop ends what is listened to; then another can be")
+        streams = {"stdin": subprocess.DEVNULL, "stdout": subprocess.PIPE}
+        self.listening = subprocess.Popen(["sh", "-c", command], start_new_session=True, **streams)
+        threading.Thread(target=self.take_lines, args=(self.listening,), daemon=True).start()
+
+    def take_lines(self, source):
+        for line in source.stdout:
+            with contextlib.suppress(tools.Fault), self.changing:
+                self.session.log([line.rstrip(b"\n")])
+
+    def stop_listening(self):
+        if self.listening:
+            # (the command's own group of processes, as a shell may have started several)
+            with contextlib.suppress(ProcessLookupError):
+                os.killpg(self.listening.pid, signal.SIGTERM)
+            self.listening.wait()
+            self.listening = None
+            self.say(f"{len(self.session.retained)} retained")
+
+
+# ---- completion
+
+
+def statements_of(shell, message):
+    """The statements of a message's signals as they are printed, to be changed."""
+    place, found = -1, []
+    for line in tools.canonical_lines(shell.text):
+        head = line[0] if line else b""
+        place += 1 if tools.MESSAGE.match(head) else 0
+        if place == message.place and tools.SIGNAL.match(head):
+            found.append(b"".join(line).decode("utf-8", "surrogateescape").strip())
+    return found
+
+
+def files_at(word):
+    folder, _, begun = word.rpartition("/")
+    before = folder + "/" if "/" in word else ""
+    with contextlib.suppress(OSError):
+        names = sorted(it.name + ("/" if it.is_dir() else "") for it in os.scandir(before or "."))
+        return [before + it for it in names if begun or not it.startswith(".")]
+    return []
+
+
+def candidates(shell, line):
+    """The beginning of the word that stands last in a line, and what it may come to be."""
+    words = line.split(" ")
+    word, begun, count = words[0], words[-1], len(words)
+    names = [it.name for it in shell.messages]
+    found = []
+    if count == 1:
+        found = sorted((*EDITS, *OWN))
+    elif word == "show":
+        found = ["diagnostics", "layout", "lines"] if count == 2 else names if words[1] == "layout" else []
+    elif word in ("log", "save") and count == 2:
+        found = files_at(begun)
+    elif word in EDITS and word not in SETTING and count == 2:
+        found = names
+    elif word == "change-signal":
+        begun = line.split(" ", 2)[2]
+        found = of_message(shell, words[1], statements_of)
+    elif word in EDITS and word not in SETTING and count == 3:
+        found = of_message(shell, words[1], lambda _, message: message.signals)
+    return begun, [it for it in found if it.startswith(begun)]
+
+
+def of_message(shell, word, find):
+    try:
+        return find(shell, shell.message(word))
+    except tools.Fault:
+        return []
