@@ -37,7 +37,8 @@ pub(crate) fn compiled_with<L: Lookup>(
     ensures made { Raised 1 0 meter.old meter.new }
 {
     let plan = plan_with(alloc, lookup, message, meter)?;
-    let picture = picture_with(alloc, lookup, message, meter)?;
+    let mut picture = picture_with(alloc, lookup, message, meter)?;
+    picture.shrink_to_fit();
     let compiled = Rc::new(alloc, Compiled { plan, picture })?;
     Ok(compiled)
 }
