@@ -9,11 +9,12 @@ use crate::list::{Checked, Copied};
 use crate::memory::Memory;
 use std::alloc::Global;
 use std::marker::Model;
+use std::rc::Rc;
 
-/// A name: a C identifier that is no keyword of the format. `VERSION` is a name.
+/// A name: a C identifier that is no keyword of the format. `VERSION` is a name. Copies share the bytes.
 #[derive(Drop)]
 pub struct Name {
-    bytes: Vec<u8>,
+    bytes: Rc<Vec<u8>>,
 }
 
 impl Model for Name {
@@ -22,9 +23,9 @@ impl Model for Name {
 
     ghost Value = { List ℕ };
 
-    ghost view = { λ name. name.bytes.items };
+    ghost view = { λ name. name.bytes.value.items };
 
-    ghost invariant = { λ name. IsTrue (is_name name.bytes.items) };
+    ghost invariant = { λ name. IsTrue (is_name name.bytes.value.items) };
 }
 
 /// Whether the byte is an ASCII letter or an underscore.
@@ -135,7 +136,7 @@ impl Name {
         if !is_name(bytes) {
             return Ok(None);
         }
-        let bytes = Vec::from_slice(alloc, bytes)?;
+        let bytes = Rc::new(alloc, Vec::from_slice(alloc, bytes)?)?;
         Ok(Some(Name { bytes }))
     }
 
@@ -144,7 +145,7 @@ impl Name {
         ensures value { result.now ≡ self.now }
         ensures valid { IsTrue (is_name self.now) }
     {
-        self.bytes.as_slice()
+        self.bytes.as_ref().as_slice()
     }
 }
 
@@ -154,7 +155,7 @@ impl Checked for Name {
 
 impl Copied for Name {
     fn copy(&self) -> Result<Name, Memory> {
-        let bytes = Vec::from_slice(*self.bytes.allocator(), self.bytes.as_slice())?;
+        let bytes = self.bytes.clone()?;
         Ok(Name { bytes })
     }
 }
