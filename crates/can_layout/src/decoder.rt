@@ -1,13 +1,13 @@
 //! How the values of a signal are read.
 ghost use Rattle.std.specs.Prelude.{◌≡◌, ◌≤◌, ◌^◌, ◌+ℤ◌, ◌*ℤ◌, unsigned_abs, length, IfOk, IfSome, option_map};
-ghost use Rattle.can_bits.specs.Bits.{raw_value};
+ghost use Rattle.can_bits.specs.Bits.{bits_of, field_of, raw_value};
 ghost use Rattle.can_layout.specs.Decoders.{unit_text, first_entry, name_of};
 
 use crate::entries::{Places, entry_of, places_of_many};
 use crate::naming::{ready_names, ready_unit};
-use can_bits::Steps;
-use dbc_records::Entry;
-use dbc_values::{List, Memory, Scale, Text};
+use can_bits::{Field, Steps};
+use dbc_records::{Entry, Signal};
+use dbc_values::{Copied, List, Memory, Scale, Text};
 use ready_texts::ReadyText;
 use std::alloc::Global;
 use std::marker::Model;
@@ -53,30 +53,30 @@ impl Model for Decoder {
 }
 
 impl Decoder {
-    /// How the values of a signal are read that has these bits and entries. The scale is one for as many bits.
-    pub(crate) fn new(
+    /// How the values of a signal are read, by a scale for as many bits and by entries.
+    pub(crate) fn of(
         alloc: Global,
-        bits: Steps,
-        signed: bool,
+        signal: &Signal,
         scale: Scale,
-        unit: Text,
         entries: List<Entry>,
     ) -> Result<Decoder, Memory>
-        requires { scale.length ≡ length bits }
+        requires { scale.length ≡ signal.now.length }
         ensures { IfOk result (λ decoder. decoder ≡ record {
-          bits = bits;
-          signed = signed;
+          bits = bits_of (field_of signal.now);
+          signed = signal.now.signed;
           scale = scale;
-          unit = unit;
+          unit = signal.now.unit;
           entries = entries;
         }) }
     {
+        let bits = Steps::of(alloc, Field::of(signal));
+        let unit = signal.unit.copy()?;
         let unit_text = ready_unit(alloc, unit.as_bytes())?;
         let names = ready_names(alloc, entries.as_slice())?;
         let places = places_of_many(alloc, entries.as_slice())?;
         Ok(Decoder {
             bits,
-            signed,
+            signed: signal.signed,
             scale,
             unit,
             entries,

@@ -19,7 +19,7 @@ use crate::rows::MessageRows;
 use crate::switch_chain::Chain;
 use crate::switches::aboves_of;
 use crate::walk::above_at;
-use can_bits::{Field, Steps};
+use can_bits::Field;
 use can_rows::Lookup;
 use dbc_records::{Entry, Message, Signal};
 use dbc_values::{Copied, List, Memory, Scale};
@@ -81,10 +81,8 @@ fn reading_of<L: Lookup>(
     let Some(scale) = Scale::of(&signal.factor, &signal.offset, signal.length) else {
         return Ok(Reading::Refused(crate::refusal::Cause::Scale));
     };
-    let unit = signal.unit.copy()?;
     let entries = entries_of(alloc, rows, signal)?;
-    let bits = Steps::of(alloc, Field::of(signal));
-    let decoder = Decoder::new(alloc, bits, signal.signed, scale, unit, entries)?;
+    let decoder = Decoder::of(alloc, signal, scale, entries)?;
     Ok(Reading::Read(decoder))
 }
 
