@@ -3,7 +3,9 @@ ghost use Rattle.std.specs.Prelude.{◌<◌, IsSome, IsTrue, length};
 ghost use Rattle.can_layout.specs.Plans.{signal_at};
 
 use crate::reading::database;
-use can_layout::{Meter, Walk, chain, make_plan, make_plans, picture, pictures};
+use can_layout::{
+    Chain, Meter, Plan, Presence, Walk, chain, make_plan, make_plans, picture, pictures,
+};
 use dbc_records::Database;
 use dbc_values::Memory;
 use std::alloc::Global;
@@ -95,5 +97,64 @@ fn is_chained(alloc: Global) -> Result<bool, Fail> {
 #[test]
 fn a_way_up(rt: HostRuntime) -> Result<(), Fail> {
     assert!(rt; is_chained(rt.alloc())?);
+    Ok(())
+}
+
+// A signal below a switch below a switch, with many numbers of its own one.
+const DEEP: &[u8] = b"\
+BO_ 5 A: 3 N
+ SG_ S m0 : 16|8@1+ (1,0) [0|0] \"\"
+ SG_ T m1M : 8|8@1+ (1,0) [0|0] \"\"
+ SG_ U M : 0|8@1+ (1,0) [0|0] \"\"
+SG_MUL_VAL_ 5 S T 9-9, 1-5, 2-3, 20-20, 22-22, 24-24, 26-26, 28-28, 30-30, 32-32, 34-34, 36-36, 38-38, 40-40, 42-42, 44-44, 46-46;
+SG_MUL_VAL_ 5 T U 1-1;
+";
+
+// Whether the first signal of a plan is there in data, by the plan and as it is looked for.
+fn is_first_there(alloc: Global, plan: &Plan, bytes: &[u8]) -> Result<bool, Memory>
+    requires { 0 < length plan.now.rows }
+{
+    let presence = Presence::of(alloc, plan, bytes)?;
+    Ok(plan.present(0, bytes) && presence.has(0))
+}
+
+// Whether the chain leads by way of places 1 and 2, and the first link has the number 4 and not 6.
+fn leads_up(chain: &Chain) -> bool {
+    let (Some(own), Some(next)) = (chain.link(0), chain.link(1)) else {
+        return false;
+    };
+    own.switch == 1
+        && next.switch == 2
+        && own.ranges().len() == 17
+        && own.has(4)
+        && !own.has(6)
+        && chain.link(2).is_none()
+}
+
+fn is_deep(alloc: Global, plan: &Plan) -> Result<bool, Memory> {
+    if plan.signals() == 0 {
+        return Ok(false);
+    }
+    let leads = match &plan.row(0).chain {
+        Some(chain) => leads_up(chain),
+        None => false,
+    };
+    Ok(
+        leads
+            && is_first_there(alloc, plan, &[1, 4, 0])?
+            && !is_first_there(alloc, plan, &[1, 6, 0])?
+            && !is_first_there(alloc, plan, &[2, 4, 0])?,
+    )
+}
+
+fn is_found_upwards(alloc: Global) -> Result<bool, Fail> {
+    let database = database(alloc, DEEP)?;
+    let plan = make_plan(alloc, &database, 0, &mut Meter::new())?;
+    Ok(is_deep(alloc, &plan)?)
+}
+
+#[test]
+fn switches_under_switches(rt: HostRuntime) -> Result<(), Fail> {
+    assert!(rt; is_found_upwards(rt.alloc())?);
     Ok(())
 }
