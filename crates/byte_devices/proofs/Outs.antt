@@ -7,7 +7,7 @@ use Rattle.std.specs.Result.{IsErr}
 use Rattle.std.proofs.lemmas.List.{take_more}
 use Rattle.std.proofs.lemmas.List.Concat.{flat_map-append}
 use Rattle.std.proofs.lemmas.Result.{MatchResult-from_err}
-use Rattle.byte_devices.specs.Device.{Written, Wrote, Broke, Prints, Passes}
+use Rattle.byte_devices.specs.Device.{Written, Wrote, Broke, Prints}
 use Rattle.byte_devices.specs.declared.sending.Out.{Out}
 use Rattle.byte_devices.specs.Outs.{Took, Lost, Sends}
 use Rattle.byte_devices.proofs.Writes.{Broke-more, Broke-behind, Broke-flush, Passes-nil, Passes-then, Passes-flush}

@@ -44,12 +44,20 @@ impl<'w, W: Sink> Out<'w, W> {
     }
 
     /// Sends these bytes: they wait, and what there is no room for is put to the sink.
+    #[inline(always)]
     pub fn send(&mut self, bytes: &[u8]) -> Result<(), WriteFault>
         ensures { Sends W.written self.old self.new result bytes.now }
     {
         if self.held.try_extend_from_slice(bytes).is_ok() {
             return Ok(());
         }
+        self.make_room(bytes)
+    }
+
+    // Puts what waits, and then sends these bytes, which are put too where there is no room for them at all.
+    fn make_room(&mut self, bytes: &[u8]) -> Result<(), WriteFault>
+        ensures { Sends W.written self.old self.new result bytes.now }
+    {
         self.flush()?;
         if self.held.try_extend_from_slice(bytes).is_err() {
             put_all(self.sink, bytes)?;

@@ -14,8 +14,8 @@ use std::marker::Model;
 /// The bits of a signal of at most 64 bits, by the bytes that hold them. They lie in nine bytes at most.
 #[derive(Drop)]
 pub struct Steps {
-    field: Field,
     window: Option<Window>,
+    field: Field,
     steps: SmallVec<Step, 9>,
 }
 

@@ -79,7 +79,8 @@ fn push_parted(text: &mut Vec<u8>, digits: &Digits, places: usize) -> Result<(),
 fn push_fixed_word(text: &mut Vec<u8>, number: u64, places: u8) -> Result<(), Memory>
     ensures { OnOk result (text.new.items ≡ text.old.items ++ fixed_text (record { digits = number; places = places })) }
 {
-    let digits = Digits::of(number);
+    let mut digits = Digits::none();
+    digits.write(number);
     let behind = places as usize;
     if places == 0 {
         digits.push_first(text, digits.len())

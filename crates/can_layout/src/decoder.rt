@@ -15,20 +15,20 @@ use std::marker::Model;
 /// How the values of a signal are read.
 #[derive(Drop)]
 pub struct Decoder {
-    /// Where its bits are, and what they count.
-    pub bits: Steps,
+    // The names of the first raw values. This and what follows up to the bits is read for each line, and stands together.
+    names: Vec<Option<ReadyText>>,
     /// Whether raw values are two's complement.
     pub signed: bool,
     /// What turns a raw value into a value.
     pub scale: Scale,
+    // What is written of the unit.
+    unit_text: ReadyText,
+    /// Where its bits are, and what they count.
+    pub bits: Steps,
     /// The unit of values, or the empty text.
     pub unit: Text,
     /// The named values, by their raw value.
     pub entries: List<Entry>,
-    // What is written of the unit.
-    unit_text: ReadyText,
-    // The names of the first raw values.
-    names: Vec<Option<ReadyText>>,
     // Where the entries are many, their places by their numbers.
     places: Option<Places>,
 }

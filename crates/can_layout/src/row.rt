@@ -20,14 +20,14 @@ pub enum Reading {
 /// A signal of a plan.
 #[derive(Drop)]
 pub struct Row {
-    /// The signal's name.
-    pub name: Name,
-    /// Where its bits lie, also where it can't be decoded.
-    pub field: Field,
     /// The switches above it, from its own up, where the way up is a chain.
     pub chain: Option<Chain>,
     /// How it is read.
     pub reading: Reading,
+    /// The signal's name.
+    pub name: Name,
+    /// Where its bits lie, also where it can't be decoded.
+    pub field: Field,
 }
 
 impl Checked for Row {

@@ -37,6 +37,9 @@ struct Digits {
 /// One more than the greatest number of 36 digits.
 const DIGITS_LIMIT: u128 = 1_000_000_000_000_000_000_000_000_000_000_000_000;
 
+/// One more than the greatest number of 18 digits: ten times such a number and a digit are a number of one word.
+const WORD_LIMIT: u128 = 1_000_000_000_000_000_000;
+
 /// One more than the greatest number of 38 digits.
 pub const LIMIT: u128 = 100_000_000_000_000_000_000_000_000_000_000_000_000;
 
@@ -166,6 +169,9 @@ fn appended(digits: u128, zeros: u128, digit: u8) -> Option<u128>
     requires { digit < 10 }
     ensures { result ≡ at_most_36_digits (digits * 10 ^ zeros + digit) }
 {
+    if zeros == 1 && digits < WORD_LIMIT {
+        return Some(u128::from(digits as u64 * 10 + u64::from(digit)));
+    }
     let sum = with_zeros(digits, zeros)? + u128::from(digit);
     if sum < DIGITS_LIMIT { Some(sum) } else { None }
 }

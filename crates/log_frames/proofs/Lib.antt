@@ -1,4 +1,5 @@
 mod Words
+pub mod Digits
 mod Runs
 mod LineWords
 mod Stamps

@@ -23,6 +23,7 @@ fn is_log_blank(b: u8) -> bool
 }
 
 // Whether one of sixteen bytes is a blank. All of them are looked at, which is faster than to stop at the first.
+#[inline(always)]
 fn has_blank(bytes: &[u8; 16]) -> bool
     ensures { result ≡ list_any is_log_blank bytes.now }
 {
@@ -34,6 +35,7 @@ fn has_blank(bytes: &[u8; 16]) -> bool
 }
 
 // How many bytes stand before the first blank, byte by byte.
+#[inline(always)]
 fn short_word_len(bytes: &[u8]) -> usize
     ensures value { result ≡ prefix_len (λ b. not (is_log_blank b)) bytes.now }
     ensures in_range { result ≤ length bytes.now }
@@ -42,6 +44,7 @@ fn short_word_len(bytes: &[u8]) -> usize
 }
 
 // How many bytes stand before the first blank.
+#[inline(always)]
 fn word_len(bytes: &[u8]) -> usize
     ensures value { result ≡ prefix_len (λ b. not (is_log_blank b)) bytes.now }
     ensures in_range { result ≤ length bytes.now }
@@ -57,6 +60,7 @@ fn word_len(bytes: &[u8]) -> usize
 }
 
 // How many blanks stand at the front.
+#[inline(always)]
 fn blanks_len(bytes: &[u8]) -> usize
     ensures value { result ≡ prefix_len is_log_blank bytes.now }
     ensures in_range { result ≤ length bytes.now }
@@ -65,6 +69,7 @@ fn blanks_len(bytes: &[u8]) -> usize
 }
 
 // The first word, and what stands behind it and its blanks.
+#[inline(always)]
 fn split_word(bytes: &[u8]) -> (&[u8], &[u8])
     ensures word { result.0.now ≡ first_word bytes.now }
     ensures behind { result.1.now ≡ behind_first_word bytes.now }

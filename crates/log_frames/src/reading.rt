@@ -1,8 +1,8 @@
 //! Reading of a line's frame: first where its identifier and the digits of its bytes stand, and then the bytes.
-ghost use Rattle.std.specs.Prelude.{◌≡◌, ◌≤◌, length, option_map, option_and_then, not, IfSome, ◌==◌};
+ghost use Rattle.std.specs.Prelude.{◌≡◌, ℕ, ◌*◌, ◌<◌, ◌≤◌, true, Some, Ok, length, option_map, option_and_then, not, IfSome, ◌==◌};
 ghost use Rattle.std.specs.List.{prefix_len};
 ghost use Rattle.std.specs.Result.{result_ok};
-ghost use Rattle.hex.specs.Hex.{decode_of};
+ghost use Rattle.hex.specs.Hex.{decode_of, hex_digit_value, pair_value};
 ghost use Rattle.log_frames.specs.LogLines.{body_of};
 ghost use Rattle.log_frames.specs.Frames.{frame_of, frame_of_word, frame_of_parts, number_sign};
 ghost use Rattle.log_frames.specs.Seen.{identifier_view, form_view, IsIdentifier};
@@ -21,8 +21,83 @@ fn identifier_len(word: &[u8]) -> usize
     word.iter().take_while(|b| **b != b'#').count()
 }
 
-// The bytes that at most 128 digits spell.
-fn bytes_of(digits: &[u8]) -> Option<ArrayVec<u8, 64>>
+// The value of each byte as a hexadecimal digit, or 255, as `hex` reads it.
+static VALUES: [u8; 256] = [
+    255, 255, 255, 255, 255, 255, 255, 255, 255, 255, 255, 255, 255, 255, 255, 255, 255, 255, 255,
+    255, 255, 255, 255, 255, 255, 255, 255, 255, 255, 255, 255, 255, 255, 255, 255, 255, 255, 255,
+    255, 255, 255, 255, 255, 255, 255, 255, 255, 255, 0, 1, 2, 3, 4, 5, 6, 7, 8, 9, 255, 255, 255,
+    255, 255, 255, 255, 10, 11, 12, 13, 14, 15, 255, 255, 255, 255, 255, 255, 255, 255, 255, 255,
+    255, 255, 255, 255, 255, 255, 255, 255, 255, 255, 255, 255, 255, 255, 255, 255, 10, 11, 12, 13,
+    14, 15, 255, 255, 255, 255, 255, 255, 255, 255, 255, 255, 255, 255, 255, 255, 255, 255, 255,
+    255, 255, 255, 255, 255, 255, 255, 255, 255, 255, 255, 255, 255, 255, 255, 255, 255, 255, 255,
+    255, 255, 255, 255, 255, 255, 255, 255, 255, 255, 255, 255, 255, 255, 255, 255, 255, 255, 255,
+    255, 255, 255, 255, 255, 255, 255, 255, 255, 255, 255, 255, 255, 255, 255, 255, 255, 255, 255,
+    255, 255, 255, 255, 255, 255, 255, 255, 255, 255, 255, 255, 255, 255, 255, 255, 255, 255, 255,
+    255, 255, 255, 255, 255, 255, 255, 255, 255, 255, 255, 255, 255, 255, 255, 255, 255, 255, 255,
+    255, 255, 255, 255, 255, 255, 255, 255, 255, 255, 255, 255, 255, 255, 255, 255, 255, 255, 255,
+    255, 255, 255, 255, 255, 255, 255, 255, 255, 255, 255, 255, 255, 255, 255, 255, 255, 255, 255,
+    255, 255, 255,
+];
+
+// The value of a digit.
+#[inline(always)]
+fn digit_value(digit: u8) -> Option<u8>
+    ensures value { IfSome result (λ value. hex_digit_value digit ≡ Some value) }
+    ensures small { IfSome result (λ value. value < 16) }
+{
+    let value = VALUES[digit as usize];
+    if value < 16 { Some(value) } else { None }
+}
+
+// The byte that two digits spell.
+#[inline(always)]
+fn pair_of(high: u8, low: u8) -> Option<u8>
+    ensures { IfSome result (λ byte. (index : ℕ) → pair_value high low index ≡ Ok byte) }
+{
+    let Some(above) = digit_value(high) else {
+        return None;
+    };
+    let Some(below) = digit_value(low) else {
+        return None;
+    };
+    Some(above * 16 + below)
+}
+
+// The bytes that sixteen digits spell, as most frames have them, where each of them is a digit.
+#[inline(always)]
+fn eight_bytes(digits: &[u8; 16]) -> Option<[u8; 8]>
+    ensures { IfSome result (λ bytes. decode_of digits.now ≡ Ok bytes) }
+{
+    let mut out = [0u8; 8];
+    'bytes: for i in 0..8usize {
+        let Some(byte) = pair_of(digits[2 * i], digits[2 * i + 1]) else {
+            return None;
+        };
+        out[i] = byte;
+    }
+    Some(out)
+}
+
+// The same, as the bytes of a frame.
+#[inline(always)]
+fn usual_bytes(digits: &[u8]) -> Option<ArrayVec<u8, 64>>
+    ensures { IfSome result (λ bytes. decode_of digits.now ≡ Ok bytes.items) }
+{
+    let Ok(sixteen) = <&[u8; 16]>::try_from(digits) else {
+        return None;
+    };
+    let Some(eight) = eight_bytes(sixteen) else {
+        return None;
+    };
+    let mut bytes = ArrayVec::new();
+    match bytes.try_extend_from_slice(eight.as_slice()) {
+        Ok(()) => Some(bytes),
+        Err(_) => None,
+    }
+}
+
+// The bytes that at most 128 digits spell, where they are not sixteen.
+fn other_bytes(digits: &[u8]) -> Option<ArrayVec<u8, 64>>
     requires { length digits.now ≤ 128 }
     ensures { option_map (λ bytes. bytes.items) result ≡ result_ok (decode_of digits.now) }
 {
@@ -30,6 +105,18 @@ fn bytes_of(digits: &[u8]) -> Option<ArrayVec<u8, 64>>
     bytes.truncate(digits.len() / 2);
     hex::decode_to_slice(digits, bytes.as_mut_slice()).ok()?;
     Some(bytes)
+}
+
+// The bytes that at most 128 digits spell.
+#[inline(always)]
+fn bytes_of(digits: &[u8]) -> Option<ArrayVec<u8, 64>>
+    requires { length digits.now ≤ 128 }
+    ensures { option_map (λ bytes. bytes.items) result ≡ result_ok (decode_of digits.now) }
+{
+    match usual_bytes(digits) {
+        Some(bytes) => Some(bytes),
+        None => other_bytes(digits),
+    }
 }
 
 fn frame_of_parts(identifier: Identifier, form: Form<'_>) -> Option<Frame>

@@ -1,5 +1,5 @@
 //! The digits of numbers of one word.
-ghost use Rattle.std.specs.Prelude.{◌≡◌, ◌+◌, ◌≤◌, ◌++◌, OnOk, length, take, drop, decimal};
+ghost use Rattle.std.specs.Prelude.{◌≡◌, [], ◌+◌, ◌≤◌, ◌++◌, OnOk, length, take, drop, decimal};
 
 use crate::ready::push_front;
 use dbc_values::Memory;
@@ -29,14 +29,24 @@ impl Model for Digits {
 }
 
 impl Digits {
-    /// The digits of a number.
-    #[tactic(auto, using(crate::proofs::Parts::digits_in_room))]
-    pub fn of(number: u64) -> Digits
-        ensures { result ≡ decimal number }
+    /// No digits yet.
+    pub fn none() -> Digits
+        ensures { result ≡ [] }
     {
-        let mut room = [0; 52];
-        let start = write_digits(number, &mut room, END);
-        Digits { room, start }
+        Digits {
+            room: [0; 52],
+            start: END,
+        }
+    }
+
+    /// Takes the digits of a number in the place of those before. They are written where they stay, since to move them right
+    /// after would wait for each write.
+    #[tactic(auto, using(crate::proofs::Parts::digits_in_room))]
+    #[inline(always)]
+    pub fn write(&mut self, number: u64)
+        ensures { self.new ≡ decimal number }
+    {
+        self.start = write_digits(number, &mut self.room, END);
     }
 
     /// How many digits there are.
@@ -66,6 +76,7 @@ impl Digits {
     }
 
     /// Appends the first digits.
+    #[inline(always)]
     pub fn push_first(&self, text: &mut Vec<u8>, count: usize) -> Result<(), Memory>
         requires { count ≤ length self.now }
         ensures { OnOk result (text.new.items ≡ text.old.items ++ take count self.now) }
@@ -74,6 +85,7 @@ impl Digits {
     }
 
     /// Appends the digits behind the first.
+    #[inline(always)]
     pub fn push_behind(&self, text: &mut Vec<u8>, count: usize) -> Result<(), Memory>
         requires { count ≤ length self.now }
         ensures { OnOk result (text.new.items ≡ text.old.items ++ drop count self.now) }
