@@ -52,6 +52,14 @@ Standard output has a reply to each: what was asked for and `ok`, or why the com
 shown as it is by the database as it is then. With `--short`, what is there of frames that are shorter than their
 message is shown too. With `--keep N` the last N lines are retained, and the oldest goes for a new one.
 
+Commands, where P is the place of a message and Q that of a signal in it, from 0, and N is a message's number:
+  log LINE                show lines            show diagnostics                   show layout P
+  print
+  add-message P BO_ ..    remove-message P      change-message P NAME SIZE SENDER  renumber P N
+  add-signal P Q SG_ ..   remove-signal P NAME  change-signal P SG_ ..             rename-signal P OLD NEW
+  set-mux SG_MUL_VAL_ ..  set-values VAL_ ..    set-attribute BA_ .. BO_ ..        set-table VAL_TABLE_ ..
+  drop-mux N NAME         drop-values N NAME    drop-attribute N \"NAME\"            drop-table NAME
+
 Example:
   $ printf 'log (1.5) can0 123#0A01\\nremove-signal 0 Speed\\nshow lines\\n' > wheel.script
   $ candesk session examples/wheel.dbc < wheel.script
