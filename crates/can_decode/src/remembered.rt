@@ -1,9 +1,10 @@
 //! What numbers went to before.
-ghost use Rattle.std.specs.Prelude.{◌≡◌, ◌<◌};
+ghost use Rattle.std.specs.Prelude.{◌≡◌, ◌<◌, All};
 ghost use Rattle.can_decode.specs.Choices.{choice_of};
 ghost use Rattle.can_decode.specs.Remembering.{IsRemembered};
 
 use crate::choosing::{Choice, Choose};
+use std::alloc::Global;
 use std::marker::Model;
 
 // Every number of 11 bits has a place of its own.
@@ -16,11 +17,12 @@ struct Entry {
     choice: Option<Choice>,
 }
 
-/// Finds what numbers go to, and remembers it in a table of fixed size: a number takes the place of another one.
+/// Finds what numbers go to, and remembers it in a table of fixed size: a number takes the place of another one. Where there is no
+/// memory for the table, each number is found anew.
 #[derive(Drop)]
 pub(crate) struct Remembered<C: Choose> {
     chooser: C,
-    entries: [Entry; REMEMBERED],
+    entries: Vec<Entry>,
 }
 
 impl<C: Choose> Model for Remembered<C> {
@@ -32,7 +34,7 @@ impl<C: Choose> Model for Remembered<C> {
 
     ghost view = { λ a. C.whole a.chooser };
 
-    ghost invariant = { λ a. All (IsRemembered (C.whole a.chooser)) a.entries };
+    ghost invariant = { λ a. All (IsRemembered (C.whole a.chooser)) a.entries.items };
 }
 
 // The place in the table for a number. Those of 29 bits are spread over it.
@@ -56,16 +58,24 @@ fn entry_of<C: Choose>(chooser: &mut C, number: u32) -> Entry
     Entry { number, choice }
 }
 
+// A table that has one entry at each place, or none where there is no memory for it.
+fn table_of(alloc: Global, entry: Entry) -> Vec<Entry>
+    ensures { All (λ other. other ≡ entry) result.items }
+{
+    match vec![in alloc; entry; REMEMBERED] {
+        Ok(entries) => entries,
+        Err(_) => Vec::new(alloc),
+    }
+}
+
 impl<C: Choose> Remembered<C> {
     /// One that has found only what the number 0 goes to.
-    pub(crate) fn new(mut chooser: C) -> Self
+    pub(crate) fn new(alloc: Global, mut chooser: C) -> Self
         ensures { result ≡ C.whole chooser }
     {
         let entry = entry_of(&mut chooser, 0);
-        Remembered {
-            chooser,
-            entries: [entry; REMEMBERED],
-        }
+        let entries = table_of(alloc, entry);
+        Remembered { chooser, entries }
     }
 }
 
@@ -74,6 +84,9 @@ impl<C: Choose> Choose for Remembered<C> {
 
     fn choice(&mut self, number: u32) -> Option<Choice> {
         let slot = slot_of(number);
+        if slot >= self.entries.len() {
+            return self.chooser.choice(number);
+        }
         let remembered = self.entries[slot];
         if remembered.number == number {
             return remembered.choice;

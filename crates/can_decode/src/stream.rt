@@ -48,14 +48,14 @@ impl<'a, C: Choose> LineText for Decoded<'a, C> {
 }
 
 // The same, and what numbers went to is remembered.
-fn remembering<'a, C: Choose>(finder: Finder<'a, C>) -> Finder<'a, Remembered<C>>
+fn remembering<'a, C: Choose>(alloc: Global, finder: Finder<'a, C>) -> Finder<'a, Remembered<C>>
     ensures { result ≡ finder.entry }
 {
     Finder {
         database: finder.database,
         plans: finder.plans,
         short: finder.short,
-        chooser: Remembered::new(finder.chooser),
+        chooser: Remembered::new(alloc, finder.chooser),
     }
 }
 
@@ -81,7 +81,7 @@ fn stream_by<'a, C: Choose, R: Source, W: Sink>(
         × (meter.new ≡ counted result lines meter.old) }
 {
     let mut decoded = Decoded {
-        finder: remembering(finder),
+        finder: remembering(alloc, finder),
         meter: Meter::new(),
     };
     swap(&mut decoded.meter, meter);
