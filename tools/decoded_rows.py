@@ -2,7 +2,7 @@
 
 A unit and a named value are free texts: they may hold `, X: 1)` or ` :: `, so a decoded line can't be cut by what stands in it.
 `Exact` has the program decode the log by two copies of the database's canonical text. In both each unit is spelled in hexadecimal
-digits. The messages are called N0, N1, .. in the one, which names no values, and T0, T1, .. in the other, in which each named value
+digits. The messages are called N0, N1, .. in the one, which names no values, and V0, V1, .. in the other, in which each named value
 is an `n` and the hexadecimal digits of its name. So
 
 - a line is the same in both where it shows no message, whatever stands in it: what is written of a message differs in its name;
@@ -28,9 +28,9 @@ import candesk_tools as tools
 Row = collections.namedtuple("Row", "time interface identifier place readings")
 Reading = collections.namedtuple("Reading", "signal value unit name")
 
-NUMBERS, NAMES = b"N", b"T"
+NUMBERS, NAMES = b"N", b"V"
 BEHIND = b" :: "
-SHOWN = re.compile(rb"[NT](\d+)(?:\[[^\]]*\])?\((.*)\)")
+SHOWN = re.compile(rb"[NV](\d+)(?:\[[^\]]*\])?\((.*)\)")
 BLANKS = re.compile(rb"[ \t]+")
 FRAME = re.compile(rb"\(([^)]*)\)[ \t]+([^ \t]+)[ \t]+([^ \t#]+)#")
 PLAIN = re.compile(rb"(\(\d+\.\d{1,9}\)[ \t]+[^ \t]+[ \t]+[^ \t#]+#\S*) :: (\w+)(?:\[[^\]]*\])?\((.*)\)")
