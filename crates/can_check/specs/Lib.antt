@@ -1,3 +1,4 @@
-pub mod SignalRules
-pub mod MessageFaults
 pub mod AllFaults
+pub mod MessageFaults
+pub mod Reports
+pub mod SignalRules

@@ -103,9 +103,13 @@ repeated_values rows m = flat_map (repeated_in rows m.head) m.signals
 
 -- ---- all of it
 
--- codes 5 to 9
-unfoldable pub layout_faults : SignalRows → Message → List Walk → List Diagnostic
-layout_faults rows m walks = outside m ++ (overlaps m walks ++ (no_switch m walks ++ (bad_mux_row rows m ++ switch_loop m walks)))
+-- codes 1 to 5
+unfoldable pub place_faults : Database → Message → List Diagnostic
+place_faults database m = head_faults database m ++ outside m
+
+-- codes 7 to 9
+unfoldable pub switch_faults : SignalRows → Message → List Walk → List Diagnostic
+switch_faults rows m walks = no_switch m walks ++ (bad_mux_row rows m ++ switch_loop m walks)
 
 -- codes 10 to 12
 unfoldable pub reading_faults : SignalRows → Message → List Diagnostic
@@ -115,10 +119,16 @@ reading_faults rows m = floats rows m ++ (long m ++ no_scale m)
 unfoldable pub value_faults : SignalRows → Message → List Diagnostic
 value_faults rows m = values_out_of_range rows m ++ repeated_values rows m
 
-abbrev pub faults_by : Database → SignalRows → Message → List Diagnostic
-faults_by database rows m =
-    head_faults database m ++ (layout_faults rows m (walks_of rows m.signals)
-    ++ (reading_faults rows m ++ (unknown_nodes database m ++ value_faults rows m)))
+-- codes 7 to 15
+unfoldable pub other_faults : Database → SignalRows → Message → List Walk → List Diagnostic
+other_faults database rows m walks =
+    switch_faults rows m walks ++ (reading_faults rows m ++ (unknown_nodes database m ++ value_faults rows m))
+
+abbrev pub faults_by : Database → SignalRows → Message → List Walk → List Diagnostic
+faults_by database rows m walks = place_faults database m ++ (overlaps m walks ++ other_faults database rows m walks)
+
+abbrev pub faults_with : Database → SignalRows → Message → List Diagnostic
+faults_with database rows m = faults_by database rows m (walks_of rows m.signals)
 
 unfoldable pub message_faults : Database → Message → List Diagnostic
-message_faults database m = faults_by database (rows_of m.head.number database) m
+message_faults database m = faults_with database (rows_of m.head.number database) m

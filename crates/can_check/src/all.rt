@@ -1,14 +1,19 @@
 //! All that is doubtful, of one message and of a whole database.
 ghost use Rattle.std.specs.Prelude.{◌≡◌, ◌++◌, ◌<◌, IfOk, OnOk, Some, length, slice_get, option_map};
 ghost use Rattle.std.specs.List.{flat_map};
-ghost use Rattle.can_check.specs.MessageFaults.{reading_faults, faults_by, message_faults, floats, long, no_scale};
+ghost use Rattle.can_references.specs.RowFaults.{row_faults};
+ghost use Rattle.can_check.specs.MessageFaults.{reading_faults, place_faults, other_faults, faults_with, message_faults};
+ghost use Rattle.can_check.specs.MessageFaults.{floats, long, no_scale};
 ghost use Rattle.can_check.specs.AllFaults.{all_faults};
+ghost use Rattle.can_check.specs.Reports.{Takes};
 
-use crate::layout_rules::push_layout_faults;
+use crate::layout_rules::{push_outside, push_switch_faults};
+use crate::overlap_rules::report_overlaps;
+use crate::report::{Report, Stop};
 use crate::signal_rules::{HasNoScale, IsFloat, IsLong, push_where};
 use crate::value_rules::push_value_faults;
 use can_diagnostics::{Code, Diagnostic};
-use can_layout::{Indexed, Lookup, MessageRows, message_walks};
+use can_layout::{Indexed, Lookup, MessageRows, Walk, message_walks};
 use can_overlap::Occupancy;
 use can_references::{Known, push_head_faults, push_row_faults, push_unknown_nodes};
 use dbc_records::{Database, Message};
@@ -31,71 +36,175 @@ fn push_reading_faults<L: Lookup>(
     push_where(found, Code::Scale, head, &HasNoScale, signals)
 }
 
-// Adds the diagnostics of a message, by the rows of its number.
-#[tactic(auto, using(can_references::proofs::Pushing::pushed_then, crate::proofs::Counts::as_many))]
-fn push_by_rows<L: Lookup>(
+// What stands before the overlaps of a message.
+fn place_faults_of<L: Lookup>(
+    alloc: Global,
+    known: &Known<'_, L>,
+    message: &Message,
+) -> Result<Vec<Diagnostic>, Memory>
+    ensures { IfOk result (λ found. found.items ≡ place_faults known.now message.now) }
+{
+    let mut found = Vec::new(alloc);
+    push_place_faults(&mut found, known, message)?;
+    Ok(found)
+}
+
+#[tactic(auto, using(can_references::proofs::Pushing::pushed_then), unfolding(crate::specs::MessageFaults::place_faults))]
+fn push_place_faults<L: Lookup>(
     found: &mut Vec<Diagnostic>,
     known: &Known<'_, L>,
-    occupancy: &mut Occupancy,
-    rows: &MessageRows<'_, L>,
     message: &Message,
 ) -> Result<(), Memory>
-    ensures { OnOk result (found.new.items ≡ found.old.items ++ faults_by known.now rows.now message.now) }
+    ensures { OnOk result (found.new.items ≡ found.old.items ++ place_faults known.now message.now) }
 {
-    let walks = message_walks(*found.allocator(), rows, message.signals.as_slice())?;
     push_head_faults(found, known, message)?;
-    push_layout_faults(found, occupancy, rows, message, walks.as_slice())?;
+    push_outside(found, message)
+}
+
+// Adds what stands behind the overlaps of a message.
+#[tactic(auto, using(can_references::proofs::Pushing::pushed_then), unfolding(crate::specs::MessageFaults::other_faults))]
+fn push_other_faults<L: Lookup>(
+    found: &mut Vec<Diagnostic>,
+    known: &Known<'_, L>,
+    rows: &MessageRows<'_, L>,
+    message: &Message,
+    walks: &[Walk],
+) -> Result<(), Memory>
+    ensures { OnOk result (found.new.items ≡ found.old.items ++ other_faults known.now rows.now message.now walks.now) }
+{
+    push_switch_faults(found, rows, message, walks)?;
     push_reading_faults(found, rows, message)?;
     push_unknown_nodes(found, known, message)?;
     push_value_faults(found, rows, message)
 }
 
-// Adds the diagnostics of a message.
-#[tactic(auto, unfolding(crate::specs::MessageFaults::message_faults))]
-fn push_message<L: Lookup>(
-    found: &mut Vec<Diagnostic>,
+// Hands on what stands before the overlaps of a message.
+fn report_place_faults<L: Lookup, T: Report>(
+    to: &mut T,
+    alloc: Global,
     known: &Known<'_, L>,
-    occupancy: &mut Occupancy,
     message: &Message,
-) -> Result<(), Memory>
-    ensures { OnOk result (found.new.items ≡ found.old.items ++ message_faults known.now message.now) }
+) -> Result<(), Stop>
+    ensures { Takes T.Took T.Stopped to.old to.new result (place_faults known.now message.now) }
 {
-    let rows = MessageRows::of(known.lookup(), message.head.number);
-    push_by_rows(found, known, occupancy, &rows, message)
+    match place_faults_of(alloc, known, message) {
+        Ok(found) => to.take(found),
+        Err(Memory) => Err(Stop::Memory),
+    }
 }
 
-// Adds the diagnostics of messages, in order.
-fn push_messages<L: Lookup>(
-    found: &mut Vec<Diagnostic>,
+// Hands on what stands behind the overlaps of a message.
+fn report_other_faults<L: Lookup, T: Report>(
+    to: &mut T,
+    known: &Known<'_, L>,
+    rows: &MessageRows<'_, L>,
+    message: &Message,
+    walks: &Vec<Walk>,
+) -> Result<(), Stop>
+    ensures { Takes T.Took T.Stopped to.old to.new result (other_faults known.now rows.now message.now walks.now.items) }
+{
+    let mut found = Vec::new(*walks.allocator());
+    match push_other_faults(&mut found, known, rows, message, walks.as_slice()) {
+        Ok(()) => to.take(found),
+        Err(Memory) => Err(Stop::Memory),
+    }
+}
+
+// Hands on the diagnostics of a message, by the rows of its number. The table for overlaps is empty before and after.
+#[tactic(auto, using(crate::proofs::Counts::as_many))]
+fn report_by_rows<L: Lookup, T: Report>(
+    to: &mut T,
+    known: &Known<'_, L>,
+    occupancy: Occupancy,
+    rows: &MessageRows<'_, L>,
+    message: &Message,
+) -> Result<Occupancy, Stop>
+    ensures { Takes T.Took T.Stopped to.old to.new result (faults_with known.now rows.now message.now) }
+{
+    let alloc = occupancy.allocator();
+    let walks = message_walks(alloc, rows, message.signals.as_slice())?;
+    report_place_faults(to, alloc, known, message)?;
+    let occupancy = report_overlaps(to, occupancy, message, walks.as_slice())?;
+    report_other_faults(to, known, rows, message, &walks)?;
+    Ok(occupancy)
+}
+
+// Hands on the diagnostics of a message.
+#[tactic(auto, unfolding(crate::specs::MessageFaults::message_faults))]
+fn report_message<L: Lookup, T: Report>(
+    to: &mut T,
+    known: &Known<'_, L>,
+    occupancy: Occupancy,
+    message: &Message,
+) -> Result<Occupancy, Stop>
+    ensures { Takes T.Took T.Stopped to.old to.new result (message_faults known.now message.now) }
+{
+    let rows = MessageRows::of(known.lookup(), message.head.number);
+    report_by_rows(to, known, occupancy, &rows, message)
+}
+
+// Hands on the diagnostics of messages, in order.
+fn report_messages<L: Lookup, T: Report>(
+    to: &mut T,
+    alloc: Global,
     known: &Known<'_, L>,
     messages: &[Message],
-) -> Result<(), Memory>
-    ensures { OnOk result (found.new.items ≡ found.old.items ++ flat_map (message_faults known.now) messages.now) }
+) -> Result<(), Stop>
+    ensures { Takes T.Took T.Stopped to.old to.new result (flat_map (message_faults known.now) messages.now) }
 {
-    let mut occupancy = Occupancy::new(*found.allocator());
+    let mut occupancy = Occupancy::new(alloc);
     for message in messages {
-        push_message(found, known, &mut occupancy, message)?;
+        occupancy = report_message(to, known, occupancy, message)?;
     }
     Ok(())
 }
 
-// Adds all diagnostics of what is known.
-#[tactic(auto, using(can_references::proofs::Pushing::pushed_then), unfolding(crate::specs::AllFaults::all_faults))]
-fn push_all<L: Lookup>(found: &mut Vec<Diagnostic>, known: &Known<'_, L>) -> Result<(), Memory>
-    ensures { OnOk result (found.new.items ≡ found.old.items ++ all_faults known.now) }
-{
-    push_messages(found, known, known.database().messages.as_slice())?;
-    push_row_faults(found, known)
-}
-
-// The diagnostics of what is known.
-fn faults_of<L: Lookup>(alloc: Global, known: &Known<'_, L>) -> Result<Vec<Diagnostic>, Memory>
-    ensures { IfOk result (λ found. found.items ≡ all_faults known.now) }
+// Hands on the diagnostics of rows.
+fn report_rows<L: Lookup, T: Report>(
+    to: &mut T,
+    alloc: Global,
+    known: &Known<'_, L>,
+) -> Result<(), Stop>
+    ensures { Takes T.Took T.Stopped to.old to.new result (row_faults known.now) }
 {
     let mut found = Vec::new(alloc);
-    match push_all(&mut found, known) {
-        Ok(()) => Ok(found),
-        Err(Memory) => Err(Memory),
+    match push_row_faults(&mut found, known) {
+        Ok(()) => to.take(found),
+        Err(Memory) => Err(Stop::Memory),
+    }
+}
+
+// Hands on all diagnostics of what is known.
+#[tactic(auto, unfolding(crate::specs::AllFaults::all_faults))]
+fn report_known<L: Lookup, T: Report>(
+    to: &mut T,
+    alloc: Global,
+    known: &Known<'_, L>,
+) -> Result<(), Stop>
+    ensures { Takes T.Took T.Stopped to.old to.new result (all_faults known.now) }
+{
+    report_messages(to, alloc, known, known.database().messages.as_slice())?;
+    report_rows(to, alloc, known)
+}
+
+// Hands on all diagnostics of a database whose rows are found by `lookup`.
+fn report_with<L: Lookup, T: Report>(to: &mut T, alloc: Global, lookup: &L) -> Result<(), Stop>
+    ensures { Takes T.Took T.Stopped to.old to.new result (all_faults (L.whole lookup.now)) }
+{
+    match Known::of(alloc, lookup) {
+        Ok(known) => report_known(to, alloc, &known),
+        Err(Memory) => Err(Stop::Memory),
+    }
+}
+
+/// Hands on all diagnostics of a database, in the order of [`all_faults`], each as soon as it is found: of a message, what stands
+/// before its overlaps, the overlaps of each signal with later ones, and what stands behind them; and those of the rows at once.
+pub fn report_all<T: Report>(alloc: Global, database: &Database, to: &mut T) -> Result<(), Stop>
+    ensures { Takes T.Took T.Stopped to.old to.new result (all_faults database.now) }
+{
+    match Indexed::of(alloc, database) {
+        Ok(indexed) => report_with(to, alloc, &indexed),
+        Err(Memory) => Err(Stop::Memory),
     }
 }
 
@@ -103,9 +212,10 @@ fn faults_of<L: Lookup>(alloc: Global, known: &Known<'_, L>) -> Result<Vec<Diagn
 pub fn all_faults_with<L: Lookup>(alloc: Global, lookup: &L) -> Result<Vec<Diagnostic>, Memory>
     ensures { IfOk result (λ found. found.items ≡ all_faults (L.whole lookup.now)) }
 {
-    match Known::of(alloc, lookup) {
-        Ok(known) => faults_of(alloc, &known),
-        Err(Memory) => Err(Memory),
+    let mut found = Vec::new(alloc);
+    match report_with(&mut found, alloc, lookup) {
+        Ok(()) => Ok(found),
+        Err(_) => Err(Memory),
     }
 }
 
@@ -128,11 +238,10 @@ fn faults_in<L: Lookup>(
 ) -> Result<Vec<Diagnostic>, Memory>
     ensures { IfOk result (λ found. found.items ≡ message_faults known.now message.now) }
 {
-    let mut occupancy = Occupancy::new(alloc);
     let mut found = Vec::new(alloc);
-    match push_message(&mut found, known, &mut occupancy, message) {
-        Ok(()) => Ok(found),
-        Err(Memory) => Err(Memory),
+    match report_message(&mut found, known, Occupancy::new(alloc), message) {
+        Ok(_) => Ok(found),
+        Err(_) => Err(Memory),
     }
 }
 

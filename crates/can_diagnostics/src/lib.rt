@@ -16,4 +16,4 @@ pub use code::Code;
 pub use diagnostic::Diagnostic;
 pub use row_key::RowKey;
 pub use subject::Subject;
-pub use writing::{hold_diagnostic, write_diagnostic, write_lines};
+pub use writing::{hold_diagnostic, hold_lines, write_diagnostic, write_lines};

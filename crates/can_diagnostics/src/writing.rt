@@ -109,7 +109,8 @@ fn hold_line<W: Sink>(out: &mut Out<'_, W>, diagnostic: &Diagnostic) -> Result<(
     out.send(b"\n")
 }
 
-fn hold_lines<W: Sink>(out: &mut Out<'_, W>, found: &[Diagnostic]) -> Result<(), WriteFault>
+/// Holds the line of each and an LF, for a sink.
+pub fn hold_lines<W: Sink>(out: &mut Out<'_, W>, found: &[Diagnostic]) -> Result<(), WriteFault>
     ensures { Sends W.written out.old out.new result (flat_map (λ diagnostic. line_text diagnostic ++ codes "\n") found.now) }
 {
     for diagnostic in found {

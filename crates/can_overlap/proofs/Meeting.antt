@@ -1,9 +1,11 @@
 -- What a signal and the later ones give, by whether they share a position.
-use Rattle.std.proofs.Common.{append-nil, ◌≡◌, ℕ, suc, ◌+◌, ◌<◌, ◌≤◌, Bool, true, false, ◌&&◌, ltb, List, [], ◌∷◌, ◌++◌, length}
-use Rattle.std.proofs.Common.{get_or, take, take_all, drop, drop-cons, append_assoc, arith, refl, ap, ◌∙◌, sym}
+use Rattle.std.proofs.Common.{append-nil, ◌≡◌, ℕ, zero, suc, ◌+◌, ◌<◌, ◌≤◌, Bool, true, false, ◌&&◌, ltb}
+use Rattle.std.proofs.Common.{List, [], ◌∷◌, ◌++◌, length}
+use Rattle.std.proofs.Common.{get_or, take, take_all, drop, drop-cons, arith, refl, ap, ◌∙◌, sym, append_assoc, ◌-◌}
 use Rattle.std.proofs.Math.Bool.{and-false}
 use Rattle.std.specs.List.{flat_map, enumerate_from, list_any, range_with_len}
 use Rattle.std.proofs.lemmas.List.FromFn.{get_or-enumerate_from, length-enumerate_from}
+use Rattle.std.proofs.lemmas.List.{drop_all}
 use Rattle.std.proofs.lemmas.Grind.{common_steps}
 use Rattle.can_bits.specs.declared.field.Field.{Field}
 use Rattle.can_bits.specs.Bits.{position_of, has_position}
@@ -13,7 +15,7 @@ use Rattle.can_layout.specs.declared.walk.Walk.TheVariants.{Chain, Loop}
 use Rattle.can_overlap.specs.declared.pair.Pair.{Pair}
 use Rattle.can_overlap.specs.declared.places.Places.{Places}
 use Rattle.can_overlap.specs.Places.{has}
-use Rattle.can_overlap.specs.Overlaps.{Laid, laid_from, share, together, pair_where, pair_of, for_pairs, overlapping}
+use Rattle.can_overlap.specs.Overlaps.{Laid, laid_from, share, together, pair_where, pair_of, for_pairs, pairs_from}
 use Rattle.can_overlap.specs.Occupancy.{is_marked, IsOccupancy, met_pair, met_pairs, laid_at}
 use Rattle.can_overlap.proofs.Skips.{flat_map-none, flat_map-skip}
 
@@ -120,29 +122,35 @@ share_from_marks fields rows first place d marked h =
 dropped : {X : Type 0} (xs : List X) (i : ℕ) (d : X) → i < length xs → drop i xs ≡ get_or xs i d ∷ drop (i + 1) xs
 dropped xs i d h = let next : suc i ≡ i + 1 = omega arith in drop-cons xs i d h ∙ ap (λ (k : ℕ). get_or xs i d ∷ drop k xs) next
 
+-- the pairs of the signal at a place with later ones
+pub pairs_here : (fields : List Field) (walks : List Walk) (i : ℕ) (d : Field) (w : Walk) → i < length fields → i < length walks
+    → pairs_from fields walks i
+    ≡ flat_map (pair_of (laid_at fields walks i d w)) (laid_from (i + 1) (drop (i + 1) fields) (drop (i + 1) walks))
+unfolding pairs_from
+pairs_here fields walks i d w h other = rw (dropped fields i d h, dropped walks i w other) refl
+
 -- the pairs of one more first signal
 for_pairs-step : (fields : List Field) (walks : List Walk) (i : ℕ) (d : Field) (w : Walk) → i < length fields → i < length walks
     → for_pairs pair_of (laid_from i (drop i fields) (drop i walks))
-    ≡ flat_map (pair_of (laid_at fields walks i d w)) (laid_from (i + 1) (drop (i + 1) fields) (drop (i + 1) walks))
-    ++ for_pairs pair_of (laid_from (i + 1) (drop (i + 1) fields) (drop (i + 1) walks))
+    ≡ pairs_from fields walks i ++ for_pairs pair_of (laid_from (i + 1) (drop (i + 1) fields) (drop (i + 1) walks))
+unfolding pairs_from
 for_pairs-step fields walks i d w h other = rw (dropped fields i d h, dropped walks i w other) refl
 
-pub more_pairs : (fields : List Field) (walks : List Walk) (i : ℕ) (d : Field) (w : Walk) (found more all : List Pair)
-    → i < length fields → i < length walks
-    → more ≡ found ++ flat_map (pair_of (laid_at fields walks i d w)) (laid_from (i + 1) (drop (i + 1) fields) (drop (i + 1) walks))
-    → found ++ for_pairs pair_of (laid_from i (drop i fields) (drop i walks)) ≡ all
-    → more ++ for_pairs pair_of (laid_from (i + 1) (drop (i + 1) fields) (drop (i + 1) walks)) ≡ all
-more_pairs fields walks i d w found more all h other pushed so_far =
-    ap (λ (pairs : List Pair). pairs ++ for_pairs pair_of (laid_from (i + 1) (drop (i + 1) fields) (drop (i + 1) walks))) pushed
-    ∙ append_assoc found (flat_map (pair_of (laid_at fields walks i d w)) (laid_from (i + 1) (drop (i + 1) fields)
-    (drop (i + 1) walks))) (for_pairs pair_of (laid_from (i + 1) (drop (i + 1) fields) (drop (i + 1) walks)))
-    ∙ ap (λ (pairs : List Pair). found ++ pairs) (sym (for_pairs-step fields walks i d w h other))
-    ∙ so_far
+-- those of the signals from a place on, of which the last has no later one
+from_place : (fields : List Field) (walks : List Walk) (d : Field) (w : Walk) (i n : ℕ) → length walks ≡ length fields
+    → i + suc n ≡ length fields
+    → for_pairs pair_of (laid_from i (drop i fields) (drop i walks)) ≡ flat_map (pairs_from fields walks) (range_with_len i n)
+from_place fields walks d w i zero lengths all =
+    rw (dropped fields i d (omega arith), dropped walks i w (omega arith), drop_all (i + 1) fields (omega arith)) refl
+from_place fields walks d w i (suc n) lengths all =
+    for_pairs-step fields walks i d w (omega arith) (omega arith)
+    ∙ ap (λ (pairs : List Pair). pairs_from fields walks i ++ pairs) (from_place fields walks d w (i + 1) n lengths (omega arith))
 
--- fewer than two signals have no pair
-pub no_pairs : (fields : List Field) (walks : List Walk) → length fields < 2 → [] ≡ overlapping fields walks
-unfolding overlapping
-no_pairs [] walks few = refl
-no_pairs (field ∷ []) [] few = refl
-no_pairs (field ∷ []) (walk ∷ walks) few = refl
-no_pairs (field ∷ second ∷ fields) walks few = absurd (omega arith)
+pub by_signal : (fields : List Field) (walks : List Walk) → length walks ≡ length fields
+    → for_pairs pair_of (laid_from 0 fields walks) ≡ flat_map (pairs_from fields walks) (range_with_len 0 (length fields - 1))
+by_signal [] walks lengths = refl
+by_signal (field ∷ fields) walks lengths =
+    let others : length (field ∷ fields) - 1 ≡ length fields = omega arith in
+    let all : 0 + suc (length fields) ≡ length (field ∷ fields) = omega arith in
+    from_place (field ∷ fields) walks field Loop 0 (length fields) lengths all
+    ∙ ap (λ (n : ℕ). flat_map (pairs_from (field ∷ fields) walks) (range_with_len 0 n)) (sym others)

@@ -1,5 +1,5 @@
 -- A map from positions to the places of the signals that have a bit there.
-use Rattle.std.specs.Prelude.{◌≡◌, ℕ, ◌+◌, ◌&&◌, nat_lt, Bool, false, List, [], length, slice_index_or}
+use Rattle.std.specs.Prelude.{◌≡◌, ℕ, ◌+◌, ◌≤◌, ◌&&◌, nat_lt, Bool, false, List, [], length, slice_index_or, All}
 use Rattle.std.specs.List.{flat_map, enumerate_from}
 use Rattle.can_bits.specs.declared.field.Field.{Field}
 use Rattle.can_bits.specs.Bits.{has_position}
@@ -44,3 +44,15 @@ laid_at fields walks place field walk = record {
   field = slice_index_or fields place field;
   walk = slice_index_or walks place walk;
 }
+
+-- the signals of a message, in a table
+pub record Marked : Type 0 where
+  pub fields : List Field
+  pub walks : List Walk
+
+-- the rows have the places of the signals, as many as a message has, at their positions
+pub record AreMarked (rows : List Places) (fields : List Field) (walks : List Walk) : Type 0 where
+  pub lengths : length walks ≡ length fields
+  pub few : length fields ≤ 999
+  pub room : All (λ field. reach field ≤ length rows) fields
+  pub marked : IsOccupancy fields rows

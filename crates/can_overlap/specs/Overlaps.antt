@@ -1,7 +1,8 @@
 -- Signals of a message that have a bit in common and can be there together.
 -- Source: the DBC file format, "Signal Definitions" (where bits lie) and "Extended Multiplexing" (a signal is there with the
 -- numbers of its switch that lie in its ranges, and only where its switch is there itself).
-use Rattle.std.specs.Prelude.{ℕ, ◌+◌, ◌==◌, ◌&&◌, ◌||◌, ◌++◌, nat_le, min, max, Bool, false, not, List, [], ◌∷◌, if◌then◌else◌}
+use Rattle.std.specs.Prelude.{ℕ, ◌+◌, ◌==◌, ◌&&◌, ◌||◌, ◌++◌, nat_le, min, max, Bool, false, not, List, [], ◌∷◌, drop}
+use Rattle.std.specs.Prelude.{if◌then◌else◌}
 use Rattle.std.specs.List.{range_with_len, list_any, list_all, flat_map}
 use Rattle.dbc_records.specs.declared.mux_row.Range.{Range}
 use Rattle.can_bits.specs.declared.field.Field.{Field}
@@ -80,3 +81,12 @@ for_pairs f (first ∷ later) = flat_map (f first) later ++ for_pairs f later
 -- the places of the signals that overlap
 unfoldable pub overlapping : List Field → List Walk → List Pair
 overlapping fields walks = for_pairs pair_of (laid_from 0 fields walks)
+
+-- the pairs of the first of some signals with the later ones
+abbrev pub pairs_of_first : List Laid → List Pair
+pairs_of_first [] = []
+pairs_of_first (first ∷ later) = flat_map (pair_of first) later
+
+-- the pairs of the signal at a place with later ones
+unfoldable pub pairs_from : List Field → List Walk → ℕ → List Pair
+pairs_from fields walks first = pairs_of_first (laid_from first (drop first fields) (drop first walks))

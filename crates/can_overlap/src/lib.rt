@@ -1,11 +1,12 @@
 //! Signals of a message that have a bit in common and can be there together.
 //!
-//! [`overlaps`] marks in a table, the [`Occupancy`], at each position the places of the signals that have a bit there. What a
-//! signal meets is then read off at its own positions.
+//! An [`Occupancy`] is a table that has at each position the places of the signals with a bit there. Once the signals of a message
+//! are [`Marked`] in it, what each of them meets is read off at its own positions.
 #![tactic(auto)]
 
 mod agreeing;
 mod beside;
+pub mod laws;
 mod occupancy;
 mod pair;
 mod pairing;
@@ -18,5 +19,5 @@ mod tidy;
 mod ways;
 
 pub use agreeing::together;
-pub use occupancy::{Occupancy, overlaps};
+pub use occupancy::{Marked, Occupancy};
 pub use pair::Pair;

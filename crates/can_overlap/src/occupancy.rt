@@ -1,18 +1,20 @@
-//! Which signals of a message overlap.
-ghost use Rattle.std.specs.Prelude.{◌≡◌, ◌≤◌, length, IfOk};
-ghost use Rattle.can_overlap.specs.Overlaps.{overlapping};
+//! Which signals of a message overlap, one signal after another.
+ghost use Rattle.std.specs.Prelude.{◌≡◌, ◌++◌, ◌≤◌, ◌<◌, length, IfOk, OnOk};
+ghost use Rattle.can_overlap.specs.Overlaps.{pairs_from};
 ghost use Rattle.can_overlap.specs.Occupancy.{IsClear};
 
 use crate::pair::Pair;
-use crate::pairing::pairs_in;
+use crate::pairing::push_pairs;
 use crate::places::Places;
 use crate::table::{clear_all, empty, grow, mark_all};
+use crate::ways::Ways;
 use can_layout::{Field, Walk};
 use dbc_values::Memory;
 use std::alloc::Global;
+use std::marker::Model;
 
-/// A table for [`overlaps`], which serves any number of messages, one after the other. Between calls it is empty. It takes 128
-/// bytes for each position up to the greatest that a message had.
+/// An empty table, which serves any number of messages, one after the other. It takes 128 bytes for each position up to the
+/// greatest that a message had.
 #[derive(Drop)]
 pub struct Occupancy {
     rows: Vec<Places>,
@@ -24,42 +26,58 @@ impl Occupancy {
     pub fn new(alloc: Global) -> Occupancy {
         Occupancy { rows: empty(alloc) }
     }
-}
 
-// The pairs, by way of a table that is empty before and after.
-fn overlaps_in(
-    alloc: Global,
-    rows: &mut Vec<Places>,
-    fields: &[Field],
-    walks: &[Walk],
-) -> Result<Vec<Pair>, Memory>
-    requires clear { IsClear rows.old.items }
-    requires lengths { length walks.now ≡ length fields.now }
-    requires few { length fields.now ≤ 999 }
-    ensures clear { IsClear rows.new.items }
-    ensures pairs { IfOk result (λ pairs. pairs.items ≡ overlapping fields.now walks.now) }
-{
-    grow(rows, fields)?;
-    mark_all(rows, fields);
-    let pairs = pairs_in(alloc, rows, fields, walks);
-    clear_all(rows, fields);
-    pairs
-}
-
-/// The signals of a message that have a bit in common, in the message or behind its end, and can be there together; by the first
-/// and then by the second. The signals lie in these fields and have these ways up.
-pub fn overlaps(
-    alloc: Global,
-    occupancy: &mut Occupancy,
-    fields: &[Field],
-    walks: &[Walk],
-) -> Result<Vec<Pair>, Memory>
-    requires lengths { length walks.now ≡ length fields.now }
-    requires few { length fields.now ≤ 999 }
-    ensures { IfOk result (λ pairs. pairs.items ≡ overlapping fields.now walks.now) }
-{
-    if fields.len() < 2 {
-        return Ok(Vec::new(alloc));
+    /// What it takes memory from.
+    pub fn allocator(&self) -> Global {
+        *self.rows.allocator()
     }
-    overlaps_in(alloc, &mut occupancy.rows, fields, walks)
+
+    /// The signals of a message, marked in the table. They lie in these fields and have these ways up.
+    pub fn marked<'a>(self, fields: &'a [Field], walks: &'a [Walk]) -> Result<Marked<'a>, Memory>
+        requires lengths { length walks.now ≡ length fields.now }
+        requires few { length fields.now ≤ 999 }
+        ensures { IfOk result (λ marked. marked ≡ record { fields = fields.now; walks = walks.now }) }
+    {
+        let mut rows = self.rows;
+        let ways = Ways::of(*rows.allocator(), walks)?;
+        grow(&mut rows, fields)?;
+        mark_all(&mut rows, fields);
+        Ok(Marked { rows, fields, ways })
+    }
+}
+
+/// The signals of a message, each marked in a table at the positions of its bits.
+#[derive(Drop)]
+pub struct Marked<'a> {
+    rows: Vec<Places>,
+    fields: &'a [Field],
+    ways: Ways<'a>,
+}
+
+impl<'a> Model for Marked<'a> {
+    ghost use Rattle.can_overlap.specs.Occupancy.{Marked as Plain, AreMarked};
+
+    ghost Value = { Plain };
+
+    ghost view = { λ marked. record { fields = marked.fields.now; walks = marked.ways.walks } };
+
+    ghost invariant = { λ marked. AreMarked marked.rows.items marked.fields.now marked.ways.walks };
+}
+
+impl<'a> Marked<'a> {
+    /// Adds the signal at a place with each later one that has a bit in common with it, in the message or behind its end, and can
+    /// be there together with it.
+    pub fn push_pairs(&self, found: &mut Vec<Pair>, first: usize) -> Result<(), Memory>
+        requires { first < length self.now.fields }
+        ensures { OnOk result (found.new.items ≡ found.old.items ++ pairs_from self.now.fields self.now.walks first) }
+    {
+        push_pairs(found, &self.rows, self.fields, &self.ways, first)
+    }
+
+    /// The table, empty again.
+    pub fn cleared(self) -> Occupancy {
+        let mut rows = self.rows;
+        clear_all(&mut rows, self.fields);
+        Occupancy { rows }
+    }
 }

@@ -1,11 +1,8 @@
 //! The pairs of signals that overlap, where a table has their positions.
-ghost use Rattle.std.specs.Prelude.{◌≡◌, Some, ◌+◌, ◌≤◌, ◌<◌, ◌++◌, length, drop, IfOk, OnOk, All, slice_get};
-ghost use Rattle.std.specs.List.{flat_map};
-ghost use Rattle.can_bits.specs.declared.field.Field.{Field as PlainField};
-ghost use Rattle.can_layout.specs.declared.walk.Walk.{Walk as PlainWalk};
+ghost use Rattle.std.specs.Prelude.{◌≡◌, Some, ◌+◌, ◌≤◌, ◌<◌, ◌++◌, length, drop, OnOk, All, slice_get};
 ghost use Rattle.can_layout.specs.declared.walk.Walk.TheVariants.{Chain};
-ghost use Rattle.can_overlap.specs.Overlaps.{laid_from, pair_of, pair_where, overlapping};
-ghost use Rattle.can_overlap.specs.Occupancy.{laid_at, met_pairs, reach, IsOccupancy};
+ghost use Rattle.can_overlap.specs.Overlaps.{pair_where, pairs_from};
+ghost use Rattle.can_overlap.specs.Occupancy.{met_pairs, reach, IsOccupancy};
 ghost use Rattle.can_overlap.specs.Ways.{goes_at, AreNoted};
 
 use crate::beside::{Beside, goes_with, none_noted};
@@ -13,7 +10,7 @@ use crate::pair::Pair;
 use crate::places::Places;
 use crate::table::met_by;
 use crate::ways::Ways;
-use can_layout::{Field, Link, Walk};
+use can_layout::{Field, Link};
 use dbc_values::Memory;
 use std::alloc::Global;
 
@@ -82,8 +79,8 @@ fn push_chained(
     Ok(())
 }
 
-// Adds the pairs of the signal at a place with the later ones.
-fn push_pairs(
+/// Adds the pairs of the signal at a place with the later ones, where the rows have the positions of all.
+pub(crate) fn push_pairs(
     found: &mut Vec<Pair>,
     rows: &[Places],
     fields: &[Field],
@@ -95,9 +92,7 @@ fn push_pairs(
     requires few { length fields.now ≤ 999 }
     requires marked { IsOccupancy fields.now rows.now }
     requires room { All (λ field. reach field ≤ length rows.now) fields.now }
-    ensures { (field : PlainField) (walk : PlainWalk)
-        → OnOk result (found.new.items ≡ found.old.items ++ flat_map (pair_of (laid_at fields.now ways.now.walks first field walk))
-        (laid_from (first + 1) (drop (first + 1) fields.now) (drop (first + 1) ways.now.walks))) }
+    ensures { OnOk result (found.new.items ≡ found.old.items ++ pairs_from fields.now ways.now.walks first) }
 {
     match ways.chain_at(first) {
         Some(links) => {
@@ -107,25 +102,4 @@ fn push_pairs(
         }
         None => Ok(()),
     }
-}
-
-/// The pairs of the signals that overlap, where the rows have their positions.
-pub(crate) fn pairs_in(
-    alloc: Global,
-    rows: &[Places],
-    fields: &[Field],
-    walks: &[Walk],
-) -> Result<Vec<Pair>, Memory>
-    requires lengths { length walks.now ≡ length fields.now }
-    requires few { length fields.now ≤ 999 }
-    requires marked { IsOccupancy fields.now rows.now }
-    requires room { All (λ field. reach field ≤ length rows.now) fields.now }
-    ensures { IfOk result (λ pairs. pairs.items ≡ overlapping fields.now walks.now) }
-{
-    let ways = Ways::of(alloc, walks)?;
-    let mut found = Vec::new(alloc);
-    for first in 0..fields.len() {
-        push_pairs(&mut found, rows, fields, &ways, first)?;
-    }
-    Ok(found)
 }

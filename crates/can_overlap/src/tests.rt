@@ -1,6 +1,8 @@
 //! Two signals behind the end of a message of one byte, and multiplexed signals, by hand.
+ghost use Rattle.std.specs.Prelude.{◌≡◌, ◌≤◌, length};
+
 use crate::agreeing::together;
-use crate::occupancy::{Occupancy, overlaps};
+use crate::occupancy::Occupancy;
 use crate::pair::Pair;
 use crate::places::Places;
 use crate::ranges::{in_order, meet};
@@ -62,25 +64,37 @@ fn table_behind_the_end(rt: HostRuntime) -> Result<(), Fail> {
     Ok(())
 }
 
+// The pairs of all signals of a message.
+fn pairs_of(alloc: Global, fields: &[Field], walks: &[Walk]) -> Result<Vec<Pair>, Memory>
+    requires lengths { length walks.now ≡ length fields.now }
+    requires few { length fields.now ≤ 999 }
+{
+    let mut found = Vec::new(alloc);
+    let marked = Occupancy::new(alloc).marked(fields, walks)?;
+    for first in 0..fields.len() {
+        marked.push_pairs(&mut found, first)?;
+    }
+    let _ = marked.cleared();
+    Ok(found)
+}
+
 #[test]
 fn behind_the_end(rt: HostRuntime) -> Result<(), Fail> {
-    let mut occupancy = Occupancy::new(rt.alloc());
     let fields = [intel(8, 8), intel(12, 8)];
     let walks = [there(rt.alloc()), there(rt.alloc())];
-    let found = overlaps(rt.alloc(), &mut occupancy, &fields, &walks)?;
+    let found = pairs_of(rt.alloc(), &fields, &walks)?;
     assert_eq!(rt; found.as_slice(), [pair(0, 1)].as_slice());
     Ok(())
 }
 
 #[test]
 fn on_one_switch(rt: HostRuntime) -> Result<(), Fail> {
-    let mut occupancy = Occupancy::new(rt.alloc());
     let fields = [intel(0, 8), intel(0, 8), intel(0, 8), intel(0, 8)];
     let zero = switched(rt.alloc(), 0, 0)?;
     let one = switched(rt.alloc(), 1, 1)?;
     let both = switched(rt.alloc(), 0, 1)?;
     let walks = [zero, one, both, Walk::Loop];
-    let found = overlaps(rt.alloc(), &mut occupancy, &fields, &walks)?;
+    let found = pairs_of(rt.alloc(), &fields, &walks)?;
     assert_eq!(rt; found.as_slice(), [pair(0, 2), pair(1, 2)].as_slice());
     Ok(())
 }
@@ -116,7 +130,6 @@ fn way_of(alloc: Global, place: usize, last: u64) -> Result<Walk, Memory> {
 
 // How many pairs are found among five signals on one bit, each under the one before.
 fn pairs_on_a_chain(alloc: Global, last: u64) -> Result<usize, Memory> {
-    let mut occupancy = Occupancy::new(alloc);
     let fields = [
         intel(0, 8),
         intel(0, 8),
@@ -131,7 +144,7 @@ fn pairs_on_a_chain(alloc: Global, last: u64) -> Result<usize, Memory> {
         way_of(alloc, 3, last)?,
         way_of(alloc, 4, last)?,
     ];
-    let found = overlaps(alloc, &mut occupancy, &fields, &walks)?;
+    let found = pairs_of(alloc, &fields, &walks)?;
     Ok(found.len())
 }
 

@@ -1,7 +1,8 @@
-pub mod Statuses
-pub mod Refusals
-pub mod Printing
-pub mod Dumping
 pub mod Checking
-pub mod Scripting
+pub mod Dumping
+pub mod Printing
+pub mod Refusals
 pub mod Run
+pub mod Scripting
+pub mod SentLines
+pub mod Statuses

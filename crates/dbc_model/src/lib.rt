@@ -13,7 +13,7 @@ pub use dbc_records::{
     Limits, Message, MuxRow, Object, Range, Signal, TableRow, Tag, Target, ValueRow,
 };
 pub use dbc_values::{
-    Checked, Copied, Decimal, List, Memory, Name, Piece, Scale, Symbol, Text, Whole, digits_len,
+    Checked, Copied, Decimal, List, Memory, Name, Pieces, Scale, Symbol, Text, Whole, digits_len,
     is_kept_word, is_letter, is_name, is_number, is_piece, is_string, is_symbol, is_text, is_word,
     is_word_byte, laws, same, whole_of,
 };

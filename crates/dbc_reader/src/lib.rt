@@ -19,5 +19,7 @@ mod stopped;
 mod tables;
 mod tags;
 
+pub use classes::{has_mark, has_name, has_piece, has_string, has_symbol, has_word};
 pub use reader::{read, read_one};
 pub use statement::Statement;
+pub use tags::tag;

@@ -6,14 +6,14 @@ ghost use Rattle.dbc_values.specs.Pieces.{inside};
 ghost use Rattle.dbc_reader.specs.Classes.{has_name};
 ghost use Rattle.dbc_reader.specs.Reading.Cursors.{left_at, behind};
 ghost use Rattle.dbc_reader.specs.Reading.Readers.{GivesTo, MakesTo, MayGive, starts};
-ghost use Rattle.dbc_reader.specs.Reading.Parts.{word_at, mark_at, name_at, symbol_at, text_at, piece_at, names_from, symbols_from};
+ghost use Rattle.dbc_reader.specs.Reading.Parts.{word_at, mark_at, name_at, symbol_at, text_at, names_from, symbols_from};
 ghost use Rattle.dbc_reader.specs.Reading.Parts.{pieces_from, comma_at, begins_receiver, receivers_from, receivers_at, texts_from};
 
 use crate::classes;
 use crate::cursor::Cursor;
 use crate::stopped::Stopped;
 use dbc_tokens::{Cause, Next};
-use dbc_values::{List, Name, Piece, Symbol, Text};
+use dbc_values::{List, Name, Pieces, Symbol, Text};
 use std::alloc::Global;
 
 /// Takes this word.
@@ -77,18 +77,6 @@ pub fn symbol(alloc: Global, at: &mut Cursor<'_>) -> Result<Symbol, Stopped>
     let token = at.take()?;
     match Symbol::new(alloc, token.bytes)? {
         Some(symbol) => Ok(symbol),
-        None => Err(Stopped::at(token.line, Cause::Statement)),
-    }
-}
-
-/// Takes a token as it stands.
-#[tactic(auto, unfolding(crate::specs::Reading::Parts::piece_at))]
-pub fn piece(alloc: Global, at: &mut Cursor<'_>) -> Result<Piece, Stopped>
-    ensures { GivesTo result (left_at at.new) (piece_at (left_at at.old)) }
-{
-    let token = at.take()?;
-    match Piece::new(alloc, token.bytes)? {
-        Some(piece) => Ok(piece),
         None => Err(Stopped::at(token.line, Cause::Statement)),
     }
 }
@@ -163,15 +151,16 @@ pub fn symbols(
 }
 
 /// Takes all tokens up to a semicolon.
-#[tactic(auto, using(crate::proofs::Turns::Lists::pieces_on, crate::proofs::Turns::Lists::pieces_fail, crate::proofs::Turns::Lists::pieces_end, crate::proofs::Turns::Lists::pieces_less))]
-pub fn pieces(alloc: Global, at: &mut Cursor<'_>) -> Result<List<Piece>, Stopped>
+#[tactic(auto, using(crate::proofs::Turns::Lists::taken_is, crate::proofs::Turns::Lists::taken_on, crate::proofs::Turns::Lists::taken_fails, crate::proofs::Turns::Lists::pieces_end, crate::proofs::Turns::Lists::taken_less))]
+pub fn pieces(alloc: Global, at: &mut Cursor<'_>) -> Result<Pieces, Stopped>
     ensures { GivesTo result (left_at at.new) (pieces_from [] (left_at at.old)) }
 {
-    let mut pieces = List::new(alloc);
+    let mut pieces = Pieces::new(alloc);
     'pieces: while at.starts_piece() {
-        let found = piece(alloc, at)?;
-        pieces.push(found)?;
+        let token = at.take()?;
+        pieces.push(token.bytes)?;
     }
+    pieces.shrink_to_fit();
     Ok(pieces)
 }
 

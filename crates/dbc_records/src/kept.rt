@@ -5,7 +5,7 @@ ghost use Rattle.dbc_values.specs.Lexical.{is_name, is_kept_word};
 ghost use Rattle.dbc_records.specs.Kept.{begins, kept_fits};
 ghost use Rattle.dbc_values.specs.Pieces.{is_string};
 
-use dbc_values::{Checked, Copied, List, Memory, Piece, is_kept_word, is_name, is_string, same};
+use dbc_values::{Checked, Copied, Memory, Pieces, is_kept_word, is_name, is_string, same};
 use std::marker::Model;
 
 /// A statement that is kept as it stands: its tokens without the `;` that ends it.
@@ -16,7 +16,7 @@ use std::marker::Model;
 #[derive(Drop)]
 pub struct Kept {
     /// Its tokens, without the semicolon that ends it.
-    pub tokens: List<Piece>,
+    pub tokens: Pieces,
 }
 
 impl Model for Kept {
@@ -29,46 +29,46 @@ impl Model for Kept {
     ghost invariant = { λ a. statements.IsKept (record { tokens = a.tokens }) };
 }
 
-fn begins_with_kept_word(tokens: &[Piece]) -> bool
+fn begins_with_kept_word(tokens: &Pieces) -> bool
     ensures { result ≡ begins (is_kept_word ∷ []) tokens.now }
 {
-    match tokens {
-        [first, ..] => is_kept_word(first.as_bytes()),
-        _ => false,
+    match tokens.get(0) {
+        Some(first) => is_kept_word(first),
+        None => false,
     }
 }
 
-fn begins_as_values(tokens: &[Piece]) -> bool
+fn begins_as_values(tokens: &Pieces) -> bool
     ensures { result ≡ begins (bytes_eq (codes "VAL_") ∷ is_name ∷ []) tokens.now }
 {
-    match tokens {
-        [first, second, ..] => same(b"VAL_", first.as_bytes()) && is_name(second.as_bytes()),
+    match (tokens.get(0), tokens.get(1)) {
+        (Some(first), Some(second)) => same(b"VAL_", first) && is_name(second),
         _ => false,
     }
 }
 
-fn begins_as_comment(tokens: &[Piece]) -> bool
+fn begins_as_comment(tokens: &Pieces) -> bool
     ensures { result ≡ begins (bytes_eq (codes "CM_") ∷ bytes_eq (codes "EV_") ∷ []) tokens.now }
 {
-    match tokens {
-        [first, second, ..] => same(b"CM_", first.as_bytes()) && same(b"EV_", second.as_bytes()),
+    match (tokens.get(0), tokens.get(1)) {
+        (Some(first), Some(second)) => same(b"CM_", first) && same(b"EV_", second),
         _ => false,
     }
 }
 
-fn begins_as_attribute(tokens: &[Piece]) -> bool
+fn begins_as_attribute(tokens: &Pieces) -> bool
     ensures { result ≡ begins (bytes_eq (codes "BA_") ∷ is_string ∷ bytes_eq (codes "EV_") ∷ []) tokens.now }
 {
-    match tokens {
-        [first, second, third, ..] => same(b"BA_", first.as_bytes())
-            && is_string(second.as_bytes())
-            && same(b"EV_", third.as_bytes()),
+    match (tokens.get(0), tokens.get(1), tokens.get(2)) {
+        (Some(first), Some(second), Some(third)) => {
+            same(b"BA_", first) && is_string(second) && same(b"EV_", third)
+        }
         _ => false,
     }
 }
 
 #[tactic(auto, unfolding(crate::specs::Kept::kept_fits))]
-fn kept_fits(tokens: &[Piece]) -> bool
+fn kept_fits(tokens: &Pieces) -> bool
     ensures { result ≡ kept_fits tokens.now }
 {
     begins_with_kept_word(tokens)
@@ -79,10 +79,10 @@ fn kept_fits(tokens: &[Piece]) -> bool
 
 impl Kept {
     /// The statement, or `None` where no kept statement begins with these tokens.
-    pub fn new(tokens: List<Piece>) -> Option<Kept>
+    pub fn new(tokens: Pieces) -> Option<Kept>
         ensures { result ≡ (if kept_fits tokens then Some (record { tokens = tokens }) else None) }
     {
-        if !kept_fits(tokens.as_slice()) {
+        if !kept_fits(&tokens) {
             return None;
         }
         Some(Kept { tokens })

@@ -1,7 +1,7 @@
 //! What no contract says: that calls succeed, the text of the fault, and names, texts, symbols and tokens at their edges, with
 //! the answers that a reader of the format gives.
 
-use dbc_values::{Copied, List, Memory, Name, Piece, Symbol, Text};
+use dbc_values::{Copied, List, Memory, Name, Pieces, Symbol, Text, is_piece};
 use std::alloc::Global;
 use std::test::Fail;
 
@@ -119,10 +119,29 @@ fn pieces(rt: HostRuntime) -> Result<(), Fail> {
         (b"::", false),
         (b"/", false),
     ];
-    for (bytes, is_piece) in table {
-        let made = Piece::new(rt.alloc(), bytes)?;
-        assert_eq!(rt; made.is_some(), is_piece);
+    for (bytes, is_one) in table {
+        assert_eq!(rt; is_piece(bytes), is_one);
     }
+    Ok(())
+}
+
+#[test]
+fn tokens(rt: HostRuntime) -> Result<(), Fail> {
+    let mut tokens = Pieces::new(rt.alloc());
+    assert!(rt; tokens.get(0).is_none());
+    let wanted: [&[u8]; 3] = [b"EV_", b"\"a b\"", b":"];
+    for bytes in wanted {
+        if is_piece(bytes) {
+            tokens.push(bytes)?;
+        }
+    }
+    tokens.shrink_to_fit();
+    let copy = tokens.copy()?;
+    assert_eq!(rt; copy.len(), 3);
+    for (place, bytes) in wanted.iter().enumerate() {
+        assert_eq!(rt; copy.get(place), Some(*bytes));
+    }
+    assert!(rt; copy.get(3).is_none());
     Ok(())
 }
 

@@ -1,4 +1,5 @@
 pub mod Strings
+pub mod Parts
 pub mod Powers
 pub mod Digits
 pub mod DigitTexts

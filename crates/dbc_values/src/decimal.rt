@@ -11,12 +11,12 @@ use std::marker::Model;
 /// values.
 #[derive(Clone, Copy, Debug, PartialEq, Eq)]
 pub struct Decimal {
-    /// Whether the number is below zero.
-    pub negative: bool,
     /// Its digits as a whole number, without zeros at their end.
     pub mantissa: u128,
     /// The power of ten that the mantissa is multiplied by.
     pub exponent: i16,
+    /// Whether the number is below zero.
+    pub negative: bool,
 }
 
 impl Model for Decimal {

@@ -13,6 +13,7 @@ mod name;
 mod number;
 mod piece;
 mod scale;
+mod stored;
 mod symbol;
 mod text;
 
@@ -21,7 +22,7 @@ pub use list::{Checked, Copied, List, Rewrite};
 pub use memory::Memory;
 pub use name::{Name, is_kept_word, is_letter, is_name, is_word, is_word_byte, same};
 pub use number::{Whole, are_digits, digits_len, is_number, whole_of};
-pub use piece::{Piece, is_piece, is_string};
+pub use piece::{Pieces, is_piece, is_string};
 pub use scale::Scale;
 pub use symbol::{Symbol, is_symbol};
 pub use text::{Text, is_text};

@@ -7,14 +7,14 @@ ghost use Rattle.dbc_values.specs.Lexical.{relation_words};
 
 use crate::list::{Checked, Copied};
 use crate::memory::Memory;
+use crate::stored::Stored;
 use std::alloc::Global;
 use std::marker::Model;
-use std::rc::Rc;
 
-/// A name: a C identifier that is no keyword of the format. `VERSION` is a name. Copies share the bytes.
+/// A name: a C identifier that is no keyword of the format. `VERSION` is a name. Copies share the bytes of a long one.
 #[derive(Drop)]
 pub struct Name {
-    bytes: Rc<Vec<u8>>,
+    bytes: Stored,
 }
 
 impl Model for Name {
@@ -23,9 +23,9 @@ impl Model for Name {
 
     ghost Value = { List ℕ };
 
-    ghost view = { λ name. name.bytes.value.items };
+    ghost view = { λ name. name.bytes };
 
-    ghost invariant = { λ name. IsTrue (is_name name.bytes.value.items) };
+    ghost invariant = { λ name. IsTrue (is_name name.bytes) };
 }
 
 /// Whether the byte is an ASCII letter or an underscore.
@@ -136,7 +136,7 @@ impl Name {
         if !is_name(bytes) {
             return Ok(None);
         }
-        let bytes = Rc::new(alloc, Vec::from_slice(alloc, bytes)?)?;
+        let bytes = Stored::of(alloc, bytes)?;
         Ok(Some(Name { bytes }))
     }
 
@@ -145,7 +145,7 @@ impl Name {
         ensures value { result.now ≡ self.now }
         ensures valid { IsTrue (is_name self.now) }
     {
-        self.bytes.as_ref().as_slice()
+        self.bytes.as_slice()
     }
 }
 
@@ -155,7 +155,7 @@ impl Checked for Name {
 
 impl Copied for Name {
     fn copy(&self) -> Result<Name, Memory> {
-        let bytes = self.bytes.clone()?;
+        let bytes = self.bytes.copy()?;
         Ok(Name { bytes })
     }
 }

@@ -1,6 +1,7 @@
 //! Tokens of the statements that are kept as they stand.
-ghost use Rattle.std.specs.Prelude.{◌≡◌, IfOk, OnErr, IsTrue, Some, None, if◌then◌else◌};
-ghost use Rattle.dbc_values.specs.Pieces.{is_piece, is_string, is_mark_but_semicolon};
+ghost use Rattle.std.specs.Prelude.{◌≡◌, ◌<◌, get_or, [], ◌∷◌, ◌++◌, All, IsTrue, OnOk, OnErr, length, option_map, slice_get};
+ghost use Rattle.dbc_values.specs.Pieces.{is_piece, is_string, is_mark_but_semicolon, IsPiece};
+ghost use Rattle.dbc_values.specs.Parts.{parts_from, ArePlaces};
 
 use crate::list::{Checked, Copied};
 use crate::memory::Memory;
@@ -10,21 +11,25 @@ use crate::text::is_text;
 use std::alloc::Global;
 use std::marker::Model;
 
-/// The bytes of one token: a string with its quotes, a word, a number without a sign, or a mark other than `;`.
+/// Tokens, one behind the other: each is a string with its quotes, a word, a number without a sign, or a mark other than
+/// `;`. Contracts see the list of them.
 #[derive(Drop)]
-pub struct Piece {
+pub struct Pieces {
+    // The bytes of all tokens, without anything between.
     bytes: Vec<u8>,
+    // Where each token ends.
+    ends: Vec<usize>,
 }
 
-impl Model for Piece {
-    ghost use Rattle.std.specs.Prelude.{ℕ, List, IsTrue};
-    ghost use Rattle.dbc_values.specs.Pieces.{is_piece};
+impl Model for Pieces {
+    ghost use Rattle.std.specs.Prelude.{ℕ, List};
+    ghost use Rattle.dbc_values.specs.Parts.{parts_from, HoldPieces};
 
-    ghost Value = { List ℕ };
+    ghost Value = { List (List ℕ) };
 
-    ghost view = { λ piece. piece.bytes.items };
+    ghost view = { λ pieces. parts_from 0 pieces.ends.items pieces.bytes.items };
 
-    ghost invariant = { λ piece. IsTrue (is_piece piece.bytes.items) };
+    ghost invariant = { λ pieces. HoldPieces pieces.ends.items pieces.bytes.items };
 }
 
 /// Whether the bytes are a text between quotes.
@@ -55,37 +60,90 @@ pub fn is_piece(bytes: &[u8]) -> bool
     is_string(bytes) || is_word(bytes) || is_number(bytes) || is_mark_but_semicolon(bytes)
 }
 
-impl Piece {
-    /// The token of these bytes, or `None` where they are none or a `;`.
-    pub fn new(alloc: Global, bytes: &[u8]) -> Result<Option<Piece>, Memory>
-        ensures made { IfOk result (λ made. made ≡ (if is_piece bytes.now then Some bytes.now else None)) }
-        ensures memory_for_one { OnErr result (IsTrue (is_piece bytes.now)) }
+// Where the part at the place begins: where the one before it ends, if there is one.
+fn start_of(ends: &[usize], place: usize) -> usize
+    requires { place < length ends.now }
+    ensures { result ≡ get_or (0 ∷ ends.now) place 0 }
+{
+    if place == 0 { 0 } else { ends[place - 1] }
+}
+
+// The part at the place, if there are as many.
+#[tactic(auto, using(crate::proofs::Parts::part_rises, crate::proofs::Parts::part_within, crate::proofs::Parts::part_is, crate::proofs::Parts::no_part))]
+fn part_at<'b>(bytes: &'b [u8], ends: &[usize], place: usize) -> Option<&'b [u8]>
+    requires { ArePlaces 0 ends.now (length bytes.now) }
+    ensures { option_map (λ part. part.now) result ≡ slice_get (parts_from 0 ends.now bytes.now) place }
+{
+    if ends.len() <= place {
+        return None;
+    }
+    let start = start_of(ends, place);
+    let end = ends[place];
+    Some(&bytes[start..end])
+}
+
+impl Pieces {
+    /// No token. It takes no memory.
+    pub fn new(alloc: Global) -> Pieces
+        ensures { result ≡ [] }
     {
-        if !is_piece(bytes) {
-            return Ok(None);
+        Pieces {
+            bytes: Vec::new(alloc),
+            ends: Vec::new(alloc),
         }
-        let bytes = Vec::from_slice(alloc, bytes)?;
-        Ok(Some(Piece { bytes }))
     }
 
-    /// The token's bytes.
-    pub fn as_bytes(&self) -> &[u8]
-        ensures value { result.now ≡ self.now }
-        ensures valid { IsTrue (is_piece self.now) }
+    /// How many tokens there are.
+    #[tactic(auto, using(crate::proofs::Parts::parts_count))]
+    pub fn len(&self) -> usize
+        ensures { result ≡ length self.now }
     {
-        self.bytes.as_slice()
+        self.ends.len()
+    }
+
+    /// The token at the place, if there are as many.
+    pub fn get(&self, place: usize) -> Option<&[u8]>
+        ensures value { option_map (λ piece. piece.now) result ≡ slice_get self.now place }
+        ensures valid { All IsPiece self.now }
+    {
+        part_at(self.bytes.as_slice(), self.ends.as_slice(), place)
+    }
+
+    /// Puts a token behind the others. An `Err` changes nothing.
+    #[tactic(auto, using(crate::proofs::Parts::one_more_part, crate::proofs::Parts::one_more_held))]
+    pub fn push(&mut self, piece: &[u8]) -> Result<(), Memory>
+        requires { IsTrue (is_piece piece.now) }
+        ensures ok { OnOk result (self.new ≡ self.old ++ piece.now ∷ []) }
+        ensures err { OnErr result (self.new ≡ self.old) }
+        ensures valid { All IsPiece self.new }
+    {
+        self.ends.reserve(1)?;
+        self.bytes.extend_from_slice(piece)?;
+        self.ends.push_reserved(self.bytes.len());
+        Ok(())
+    }
+
+    /// Gives back the room that was kept for further tokens.
+    pub fn shrink_to_fit(&mut self)
+        ensures { self.new ≡ self.old }
+    {
+        self.bytes.shrink_to_fit();
+        self.ends.shrink_to_fit();
     }
 }
 
-impl Checked for Piece {
+impl Checked for Pieces {
+    ghost use Rattle.std.specs.Prelude.{All};
     ghost use Rattle.dbc_values.specs.Pieces.{IsPiece};
 
-    ghost IsValid = { IsPiece };
+    ghost IsValid = { All IsPiece };
 }
 
-impl Copied for Piece {
-    fn copy(&self) -> Result<Piece, Memory> {
-        let bytes = Vec::from_slice(*self.bytes.allocator(), self.bytes.as_slice())?;
-        Ok(Piece { bytes })
+impl Copied for Pieces {
+    fn copy(&self) -> Result<Pieces, Memory> {
+        let alloc = *self.bytes.allocator();
+        let bytes = Vec::from_slice(alloc, self.bytes.as_slice())?;
+        let ends = Vec::from_slice(alloc, self.ends.as_slice())?;
+        Ok(Pieces { bytes, ends })
     }
 }

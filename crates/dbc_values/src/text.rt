@@ -4,14 +4,16 @@ ghost use Rattle.dbc_values.specs.Lexical.{is_text};
 
 use crate::list::{Checked, Copied};
 use crate::memory::Memory;
+use crate::stored::Stored;
 use std::alloc::Global;
 use std::marker::Model;
 
 /// The bytes of a string, without an assumed encoding and with its backslashes as they stand: each quote stands
 /// directly after a backslash, and the last byte is no backslash, so that quotes around them end where they should.
+/// Copies share the bytes of a long one.
 #[derive(Drop)]
 pub struct Text {
-    bytes: Vec<u8>,
+    bytes: Stored,
 }
 
 impl Model for Text {
@@ -20,9 +22,9 @@ impl Model for Text {
 
     ghost Value = { List ℕ };
 
-    ghost view = { λ text. text.bytes.items };
+    ghost view = { λ text. text.bytes };
 
-    ghost invariant = { λ text. IsTrue (is_text text.bytes.items) };
+    ghost invariant = { λ text. IsTrue (is_text text.bytes) };
 }
 
 /// Whether the bytes may stand between the quotes of a string.
@@ -41,7 +43,7 @@ pub fn is_text(bytes: &[u8]) -> bool
 }
 
 impl Text {
-    /// The text of these bytes, or `None` where they can't stand between quotes. The empty text takes no memory.
+    /// The text of these bytes, or `None` where they can't stand between quotes. A short text takes no memory.
     pub fn new(alloc: Global, bytes: &[u8]) -> Result<Option<Text>, Memory>
         ensures made { IfOk result (λ made. made ≡ (if is_text bytes.now then Some bytes.now else None)) }
         ensures memory_for_one { OnErr result (IsTrue (is_text bytes.now)) }
@@ -50,11 +52,7 @@ impl Text {
         if !is_text(bytes) {
             return Ok(None);
         }
-        if bytes.is_empty() {
-            let bytes = Vec::new(alloc);
-            return Ok(Some(Text { bytes }));
-        }
-        let bytes = Vec::from_slice(alloc, bytes)?;
+        let bytes = Stored::of(alloc, bytes)?;
         Ok(Some(Text { bytes }))
     }
 
@@ -73,7 +71,7 @@ impl Checked for Text {
 
 impl Copied for Text {
     fn copy(&self) -> Result<Text, Memory> {
-        let bytes = Vec::from_slice(*self.bytes.allocator(), self.bytes.as_slice())?;
+        let bytes = self.bytes.copy()?;
         Ok(Text { bytes })
     }
 }

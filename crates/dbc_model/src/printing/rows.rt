@@ -1,7 +1,9 @@
 //! Rows of tables, named values, float types and multiplexing, and kept statements.
+ghost use Rattle.std.specs.List.{flat_map};
 ghost use Rattle.byte_devices.specs.Outs.{Sends};
 ghost use Rattle.dbc_records.specs.Layout.{layout_text};
 ghost use Rattle.dbc_records.specs.CanonicalText.{table_key, values_key, float_key, float_kind, mux_key, ranges_layout};
+ghost use Rattle.dbc_records.specs.CanonicalText.{piece_layout};
 
 use crate::printing::parts::{
     SpacedName, hold_signal_key, hold_spaced_end, hold_statement_end, hold_word,
@@ -9,7 +11,7 @@ use crate::printing::parts::{
 use crate::printing::style::{Style, hold_list, hold_separated};
 use byte_devices::{Out, Sink, WriteFault};
 use dbc_records::{Entry, FloatRow, Kept, MuxRow, Range, TableRow, ValueRow};
-use dbc_values::Piece;
+use dbc_values::Pieces;
 use itoa::Buffer;
 
 // A number and its text.
@@ -192,17 +194,30 @@ impl Style<MuxRow> for MuxLine {
 }
 
 // A token and a blank.
-struct PieceStyle;
+#[tactic(auto, unfolding(dbc_records::specs::Layout::layout_text, dbc_records::specs::CanonicalText::piece_layout))]
+fn hold_piece<W: Sink>(out: &mut Out<'_, W>, piece: &[u8]) -> Result<(), WriteFault>
+    ensures { Sends W.written out.old out.new result (layout_text (piece_layout piece.now)) }
+{
+    out.send_pieces(&[piece, b" "])
+}
 
-impl Style<Piece> for PieceStyle {
-    ghost use Rattle.dbc_records.specs.CanonicalText.{piece_layout};
-
-    ghost layout = { piece_layout };
-
-    #[tactic(auto, unfolding(dbc_records::specs::Layout::layout_text, dbc_records::specs::CanonicalText::piece_layout))]
-    fn hold_item<W: Sink>(out: &mut Out<'_, W>, piece: &Piece) -> Result<(), WriteFault> {
-        out.send_pieces(&[piece.as_bytes(), b" "])
+// The tokens, one after another, each with a blank.
+fn hold_tokens<W: Sink>(out: &mut Out<'_, W>, tokens: &Pieces) -> Result<(), WriteFault>
+    ensures { Sends W.written out.old out.new result (flat_map (λ piece. layout_text (piece_layout piece)) tokens.now) }
+{
+    for place in 0..tokens.len() {
+        if let Some(piece) = tokens.get(place) {
+            hold_piece(out, piece)?;
+        }
     }
+    Ok(())
+}
+
+#[tactic(auto, using(crate::proofs::Layouts::text_of_items))]
+fn hold_pieces<W: Sink>(out: &mut Out<'_, W>, tokens: &Pieces) -> Result<(), WriteFault>
+    ensures { Sends W.written out.old out.new result (layout_text (flat_map piece_layout tokens.now)) }
+{
+    hold_tokens(out, tokens)
 }
 
 /// The line of a kept statement.
@@ -215,7 +230,7 @@ impl Style<Kept> for KeptLine {
 
     #[tactic(auto, using(crate::proofs::Layouts::layouts), unfolding(dbc_records::specs::CanonicalText::kept_layout))]
     fn hold_item<W: Sink>(out: &mut Out<'_, W>, statement: &Kept) -> Result<(), WriteFault> {
-        hold_list::<PieceStyle, Piece, W>(out, &statement.tokens)?;
+        hold_pieces(out, &statement.tokens)?;
         hold_statement_end(out)
     }
 }

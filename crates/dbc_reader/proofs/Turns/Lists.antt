@@ -1,5 +1,5 @@
 -- Each reader leaves fewer tokens, and what one more turn of a loop does.
-use Rattle.std.proofs.Common.{◌≡◌, ℕ, Bool, true, false, List, [], ◌∷◌, ◌++◌, Result, Ok, refl, ◌<◌, IsTrue, length, arith}
+use Rattle.std.proofs.Common.{◌≡◌, ℕ, Bool, true, false, List, [], ◌∷◌, ◌++◌, Result, Ok, refl, ◌<◌, IsTrue, length, arith, subst}
 use Rattle.std.specs.Prelude.{nat_le}
 use Rattle.std.proofs.lemmas.Grind.{common_steps}
 use Rattle.dbc_values.specs.Lexical.{is_name}
@@ -10,10 +10,10 @@ use Rattle.dbc_records.specs.declared.mux_row.Range.{Range}
 use Rattle.dbc_tokens.specs.declared.fault.ReadFault.{ReadFault}
 use Rattle.dbc_reader.specs.declared.stopped.Stopped.{Stopped}
 use Rattle.dbc_reader.specs.declared.stopped.Stopped.TheVariants as stops
-use Rattle.dbc_tokens.specs.Tokens.{Cut}
+use Rattle.dbc_tokens.specs.Tokens.{Token, Cut, End, Fault, ◌▸◌}
 use Rattle.dbc_reader.specs.Classes.{has_word, has_mark, has_name, has_symbol, has_piece, where_true, text_of, whole_of, number_of}
 use Rattle.dbc_reader.specs.Classes.{order_of, tag_of}
-use Rattle.dbc_reader.specs.Reading.Readers.{Reader, and_then, ◌>>=◌, value, starts, size, Fails}
+use Rattle.dbc_reader.specs.Reading.Readers.{Reader, and_then, ◌>>=◌, value, token_at, starts, size, Fails}
 use Rattle.dbc_reader.specs.Reading.Parts.{word_at, mark_at, name_at, symbol_at, text_at, piece_at, whole_at, id_at, number_at}
 use Rattle.dbc_reader.specs.Reading.Parts.{order_at, tag_token_at, decimal_at, int_at, begins_int, pair_at, names_from}
 use Rattle.dbc_reader.specs.Reading.Parts.{symbols_from, pieces_from, comma_at, begins_receiver, receivers_from, receivers_at}
@@ -198,6 +198,36 @@ pieces_end pieces cut total t so_far = ends has_piece pieces_turn pieces_shrink 
 
 pub pieces_less : (piece : (List ℕ)) (cut rest : Cut) → piece_at cut ≡ Ok (piece, rest) → size rest < size cut
 pieces_less piece cut rest h = piece_shrinks.less cut (piece, rest) h
+
+-- a token that passes the test is such a piece
+taken : (t : Token) (cut rest : Cut) → starts has_piece cut ≡ true → token_at cut ≡ Ok (t, rest)
+    → (is_piece t.bytes ≡ true) × (piece_at cut ≡ Ok (t.bytes, rest))
+unfolding token_at starts has_piece piece_at
+taken t (End line) rest h k = absurd cc
+taken t (Fault line) rest h k = absurd cc
+taken t (first ▸ cut) rest h k =
+    let same = ok_is (first, cut) (t, rest) k in (
+      subst (λ (x : Token × Cut). is_piece x.0.bytes ≡ true) same h,
+      subst (λ (x : Token × Cut). piece_at (first ▸ cut) ≡ Ok (x.0.bytes, x.1)) same (rw h refl),
+    )
+
+pub taken_is : (t : Token) (cut rest : Cut) → starts has_piece cut ≡ true → token_at cut ≡ Ok (t, rest)
+    → is_piece t.bytes ≡ true
+taken_is t cut rest h k = (taken t cut rest h k).0
+
+pub taken_on : (pieces new : List (List ℕ)) (t : Token) (cut rest : Cut) (total : Result (List (List ℕ) × Cut) ReadFault)
+    → starts has_piece cut ≡ true → token_at cut ≡ Ok (t, rest) → new ≡ pieces ++ t.bytes ∷ []
+    → pieces_from pieces cut ≡ total → pieces_from new rest ≡ total
+taken_on pieces new t cut rest total h k is so_far =
+    pieces_on pieces new t.bytes cut rest total h (taken t cut rest h k).1 is so_far
+
+pub taken_less : (t : Token) (cut rest : Cut) → starts has_piece cut ≡ true → token_at cut ≡ Ok (t, rest) → size rest < size cut
+taken_less t cut rest h k = pieces_less t.bytes cut rest (taken t cut rest h k).1
+
+pub taken_fails : (e : Stopped) (pieces : List (List ℕ)) (cut : Cut) (total : Result (List (List ℕ) × Cut) ReadFault)
+    → starts has_piece cut ≡ true → Fails e (token_at cut) → pieces_from pieces cut ≡ total → Fails e total
+unfolding piece_at
+taken_fails e pieces cut total h k so_far = pieces_fail e pieces cut total h (fails_bind e (token_at cut) _ k) so_far
 
 -- ---- entries
 

@@ -3,17 +3,19 @@ use Rattle.std.proofs.Common.{sym, ◌∙◌}
 use Rattle.std.proofs.lemmas.List.{get_or_default, get_or-drop}
 use Rattle.can_bits.specs.declared.field.Field.{Field}
 use Rattle.can_layout.specs.declared.walk.Walk.{Walk}
-use Rattle.can_layout.specs.declared.walk.Walk.TheVariants.{Chain}
+use Rattle.can_layout.specs.declared.walk.Walk.TheVariants.{Chain, Loop}
 use Rattle.can_overlap.specs.declared.pair.Pair.{Pair}
 use Rattle.can_overlap.specs.Places.{has}
 use Rattle.can_overlap.specs.Overlaps.{laid_from, share, together}
 use Rattle.can_overlap.specs.Occupancy.{laid_at}
 use Rattle.can_overlap.proofs.Gone.{chain_there, never_there}
-use Rattle.can_overlap.proofs.Meeting.{chained, unchained, share_from_marks}
+use Rattle.can_overlap.proofs.Meeting.{chained, unchained, pairs_here, share_from_marks}
 use Rattle.can_overlap.proofs.pairing.push_pairs.Goals as goal
 
 pub returns-in_ok-push_chained-in-Some : goal.returns-in_ok-push_chained-in-Some
-returns-in_ok-push_chained-in-Some c = λ field walk.
+returns-in_ok-push_chained-in-Some c =
+    let field : Field = record { start = 0; length = 0; intel = false } in
+    let walk : Walk = Loop in
     let fields : List Field = c.args.fields.now in
     let walks : List Walk = c.args.ways.now.walks in
     let first : ℕ = c.args.first in
@@ -34,16 +36,19 @@ returns-in_ok-push_chained-in-Some c = λ field walk.
     c.in_ok-push_chained-in-Some.ensures
     ∙ ap (λ (pairs : List Pair). c.args.found.now.items ++ pairs) (chained (laid_at fields walks first field walk)
     c.in-Some.links.now is c.met_by-met.result.words (first + 1) (drop (first + 1) fields) (drop (first + 1) walks) lengths
-    shares)
+    shares ∙ sym (pairs_here fields walks first field walk c.requires.place inside))
 
 pub returns-in-None : goal.returns-in-None
-returns-in-None c = λ field walk.
+returns-in-None c =
+    let field : Field = record { start = 0; length = 0; intel = false } in
+    let walk : Walk = Loop in
     let fields : List Field = c.args.fields.now in
     let walks : List Walk = c.args.ways.now.walks in
     let first : ℕ = c.args.first in
     let inside : first < length walks = omega (arith, c.requires.place, c.requires.lengths) in
     let never : (other : Walk) → together (get_or walks first walk) other ≡ false = λ other. never_there walks first walk other
     inside c.in-None.ensures in
-    sym (ap (λ (pairs : List Pair). c.args.found.now.items ++ pairs) (unchained (laid_at fields walks first field walk) never
+    sym (ap (λ (pairs : List Pair). c.args.found.now.items ++ pairs)
+    (pairs_here fields walks first field walk c.requires.place inside ∙ unchained (laid_at fields walks first field walk) never
     (laid_from (first + 1) (drop (first + 1) fields) (drop (first + 1) walks)))
     ∙ append-nil c.args.found.now.items)

@@ -1,9 +1,0 @@
-use Rattle.std.proofs.Common.{◌≡◌, ◌++◌, take}
-use Rattle.std.specs.List.{flat_map}
-use Rattle.can_check.specs.MessageFaults.{message_faults}
-use Rattle.can_check.proofs.all.push_messages.Given as goal
-
--- the messages so far
-abbrev pub invariant-loop-message : goal.invariant-loop-message
-invariant-loop-message g l = l.found.items ≡ l.initial.found.items ++ flat_map (message_faults l.known)
-    (take l.message-index l.messages)
