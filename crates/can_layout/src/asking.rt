@@ -55,7 +55,7 @@ pub fn chain(
 fn walks_below(alloc: Global, aboves: &[Above], count: usize) -> Result<Vec<Walk>, Memory>
     ensures { IfOk result (λ walks. walks.items ≡ map (walk_of aboves.now) (range_with_len 0 count)) }
 {
-    let mut walks = Vec::new(alloc);
+    let mut walks = Vec::with_capacity(alloc, count)?;
     for place in 0..count {
         walks.push(walk_of(alloc, aboves, place)?)?;
     }

@@ -59,7 +59,7 @@ fn pictures_of<L: Lookup>(
     ensures counted { OnOk result (meter.new ≡ repeated (length messages.now) with_picture meter.old) }
     ensures at_most { AtMost (length messages.now) with_picture meter.old meter.new }
 {
-    let mut pictures = Vec::new(alloc);
+    let mut pictures = Vec::with_capacity(alloc, messages.len())?;
     for message in messages {
         pictures.push(picture_with(alloc, lookup, message, meter)?)?;
     }

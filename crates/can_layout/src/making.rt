@@ -57,7 +57,7 @@ fn plans_of<L: Lookup>(
     ensures counted { OnOk result (meter.new ≡ repeated (length messages.now) with_plan meter.old) }
     ensures at_most { AtMost (length messages.now) with_plan meter.old meter.new }
 {
-    let mut plans = Vec::new(alloc);
+    let mut plans = Vec::with_capacity(alloc, messages.len())?;
     for message in messages {
         plans.push(plan_with(alloc, lookup, message, meter)?)?;
     }

@@ -66,7 +66,7 @@ pub(crate) fn ready_names(
     ensures { IfOk result (λ names. AreNames entries.now names.items) }
 {
     let count = entries.len().min(MOST) as u8;
-    let mut names = Vec::new(alloc);
+    let mut names = Vec::with_capacity(alloc, usize::from(count))?;
     for raw in 0..count {
         names.push(ready_name(alloc, entries, i128::from(raw))?)?;
     }

@@ -115,7 +115,7 @@ fn plan_rows<L: Lookup>(
 ) -> Result<List<Row>, Memory>
     ensures { IfOk result (λ made. made ≡ plan_rows rows.now aboves.now.value size signals.now) }
 {
-    let mut made = List::new(alloc);
+    let mut made = List::with_capacity(alloc, signals.len())?;
     for (place, signal) in signals.iter().enumerate() {
         let chain = Chain::of(aboves, place)?;
         made.push(row_of(alloc, rows, chain, size, signal)?)?;
@@ -136,7 +136,7 @@ fn label_of(alloc: Global, row: &Row) -> Result<ReadyText, Memory>
 fn labels_of(alloc: Global, rows: &[Row]) -> Result<Vec<ReadyText>, Memory>
     ensures { IfOk result (λ labels. labels.items ≡ map label_of rows.now) }
 {
-    let mut labels = Vec::new(alloc);
+    let mut labels = Vec::with_capacity(alloc, rows.len())?;
     for row in rows {
         labels.push(label_of(alloc, row)?)?;
     }

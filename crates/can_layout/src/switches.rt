@@ -114,7 +114,7 @@ pub(crate) fn aboves_of<L: Lookup>(
     ensures { IfOk result (λ aboves. aboves ≡ aboves_of rows.now signals.now) }
 {
     let only = only_switch(signals);
-    let mut aboves = List::new(alloc);
+    let mut aboves = List::with_capacity(alloc, signals.len())?;
     for signal in signals {
         aboves.push(above_of(alloc, rows, signals, only, signal)?)?;
     }

@@ -200,6 +200,7 @@ fn signals(alloc: Global, at: &mut Cursor<'_>) -> Result<List<Signal>, Stopped>
         let found = signal(alloc, at, signals.as_slice())?;
         signals.push(found)?;
     }
+    signals.shrink_to_fit();
     Ok(signals)
 }
 

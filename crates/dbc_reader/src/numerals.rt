@@ -149,5 +149,6 @@ pub fn entries(alloc: Global, at: &mut Cursor<'_>) -> Result<List<Entry>, Stoppe
     'entries: while let Some(found) = entry_if_any(alloc, at)? {
         entries.push(found)?;
     }
+    entries.shrink_to_fit();
     Ok(entries)
 }

@@ -197,6 +197,7 @@ fn receivers_behind(alloc: Global, at: &mut Cursor<'_>, first: Name) -> Result<L
         let found = name(alloc, at)?;
         names.push(found)?;
     }
+    names.shrink_to_fit();
     Ok(names)
 }
 
@@ -223,5 +224,6 @@ pub fn texts(alloc: Global, at: &mut Cursor<'_>, first: Text) -> Result<List<Tex
         let found = text(alloc, at)?;
         texts.push(found)?;
     }
+    texts.shrink_to_fit();
     Ok(texts)
 }

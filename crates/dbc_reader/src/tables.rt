@@ -94,6 +94,7 @@ fn ranges_behind(alloc: Global, at: &mut Cursor<'_>, first: Range) -> Result<Lis
         let found = range(at)?;
         ranges.push(found)?;
     }
+    ranges.shrink_to_fit();
     Ok(ranges)
 }
 

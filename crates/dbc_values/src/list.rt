@@ -62,6 +62,14 @@ impl<T: Checked> List<T> {
         }
     }
 
+    /// The empty list, with room for as many items.
+    pub fn with_capacity(alloc: Global, count: usize) -> Result<List<T>, Memory>
+        ensures { IfOk result (λ list. list ≡ []) }
+    {
+        let items = Vec::with_capacity(alloc, count)?;
+        Ok(List { items })
+    }
+
     /// The list of a vector's items.
     pub fn from_vec(items: Vec<T>) -> List<T>
         requires { All T.IsValid items.items }
@@ -149,6 +157,14 @@ impl<T: Checked> List<T> {
         ensures valid { All T.IsValid self.new }
     {
         rewrite_items(self.items.as_mut_slice(), change);
+    }
+
+    /// Gives back the room that was kept for further items.
+    pub fn shrink_to_fit(&mut self)
+        ensures new { self.new ≡ self.old }
+        ensures valid { All T.IsValid self.new }
+    {
+        self.items.shrink_to_fit();
     }
 
     /// The items in order.
