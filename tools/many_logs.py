@@ -5,6 +5,7 @@ written of the two as one; and blocks that end at line ends, decoded apart, give
 """
 
 import os
+import shutil
 import subprocess
 
 import candesk_tools as tools
@@ -55,6 +56,15 @@ def put_in_place(made, output):
         tools.keep_rights(output, file.fileno())
         os.fsync(file.fileno())
     os.replace(made, output)
+
+
+def put_together(parts, output):
+    """Puts files together, in their order, and takes each away."""
+    with tools.replacing(output) as file:
+        for part in parts:
+            with open(part, "rb") as source:
+                shutil.copyfileobj(source, file, 1 << 20)
+            os.unlink(part)
 
 
 def blocks_of(log, size):

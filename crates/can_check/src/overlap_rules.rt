@@ -1,14 +1,13 @@
 //! Signals of a message that have a bit in common and can be there together.
-ghost use Rattle.std.specs.Prelude.{◌≡◌, ◌++◌, ◌<◌, ◌≤◌, OnOk, IfOk, length, map, slice_get, option_map};
+ghost use Rattle.std.specs.Prelude.{◌≡◌, ◌++◌, ◌<◌, ◌≤◌, OnOk, IfOk, length, slice_get, option_map};
 ghost use Rattle.std.specs.List.{flat_map, range_with_len};
-ghost use Rattle.can_bits.specs.Bits.{field_of};
 ghost use Rattle.can_overlap.specs.Overlaps.{overlapping, pairs_from};
 ghost use Rattle.can_check.specs.MessageFaults.{pair_between, pair_at, overlaps};
 ghost use Rattle.can_check.specs.Reports.{Takes};
 
 use crate::report::{Report, Stop};
 use can_diagnostics::{Code, Diagnostic};
-use can_layout::{Field, Walk};
+use can_layout::{Field, Walk, fields_of};
 use can_overlap::laws::pairs_by_signal;
 use can_overlap::{Marked, Occupancy, Pair};
 use can_references::is_pseudo;
@@ -53,17 +52,6 @@ fn push_pairs(found: &mut Vec<Diagnostic>, message: &Message, pairs: &[Pair]) ->
         push_pair(found, message, *pair)?;
     }
     Ok(())
-}
-
-// Where the bits of signals lie.
-fn fields_of(alloc: Global, signals: &[Signal]) -> Result<Vec<Field>, Memory>
-    ensures { IfOk result (λ fields. fields.items ≡ map field_of signals.now) }
-{
-    let mut fields = Vec::with_capacity(alloc, signals.len())?;
-    for signal in signals {
-        fields.push(Field::of(signal))?;
-    }
-    Ok(fields)
 }
 
 // The pairs of the signal at a place with later ones.

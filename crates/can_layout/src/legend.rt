@@ -74,8 +74,8 @@ fn push_legend<L: Lookup>(
     Ok(())
 }
 
-// Where the signals lie.
-fn fields_of(alloc: Global, signals: &[Signal]) -> Result<Vec<Field>, Memory>
+/// Where the signals lie, in order.
+pub fn fields_of(alloc: Global, signals: &[Signal]) -> Result<Vec<Field>, Memory>
     ensures { IfOk result (λ fields. fields.items ≡ map field_of signals.now) }
 {
     let mut fields = Vec::with_capacity(alloc, signals.len())?;

@@ -33,6 +33,7 @@ pub use can_bits::{Field, Steps, position};
 pub use can_rows::{Indexed, Lookup, group_in, group_number, group_of, is_bad_number};
 pub use decoder::Decoder;
 pub use drawing::{picture, picture_with, pictures};
+pub use legend::fields_of;
 pub use link::Link;
 pub use making::{make_plan, make_plans, plan_with, plans_with};
 pub use meter::Meter;

@@ -9,7 +9,7 @@ use std::rc::Rc;
 // So many bytes lie in the value itself, which with their count and the tag of `Place` has three words.
 const ROOM: usize = 22;
 
-/// At most 22 bytes.
+/// At most [`ROOM`] bytes.
 #[derive(Drop)]
 pub struct Few {
     // How many of the bytes count.
@@ -20,18 +20,19 @@ pub struct Few {
 
 impl Model for Few {
     ghost use Rattle.std.specs.Prelude.{ℕ, List, ◌≤◌, take};
+    ghost use Rattle.dbc_values.specs.declared.stored.TheConstants.{ROOM};
 
     ghost Value = { List ℕ };
 
     ghost view = { λ few. take few.count few.room };
 
-    ghost invariant = { λ few. few.count ≤ 22 };
+    ghost invariant = { λ few. few.count ≤ ROOM };
 }
 
 impl Few {
     // These bytes, or `None` where there are more than [`ROOM`].
     fn of(bytes: &[u8]) -> Option<Few>
-        ensures { result ≡ (if nat_le (length bytes.now) 22 then Some bytes.now else None) }
+        ensures { result ≡ (if nat_le (length bytes.now) ROOM then Some bytes.now else None) }
     {
         if bytes.len() > ROOM {
             return None;
@@ -88,7 +89,7 @@ impl Stored {
     /// These bytes.
     pub fn of(alloc: Global, bytes: &[u8]) -> Result<Stored, Memory>
         ensures made { IfOk result (λ made. made ≡ bytes.now) }
-        ensures memory_for_many { OnErr result (22 < length bytes.now) }
+        ensures memory_for_many { OnErr result (ROOM < length bytes.now) }
     {
         if let Some(few) = Few::of(bytes) {
             return Ok(Stored {
