@@ -1,7 +1,7 @@
 -- What to do about what is doubtful in a database.
 use Rattle.std.specs.Prelude.{ℕ, List, [], ◌∷◌, ◌++◌, codes}
 use Rattle.std.specs.List.{flat_map}
-use Rattle.can_diagnostics.specs.Lines.{line_text}
+use Rattle.can_diagnostics.specs.Lines.{join, line_text}
 use Rattle.can_diagnostics.specs.declared.code.Code.{Code}
 use Rattle.can_diagnostics.specs.declared.code.Code.TheVariants as kinds
 use Rattle.can_diagnostics.specs.declared.diagnostic.Diagnostic.{Diagnostic}
@@ -27,6 +27,10 @@ remedy kinds.DanglingRow = codes "correct the row's number or name, or take it o
 remedy kinds.RepeatedRow = codes "take one row out; the first counts"
 remedy kinds.UnknownAttribute = codes "add a BA_DEF_ for the attribute, or take the row out"
 
+-- the end of a diagnostic's line, and a line with the remedy
+unfoldable pub remedy_line : Code → List ℕ
+remedy_line code = join (codes "\n  remedy: " ∷ remedy code ∷ codes "\n" ∷ [])
+
 -- the line of a diagnostic, and one with its remedy
 unfoldable pub explained_text : Diagnostic → List ℕ
-explained_text diagnostic = line_text diagnostic ++ (codes "\n  remedy: " ++ (remedy diagnostic.code ++ codes "\n"))
+explained_text diagnostic = line_text diagnostic ++ remedy_line diagnostic.code

@@ -3,11 +3,20 @@ ghost use Rattle.std.specs.Prelude.{◌≡◌};
 ghost use Rattle.std.specs.List.{flat_map};
 ghost use Rattle.byte_devices.specs.Device.{Prints};
 ghost use Rattle.byte_devices.specs.Outs.{Sends};
-ghost use Rattle.can_remedies.specs.Remedies.{explained_text};
+ghost use Rattle.can_remedies.specs.Remedies.{explained_text, remedy_line};
 
 use crate::remedies::remedy;
 use byte_devices::{Out, Sink, WriteFault};
-use can_diagnostics::{Diagnostic, hold_diagnostic};
+use can_diagnostics::{Code, Diagnostic, hold_diagnostic};
+
+// Ends a diagnostic's line, and holds that of its remedy, for a sink.
+#[tactic(auto, unfolding(crate::specs::Remedies::remedy_line))]
+fn hold_remedy<W: Sink>(out: &mut Out<'_, W>, code: Code) -> Result<(), WriteFault>
+    ensures { Sends W.written out.old out.new result (remedy_line code) }
+{
+    let pieces: [&[u8]; 3] = [b"\n  remedy: ", remedy(code), b"\n"];
+    out.send_pieces(&pieces)
+}
 
 // Holds the line of a diagnostic and that of its remedy, for a sink.
 #[tactic(auto, using(byte_devices::proofs::Outs::sends), unfolding(crate::specs::Remedies::explained_text))]
@@ -15,9 +24,7 @@ fn hold_one<W: Sink>(out: &mut Out<'_, W>, diagnostic: &Diagnostic) -> Result<()
     ensures { Sends W.written out.old out.new result (explained_text diagnostic.now) }
 {
     hold_diagnostic(out, diagnostic)?;
-    out.send(b"\n  remedy: ")?;
-    out.send(remedy(diagnostic.code))?;
-    out.send(b"\n")
+    hold_remedy(out, diagnostic.code)
 }
 
 // Holds the lines of each and of its remedy, for a sink.

@@ -49,8 +49,8 @@ fn explain_fault<W: Sink>(
     }
 }
 
-/// Reads the database text, and writes in words why it is refused: its first fault, and, as guesses, those behind it. Of a text that
-/// isn't refused it writes what is doubtful in the database, as `check` does, each with its remedy.
+/// Reads the database text, and writes in words why it is refused: its first fault, and, as guesses, those behind it. Of a text
+/// that isn't refused it writes what is doubtful in the database, as `check` does, each with its remedy.
 #[inline(never)]
 pub fn explain_run<W: Sink>(
     alloc: Global,

@@ -34,13 +34,13 @@ left_goes : (left : Left) (t : Token) (seen : Seen) (next : State) (go : Go) →
 left_goes None t seen next go e = absurd cc
 left_goes (Some x) t seen next go e = seen_goes x.1 t.line (verdict x.0 t seen) next go e
 
-seen_stops : (p : Pattern) (line : ℕ) (r : Result Seen Cause) (fault : ReadFault) (go : Go) → refused line (seen_so p r) ≡ Some fault
-    → ruled line r (go p) ≡ Some fault
+seen_stops : (p : Pattern) (line : ℕ) (r : Result Seen Cause) (fault : ReadFault) (go : Go)
+    → refused line (seen_so p r) ≡ Some fault → ruled line r (go p) ≡ Some fault
 seen_stops p line (Ok seen) fault go e = absurd cc
 seen_stops p line (Err cause) fault go e = e
 
-left_stops : (left : Left) (t : Token) (seen : Seen) (fault : ReadFault) (go : Go) → refused t.line (left_so left t seen) ≡ Some fault
-    → judged left t seen go ≡ Some fault
+left_stops : (left : Left) (t : Token) (seen : Seen) (fault : ReadFault) (go : Go)
+    → refused t.line (left_so left t seen) ≡ Some fault → judged left t seen go ≡ Some fault
 left_stops None t seen fault go e = e
 left_stops (Some x) t seen fault go e = seen_stops x.1 t.line (verdict x.0 t seen) fault go e
 
@@ -83,8 +83,9 @@ seen_err p r cause e = ap (seen_so p) e
 
 -- one token more
 leads_more : (tokens : List Token) (line : ℕ) (text : List ℕ) (state : State) (at : ℕ) (rest : List ℕ) (now : State)
-    → Leads tokens line text state at rest now → (t : Token) (gap behind : List ℕ) (next : State) → rest ≡ gap ++ (t.bytes ++ behind)
-    → IsGap gap (t.bytes ++ behind) → t.line ≡ at + line_feeds gap → IsLongest t.kind t.bytes behind → step now t ≡ Ok next
+    → Leads tokens line text state at rest now → (t : Token) (gap behind : List ℕ) (next : State)
+    → rest ≡ gap ++ (t.bytes ++ behind) → IsGap gap (t.bytes ++ behind) → t.line ≡ at + line_feeds gap
+    → IsLongest t.kind t.bytes behind → step now t ≡ Ok next
     → Leads (tokens ++ t ∷ []) line text state (t.line + line_feeds t.bytes) behind next
 leads_more [] line text state at rest now (a, b, c) t gap behind next parts is_gap in_line longest takes = (
   gap,
@@ -97,8 +98,8 @@ leads_more [] line text state at rest now (a, b, c) t gap behind next parts is_g
   ap (λ (s : State). step s t) (sym c) ∙ takes,
   (refl, refl, refl),
 )
-leads_more (u ∷ tokens) line text state at rest now (g, b, n, whole, is, l, long, took, others) t gap behind next parts is_gap in_line
-    longest takes = (
+leads_more (u ∷ tokens) line text state at rest now (g, b, n, whole, is, l, long, took, others) t gap behind next parts is_gap
+    in_line longest takes = (
       g,
       b,
       n,
@@ -154,8 +155,8 @@ first_place pattern text here cut here_is is =
     rw here_is (place_behind pattern text (pattern, nothing_seen) [] 1 text cut (refl, refl, refl) is)
 
 -- the token there stands at its front
-there : (pattern : Pattern) (text here : List ℕ) (state : State) (t : Token) (cut : Cut) → (at : Stands pattern text here state (t ▸ cut))
-    → (rest : List ℕ) × IsFront (at.line + line_feeds at.gap) here t cut rest
+there : (pattern : Pattern) (text here : List ℕ) (state : State) (t : Token) (cut : Cut)
+    → (at : Stands pattern text here state (t ▸ cut)) → (rest : List ℕ) × IsFront (at.line + line_feeds at.gap) here t cut rest
 there pattern text here state t cut at = token_front (at.line + line_feeds at.gap) here t cut at.no_gap
     (sym (cut_unique (at.line + line_feeds at.gap) here (t ▸ cut) at.follow))
 
@@ -167,8 +168,8 @@ token_fits pattern text here state t cut at =
     omega (arith, ap length x.1.parts, length-append t.bytes x.0)
 
 -- the place behind a token that may stand there
-pub next_place : (pattern : Pattern) (text here : List ℕ) (state : State) (t : Token) (cut : Cut) (next : State) (rest behind : List ℕ)
-    → Stands pattern text here state (t ▸ cut) → step state t ≡ Ok next → rest ≡ drop (length t.bytes) here
+pub next_place : (pattern : Pattern) (text here : List ℕ) (state : State) (t : Token) (cut : Cut) (next : State)
+    (rest behind : List ℕ) → Stands pattern text here state (t ▸ cut) → step state t ≡ Ok next → rest ≡ drop (length t.bytes) here
     → behind ≡ drop (gap_len false rest) rest → Stands pattern text behind next cut
 next_place pattern text here state t cut next rest behind at takes rest_is behind_is =
     let x = there pattern text here state t cut at in
@@ -244,14 +245,16 @@ token_parts pattern text here state t cut at =
     ap (take (length t.bytes)) x.1.parts ∙ take_at t.bytes x.0 (length t.bytes) refl
 
 -- what was found at a place where there is a fault
-pub found_at : (pattern : Pattern) (text here : List ℕ) (state : State) (cut : Cut) (found : Found) → Stands pattern text here state cut
-    → fault_here state cut ≡ Some found.fault → text ≡ found.before ++ here → here ≡ found.token ++ found.behind
+pub found_at : (pattern : Pattern) (text here : List ℕ) (state : State) (cut : Cut) (found : Found)
+    → Stands pattern text here state cut → fault_here state cut ≡ Some found.fault → text ≡ found.before ++ here
+    → here ≡ found.token ++ found.behind
     → found.token ≡ front_bytes cut → found.expected ≡ firsts state.0 → IsPlace pattern text (Some found)
 found_at pattern text here state cut found at fault parts token front expected = (
   (
     at.tokens ▸▸ cut,
     whole_tokens pattern text here state cut at,
-    leads_first at.tokens 1 text (pattern, nothing_seen) at.line at.rest state cut at.leads ∙ first_here state cut found.fault fault,
+    leads_first at.tokens 1 text (pattern, nothing_seen) at.line at.rest state cut at.leads
+    ∙ first_here state cut found.fault fault,
   ),
   record {
     state = state;
@@ -265,8 +268,8 @@ found_at pattern text here state cut found at fault parts token front expected =
 )
 
 -- a token that can't stand there
-pub token_found : (pattern : Pattern) (text here before front back : List ℕ) (state now : State) (t : Token) (cut : Cut) (cause : Cause)
-    (fault : ReadFault) → Stands pattern text here state (t ▸ cut) → Answers (step state t) (Some cause) state now
+pub token_found : (pattern : Pattern) (text here before front back : List ℕ) (state now : State) (t : Token) (cut : Cut)
+    (cause : Cause) (fault : ReadFault) → Stands pattern text here state (t ▸ cut) → Answers (step state t) (Some cause) state now
     → fault ≡ fault_in t.line cause → before ≡ take (length text - length here) text → front ≡ take (length t.bytes) here
     → back ≡ drop (length t.bytes) here → IsPlace pattern text
     (Some (record { fault = fault; before = before; token = front; behind = back; expected = firsts now.0 }))

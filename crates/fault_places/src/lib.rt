@@ -1,8 +1,9 @@
 //! The grammar of DBC texts as patterns that run: what each token leaves of a pattern, and what might have stood in its place.
 //!
-//! [`fault_place`] finds where the first fault of a text stands, and the classes of which a token might have stood there. It walks
-//! over the tokens with the grammar's pattern ([`pattern_from`]): [`take`] gives what a token leaves of it, [`firsts`] the classes of
-//! which a token may stand next. Patterns, classes and what was seen are those by which `dbc_reader` says what the first fault of a text is.
+//! [`fault_place`] finds where the first fault of a text stands, and the classes of which a token might have stood there. It
+//! walks over the tokens with the grammar's pattern ([`pattern_from`]): [`take`] gives what a token leaves of it, [`firsts`] the
+//! classes of which a token may stand next. Patterns, classes and what was seen are those by which `dbc_reader` says what the
+//! first fault of a text is.
 #![tactic(auto)]
 
 mod class;

@@ -57,7 +57,8 @@ returns-in-End c =
     let at = subst (λ (n : Next). Stands p c.args.text.now c.tokens.spot.here.now (state_of c.tokens.walk)
     (cut_from n (left c.tokens.spot.after))) c.in-End.is c.tokens.invariant in
     if_found c.found-in-End.result found_of p c.args.text.now _ c.found-in-End.ensures
-    (none_there p _ _ _ _ _ _ _ _ at (fault_at_end (state_of c.tokens.walk) c.in-End.line _ (sym c.may_end.ensures ∙ c.if-may_end.false) c.fault_in-in-End.ensures)
+    (none_there p _ _ _ _ _ _ _ _ at (fault_at_end (state_of c.tokens.walk) c.in-End.line _
+    (sym c.may_end.ensures ∙ c.if-may_end.false) c.fault_in-in-End.ensures)
     refl c.split_at.ensures.front c.split_at-here-in-End.ensures.front c.split_at-here-in-End.ensures.back)
 
 pub returns-in-Fault : goal.returns-in-Fault
