@@ -4,15 +4,15 @@ _candesk() {
     local options=""
     COMPREPLY=()
     if [ "$COMP_CWORD" -eq 1 ]; then
-        mapfile -t COMPREPLY < <(compgen -W "check decode dump print session help --help --version" -- "$word")
+        mapfile -t COMPREPLY < <(compgen -W "check decode dump explain print session help --help --version" -- "$word")
         return
     fi
     case $command in
-        check | dump | print) options="--help" ;;
+        check | dump | explain | print) options="--help" ;;
         decode) options="--short --help" ;;
         session) options="--short --keep --help" ;;
         help)
-            mapfile -t COMPREPLY < <(compgen -W "check decode dump print session" -- "$word")
+            mapfile -t COMPREPLY < <(compgen -W "check decode dump explain print session" -- "$word")
             return
             ;;
         *) return ;;

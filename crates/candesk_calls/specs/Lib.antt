@@ -1,5 +1,6 @@
 pub mod Checking
 pub mod Dumping
+pub mod Explaining
 pub mod Printing
 pub mod Refusals
 pub mod Run

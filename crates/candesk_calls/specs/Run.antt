@@ -17,6 +17,7 @@ use Rattle.candesk_words.specs.declared.job.Command.TheVariants as commands
 use Rattle.line_stream.specs.declared.fault.StreamFault.TheVariants as streams
 use Rattle.candesk_calls.specs.Checking.{CheckingEndsWith}
 use Rattle.candesk_calls.specs.Dumping.{DumpingEndsWith}
+use Rattle.candesk_calls.specs.Explaining.{ExplainingEndsWith}
 use Rattle.candesk_calls.specs.Printing.{status_of_cause, PrintingEndsWith}
 use Rattle.candesk_calls.specs.Scripting.{SessionEndsWith}
 use Rattle.candesk_calls.specs.Statuses.{done, device, memory}
@@ -73,5 +74,6 @@ abbrev pub EndsWith : Command → Options → List ℕ → Unread → Unread →
 EndsWith commands.Check options text before after old new status = (after ≡ before) × CheckingEndsWith text old new status
 EndsWith commands.Decode options text before after old new status = DecodingEndsWith text options.short before after old new status
 EndsWith commands.Dump options text before after old new status = (after ≡ before) × DumpingEndsWith text old new status
+EndsWith commands.Explain options text before after old new status = (after ≡ before) × ExplainingEndsWith text old new status
 EndsWith commands.Print options text before after old new status = (after ≡ before) × PrintingEndsWith text old new status
 EndsWith commands.Session options text before after old new status = SessionEndsWith text options before after old new status

@@ -21,7 +21,8 @@ pub enum Verdict {
     Doubtful,
 }
 
-fn verdict_of(found: &[Diagnostic]) -> Verdict
+/// The verdict on a database with these diagnostics.
+pub fn verdict_of(found: &[Diagnostic]) -> Verdict
     ensures { result ≡ verdict_of found.now }
 {
     match found {

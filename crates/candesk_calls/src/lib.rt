@@ -2,12 +2,14 @@
 //!
 //! [`job_of`] of `candesk_words` reads the words, [`run`] does a job on the bytes of its file, and [`refuse`] says why there is
 //! none.
-//! [`run`] stands on [`decode_run`], [`print_run`], [`dump_run`] and [`check_run`], whose contracts say what is written.
+//! [`run`] stands on [`decode_run`], [`print_run`], [`dump_run`], [`check_run`] and [`explain_run`], whose contracts say what is
+//! written.
 #![tactic(auto)]
 
 mod checking;
 mod decoding;
 mod dumping;
+mod explaining;
 mod fault;
 mod printing;
 mod refusing;
@@ -18,7 +20,8 @@ pub use candesk_words::{Command, Job, NoJob, job_of};
 pub use checking::{Verdict, check_run};
 pub use decoding::decode_run;
 pub use dumping::dump_run;
-pub use fault::{CheckFault, DumpFault, PrintFault, RunFault};
+pub use explaining::explain_run;
+pub use fault::{CheckFault, DumpFault, ExplainFault, PrintFault, RunFault};
 pub use line_stream::StreamFault;
 pub use printing::print_run;
 pub use refusing::{refuse, refuse_file};

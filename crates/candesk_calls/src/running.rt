@@ -3,13 +3,15 @@ ghost use Rattle.std.specs.Prelude.{◌≡◌, Err};
 ghost use Rattle.candesk_calls.specs.Printing.{status_of_cause, print_status_of, PrintingEndsWith};
 ghost use Rattle.candesk_calls.specs.Dumping.{dump_status_of, DumpingEndsWith};
 ghost use Rattle.candesk_calls.specs.Checking.{check_status_of, CheckingEndsWith};
+ghost use Rattle.candesk_calls.specs.Explaining.{explain_status_of, ExplainingEndsWith};
 ghost use Rattle.candesk_calls.specs.Scripting.{session_status_of};
 ghost use Rattle.candesk_calls.specs.Run.{EndsWith, options_of, status_of};
 
 use crate::checking::{Verdict, check_run};
 use crate::decoding::decode_run;
 use crate::dumping::dump_run;
-use crate::fault::{CheckFault, DumpFault, PrintFault, RunFault};
+use crate::explaining::explain_run;
+use crate::fault::{CheckFault, DumpFault, ExplainFault, PrintFault, RunFault};
 use crate::printing::print_run;
 use arrayvec::ArrayString;
 use can_decode::Short;
@@ -94,6 +96,19 @@ fn check_status_of(outcome: Result<Verdict, CheckFault>) -> u8
     }
 }
 
+// The status of an outcome of `explain`.
+fn explain_status_of(outcome: Result<Verdict, ExplainFault>) -> u8
+    ensures { result ≡ explain_status_of outcome }
+{
+    match outcome {
+        Ok(Verdict::Clean) => status::DONE,
+        Ok(Verdict::Doubtful) => status::DOUBTFUL,
+        Err(ExplainFault::Read(fault)) => status_of_cause(fault.cause),
+        Err(ExplainFault::Write) => status::DEVICE,
+        Err(ExplainFault::Memory) => status::MEMORY,
+    }
+}
+
 // Room for the longest fault line.
 const LONGEST_FAULT: usize = 96;
 
@@ -114,6 +129,17 @@ fn check<W: Sink, E: Sink>(alloc: Global, text: &[u8], sink: &mut W, errors: &mu
         report(errors, fault);
     }
     check_status_of(outcome)
+}
+
+// Explains, and says the fault.
+fn explain<W: Sink, E: Sink>(alloc: Global, text: &[u8], sink: &mut W, errors: &mut E) -> u8
+    ensures { ExplainingEndsWith text.now (W.written sink.old) (W.written sink.new) result }
+{
+    let outcome = explain_run(alloc, text, sink);
+    if let Err(fault) = outcome {
+        report(errors, fault);
+    }
+    explain_status_of(outcome)
 }
 
 // Says the fault of `decode`, if there is one.
@@ -216,6 +242,7 @@ pub fn run<R: Source, W: Sink, E: Sink>(
             decode_ended(outcome, errors)
         }
         Command::Dump => dump(alloc, text, sink, errors),
+        Command::Explain => explain(alloc, text, sink, errors),
         Command::Print => print(alloc, text, sink, errors),
         Command::Session => {
             let outcome = session_run(alloc, text, options_of(job), source, sink);

@@ -5,7 +5,7 @@ use Rattle.clap.specs.declared.error.kind.ErrorKind.TheVariants.{ArgumentConflic
 use Rattle.clap.specs.declared.error.kind.ErrorKind.TheVariants.{UnknownArgument, ValueValidation}
 use Rattle.clap.proofs.OnLiterals.{clap_on_literals}
 use Rattle.candesk_words.proofs.OnLiterals.{words_on_literals}
-use Rattle.candesk_words.specs.declared.job.Command.TheVariants.{Check, Decode, Dump, Print, Session}
+use Rattle.candesk_words.specs.declared.job.Command.TheVariants.{Check, Decode, Dump, Explain, Print, Session}
 use Rattle.can_session.specs.declared.keep.Keep.TheVariants.{All, Last}
 use Rattle.candesk_words.specs.Words.{command_line, job_named}
 
@@ -28,6 +28,10 @@ print-job = refl
 dump-job : job_named (codes "dump" ∷ codes "a" ∷ []) ≡ Some (Dump, codes "a", false, All)
 unfolding clap_on_literals words_on_literals
 dump-job = refl
+
+explain-job : job_named (codes "explain" ∷ codes "a" ∷ []) ≡ Some (Explain, codes "a", false, All)
+unfolding clap_on_literals words_on_literals
+explain-job = refl
 
 version : fault_of command_line (codes "-V" ∷ []) ≡ DisplayVersion ∷ []
 unfolding clap_on_literals words_on_literals
@@ -64,6 +68,10 @@ check-takes_no_short = refl
 dump-takes_no_short : fault_of command_line (codes "dump" ∷ codes "--short" ∷ codes "a" ∷ []) ≡ UnknownArgument ∷ []
 unfolding clap_on_literals words_on_literals
 dump-takes_no_short = refl
+
+explain-takes_no_short : fault_of command_line (codes "explain" ∷ codes "--short" ∷ codes "a" ∷ []) ≡ UnknownArgument ∷ []
+unfolding clap_on_literals words_on_literals
+explain-takes_no_short = refl
 
 print-takes_no_short : fault_of command_line (codes "print" ∷ codes "--short" ∷ codes "a" ∷ []) ≡ UnknownArgument ∷ []
 unfolding clap_on_literals words_on_literals

@@ -66,7 +66,8 @@ command_line =
     let check = with_command before_command (on_file (codes "check")) in
     let decode = with_command check (on_frames (codes "decode")) in
     let dump = with_command decode (on_file (codes "dump")) in
-    let print = with_command dump (on_file (codes "print")) in
+    let explain = with_command dump (on_file (codes "explain")) in
+    let print = with_command explain (on_file (codes "print")) in
     with_command print on_session
 
 -- ---- jobs
@@ -76,8 +77,9 @@ command_named name =
     if bytes_eq name (codes "check") then Some commands.Check
     else (if bytes_eq name (codes "decode") then Some commands.Decode
     else (if bytes_eq name (codes "dump") then Some commands.Dump
+    else (if bytes_eq name (codes "explain") then Some commands.Explain
     else (if bytes_eq name (codes "print") then Some commands.Print
-    else (if bytes_eq name (codes "session") then Some commands.Session else None))))
+    else (if bytes_eq name (codes "session") then Some commands.Session else None)))))
 
 -- whether the flag of this name is there, for which clap finds `true` then and `false` else
 abbrev pub has_flag : Text → List Row → Bool

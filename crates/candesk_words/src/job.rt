@@ -18,6 +18,8 @@ pub enum Command {
     Decode,
     /// Draws the messages of the database.
     Dump,
+    /// Explains the faults of the database text, or what is doubtful in the database.
+    Explain,
     /// Prints the canonical text of the database.
     Print,
     /// Keeps a session open for the script on standard input.
@@ -81,6 +83,7 @@ fn command_named(name: &str) -> Option<Command>
         "check" => Some(Command::Check),
         "decode" => Some(Command::Decode),
         "dump" => Some(Command::Dump),
+        "explain" => Some(Command::Explain),
         "print" => Some(Command::Print),
         "session" => Some(Command::Session),
         _ => None,

@@ -113,6 +113,14 @@ fn with_dump<'a>(alloc: Global, line: Command<'a>) -> Result<Command<'a>, AllocE
     with_command(line, command)
 }
 
+fn with_explain<'a>(alloc: Global, line: Command<'a>) -> Result<Command<'a>, AllocError>
+    ensures { IfOk result (λ longer. app_of longer ≡ with_command (app_of line.entry) (on_file (codes "explain"))) }
+{
+    let about = "Explains why a database is refused, or what is doubtful in it, on standard output";
+    let command = on_file(alloc, "explain", about, notes::EXPLAIN)?;
+    with_command(line, command)
+}
+
 fn with_print<'a>(alloc: Global, line: Command<'a>) -> Result<Command<'a>, AllocError>
     ensures { IfOk result (λ longer. app_of longer ≡ with_command (app_of line.entry) (on_file (codes "print"))) }
 {
@@ -129,8 +137,8 @@ fn with_session<'a>(alloc: Global, line: Command<'a>) -> Result<Command<'a>, All
     with_command(line, command)
 }
 
-/// The command line: `candesk check FILE`, and so with `decode`, `dump`, `print` and `session`, of which `decode` and
-/// `session` take `--short` too, and `session` takes `--keep N`.
+/// The command line: `candesk check FILE`, and so with `decode`, `dump`, `explain`, `print` and `session`, of which `decode`
+/// and `session` take `--short` too, and `session` takes `--keep N`.
 #[tactic(auto, unfolding(crate::specs::Words::command_line))]
 pub fn command_line<'a>(alloc: Global) -> Result<Command<'a>, AllocError>
     ensures { IfOk result (λ line. app_of line ≡ command_line) }
@@ -139,6 +147,7 @@ pub fn command_line<'a>(alloc: Global) -> Result<Command<'a>, AllocError>
     let line = with_check(alloc, line)?;
     let line = with_decode(alloc, line)?;
     let line = with_dump(alloc, line)?;
+    let line = with_explain(alloc, line)?;
     let line = with_print(alloc, line)?;
     with_session(alloc, line)
 }

@@ -32,6 +32,23 @@ Example:
      1:   0   0   0   0   0   0   0   0
      0 Speed 0|16@1+";
 
+/// Of `explain`.
+pub const EXPLAIN: &str = "\
+Standard input is not read. Where the database is refused, standard output has the line of its first fault with a mark
+under the token, what was found, what may stand there, and the usual reason with its remedy; then, as guesses, the same of
+faults behind it. Else it has what `check` writes, each line with its remedy. The status is 1 where there is anything.
+
+Example, of a limit that is no number:
+  $ printf 'BO_ 1 A: 1 N\\n SG_ S : 0|8@1+ (1,0) [0|inf] \"\"\\n' > far.dbc
+  $ candesk explain far.dbc
+  candesk: line 2: 2 Statement
+  line 2: 2 Statement
+   SG_ S : 0|8@1+ (1,0) [0|inf] \"\"
+                           ^~~
+  found: the word inf
+  expected: '-', '+' or a number
+  reason: inf and nan are no numbers; where it is a limit of a signal, [0|0] says that there is none";
+
 /// Of `print`.
 pub const PRINT: &str = "\
 Standard input is not read. Standard output is the database in its one canonical form.

@@ -38,7 +38,7 @@ token_no_gap k t rest h =
 
 -- ---- no other list
 
-at_gap : (line : ℕ) (gap rest : List ℕ) → IsGap gap rest → gap_len false rest ≡ 0 → cut_of line (gap ++ rest)
+pub at_gap : (line : ℕ) (gap rest : List ℕ) → IsGap gap rest → gap_len false rest ≡ 0 → cut_of line (gap ++ rest)
     ≡ rest_then cut_of (line + line_feeds gap) rest
 at_gap line gap rest is stop =
     let n = gap_only gap rest is stop in

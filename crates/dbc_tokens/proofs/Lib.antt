@@ -8,4 +8,5 @@ pub mod Gaps
 pub mod CutStep
 pub mod LineFeeds
 pub mod CutLaws
+pub mod Spots
 pub mod Places

@@ -13,5 +13,6 @@ mod token;
 
 pub use cutting::tokens;
 pub use fault::{Cause, ReadFault};
+pub use lengths::gap_len;
 pub use stream::Tokens;
 pub use token::{Kind, Next, Token};

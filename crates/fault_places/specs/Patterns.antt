@@ -1,5 +1,5 @@
 -- What contracts see of classes, patterns and what was seen: those of the first fault. And which classes a pattern begins with.
-use Rattle.std.specs.Prelude.{ℕ, Bool, true, false, ◌||◌, List, [], ◌∷◌, ◌++◌, map, codes}
+use Rattle.std.specs.Prelude.{◌≡◌, ℕ, Bool, true, false, ◌||◌, List, [], ◌∷◌, ◌++◌, map, codes}
 use Rattle.std.specs.Prelude.{Option, Some, None, Result, Ok, Err, if◌then◌else◌}
 use Rattle.std.specs.Borrow.{Bor}
 use Rattle.dbc_tokens.specs.declared.fault.Cause.{Cause}
@@ -89,6 +89,11 @@ refusal_of false = Some causes.Statement
 abbrev pub cause_of : {A : Type 0} → Result A Cause → Option Cause
 cause_of (Ok x) = None
 cause_of (Err cause) = Some cause
+
+-- nothing is told where something is taken, and this is so now; else the cause is told, and all is as before
+abbrev pub Answers : {A : Type 0} → Result A Cause → Option Cause → A → A → Type 0
+Answers judged None before now = judged ≡ Ok now
+Answers judged (Some cause) before now = (judged ≡ Err cause) × (now ≡ before)
 
 -- the classes of which a token may stand at the front
 abbrev pub firsts : Pattern → List Class

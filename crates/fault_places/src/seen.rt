@@ -1,10 +1,10 @@
 //! What a walk over tokens has seen: how many messages, and the names of the last one's signals.
-ghost use Rattle.std.specs.Prelude.{◌≡◌, None, Ok, OnOk, map};
+ghost use Rattle.std.specs.Prelude.{◌≡◌, None, Ok, IfOk, OnOk, map};
 ghost use Rattle.std.specs.List.{list_any};
 ghost use Rattle.std.specs.Str.{bytes_eq};
 ghost use Rattle.dbc_tokens.specs.Views.{token_of};
 ghost use Rattle.dbc_reader.specs.Pattern.{verdict, BeginsMessage, BeginsSignal, SignalName, nothing_seen};
-ghost use Rattle.fault_places.specs.Patterns.{class_of, seen_of, cause_of};
+ghost use Rattle.fault_places.specs.Patterns.{class_of, seen_of, cause_of, Answers};
 
 use crate::class::Class;
 use dbc_reader::{has_name, has_word};
@@ -82,8 +82,8 @@ impl<'t> Seen<'t> {
         }
     }
 
-    /// Sees the token, which was taken as one of the class.
-    pub fn note(&mut self, class: Class, token: Token<'t>) -> Result<(), Memory>
+    // Notes the token, which is of the class and breaks no rule.
+    fn note(&mut self, class: Class, token: Token<'t>) -> Result<(), Memory>
         requires { cause_of (verdict (class_of class) (token_of token) (seen_of self.old)) ≡ None }
         ensures { OnOk result (verdict (class_of class) (token_of token.entry) (seen_of self.old) ≡ Ok (seen_of self.new)) }
     {
@@ -96,5 +96,20 @@ impl<'t> Seen<'t> {
             _ => (),
         }
         Ok(())
+    }
+
+    /// Sees the token as one of the class, or says why it isn't taken as one, and then sees nothing.
+    #[tactic(auto, using(crate::proofs::Verdicts::refused))]
+    pub fn see(&mut self, class: Class, token: Token<'t>) -> Result<Option<Cause>, Memory>
+        ensures { IfOk result (λ refusal. Answers (verdict (class_of class) (token_of token.entry) (seen_of self.old)) refusal
+            (seen_of self.old) (seen_of self.new)) }
+    {
+        match class.refusal(token, self) {
+            Some(cause) => Ok(Some(cause)),
+            None => {
+                self.note(class, token)?;
+                Ok(None)
+            }
+        }
     }
 }

@@ -1,0 +1,16 @@
+//! What is said of the faults of a text: each with its line, a mark under the token, what was found, what may stand there, and the
+//! usual reason in real files with its remedy.
+//!
+//! [`fault_report`] says it of the first fault, and of those behind it that can be guessed at.
+#![tactic(auto)]
+
+mod classes;
+mod finding;
+mod going_on;
+mod marked_line;
+mod reason;
+mod report;
+mod words;
+
+pub use reason::Reason;
+pub use report::{Report, fault_report};

@@ -1,0 +1,213 @@
+//! The usual reasons of faults in real files.
+
+use crate::words::is_keyword;
+use dbc_tokens::Cause;
+use dbc_values::{is_number, is_word_byte, same};
+use fault_places::{Class, Place};
+
+/// Why a file has a fault, as a rule.
+#[derive(Clone, Copy, Debug, PartialEq, Eq)]
+pub enum Reason {
+    /// The byte order mark of UTF-8.
+    ByteOrderMark,
+    /// Two bytes a character.
+    Utf16,
+    /// The byte that ended files once.
+    ControlZ,
+    /// A quote that is never closed.
+    OpenQuote,
+    /// A byte past ASCII in a name.
+    PastAscii,
+    /// Another byte at which no token begins.
+    StrayByte,
+    /// An infinity, or no number.
+    NoNumber,
+    /// A number that is no decimal.
+    LongNumber,
+    /// A number that isn't whole.
+    Fraction,
+    /// A name that begins with a digit.
+    DigitFirst,
+    /// A name with a mark in it.
+    MarkInName,
+    /// A keyword as a name.
+    KeywordAsName,
+    /// A comma behind the last receiver.
+    LastComma,
+    /// No semicolon before.
+    NoSemicolon,
+    /// A second bit timing.
+    SecondTiming,
+    /// A version that isn't first.
+    LateVersion,
+    /// A word with which no statement begins.
+    NoStatement,
+    /// The text was cut off.
+    CutOff,
+    /// Two signals of one name.
+    RepeatedSignal,
+    /// Too many messages.
+    MessagesFull,
+    /// Too many signals.
+    SignalsFull,
+    /// A number beyond what its place can hold.
+    Limit,
+}
+
+impl Reason {
+    /// The reason, with the remedy, in words.
+    pub fn words(self) -> &'static [u8] {
+        match self {
+            Reason::ByteOrderMark =>
+                b"the file begins with a byte order mark; candesk-format --mend takes it away",
+            Reason::Utf16 => b"the file is UTF-16; save it in an encoding of single bytes",
+            Reason::ControlZ =>
+                b"Ctrl-Z ended files once; candesk-format --mend takes it away at the end",
+            Reason::OpenQuote => {
+                b"no quote behind it closes the text, or each has a backslash right before it; no text can end in a backslash"
+            }
+            Reason::PastAscii =>
+                b"outside of quotes no byte past ASCII may stand, as of a name with an umlaut; rename it",
+            Reason::StrayByte =>
+                b"names have letters, digits and underscores alone, and texts stand in quotes",
+            Reason::NoNumber =>
+                b"inf and nan are no numbers; where it is a limit of a signal, [0|0] says that there is none",
+            Reason::LongNumber =>
+                b"the number has an exponent past 400 or over 36 digits; write the one that is meant",
+            Reason::Fraction => b"a whole number has to stand there",
+            Reason::DigitFirst => b"a name begins with a letter or an underscore; rename it",
+            Reason::MarkInName => b"names have letters, digits and underscores alone; rename it",
+            Reason::KeywordAsName =>
+                b"a keyword can't be a name; rename it, or look for what is missing before it",
+            Reason::LastComma =>
+                b"a comma stands behind the last receiver; candesk-format --mend takes it away",
+            Reason::NoSemicolon => b"the semicolon of the statement before is missing",
+            Reason::SecondTiming => b"a text has one BS_ at most; take the second away",
+            Reason::LateVersion => b"VERSION may stand at the beginning alone; put it there",
+            Reason::NoStatement =>
+                b"no statement begins with it; take the statement away, or look for what is missing before it",
+            Reason::CutOff => b"the file ends within a statement; it may have been cut off",
+            Reason::RepeatedSignal => b"a message has two signals of one name; rename one",
+            Reason::MessagesFull => b"a database has 65,535 messages at most; split it",
+            Reason::SignalsFull => b"a message has 999 signals at most; split it",
+            Reason::Limit =>
+                b"the number is beyond what its place can hold; write the one that is meant",
+        }
+    }
+
+    /// The usual reason of a fault, where there is one.
+    pub fn of(place: &Place<'_>) -> Option<Reason> {
+        match place.fault.cause {
+            Cause::Token => Some(reason_of_byte(place)),
+            Cause::Statement if place.token.is_empty() => Some(Reason::CutOff),
+            Cause::Statement => reason_of_token(place),
+            Cause::RepeatedSignal => Some(Reason::RepeatedSignal),
+            Cause::MessagesFull => Some(Reason::MessagesFull),
+            Cause::SignalsFull => Some(Reason::SignalsFull),
+            Cause::Limit => Some(Reason::Limit),
+            Cause::Memory => None,
+        }
+    }
+}
+
+// Why no token begins at a byte.
+fn reason_of_byte(place: &Place<'_>) -> Reason {
+    match place.behind {
+        [0xEF, 0xBB, 0xBF, ..] if place.before.is_empty() => Reason::ByteOrderMark,
+        [0xFF, 0xFE, ..] | [0xFE, 0xFF, ..] if place.before.is_empty() => Reason::Utf16,
+        [0x1A, ..] => Reason::ControlZ,
+        [b'"', ..] => Reason::OpenQuote,
+        [first, ..] if *first >= 0x80 => Reason::PastAscii,
+        _ => Reason::StrayByte,
+    }
+}
+
+// Whether a class may stand there.
+fn expects(place: &Place<'_>, class: Class) -> bool {
+    place.expected.as_slice().contains(&class)
+}
+
+// Whether a decimal may stand there.
+fn expects_number(place: &Place<'_>) -> bool {
+    expects(place, Class::Number(false)) || expects(place, Class::Number(true))
+}
+
+// Whether a name may stand there.
+fn expects_name(place: &Place<'_>) -> bool {
+    expects(place, Class::Name) || expects(place, Class::SignalName)
+}
+
+// Whether a whole number may stand there.
+fn expects_whole(place: &Place<'_>) -> bool {
+    for class in place.expected.as_slice() {
+        if let Class::Whole(_, _) = class {
+            return true;
+        }
+    }
+    false
+}
+
+// Why a token can't stand where it does.
+fn reason_of_token(place: &Place<'_>) -> Option<Reason> {
+    let token = place.token;
+    if expects_number(place) {
+        reason_of_number(token)
+    } else if expects_whole(place) && is_number(token) {
+        Some(Reason::Fraction)
+    } else if is_in_name(place) {
+        Some(Reason::MarkInName)
+    } else if expects(place, Class::Mark(b';')) && is_keyword(token) {
+        Some(Reason::NoSemicolon)
+    } else if expects_name(place) {
+        reason_of_name(place)
+    } else if expects(place, Class::KeptWord) {
+        Some(reason_of_statement(token))
+    } else {
+        None
+    }
+}
+
+// Why a token isn't the number that it should be.
+fn reason_of_number(token: &[u8]) -> Option<Reason> {
+    if token.eq_ignore_ascii_case(b"inf") || token.eq_ignore_ascii_case(b"nan") {
+        Some(Reason::NoNumber)
+    } else if is_number(token) {
+        Some(Reason::LongNumber)
+    } else {
+        None
+    }
+}
+
+// Whether a mark stands right behind a word.
+fn is_in_name(place: &Place<'_>) -> bool {
+    match (place.before, place.token) {
+        ([.., last], [b'-' | b'+' | b'(' | b'[' | b'@', ..]) => is_word_byte(*last),
+        _ => false,
+    }
+}
+
+// Why a token isn't the name that it should be.
+fn reason_of_name(place: &Place<'_>) -> Option<Reason> {
+    if place.before.trim_ascii_end().ends_with(b",") {
+        Some(Reason::LastComma)
+    } else if is_number(place.token) {
+        Some(Reason::DigitFirst)
+    } else if expects(place, Class::KeptWord) {
+        Some(reason_of_statement(place.token))
+    } else if is_keyword(place.token) {
+        Some(Reason::KeywordAsName)
+    } else {
+        None
+    }
+}
+
+// Why no statement begins with a token.
+fn reason_of_statement(token: &[u8]) -> Reason {
+    if same(token, b"BS_") {
+        Reason::SecondTiming
+    } else if same(token, b"VERSION") {
+        Reason::LateVersion
+    } else {
+        Reason::NoStatement
+    }
+}

@@ -1,0 +1,122 @@
+//! Reports of faults.
+ghost use Rattle.std.specs.Prelude.{option_map, IfOk};
+ghost use Rattle.dbc_reader.specs.Grammar as grammar;
+ghost use Rattle.fault_places.specs.Places.{IsPlace};
+ghost use Rattle.fault_places.specs.Walks.{found_of};
+
+use crate::classes::push_classes;
+use crate::finding::push_found;
+use crate::going_on::next_statement;
+use crate::marked_line::push_marked_line;
+use crate::reason::Reason;
+use crate::words::{push_all, push_number};
+use dbc_tokens::Cause;
+use dbc_values::Memory;
+use fault_places::{Beginning, Place, fault_place};
+use std::alloc::Global;
+
+/// The first fault of a text, and what is said of it and of those behind it that can be guessed at.
+#[derive(Debug, Drop)]
+pub struct Report<'t> {
+    /// Where the first fault stands.
+    pub place: Place<'t>,
+    /// What is said.
+    pub words: Vec<u8>,
+}
+
+// The most faults that are guessed at.
+const MOST_GUESSES: usize = 20;
+
+// The number and the word of a cause.
+fn cause_words(cause: Cause) -> &'static [u8] {
+    match cause {
+        Cause::Token => b"1 Token",
+        Cause::Statement => b"2 Statement",
+        Cause::RepeatedSignal => b"3 RepeatedSignal",
+        Cause::MessagesFull => b"4 MessagesFull",
+        Cause::SignalsFull => b"5 SignalsFull",
+        Cause::Limit => b"6 Limit",
+        Cause::Memory => b"90 Memory",
+    }
+}
+
+// Puts what is said of a fault in this line behind the text.
+fn push_fault(
+    alloc: Global,
+    text: &mut Vec<u8>,
+    line: u64,
+    place: &Place<'_>,
+) -> Result<(), Memory> {
+    push_all(text, &[b"line "])?;
+    push_number(text, line)?;
+    push_all(text, &[b": ", cause_words(place.fault.cause), b"\n"])?;
+    push_marked_line(text, place)?;
+    push_all(text, &[b"found: "])?;
+    push_found(text, place)?;
+    push_all(text, &[b"\nexpected: "])?;
+    push_classes(alloc, text, place.expected.as_slice())?;
+    if let Some(reason) = Reason::of(place) {
+        push_all(text, &[b"\nreason: ", reason.words()])?;
+    }
+    push_all(text, &[b"\n"])
+}
+
+// How many LF the bytes have.
+fn line_feeds(bytes: &[u8]) -> u64 {
+    let mut count = 0u64;
+    for b in bytes {
+        if *b == b'\n' {
+            count = count.saturating_add(1);
+        }
+    }
+    count
+}
+
+// Puts what is said of the faults that are guessed at behind the text: those behind the first, which stands in this line.
+fn push_guesses(
+    alloc: Global,
+    text: &mut Vec<u8>,
+    line: u64,
+    first: &Place<'_>,
+) -> Result<(), Memory> {
+    let mut line = line.saturating_add(line_feeds(first.token));
+    let mut behind = first.behind;
+    for _ in 0..MOST_GUESSES {
+        let Some(resumption) = next_statement(behind) else {
+            return Ok(());
+        };
+        line = line.saturating_add(resumption.lines);
+        let Some(place) = fault_place(alloc, resumption.rest, resumption.beginning)? else {
+            return Ok(());
+        };
+        let fault_line = line.saturating_add(place.fault.line).saturating_sub(1);
+        push_all(text, &[b"\nguess: "])?;
+        push_fault(alloc, text, fault_line, &place)?;
+        line = fault_line.saturating_add(line_feeds(place.token));
+        behind = place.behind;
+    }
+    push_all(text, &[b"\nNo more is guessed at.\n"])
+}
+
+// What is said of a text's first fault, and of those behind it.
+fn words_of(alloc: Global, place: &Place<'_>) -> Result<Vec<u8>, Memory> {
+    let mut words = Vec::new(alloc);
+    let line = place.fault.line;
+    push_fault(alloc, &mut words, line, place)?;
+    push_guesses(alloc, &mut words, line, place)?;
+    Ok(words)
+}
+
+/// What is said of the faults of a text, if it has any: of the first one, and, as guesses, of those that are met where one goes on
+/// with the next line behind a fault that begins with a statement's word.
+pub fn fault_report(alloc: Global, text: &[u8]) -> Result<Option<Report<'_>>, Memory>
+    ensures { IfOk result (λ report. IsPlace grammar.text text.now (option_map (λ r. found_of r.place) report)) }
+{
+    match fault_place(alloc, text, Beginning::Text)? {
+        Some(place) => {
+            let words = words_of(alloc, &place)?;
+            Ok(Some(Report { place, words }))
+        }
+        None => Ok(None),
+    }
+}
