@@ -1,7 +1,8 @@
 //! The edits that lines ask for.
-ghost use Rattle.std.specs.Prelude.{◌≡◌, IfOk, Some, None, if◌then◌else◌};
+ghost use Rattle.std.specs.Prelude.{◌≡◌, ℕ, IfOk, Some, None, if◌then◌else◌};
 ghost use Rattle.dbc_values.specs.Pieces.{is_string, inside};
 ghost use Rattle.dbc_edits.specs.declared.edit.Edit.TheVariants as edits;
+ghost use Rattle.dbc_reader.specs.declared.statement.Statement.TheVariants as statements;
 ghost use Rattle.script_commands.specs.declared.verb.Verb.TheVariants as verbs;
 ghost use Rattle.script_commands.specs.Commands.{HasSense, edit_sense, changes, change_of, attribute_set, edit_by, by_statement};
 ghost use Rattle.script_commands.specs.Commands.{with_number};
@@ -11,7 +12,7 @@ use crate::verb::Verb;
 use crate::words::{number_and_rest, number_of, rest_of, word_of};
 use dbc_edits::{Change, Edit};
 use dbc_reader::Statement;
-use dbc_records::{AttrRow, Target};
+use dbc_records::{AttrRow, Head, MuxRow, Signal, TableRow, Target, ValueRow};
 use dbc_values::{Memory, Name, Text, is_string};
 use std::alloc::Global;
 
@@ -30,23 +31,79 @@ fn attribute_set(row: AttrRow) -> Option<Edit>
     }
 }
 
-// The edit that a verb asks for by a statement, behind the places of a message and of a signal.
+// By a message without its signals.
+fn by_head(verb: Verb, place: u32, head: Head) -> Option<Edit>
+    ensures { (at : ℕ) → result ≡ edit_by verb place at (statements.Head head) }
+{
+    match verb {
+        Verb::AddMessage => Some(Edit::AddMessage(place as usize, head)),
+        _ => None,
+    }
+}
+
+// By a signal.
+fn by_signal(verb: Verb, place: u32, at: u32, signal: Signal) -> Option<Edit>
+    ensures { result ≡ edit_by verb place at (statements.Signal signal) }
+{
+    match verb {
+        Verb::AddSignal => Some(Edit::AddSignal(place as usize, at as usize, signal)),
+        Verb::ChangeSignal => Some(Edit::ChangeSignal(place as usize, signal)),
+        _ => None,
+    }
+}
+
+// By a row of multiplexing.
+fn by_mux(verb: Verb, row: MuxRow) -> Option<Edit>
+    ensures { (place at : ℕ) → result ≡ edit_by verb place at (statements.Mux row) }
+{
+    match verb {
+        Verb::SetMux => Some(Edit::SetMux(row)),
+        _ => None,
+    }
+}
+
+// By a row of named values.
+fn by_values(verb: Verb, row: ValueRow) -> Option<Edit>
+    ensures { (place at : ℕ) → result ≡ edit_by verb place at (statements.Values row) }
+{
+    match verb {
+        Verb::SetValues => Some(Edit::SetValues(row)),
+        _ => None,
+    }
+}
+
+// By a value table.
+fn by_table(verb: Verb, row: TableRow) -> Option<Edit>
+    ensures { (place at : ℕ) → result ≡ edit_by verb place at (statements.Table row) }
+{
+    match verb {
+        Verb::SetTable => Some(Edit::SetTable(row)),
+        _ => None,
+    }
+}
+
+// By an attribute.
+fn by_attribute(verb: Verb, row: AttrRow) -> Option<Edit>
+    ensures { (place at : ℕ) → result ≡ edit_by verb place at (statements.Attribute row) }
+{
+    match verb {
+        Verb::SetAttribute => attribute_set(row),
+        _ => None,
+    }
+}
+
+// The edit that a verb asks for by a statement, behind the places of a message and of a signal. Each kind of statement is let go in
+// a function of its own.
 fn edit_by(verb: Verb, place: u32, at: u32, statement: Statement) -> Option<Edit>
     ensures { result ≡ edit_by verb place at statement }
 {
-    match (verb, statement) {
-        (Verb::AddMessage, Statement::Head(head)) => Some(Edit::AddMessage(place as usize, head)),
-        (Verb::AddSignal, Statement::Signal(signal)) => {
-            Some(Edit::AddSignal(place as usize, at as usize, signal))
-        }
-        (Verb::ChangeSignal, Statement::Signal(signal)) => {
-            Some(Edit::ChangeSignal(place as usize, signal))
-        }
-        (Verb::SetMux, Statement::Mux(row)) => Some(Edit::SetMux(row)),
-        (Verb::SetValues, Statement::Values(row)) => Some(Edit::SetValues(row)),
-        (Verb::SetTable, Statement::Table(row)) => Some(Edit::SetTable(row)),
-        (Verb::SetAttribute, Statement::Attribute(row)) => attribute_set(row),
-        _ => None,
+    match statement {
+        Statement::Head(head) => by_head(verb, place, head),
+        Statement::Signal(signal) => by_signal(verb, place, at, signal),
+        Statement::Mux(row) => by_mux(verb, row),
+        Statement::Values(row) => by_values(verb, row),
+        Statement::Table(row) => by_table(verb, row),
+        Statement::Attribute(row) => by_attribute(verb, row),
     }
 }
 
