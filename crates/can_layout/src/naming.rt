@@ -65,9 +65,9 @@ pub(crate) fn ready_names(
 ) -> Result<Vec<Option<ReadyText>>, Memory>
     ensures { IfOk result (λ names. AreNames entries.now names.items) }
 {
-    let count = entries.len().min(MOST) as u8;
-    let mut names = Vec::with_capacity(alloc, usize::from(count))?;
-    for raw in 0..count {
+    let count = entries.len().min(MOST);
+    let mut names = Vec::with_capacity(alloc, count)?;
+    for raw in 0..count as u8 {
         names.push(ready_name(alloc, entries, i128::from(raw))?)?;
     }
     Ok(names)
