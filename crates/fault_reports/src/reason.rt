@@ -2,7 +2,7 @@
 
 use crate::words::is_keyword;
 use dbc_tokens::Cause;
-use dbc_values::{is_number, is_word_byte, same};
+use dbc_values::{is_number, is_word, is_word_byte, same};
 use fault_places::{Class, Place};
 
 /// Why a file has a fault, as a rule.
@@ -150,7 +150,9 @@ fn expects_whole(place: &Place<'_>) -> bool {
 // Why a token can't stand where it does.
 fn reason_of_token(place: &Place<'_>) -> Option<Reason> {
     let token = place.token;
-    if expects_number(place) {
+    if expects(place, Class::KeptWord) && is_word(token) {
+        Some(reason_of_statement(token))
+    } else if expects_number(place) {
         reason_of_number(token)
     } else if expects_whole(place) && is_number(token) {
         Some(Reason::Fraction)
@@ -161,7 +163,7 @@ fn reason_of_token(place: &Place<'_>) -> Option<Reason> {
     } else if expects_name(place) {
         reason_of_name(place)
     } else if expects(place, Class::KeptWord) {
-        Some(reason_of_statement(token))
+        Some(Reason::NoStatement)
     } else {
         None
     }
@@ -192,8 +194,6 @@ fn reason_of_name(place: &Place<'_>) -> Option<Reason> {
         Some(Reason::LastComma)
     } else if is_number(place.token) {
         Some(Reason::DigitFirst)
-    } else if expects(place, Class::KeptWord) {
-        Some(reason_of_statement(place.token))
     } else if is_keyword(place.token) {
         Some(Reason::KeywordAsName)
     } else {
