@@ -1,5 +1,6 @@
 //! The words of a log line.
-ghost use Rattle.std.specs.Prelude.{◌≡◌, ◌≤◌, ◌∷◌, ◌++◌, true, false, length, take, option_map, not, IfSome, Some, None, if◌then◌else◌};
+ghost use Rattle.std.specs.Prelude.{◌≡◌, ◌≤◌, ◌∷◌, ◌++◌, true, false, not, length, take, option_map, IfSome, Some, None};
+ghost use Rattle.std.specs.Prelude.{if◌then◌else◌};
 ghost use Rattle.std.specs.List.{prefix_len, list_any};
 ghost use Rattle.dbc_values.specs.Lexical.{is_digit};
 ghost use Rattle.log_frames.specs.LogLines.{is_log_blank, first_word, behind_first_word, is_stamp, is_seconds_end, is_fraction_end};
