@@ -3,7 +3,7 @@ ghost use Rattle.std.specs.Prelude.{◌≡◌, ℕ, [], ◌∷◌, ◌++◌, ◌
 ghost use Rattle.std.specs.Prelude.{not, IfSome, ◌==◌, if◌then◌else◌};
 ghost use Rattle.std.specs.List.{prefix_len};
 ghost use Rattle.std.specs.Result.{result_ok};
-ghost use Rattle.hex.specs.Hex.{decode_of, hex_digit_value, pair_value};
+ghost use Rattle.hex.specs.Hex.{decode_of};
 ghost use Rattle.log_frames.specs.LogLines.{body_of, first_word};
 ghost use Rattle.log_frames.specs.declared.frame.Kind.TheVariants.{Error};
 ghost use Rattle.log_frames.specs.Frames.{frame_of, frame_of_word, frame_of_parts, number_sign};
@@ -13,6 +13,7 @@ use crate::form::{Form, form_of};
 use crate::frame::{Frame, Kind};
 use crate::identifier::{Identifier, identifier_of};
 use crate::line::{behind_interface, body_of, first_word};
+use crate::pairs::bytes_of_pairs;
 use arrayvec::ArrayVec;
 
 // How many bytes stand before the first `#`.
@@ -23,69 +24,12 @@ fn identifier_len(word: &[u8]) -> usize
     word.iter().take_while(|b| **b != b'#').count()
 }
 
-// The value of each byte as a hexadecimal digit, or 255, as `hex` reads it.
-static VALUES: [u8; 256] = [
-    255, 255, 255, 255, 255, 255, 255, 255, 255, 255, 255, 255, 255, 255, 255, 255, 255, 255, 255,
-    255, 255, 255, 255, 255, 255, 255, 255, 255, 255, 255, 255, 255, 255, 255, 255, 255, 255, 255,
-    255, 255, 255, 255, 255, 255, 255, 255, 255, 255, 0, 1, 2, 3, 4, 5, 6, 7, 8, 9, 255, 255, 255,
-    255, 255, 255, 255, 10, 11, 12, 13, 14, 15, 255, 255, 255, 255, 255, 255, 255, 255, 255, 255,
-    255, 255, 255, 255, 255, 255, 255, 255, 255, 255, 255, 255, 255, 255, 255, 255, 10, 11, 12, 13,
-    14, 15, 255, 255, 255, 255, 255, 255, 255, 255, 255, 255, 255, 255, 255, 255, 255, 255, 255,
-    255, 255, 255, 255, 255, 255, 255, 255, 255, 255, 255, 255, 255, 255, 255, 255, 255, 255, 255,
-    255, 255, 255, 255, 255, 255, 255, 255, 255, 255, 255, 255, 255, 255, 255, 255, 255, 255, 255,
-    255, 255, 255, 255, 255, 255, 255, 255, 255, 255, 255, 255, 255, 255, 255, 255, 255, 255, 255,
-    255, 255, 255, 255, 255, 255, 255, 255, 255, 255, 255, 255, 255, 255, 255, 255, 255, 255, 255,
-    255, 255, 255, 255, 255, 255, 255, 255, 255, 255, 255, 255, 255, 255, 255, 255, 255, 255, 255,
-    255, 255, 255, 255, 255, 255, 255, 255, 255, 255, 255, 255, 255, 255, 255, 255, 255, 255, 255,
-    255, 255, 255, 255, 255, 255, 255, 255, 255, 255, 255, 255, 255, 255, 255, 255, 255, 255, 255,
-    255, 255, 255,
-];
-
-// The value of a digit.
-#[inline(always)]
-fn digit_value(digit: u8) -> Option<u8>
-    ensures value { IfSome result (λ value. hex_digit_value digit ≡ Some value) }
-    ensures small { IfSome result (λ value. value < 16) }
-{
-    let value = VALUES[digit as usize];
-    if value < 16 { Some(value) } else { None }
-}
-
-// The byte that two digits spell.
-#[inline(always)]
-fn pair_of(high: u8, low: u8) -> Option<u8>
-    ensures { IfSome result (λ byte. (index : ℕ) → pair_value high low index ≡ Ok byte) }
-{
-    let Some(above) = digit_value(high) else {
-        return None;
-    };
-    let Some(below) = digit_value(low) else {
-        return None;
-    };
-    Some(above * 16 + below)
-}
-
-// The bytes that sixteen digits spell, as most frames have them, where each of them is a digit.
-#[inline(always)]
-fn eight_bytes(digits: &[u8; 16]) -> Option<[u8; 8]>
-    ensures { IfSome result (λ bytes. decode_of digits.now ≡ Ok bytes) }
-{
-    let mut out = [0u8; 8];
-    'bytes: for i in 0..8usize {
-        let Some(byte) = pair_of(digits[2 * i], digits[2 * i + 1]) else {
-            return None;
-        };
-        out[i] = byte;
-    }
-    Some(out)
-}
-
 // The same, as the bytes of a frame.
 #[inline(always)]
 fn usual_bytes(digits: &[u8; 16]) -> Option<ArrayVec<u8, 64>>
     ensures { IfSome result (λ bytes. decode_of digits.now ≡ Ok bytes.items) }
 {
-    let Some(eight) = eight_bytes(digits) else {
+    let Some(eight) = bytes_of_pairs::<16, 8>(digits) else {
         return None;
     };
     let mut bytes = ArrayVec::new();
