@@ -105,11 +105,11 @@ pub(crate) fn push_line<C: Choose>(
     ensures same { finder.new ≡ finder.old }
 {
     push_bytes(text, body_of(line))?;
-    match read_frame(line) {
+    match &read_frame(line) {
         None => Ok(()),
         Some(frame) => {
-            let target = finder.target_of(&frame);
-            push_known(alloc, text, &frame, target.as_ref())
+            let target = finder.target_of(frame);
+            push_known(alloc, text, frame, target.as_ref())
         }
     }
 }

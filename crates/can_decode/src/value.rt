@@ -1,5 +1,5 @@
 //! The values of signals, as text.
-ghost use Rattle.std.specs.Prelude.{◌≡◌, ◌<◌, ◌≤◌, ◌++◌, ◌^◌, OnOk, length, unsigned_abs};
+ghost use Rattle.std.specs.Prelude.{◌≡◌, ◌<◌, ◌≤◌, ◌++◌, ◌^◌, OnOk, decimal, length, unsigned_abs};
 ghost use Rattle.dbc_records.specs.Layout.{point_before_last, filled, zeros};
 ghost use Rattle.can_decode.specs.Values.{fewest_places, fixed_text, sign_of, scaled_text, number_text, decoder_text, reading_text};
 
@@ -115,10 +115,25 @@ fn push_sign(text: &mut Vec<u8>, value: i128) -> Result<(), Memory>
     }
 }
 
-// A number over ten to the number of places.
+// A number of one digit.
+#[tactic(auto, using(crate::proofs::Pushing::pushed_digit))]
+#[inline(always)]
+fn push_digit(text: &mut Vec<u8>, digit: u8) -> Result<(), Memory>
+    requires { digit < 10 }
+    ensures { OnOk result (text.new.items ≡ text.old.items ++ decimal digit) }
+{
+    text.push(b'0' + digit)?;
+    Ok(())
+}
+
+// A number over ten to the number of places. Switches and states have one digit.
+#[tactic(auto, unfolding(crate::specs::Values::fixed_text))]
 fn push_shortest(text: &mut Vec<u8>, number: u128, places: u8) -> Result<(), Memory>
     ensures { OnOk result (text.new.items ≡ text.old.items ++ fixed_text (fewest_places number places)) }
 {
+    if places == 0 && number < 10 {
+        return push_digit(text, number as u8);
+    }
     match u64::try_from(number) {
         Ok(word) => {
             let (digits, behind) = fewest_places_of_word(word, places);

@@ -193,3 +193,8 @@ present_under bytes rows aboves chained place link is =
     ∙ met_by_link bytes rows link (walk_of aboves link.switch)
     ∙ ap (λ there. is_met bytes rows link && there) (ap (are_met bytes rows) (sym (chained link.switch))
     ∙ sym (present_by_chain bytes rows link.switch))
+
+-- a list without a first element
+pub none_first : {A : Type 0} (xs : List A) → None ≡ slice_get xs 0 → xs ≡ []
+none_first [] is = refl
+none_first (x ∷ xs) is = absurd (let no : None ≡ Some x = is in cc)

@@ -1,6 +1,6 @@
 -- The names of the first raw values.
 use Rattle.std.proofs.Common.{◌≡◌, ℕ, true, nat_lt, get_or, Result, Ok, Err, ◌+◌, ◌^◌, ◌<◌, List, [], ◌∷◌, ◌++◌, Option, map}
-use Rattle.std.proofs.Common.{length, sym, ap, ◌∙◌, arith}
+use Rattle.std.proofs.Common.{length, refl, sym, ap, ◌∙◌, arith}
 use Rattle.std.specs.Prelude.{ℤ, pos, unsigned_abs}
 use Rattle.std.specs.Int.{w64, w128, FitsUnsigned}
 use Rattle.std.specs.Result.{OkIff}
@@ -47,3 +47,7 @@ found_name entries names raw found place name are number same within is =
     ∙ ap (λ (names : List (Option (List ℕ))). get_or names place name) are
     ∙ get_or-map-range_with_len all 0 (length names) place place name few (omega arith)
     ∙ ap (λ (z : ℤ). name_of z entries) (sym at)
+
+pub no_entries : (entries : List Entry) → length entries ≡ 0 → entries ≡ []
+no_entries [] none = refl
+no_entries (entry ∷ entries) none = let no : ⊥ = omega (arith, none) in absurd no

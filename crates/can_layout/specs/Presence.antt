@@ -1,5 +1,5 @@
 -- Which signals of a plan are there in data, as it is kept while a line is decoded.
-use Rattle.std.specs.Prelude.{◌≡◌, ℕ, Bool, List, Option, Some, None, slice_get}
+use Rattle.std.specs.Prelude.{◌≡◌, ℕ, Bool, List, [], All, Option, Some, None, slice_get}
 use Rattle.std.specs.Option.{option_and_then}
 use Rattle.can_layout.specs.Links.{Link}
 use Rattle.can_layout.specs.Walks.{walk_of}
@@ -21,6 +21,10 @@ chain_at rows place = option_and_then (λ row. row.chain) (slice_get rows place)
 -- these stand above the signals of the rows
 abbrev pub AreChained : List Row → List Above → Type 0
 AreChained rows aboves = (place : ℕ) → chain_at rows place ≡ chain_of (walk_of aboves place)
+
+-- no row has a switch above it
+abbrev pub ArePlain : List Row → Type 0
+ArePlain rows = All (λ row. row.chain ≡ Some []) rows
 
 abbrev pub known_at : List (Option Bool) → ℕ → Option Bool
 known_at known place = option_and_then (λ there. there) (slice_get known place)

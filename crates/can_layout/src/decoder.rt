@@ -34,7 +34,7 @@ pub struct Decoder {
 }
 
 impl Model for Decoder {
-    ghost use Rattle.std.specs.Prelude.{◌≡◌, IfSome};
+    ghost use Rattle.std.specs.Prelude.{◌≡◌, [], IfSome};
     ghost use Rattle.can_layout.specs.Decoders as decoders;
 
     ghost Value = { decoders.Decoder };
@@ -49,6 +49,7 @@ impl Model for Decoder {
       entries = a.entries;
     })
         × (a.unit_text ≡ decoders.unit_text a.unit) × decoders.AreNames a.entries a.names.items
+        × (a.names.items ≡ [] → a.entries ≡ [])
         × IfSome a.places (λ places. decoders.IsEntryIndex places a.entries) };
 }
 
@@ -97,6 +98,9 @@ impl Decoder {
     pub fn kept_name(&self, raw: i128) -> Option<Option<&ReadyText>>
         ensures { IfSome result (λ name. option_map (λ ready. ready.now) name ≡ name_of raw self.now.entries) }
     {
+        if self.names.is_empty() {
+            return Some(None);
+        }
         let Ok(place) = usize::try_from(raw) else {
             return None;
         };

@@ -1,5 +1,5 @@
 //! What is written beside numbers, or in their place: units and the names of raw values.
-ghost use Rattle.std.specs.Prelude.{◌≡◌, ◌++◌, OnOk, IfOk, option_map};
+ghost use Rattle.std.specs.Prelude.{◌≡◌, [], ◌++◌, OnOk, IfOk, option_map};
 ghost use Rattle.can_layout.specs.Decoders.{unit_text, first_entry, name_of, AreNames};
 
 use dbc_records::Entry;
@@ -63,7 +63,8 @@ pub(crate) fn ready_names(
     alloc: Global,
     entries: &[Entry],
 ) -> Result<Vec<Option<ReadyText>>, Memory>
-    ensures { IfOk result (λ names. AreNames entries.now names.items) }
+    ensures names { IfOk result (λ names. AreNames entries.now names.items) }
+    ensures none { IfOk result (λ names. names.items ≡ [] → entries.now ≡ []) }
 {
     let count = entries.len().min(MOST);
     let mut names = Vec::with_capacity(alloc, count)?;

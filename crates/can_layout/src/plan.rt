@@ -1,8 +1,8 @@
 //! Decode plans.
-ghost use Rattle.std.specs.Prelude.{◌≡◌, ℕ, List, ◌<◌, IfOk, Some, is_some, length, map, slice_get};
+ghost use Rattle.std.specs.Prelude.{◌≡◌, ℕ, List, [], ◌<◌, IfOk, Some, true, is_some, length, map, slice_get};
 ghost use Rattle.can_layout.specs.Plans.{entries_of, reading_of, chain_of, row_of, plan_rows, label_of, plan_in, raw_at};
 ghost use Rattle.can_layout.specs.Plans.{raw_value_at, has_number, is_met, are_met, is_present};
-ghost use Rattle.can_layout.specs.Presence.{AreKnown, chain_at};
+ghost use Rattle.can_layout.specs.Presence.{AreKnown, ArePlain, chain_at};
 ghost use Rattle.can_layout.specs.Walks.{walk_of};
 ghost use Rattle.can_layout.specs.declared.above.Above.{Above as PlainAbove};
 ghost use Rattle.can_rows.specs.Rows.{first_values};
@@ -39,18 +39,21 @@ pub struct Plan {
     aboves: Rc<List<Above>>,
     // Where switches stand under switches: the places, each behind that of its switch.
     order: Vec<usize>,
+    // Whether no signal has a switch above it, as in most messages.
+    plain: bool,
 }
 
 impl Model for Plan {
-    ghost use Rattle.std.specs.Prelude.{◌≡◌, map};
+    ghost use Rattle.std.specs.Prelude.{◌≡◌, map, true};
     ghost use Rattle.can_layout.specs.Plans as plans;
-    ghost use Rattle.can_layout.specs.Presence.{AreChained};
+    ghost use Rattle.can_layout.specs.Presence.{AreChained, ArePlain};
 
     ghost Value = { plans.Plan };
 
     ghost view = { λ a. record { size = a.size; rows = a.rows } };
 
-    ghost invariant = { λ a. (a.labels.items ≡ map plans.label_of a.rows) × AreChained a.rows a.aboves.value };
+    ghost invariant = { λ a. (a.labels.items ≡ map plans.label_of a.rows) × AreChained a.rows a.aboves.value
+        × (a.plain ≡ true → ArePlain a.rows) };
 }
 
 fn entries_of<L: Lookup>(
@@ -143,6 +146,28 @@ fn labels_of(alloc: Global, rows: &[Row]) -> Result<Vec<ReadyText>, Memory>
     Ok(labels)
 }
 
+// Whether a signal has no switch above it.
+fn is_plain(row: &Row) -> bool
+    ensures { result ≡ true → row.now.chain ≡ Some [] }
+{
+    match &row.chain {
+        Some(chain) => chain.is_empty(),
+        None => false,
+    }
+}
+
+// Whether no signal has a switch above it.
+fn are_plain(rows: &[Row]) -> bool
+    ensures { result ≡ true → ArePlain rows.now }
+{
+    for row in rows {
+        if !is_plain(row) {
+            return false;
+        }
+    }
+    true
+}
+
 /// The plan of a message, by the rows of its number.
 #[tactic(auto, unfolding(crate::specs::Plans::plan_in))]
 pub(crate) fn plan_in<L: Lookup>(
@@ -159,12 +184,14 @@ pub(crate) fn plan_in<L: Lookup>(
     let aboves = Rc::new(alloc, aboves)?;
     let made = plan_rows(alloc, rows, &aboves, size, signals)?;
     let labels = labels_of(alloc, made.as_slice())?;
+    let plain = are_plain(made.as_slice());
     Ok(Plan {
         size,
         rows: made,
         labels,
         aboves,
         order,
+        plain,
     })
 }
 
@@ -252,6 +279,9 @@ impl Plan {
         requires { signal < length self.now.rows }
         ensures { result ≡ is_present bytes.now self.now.rows (slice_get self.now.rows signal) }
     {
+        if self.plain {
+            return true;
+        }
         are_met(
             self.rows.as_slice(),
             self.aboves.as_ref().as_slice(),

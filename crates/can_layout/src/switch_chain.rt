@@ -1,5 +1,5 @@
 //! The switches above a signal, which all signals of a message share.
-ghost use Rattle.std.specs.Prelude.{◌≡◌, IfOk, slice_get, is_some};
+ghost use Rattle.std.specs.Prelude.{◌≡◌, [], true, IfOk, slice_get, is_some};
 ghost use Rattle.std.specs.Option.{option_map};
 ghost use Rattle.can_layout.specs.Plans.{chain_of};
 ghost use Rattle.can_layout.specs.Presence.{link_of};
@@ -69,6 +69,17 @@ impl Chain {
         }
         let aboves = aboves.clone()?;
         Ok(Some(Chain { aboves, place }))
+    }
+
+    /// Whether no switch stands above the signal.
+    #[tactic(auto, using(crate::proofs::Chains::none_first))]
+    pub(crate) fn is_empty(&self) -> bool
+        ensures { result ≡ true → self.now ≡ [] }
+    {
+        match self.link(0) {
+            Some(_) => false,
+            None => true,
+        }
     }
 
     /// The link so many switches up: 0 is that to the signal's own switch. It is found by going up.

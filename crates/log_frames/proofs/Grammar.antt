@@ -93,7 +93,7 @@ frame_of_fields kind extended number frame kind_is width number_is =
     frame.bytes = ap (λ (n : ℕ). the_frame frame.kind frame.extended n frame.bytes) (sym number_is) in
     step_one ∙ step_two ∙ step_three
 
-frame_there : (word : List ℕ) (frame : Frame) → IsFrameText word frame → frame_of_word word ≡ Some frame
+pub frame_there : (word : List ℕ) (frame : Frame) → IsFrameText word frame → frame_of_word word ≡ Some frame
 unfolding frame_of_word
 frame_there word frame is =
     let unmarked : AllByRecursion (λ b. no_mark b ≡ true) is.digits = identifier_unmarked is.digits is.identifier is.identified in
@@ -115,7 +115,7 @@ some_parts digits tail = omega (arith, length-append digits (number_sign ∷ tai
 some_word : (word : List ℕ) (frame : Frame) → IsFrameText word frame → 0 < length word
 some_word word frame is = subst (λ word. 0 < length word) (sym is.parts) (some_parts is.digits is.tail)
 
-frame_unbroken : (word : List ℕ) (frame : Frame) → IsFrameText word frame → HasNoBlank word
+pub frame_unbroken : (word : List ℕ) (frame : Frame) → IsFrameText word frame → HasNoBlank word
 frame_unbroken word frame is =
     subst HasNoBlank (sym is.parts) (all_append (λ b. is_log_blank b ≡ false) is.digits (number_sign ∷ is.tail)
     (identifier_unbroken is.digits is.identifier is.identified) (refl, tail_unbroken is.kind is.tail frame.bytes is.told))

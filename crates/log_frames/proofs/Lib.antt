@@ -7,3 +7,4 @@ mod Hexadecimals
 mod Identifiers
 mod Tails
 mod Grammar
+mod UsualLines

@@ -1,7 +1,11 @@
 //! Identifiers.
-ghost use Rattle.std.specs.Prelude.{◌≡◌, [], ◌∷◌, length, IfSome, option_map};
+ghost use Rattle.std.specs.Prelude.{◌≡◌, ◌*◌, [], ◌∷◌, IfSome, option_map};
+ghost use Rattle.std.specs.Result.{result_ok};
+ghost use Rattle.hex.specs.Hex.{decode_of};
 ghost use Rattle.log_frames.specs.Frames.{identifier_of, of_three_digits, of_eight_digits};
 ghost use Rattle.log_frames.specs.Seen.{identifier_view, IsIdentifier};
+
+use crate::pairs::bytes_of_pairs;
 
 /// An identifier as its digits tell it.
 #[derive(Clone, Copy)]
@@ -14,14 +18,27 @@ pub struct Identifier {
     pub number: u32,
 }
 
+// The bytes that digits spell.
+#[inline(always)]
+fn decoded<const D: usize, const N: usize>(digits: &[u8; D]) -> Option<[u8; N]>
+    requires { D ≡ 2 * N }
+    ensures { result ≡ result_ok (decode_of digits.now) }
+{
+    let usual = bytes_of_pairs(digits);
+    if usual.is_some() {
+        return usual;
+    }
+    let mut bytes = [0u8; N];
+    hex::decode_to_slice(digits.as_slice(), &mut bytes).ok()?;
+    Some(bytes)
+}
+
 #[tactic(auto, unfolding(crate::specs::Frames::of_three_digits))]
 fn of_three_digits(a: u8, b: u8, c: u8) -> Option<Identifier>
     ensures value { option_map identifier_view result ≡ of_three_digits (a ∷ b ∷ c ∷ []) }
     ensures valid { IfSome result IsIdentifier }
 {
-    let digits = [b'0', a, b, c];
-    let mut bytes = [0u8; 2];
-    hex::decode_to_slice(digits.as_slice(), &mut bytes).ok()?;
+    let bytes = decoded::<4, 2>(&[b'0', a, b, c])?;
     let number = u16::from_be_bytes(bytes);
     if number > 2047 {
         return None;
@@ -34,13 +51,11 @@ fn of_three_digits(a: u8, b: u8, c: u8) -> Option<Identifier>
 }
 
 #[tactic(auto, unfolding(crate::specs::Frames::of_eight_digits))]
-fn of_eight_digits(digits: &[u8]) -> Option<Identifier>
-    requires { length digits.now ≡ 8 }
+fn of_eight_digits(digits: &[u8; 8]) -> Option<Identifier>
     ensures value { option_map identifier_view result ≡ of_eight_digits digits.now }
     ensures valid { IfSome result IsIdentifier }
 {
-    let mut bytes = [0u8; 4];
-    hex::decode_to_slice(digits, &mut bytes).ok()?;
+    let bytes = decoded::<8, 4>(digits)?;
     let word = u32::from_be_bytes(bytes);
     Some(Identifier {
         extended: true,
@@ -57,7 +72,7 @@ pub fn identifier_of(digits: &[u8]) -> Option<Identifier>
 {
     match digits {
         [a, b, c] => of_three_digits(*a, *b, *c),
-        [_, _, _, _, _, _, _, _] => of_eight_digits(digits),
+        [a, b, c, d, e, f, g, h] => of_eight_digits(&[*a, *b, *c, *d, *e, *f, *g, *h]),
         _ => None,
     }
 }

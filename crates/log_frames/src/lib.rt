@@ -10,6 +10,7 @@ mod frame;
 mod identifier;
 pub mod laws;
 mod line;
+mod pairs;
 mod reading;
 
 pub use frame::{Frame, Kind};

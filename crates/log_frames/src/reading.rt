@@ -1,16 +1,19 @@
 //! Reading of a line's frame: first where its identifier and the digits of its bytes stand, and then the bytes.
-ghost use Rattle.std.specs.Prelude.{◌≡◌, ℕ, ◌*◌, ◌<◌, ◌≤◌, true, Some, Ok, length, option_map, option_and_then, not, IfSome, ◌==◌};
+ghost use Rattle.std.specs.Prelude.{◌≡◌, ℕ, [], ◌∷◌, ◌++◌, ◌*◌, ◌<◌, ◌≤◌, true, Some, Ok, length, option_map, option_and_then};
+ghost use Rattle.std.specs.Prelude.{not, IfSome, ◌==◌, if◌then◌else◌};
 ghost use Rattle.std.specs.List.{prefix_len};
 ghost use Rattle.std.specs.Result.{result_ok};
-ghost use Rattle.hex.specs.Hex.{decode_of, hex_digit_value, pair_value};
-ghost use Rattle.log_frames.specs.LogLines.{body_of};
+ghost use Rattle.hex.specs.Hex.{decode_of};
+ghost use Rattle.log_frames.specs.LogLines.{body_of, first_word};
+ghost use Rattle.log_frames.specs.declared.frame.Kind.TheVariants.{Error};
 ghost use Rattle.log_frames.specs.Frames.{frame_of, frame_of_word, frame_of_parts, number_sign};
 ghost use Rattle.log_frames.specs.Seen.{identifier_view, form_view, IsIdentifier};
 
 use crate::form::{Form, form_of};
 use crate::frame::{Frame, Kind};
 use crate::identifier::{Identifier, identifier_of};
-use crate::line::{body_of, frame_word};
+use crate::line::{behind_interface, body_of, first_word};
+use crate::pairs::bytes_of_pairs;
 use arrayvec::ArrayVec;
 
 // How many bytes stand before the first `#`.
@@ -21,72 +24,12 @@ fn identifier_len(word: &[u8]) -> usize
     word.iter().take_while(|b| **b != b'#').count()
 }
 
-// The value of each byte as a hexadecimal digit, or 255, as `hex` reads it.
-static VALUES: [u8; 256] = [
-    255, 255, 255, 255, 255, 255, 255, 255, 255, 255, 255, 255, 255, 255, 255, 255, 255, 255, 255,
-    255, 255, 255, 255, 255, 255, 255, 255, 255, 255, 255, 255, 255, 255, 255, 255, 255, 255, 255,
-    255, 255, 255, 255, 255, 255, 255, 255, 255, 255, 0, 1, 2, 3, 4, 5, 6, 7, 8, 9, 255, 255, 255,
-    255, 255, 255, 255, 10, 11, 12, 13, 14, 15, 255, 255, 255, 255, 255, 255, 255, 255, 255, 255,
-    255, 255, 255, 255, 255, 255, 255, 255, 255, 255, 255, 255, 255, 255, 255, 255, 10, 11, 12, 13,
-    14, 15, 255, 255, 255, 255, 255, 255, 255, 255, 255, 255, 255, 255, 255, 255, 255, 255, 255,
-    255, 255, 255, 255, 255, 255, 255, 255, 255, 255, 255, 255, 255, 255, 255, 255, 255, 255, 255,
-    255, 255, 255, 255, 255, 255, 255, 255, 255, 255, 255, 255, 255, 255, 255, 255, 255, 255, 255,
-    255, 255, 255, 255, 255, 255, 255, 255, 255, 255, 255, 255, 255, 255, 255, 255, 255, 255, 255,
-    255, 255, 255, 255, 255, 255, 255, 255, 255, 255, 255, 255, 255, 255, 255, 255, 255, 255, 255,
-    255, 255, 255, 255, 255, 255, 255, 255, 255, 255, 255, 255, 255, 255, 255, 255, 255, 255, 255,
-    255, 255, 255, 255, 255, 255, 255, 255, 255, 255, 255, 255, 255, 255, 255, 255, 255, 255, 255,
-    255, 255, 255, 255, 255, 255, 255, 255, 255, 255, 255, 255, 255, 255, 255, 255, 255, 255, 255,
-    255, 255, 255,
-];
-
-// The value of a digit.
-#[inline(always)]
-fn digit_value(digit: u8) -> Option<u8>
-    ensures value { IfSome result (λ value. hex_digit_value digit ≡ Some value) }
-    ensures small { IfSome result (λ value. value < 16) }
-{
-    let value = VALUES[digit as usize];
-    if value < 16 { Some(value) } else { None }
-}
-
-// The byte that two digits spell.
-#[inline(always)]
-fn pair_of(high: u8, low: u8) -> Option<u8>
-    ensures { IfSome result (λ byte. (index : ℕ) → pair_value high low index ≡ Ok byte) }
-{
-    let Some(above) = digit_value(high) else {
-        return None;
-    };
-    let Some(below) = digit_value(low) else {
-        return None;
-    };
-    Some(above * 16 + below)
-}
-
-// The bytes that sixteen digits spell, as most frames have them, where each of them is a digit.
-#[inline(always)]
-fn eight_bytes(digits: &[u8; 16]) -> Option<[u8; 8]>
-    ensures { IfSome result (λ bytes. decode_of digits.now ≡ Ok bytes) }
-{
-    let mut out = [0u8; 8];
-    'bytes: for i in 0..8usize {
-        let Some(byte) = pair_of(digits[2 * i], digits[2 * i + 1]) else {
-            return None;
-        };
-        out[i] = byte;
-    }
-    Some(out)
-}
-
 // The same, as the bytes of a frame.
 #[inline(always)]
-fn usual_bytes(digits: &[u8]) -> Option<ArrayVec<u8, 64>>
+fn usual_bytes(digits: &[u8; 16]) -> Option<ArrayVec<u8, 64>>
     ensures { IfSome result (λ bytes. decode_of digits.now ≡ Ok bytes.items) }
 {
-    let Ok(sixteen) = <&[u8; 16]>::try_from(digits) else {
-        return None;
-    };
-    let Some(eight) = eight_bytes(sixteen) else {
+    let Some(eight) = bytes_of_pairs::<16, 8>(digits) else {
         return None;
     };
     let mut bytes = ArrayVec::new();
@@ -96,8 +39,8 @@ fn usual_bytes(digits: &[u8]) -> Option<ArrayVec<u8, 64>>
     }
 }
 
-// The bytes that at most 128 digits spell, where they are not sixteen.
-fn other_bytes(digits: &[u8]) -> Option<ArrayVec<u8, 64>>
+// The bytes that at most 128 digits spell.
+fn bytes_of(digits: &[u8]) -> Option<ArrayVec<u8, 64>>
     requires { length digits.now ≤ 128 }
     ensures { option_map (λ bytes. bytes.items) result ≡ result_ok (decode_of digits.now) }
 {
@@ -107,15 +50,26 @@ fn other_bytes(digits: &[u8]) -> Option<ArrayVec<u8, 64>>
     Some(bytes)
 }
 
-// The bytes that at most 128 digits spell.
+// A frame of these bytes, of a form of this kind.
 #[inline(always)]
-fn bytes_of(digits: &[u8]) -> Option<ArrayVec<u8, 64>>
-    requires { length digits.now ≤ 128 }
-    ensures { option_map (λ bytes. bytes.items) result ≡ result_ok (decode_of digits.now) }
+fn frame_with(identifier: Identifier, kind: Kind, bytes: ArrayVec<u8, 64>) -> Frame
+    requires { IsIdentifier identifier }
+    ensures { result ≡ record {
+      kind = (if identifier.marks_error then Error else kind);
+      extended = identifier.extended;
+      identifier = identifier.number;
+      bytes = bytes.items;
+    } }
 {
-    match usual_bytes(digits) {
-        Some(bytes) => Some(bytes),
-        None => other_bytes(digits),
+    Frame {
+        kind: if identifier.marks_error {
+            Kind::Error
+        } else {
+            kind
+        },
+        extended: identifier.extended,
+        identifier: identifier.number,
+        bytes,
     }
 }
 
@@ -125,16 +79,7 @@ fn frame_of_parts(identifier: Identifier, form: Form<'_>) -> Option<Frame>
     ensures { result ≡ frame_of_parts (identifier_view identifier) (form_view form.entry) }
 {
     let bytes = bytes_of(form.digits)?;
-    Some(Frame {
-        kind: if identifier.marks_error {
-            Kind::Error
-        } else {
-            form.kind
-        },
-        extended: identifier.extended,
-        identifier: identifier.number,
-        bytes,
-    })
+    Some(frame_with(identifier, form.kind, bytes))
 }
 
 #[tactic(auto, unfolding(crate::specs::Frames::frame_of_word))]
@@ -152,12 +97,45 @@ fn frame_of_word(word: &[u8]) -> Option<Frame>
     }
 }
 
+// What stands before a `#` at the end.
+#[inline(always)]
+fn before_mark(bytes: &[u8]) -> Option<&[u8]>
+    ensures { IfSome result (λ front. bytes.now ≡ front.now ++ number_sign ∷ []) }
+{
+    match bytes {
+        [front @ .., b'#'] => Some(front),
+        _ => None,
+    }
+}
+
+// The frame of what begins with its word, where that is an identifier and eight bytes, as in most lines, and ends the line.
+#[inline(always)]
+fn usual_frame(rest: &[u8]) -> Option<Frame>
+    ensures { IfSome result (λ frame. frame_of_word (first_word rest.now) ≡ Some frame) }
+{
+    let (front, data) = rest.split_last_chunk::<16>()?;
+    let identifier = identifier_of(before_mark(front)?)?;
+    let bytes = usual_bytes(data)?;
+    Some(frame_with(identifier, Kind::Classic, bytes))
+}
+
+// The frame of a word that something may stand behind.
+#[inline(never)]
+fn other_frame(rest: &[u8]) -> Option<Frame>
+    ensures { result ≡ frame_of_word (first_word rest.now) }
+{
+    frame_of_word(first_word(rest))
+}
+
 /// The frame of a log line, which stands without its LF and may end in a CR. `None` where it is no frame line, as a
 /// comment or a line cut short.
 #[tactic(auto, unfolding(crate::specs::Frames::frame_of))]
 pub fn read_frame(line: &[u8]) -> Option<Frame>
     ensures { result ≡ frame_of (body_of line.now) }
 {
-    let word = frame_word(body_of(line))?;
-    frame_of_word(word)
+    let rest = behind_interface(body_of(line))?;
+    match usual_frame(rest) {
+        Some(frame) => Some(frame),
+        None => other_frame(rest),
+    }
 }

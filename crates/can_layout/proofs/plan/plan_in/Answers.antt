@@ -2,7 +2,7 @@ use Rattle.std.proofs.Common.{◌≡◌, List, length, map, sym, ap, ◌∙◌, 
 use Rattle.std.proofs.lemmas.List.{length-map}
 use Rattle.dbc_records.specs.Records.{Signal}
 use Rattle.can_layout.specs.Plans.{label_of}
-use Rattle.can_layout.specs.Presence.{AreChained}
+use Rattle.can_layout.specs.Presence.{AreChained, ArePlain}
 use Rattle.can_layout.specs.Switches.{above_of, aboves_of}
 use Rattle.can_layout.specs.declared.above.Above.{Above}
 use Rattle.can_layout.specs.declared.row.Row.{Row}
@@ -19,4 +19,5 @@ invariant_of-result g c =
       c.in_ok-labels.ensures ∙ ap (λ (rows : List Row). map label_of rows) c.as_slice-2.ensures.value,
       subst (λ rows. AreChained rows aboves) (sym c.in_ok-made.ensures)
           (are_chained c.args.rows.now aboves _ signals as_many),
+      λ is. subst ArePlain c.as_slice-3.ensures.value (c.are_plain-plain.ensures is),
     )
