@@ -131,5 +131,6 @@ pub(crate) fn push_message(
     push_bracket(text, frame.identifier, target.group)?;
     push_bytes(text, b"(")?;
     push_signals(text, target.plan, frame.bytes.as_slice())?;
-    push_bytes(text, b")")
+    text.push(b')')?;
+    Ok(())
 }

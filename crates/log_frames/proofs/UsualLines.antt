@@ -48,7 +48,8 @@ pub record BeginsWithStamp (body behind : List ℕ) : Type 0 where
 abbrev stamp_of : List ℕ → List ℕ → List ℕ
 stamp_of seconds fraction = opening_parenthesis ∷ (seconds ++ point ∷ (fraction ++ closing_parenthesis ∷ []))
 
-stamp_parts : (seconds fraction behind : List ℕ) → opening_parenthesis ∷ (seconds ++ point ∷ (fraction ++ closing_parenthesis ∷ space
+stamp_parts : (seconds fraction behind : List ℕ)
+    → opening_parenthesis ∷ (seconds ++ point ∷ (fraction ++ closing_parenthesis ∷ space
     ∷ behind)) ≡ stamp_of seconds fraction ++ ((space ∷ []) ++ behind)
 stamp_parts seconds fraction behind =
     let inner : fraction ++ closing_parenthesis ∷ space ∷ behind ≡ (fraction ++ closing_parenthesis ∷ []) ++ space ∷ behind =
@@ -72,7 +73,8 @@ begins seconds fraction behind some_seconds some_fraction few seconds_are fracti
       short = omega (arith, few);
     } in
     let unbroken : HasNoBlank stamp = stamp_unbroken stamp is in
-    let first : first_word (stamp ++ ((space ∷ []) ++ behind)) ≡ stamp = first_word_is stamp ((space ∷ []) ++ behind) unbroken refl in
+    let first : first_word (stamp ++ ((space ∷ []) ++ behind)) ≡ stamp =
+    first_word_is stamp ((space ∷ []) ++ behind) unbroken refl in
     record {
       stamp = ap is_stamp first ∙ stamp_there stamp is;
       rest = sym (behind_first_word_is stamp (space ∷ []) behind unbroken (refl, tt) refl (no_blank_first behind no_blank));
@@ -91,7 +93,8 @@ usual_stamp body seconds point_on fraction closing_on blank_on behind first seco
     ∙ ap (λ rest. point ∷ (fraction ++ rest)) closing in
     let whole : body ≡ stamp_of seconds fraction ++ ((space ∷ []) ++ behind) =
     first ∙ ap (λ rest. opening_parenthesis ∷ (seconds ++ rest)) from_point ∙ stamp_parts seconds fraction behind in
-    subst (λ body. BeginsWithStamp body behind) (sym whole) (begins seconds fraction behind (omega (arith, ten)) (omega (arith, six))
+    subst (λ body. BeginsWithStamp body behind) (sym whole) (begins seconds fraction behind (omega (arith, ten))
+    (omega (arith, six))
     (omega (arith, six)) seconds_are fraction_is no_blank)
 
 -- ---- the word of the frame
