@@ -41,13 +41,13 @@ faults behind it. Else it has what `check` writes, each line with its remedy. Th
 Example, of a limit that is no number:
   $ printf 'BO_ 1 A: 1 N\\n SG_ S : 0|8@1+ (1,0) [0|inf] \"\"\\n' > far.dbc
   $ candesk explain far.dbc
-  candesk: line 2: 2 Statement
   line 2: 2 Statement
    SG_ S : 0|8@1+ (1,0) [0|inf] \"\"
                            ^~~
   found: the word inf
   expected: '-', '+' or a number
-  reason: inf and nan are no numbers; where it is a limit of a signal, [0|0] says that there is none";
+  reason: inf and nan are no numbers; where it is a limit of a signal, [0|0] says that there is none
+  candesk: line 2: 2 Statement";
 
 /// Of `print`.
 pub const PRINT: &str = "\
