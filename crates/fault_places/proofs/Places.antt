@@ -254,7 +254,7 @@ found_at pattern text here state cut found at fault parts token front expected =
     at.tokens ▸▸ cut,
     whole_tokens pattern text here state cut at,
     leads_first at.tokens 1 text (pattern, nothing_seen) at.line at.rest state cut at.leads
-    ∙ first_here state cut found.fault fault,
+        ∙ first_here state cut found.fault fault,
   ),
   record {
     state = state;
