@@ -37,10 +37,10 @@ fn push_reading_faults<L: Lookup>(
 }
 
 // What stands before the overlaps of a message.
-fn place_faults_of<L: Lookup>(
+fn place_faults_of<'a, L: Lookup>(
     alloc: Global,
-    known: &Known<'_, L>,
-    message: &Message,
+    known: &Known<'a, L>,
+    message: &'a Message,
 ) -> Result<Vec<Diagnostic>, Memory>
     ensures { IfOk result (λ found. found.items ≡ place_faults known.now message.now) }
 {
@@ -50,10 +50,10 @@ fn place_faults_of<L: Lookup>(
 }
 
 #[tactic(auto, using(can_references::proofs::Pushing::pushed_then), unfolding(crate::specs::MessageFaults::place_faults))]
-fn push_place_faults<L: Lookup>(
+fn push_place_faults<'a, L: Lookup>(
     found: &mut Vec<Diagnostic>,
-    known: &Known<'_, L>,
-    message: &Message,
+    known: &Known<'a, L>,
+    message: &'a Message,
 ) -> Result<(), Memory>
     ensures { OnOk result (found.new.items ≡ found.old.items ++ place_faults known.now message.now) }
 {
@@ -63,11 +63,11 @@ fn push_place_faults<L: Lookup>(
 
 // Adds what stands behind the overlaps of a message.
 #[tactic(auto, using(can_references::proofs::Pushing::pushed_then), unfolding(crate::specs::MessageFaults::other_faults))]
-fn push_other_faults<L: Lookup>(
+fn push_other_faults<'a, L: Lookup>(
     found: &mut Vec<Diagnostic>,
-    known: &Known<'_, L>,
+    known: &Known<'a, L>,
     rows: &MessageRows<'_, L>,
-    message: &Message,
+    message: &'a Message,
     walks: &[Walk],
 ) -> Result<(), Memory>
     ensures { OnOk result (found.new.items ≡ found.old.items ++ other_faults known.now rows.now message.now walks.now) }
@@ -79,11 +79,11 @@ fn push_other_faults<L: Lookup>(
 }
 
 // Hands on what stands before the overlaps of a message.
-fn report_place_faults<L: Lookup, T: Report>(
+fn report_place_faults<'a, L: Lookup, T: Report>(
     to: &mut T,
     alloc: Global,
-    known: &Known<'_, L>,
-    message: &Message,
+    known: &Known<'a, L>,
+    message: &'a Message,
 ) -> Result<(), Stop>
     ensures { Takes T.Took T.Stopped to.old to.new result (place_faults known.now message.now) }
 {
@@ -94,11 +94,11 @@ fn report_place_faults<L: Lookup, T: Report>(
 }
 
 // Hands on what stands behind the overlaps of a message.
-fn report_other_faults<L: Lookup, T: Report>(
+fn report_other_faults<'a, L: Lookup, T: Report>(
     to: &mut T,
-    known: &Known<'_, L>,
+    known: &Known<'a, L>,
     rows: &MessageRows<'_, L>,
-    message: &Message,
+    message: &'a Message,
     walks: &Vec<Walk>,
 ) -> Result<(), Stop>
     ensures { Takes T.Took T.Stopped to.old to.new result (other_faults known.now rows.now message.now walks.now.items) }
@@ -112,12 +112,12 @@ fn report_other_faults<L: Lookup, T: Report>(
 
 // Hands on the diagnostics of a message, by the rows of its number. The table for overlaps is empty before and after.
 #[tactic(auto, using(crate::proofs::Counts::as_many))]
-fn report_by_rows<L: Lookup, T: Report>(
+fn report_by_rows<'a, L: Lookup, T: Report>(
     to: &mut T,
-    known: &Known<'_, L>,
+    known: &Known<'a, L>,
     occupancy: Occupancy,
     rows: &MessageRows<'_, L>,
-    message: &Message,
+    message: &'a Message,
 ) -> Result<Occupancy, Stop>
     ensures { Takes T.Took T.Stopped to.old to.new result (faults_with known.now rows.now message.now) }
 {
@@ -129,13 +129,13 @@ fn report_by_rows<L: Lookup, T: Report>(
     Ok(occupancy)
 }
 
-// Hands on the diagnostics of a message.
+/// Hands on the diagnostics of a message, by what is known of its database. The table for overlaps is empty before and after.
 #[tactic(auto, unfolding(crate::specs::MessageFaults::message_faults))]
-fn report_message<L: Lookup, T: Report>(
+pub fn report_message<'a, L: Lookup, T: Report>(
     to: &mut T,
-    known: &Known<'_, L>,
+    known: &Known<'a, L>,
     occupancy: Occupancy,
-    message: &Message,
+    message: &'a Message,
 ) -> Result<Occupancy, Stop>
     ensures { Takes T.Took T.Stopped to.old to.new result (message_faults known.now message.now) }
 {
@@ -144,11 +144,11 @@ fn report_message<L: Lookup, T: Report>(
 }
 
 // Hands on the diagnostics of messages, in order.
-fn report_messages<L: Lookup, T: Report>(
+fn report_messages<'a, L: Lookup, T: Report>(
     to: &mut T,
     alloc: Global,
-    known: &Known<'_, L>,
-    messages: &[Message],
+    known: &Known<'a, L>,
+    messages: &'a [Message],
 ) -> Result<(), Stop>
     ensures { Takes T.Took T.Stopped to.old to.new result (flat_map (message_faults known.now) messages.now) }
 {
@@ -231,10 +231,10 @@ pub fn all_faults(alloc: Global, database: &Database) -> Result<Vec<Diagnostic>,
 }
 
 // The diagnostics of a message, by what is known of its database.
-fn faults_in<L: Lookup>(
+fn faults_in<'a, L: Lookup>(
     alloc: Global,
-    known: &Known<'_, L>,
-    message: &Message,
+    known: &Known<'a, L>,
+    message: &'a Message,
 ) -> Result<Vec<Diagnostic>, Memory>
     ensures { IfOk result (λ found. found.items ≡ message_faults known.now message.now) }
 {

@@ -1,8 +1,8 @@
 //! What is doubtful in a database: all of it, in one list and in a fixed order.
 //!
 //! [`all_faults`] looks at the whole of a database, [`message_faults`] at one message, and [`all_faults_with`] finds rows by an
-//! index that is there already. [`report_all`] hands on what it finds as it goes, so that no list of all is kept. Nothing that is
-//! found keeps a database from being used.
+//! index that is there already. [`report_all`] hands on what it finds as it goes, so that no list of all is kept, and
+//! [`report_message`] what it finds of one message. Nothing that is found keeps a database from being used.
 #![tactic(auto)]
 
 mod all;
@@ -13,8 +13,9 @@ mod signal_rules;
 mod value_rules;
 mod walk_rules;
 
-pub use all::{all_faults, all_faults_with, message_faults, report_all};
+pub use all::{all_faults, all_faults_with, message_faults, report_all, report_message};
 pub use can_diagnostics::{
     Code, Diagnostic, RowKey, Subject, hold_diagnostic, hold_lines, write_diagnostic, write_lines,
 };
+pub use can_overlap::Occupancy;
 pub use report::{Report, Stop};

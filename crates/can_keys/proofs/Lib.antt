@@ -1,3 +1,3 @@
 pub mod Adding
-pub mod Borrowed
+pub mod MixedKeys
 pub mod SameKeys

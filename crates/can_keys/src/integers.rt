@@ -4,22 +4,27 @@ ghost use Rattle.std.specs.List.{list_any};
 ghost use Rattle.std.specs.Ordering.{int_eq};
 
 use crate::keys::Keys;
+use arrayvec::ArrayVec;
 use dbc_values::Memory;
 use std::alloc::Global;
 use std::marker::Model;
 
-/// Whole numbers that were added, in order.
+/// Whole numbers that were added, in order. The first few are looked through, and take no memory of their own; those behind
+/// them are in a set.
 #[derive(Drop)]
 pub struct Integers {
-    keys: Keys<i128>,
+    few: ArrayVec<i128, 8>,
+    others: Keys<i128>,
 }
 
 impl Model for Integers {
-    ghost use Rattle.std.specs.Prelude.{ℤ, List};
+    ghost use Rattle.std.specs.Prelude.{◌≡◌, ◌<◌, ℤ, List, [], ◌++◌, length};
 
     ghost Value = { List ℤ };
 
-    ghost view = { λ numbers. numbers.keys };
+    ghost view = { λ numbers. numbers.few.items ++ numbers.others };
+
+    ghost invariant = { λ numbers. length numbers.few.items < 8 → numbers.others ≡ [] };
 }
 
 impl Integers {
@@ -28,7 +33,8 @@ impl Integers {
         ensures { result ≡ [] }
     {
         Integers {
-            keys: Keys::new(alloc),
+            few: ArrayVec::new(),
+            others: Keys::new(alloc),
         }
     }
 
@@ -38,6 +44,12 @@ impl Integers {
         ensures is_new { IfOk result (λ is_new. is_new ≡ not (list_any (int_eq number) self.old)) }
         ensures err { OnErr result (self.new ≡ self.old) }
     {
-        self.keys.add(number)
+        let is_among = self.few.contains(&number);
+        if !self.few.is_full() {
+            self.few.push(number);
+            return Ok(!is_among);
+        }
+        let is_new = self.others.add(number)?;
+        Ok(is_new && !is_among)
     }
 }

@@ -7,6 +7,7 @@
 mod integers;
 mod key;
 mod keys;
+mod mix;
 mod names;
 mod numbers;
 mod row_keys;

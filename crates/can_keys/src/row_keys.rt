@@ -6,6 +6,7 @@ ghost use Rattle.can_keys.specs.RowKeys.{row_key};
 
 use crate::key::Key;
 use crate::keys::Keys;
+use crate::mix::{Mixed, row_mix};
 use dbc_values::Memory;
 use std::alloc::Global;
 use std::marker::Model;
@@ -13,17 +14,20 @@ use std::marker::Model;
 /// Keys of rows that were added, in order.
 #[derive(Drop)]
 pub struct RowKeys<'a> {
-    keys: Keys<Key<'a>>,
+    keys: Keys<Mixed<Key<'a>>>,
 }
 
 impl<'a> Model for RowKeys<'a> {
-    ghost use Rattle.std.specs.Prelude.{List, map};
+    ghost use Rattle.std.specs.Prelude.{◌≡◌, List, All, map};
+    ghost use Rattle.can_keys.specs.Mixes.{row_mix};
     ghost use Rattle.can_diagnostics.specs.declared.row_key.RowKey.{RowKey};
     ghost use Rattle.can_keys.specs.RowKeys.{row_key};
 
     ghost Value = { List RowKey };
 
-    ghost view = { λ keys. map row_key keys.keys };
+    ghost view = { λ keys. map (λ mixed. row_key mixed.key) keys.keys };
+
+    ghost invariant = { λ keys. All (λ mixed. mixed.mix ≡ row_mix (row_key mixed.key)) keys.keys };
 }
 
 impl<'a> RowKeys<'a> {
@@ -42,6 +46,9 @@ impl<'a> RowKeys<'a> {
         ensures is_new { IfOk result (λ is_new. is_new ≡ not (list_any (same_key (row_key key.entry)) self.old)) }
         ensures err { OnErr result (self.new ≡ self.old) }
     {
-        self.keys.add(key)
+        self.keys.add(Mixed {
+            mix: row_mix(&key),
+            key,
+        })
     }
 }

@@ -1,9 +1,11 @@
 //! Signals by the numbers of their messages and their names.
 ghost use Rattle.std.specs.Prelude.{◌≡◌, not, [], ◌∷◌, ◌++◌, IfOk, OnOk, OnErr};
 ghost use Rattle.std.specs.List.{list_any};
+ghost use Rattle.can_keys.specs.Mixes.{mixed_bytes};
 ghost use Rattle.can_keys.specs.SignalNames.{same_signal};
 
 use crate::keys::Keys;
+use crate::mix::{Mixed, mixed_bytes};
 use dbc_values::Memory;
 use std::alloc::Global;
 use std::marker::Model;
@@ -11,15 +13,30 @@ use std::marker::Model;
 /// Signals that were added, in order: the number of the message, and the signal's name.
 #[derive(Drop)]
 pub struct SignalNames<'a> {
-    keys: Keys<(u32, &'a [u8])>,
+    keys: Keys<Mixed<(u32, &'a [u8])>>,
 }
 
 impl<'a> Model for SignalNames<'a> {
-    ghost use Rattle.std.specs.Prelude.{ℕ, List, map};
+    ghost use Rattle.std.specs.Prelude.{◌≡◌, ℕ, List, All, map};
+    ghost use Rattle.can_keys.specs.Mixes.{mixed_bytes};
 
     ghost Value = { List (ℕ × List ℕ) };
 
-    ghost view = { λ names. map (λ key. (key.0, key.1.now)) names.keys };
+    ghost view = { λ names. map (λ mixed. (mixed.key.0, mixed.key.1.now)) names.keys };
+
+    ghost invariant = { λ names. All (λ mixed. mixed.mix ≡ mixed_bytes mixed.key.0 mixed.key.1.now) names.keys };
+}
+
+// The signal behind its number.
+fn mixed<'a>(key: (u32, &'a [u8])) -> Mixed<(u32, &'a [u8])>
+    ensures number { result.key.0 ≡ key.entry.0 }
+    ensures name { result.key.1.now ≡ key.entry.1.now }
+    ensures mix { result.mix ≡ mixed_bytes key.entry.0 key.entry.1.now }
+{
+    Mixed {
+        mix: mixed_bytes(u64::from(key.0), key.1),
+        key,
+    }
 }
 
 impl<'a> SignalNames<'a> {
@@ -38,13 +55,13 @@ impl<'a> SignalNames<'a> {
         ensures is_new { IfOk result (λ is_new. is_new ≡ not (list_any (same_signal (key.entry.0, key.entry.1.now)) self.old)) }
         ensures err { OnErr result (self.new ≡ self.old) }
     {
-        self.keys.add(key)
+        self.keys.add(mixed(key))
     }
 
     /// Whether the signal was added.
     pub fn has(&self, key: (u32, &'a [u8])) -> bool
         ensures { result ≡ list_any (same_signal (key.entry.0, key.entry.1.now)) self.now }
     {
-        self.keys.once().contains(&key)
+        self.keys.once().contains(&mixed(key))
     }
 }

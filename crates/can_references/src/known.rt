@@ -179,7 +179,7 @@ impl<'a, L: Lookup> Known<'a, L> {
     }
 
     /// Whether at least two messages have the name.
-    pub fn is_shared_name(&self, name: &Name) -> bool
+    pub fn is_shared_name(&self, name: &'a Name) -> bool
         ensures { result ≡ is_shared bytes_eq name.now (names_of self.now) }
     {
         self.names.is_shared(name.as_bytes())
@@ -207,14 +207,14 @@ impl<'a, L: Lookup> Known<'a, L> {
     }
 
     /// Whether the name is that of a node, or stands for none.
-    pub fn is_known_node(&self, name: &[u8]) -> bool
+    pub fn is_known_node(&self, name: &'a [u8]) -> bool
         ensures { result ≡ is_known_node self.now name.now }
     {
         self.nodes.has(name) || same(name, NO_NODE)
     }
 
     /// Whether an attribute of the name is defined.
-    pub fn is_defined(&self, name: &[u8]) -> bool
+    pub fn is_defined(&self, name: &'a [u8]) -> bool
         ensures { result ≡ stands_in bytes_eq name.now (defined_in self.now) }
     {
         self.defined.has(name)

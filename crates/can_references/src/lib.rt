@@ -1,8 +1,8 @@
 //! What is doubtful in a database by what its parts say of each other: numbers, names and groups that several messages have, nodes,
 //! messages, signals and definitions that are named and not there, and rows that stand twice.
 //!
-//! [`Known`] is what the whole of a database says, found by keys. With it each call adds the diagnostics of one message or of all
-//! rows.
+//! [`Known`] is what the whole of a database says, found by keys. With it each call adds the diagnostics of one message, of one row
+//! or of all rows.
 #![tactic(auto)]
 
 mod known;
@@ -14,4 +14,5 @@ mod row_rules;
 pub use known::Known;
 pub use message_rules::{is_pseudo, push_head_faults};
 pub use node_rules::push_unknown_nodes;
-pub use row_rules::push_row_faults;
+pub use row::Row;
+pub use row_rules::{push_row, push_row_faults};

@@ -46,10 +46,10 @@ fn push_shared_identifier<L: Lookup>(
 }
 
 #[tactic(auto, unfolding(crate::specs::HeadFaults::shared_name))]
-fn push_shared_name<L: Lookup>(
+fn push_shared_name<'a, L: Lookup>(
     found: &mut Vec<Diagnostic>,
-    known: &Known<'_, L>,
-    message: &Message,
+    known: &Known<'a, L>,
+    message: &'a Message,
 ) -> Result<(), Memory>
     ensures { OnOk result (found.new.items ≡ found.old.items ++ shared_name known.now message.now) }
 {
@@ -91,10 +91,10 @@ fn push_shared_group<L: Lookup>(
 
 /// Adds what is doubtful of a message's number and name: codes 1 to 4.
 #[tactic(auto, using(crate::proofs::Pushing::pushed_then), unfolding(crate::specs::HeadFaults::head_faults))]
-pub fn push_head_faults<L: Lookup>(
+pub fn push_head_faults<'a, L: Lookup>(
     found: &mut Vec<Diagnostic>,
-    known: &Known<'_, L>,
-    message: &Message,
+    known: &Known<'a, L>,
+    message: &'a Message,
 ) -> Result<(), Memory>
     ensures { OnOk result (found.new.items ≡ found.old.items ++ head_faults known.now message.now) }
 {

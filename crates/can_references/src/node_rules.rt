@@ -9,10 +9,10 @@ use can_rows::Lookup;
 use dbc_records::{Head, Message, Signal};
 use dbc_values::{Memory, Name};
 
-fn push_unknown_sender<L: Lookup>(
+fn push_unknown_sender<'a, L: Lookup>(
     found: &mut Vec<Diagnostic>,
-    known: &Known<'_, L>,
-    head: &Head,
+    known: &Known<'a, L>,
+    head: &'a Head,
 ) -> Result<(), Memory>
     ensures { OnOk result (found.new.items ≡ found.old.items ++ unknown_sender known.now head.now) }
 {
@@ -22,12 +22,12 @@ fn push_unknown_sender<L: Lookup>(
     Ok(())
 }
 
-fn push_unknown_nodes_of<L: Lookup>(
+fn push_unknown_nodes_of<'a, L: Lookup>(
     found: &mut Vec<Diagnostic>,
-    known: &Known<'_, L>,
+    known: &Known<'a, L>,
     head: &Head,
     signal: &Signal,
-    nodes: &[Name],
+    nodes: &'a [Name],
 ) -> Result<(), Memory>
     ensures { OnOk result (found.new.items ≡ found.old.items ++ flat_map (unknown_receiver known.now head.now signal.now)
         nodes.now) }
@@ -40,22 +40,22 @@ fn push_unknown_nodes_of<L: Lookup>(
     Ok(())
 }
 
-fn push_unknown_receivers<L: Lookup>(
+fn push_unknown_receivers<'a, L: Lookup>(
     found: &mut Vec<Diagnostic>,
-    known: &Known<'_, L>,
-    head: &Head,
-    signal: &Signal,
+    known: &Known<'a, L>,
+    head: &'a Head,
+    signal: &'a Signal,
 ) -> Result<(), Memory>
     ensures { OnOk result (found.new.items ≡ found.old.items ++ unknown_receivers known.now head.now signal.now) }
 {
     push_unknown_nodes_of(found, known, head, signal, signal.receivers.as_slice())
 }
 
-fn push_all_unknown_receivers<L: Lookup>(
+fn push_all_unknown_receivers<'a, L: Lookup>(
     found: &mut Vec<Diagnostic>,
-    known: &Known<'_, L>,
-    head: &Head,
-    signals: &[Signal],
+    known: &Known<'a, L>,
+    head: &'a Head,
+    signals: &'a [Signal],
 ) -> Result<(), Memory>
     ensures { OnOk result (found.new.items ≡ found.old.items ++ flat_map (unknown_receivers known.now head.now) signals.now) }
 {
@@ -67,10 +67,10 @@ fn push_all_unknown_receivers<L: Lookup>(
 
 /// Adds the sender and the receivers of a message that are no nodes of the database: code 13.
 #[tactic(auto, using(crate::proofs::Pushing::pushed_then), unfolding(crate::specs::HeadFaults::unknown_nodes))]
-pub fn push_unknown_nodes<L: Lookup>(
+pub fn push_unknown_nodes<'a, L: Lookup>(
     found: &mut Vec<Diagnostic>,
-    known: &Known<'_, L>,
-    message: &Message,
+    known: &Known<'a, L>,
+    message: &'a Message,
 ) -> Result<(), Memory>
     ensures { OnOk result (found.new.items ≡ found.old.items ++ unknown_nodes known.now message.now) }
 {

@@ -45,14 +45,14 @@ fn is_dangling<'a, L: Lookup>(known: &Known<'a, L>, key: Key<'a>) -> bool
     }
 }
 
-fn lacks_definition<L: Lookup>(known: &Known<'_, L>, name: &[u8]) -> bool
+fn lacks_definition<'a, L: Lookup>(known: &Known<'a, L>, name: &'a [u8]) -> bool
     ensures { result ≡ lacks_definition known.now name.now }
 {
     !known.is_defined(name)
 }
 
 // Whether the row gives an attribute that is not defined.
-fn is_undefined<L: Lookup>(known: &Known<'_, L>, key: Key<'_>) -> bool
+fn is_undefined<'a, L: Lookup>(known: &Known<'a, L>, key: Key<'a>) -> bool
     ensures { result ≡ is_undefined known.now (row_key key.entry) }
 {
     match key {
@@ -81,9 +81,9 @@ fn push_where<R: Row>(
     Ok(())
 }
 
-// Adds what is doubtful of a row, given the rows before it, and takes it among them.
+/// Adds what is doubtful of a row, given the rows before it, and takes it among them.
 #[tactic(auto, using(crate::proofs::Pushing::pushed_then), unfolding(crate::specs::RowFaults::row_fault))]
-fn push_row<'a, L: Lookup, R: Row>(
+pub fn push_row<'a, L: Lookup, R: Row>(
     found: &mut Vec<Diagnostic>,
     known: &Known<'a, L>,
     seen: &mut RowKeys<'a>,

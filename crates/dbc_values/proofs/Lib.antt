@@ -10,3 +10,4 @@ pub mod NormalForms
 pub mod Signs
 pub mod Scaling
 pub mod Kept
+pub mod PlainDigits

@@ -1,6 +1,6 @@
 //! Numbers: which bytes are one, and what its digits and its exponent say, exactly.
 ghost use Rattle.std.specs.Prelude.{◌≡◌, ℕ, ℤ, pos, ◌+ℤ◌, ◌-ℤ◌, unsigned_abs, ◌+◌, ◌*◌, ◌^◌, ◌<◌, ◌≤◌, false, take, drop, length};
-ghost use Rattle.std.specs.Prelude.{nat_lt, Some, None, MatchOption, IsTrue, min, if◌then◌else◌};
+ghost use Rattle.std.specs.Prelude.{nat_lt, Some, None, IfSome, MatchOption, IsTrue, min, if◌then◌else◌};
 ghost use Rattle.std.specs.List.{list_any, list_all, position_or_len, prefix_len};
 ghost use Rattle.std.specs.Str.Parse.{digits_value, digits_value_after, signed_digits_value, without_leading_sign};
 ghost use Rattle.dbc_values.specs.Lexical.{is_digit, is_sign, is_point, is_exponent_mark, is_mantissa, is_digits, is_signed_digits};
@@ -147,6 +147,9 @@ pub fn with_zeros(number: u128, zeros: u128) -> Option<u128>
     if number == 0 {
         return Some(0);
     }
+    if zeros == 0 {
+        return if number < LIMIT { Some(number) } else { None };
+    }
     if zeros > 38 {
         return None;
     }
@@ -219,6 +222,64 @@ impl Digits {
     }
 }
 
+/// The number that digits behind those of another one write, where it is one of a word.
+fn word_behind(start: u64, digits: &[u8]) -> Option<u64>
+    requires { IsTrue (list_all is_digit digits.now) }
+    ensures value { IfSome result (λ value. value ≡ digits_value_after 10 start digits.now) }
+    ensures fits { IfSome result (λ value. value < 2 ^ 64) }
+{
+    let mut value = start;
+    for digit in digits {
+        if value >= WORD_LIMIT as u64 {
+            return None;
+        }
+        value = value * 10 + u64::from(*digit - b'0');
+    }
+    Some(value)
+}
+
+/// The number that the digits around a point write, where it is one of a word.
+fn mantissa_word(before_point: &[u8], behind_point: &[u8]) -> Option<u64>
+    requires before { IsTrue (list_all is_digit before_point.now) }
+    requires behind { IsTrue (list_all is_digit behind_point.now) }
+    ensures { IfSome result (λ value. value ≡ digits_value_after 10 (digits_value_after 10 0 before_point.now)
+        behind_point.now) }
+{
+    let start = word_behind(0, before_point)?;
+    word_behind(start, behind_point)
+}
+
+/// A number of a word, and the zeros at its end.
+fn word_digits(value: u64) -> Digits
+    ensures value { HasDigits value result.front result.zeros }
+    ensures few { result.zeros < 2 ^ 64 }
+{
+    let mut front = value;
+    let mut zeros: u64 = 0;
+    while front != 0 && front % 10 == 0 {
+        front /= 10;
+        zeros += 1;
+    }
+    Digits {
+        front: Some(u128::from(front)),
+        zeros: u128::from(zeros),
+    }
+}
+
+/// The digits around a point. Most are those of a word.
+fn mantissa_digits(before_point: &[u8], behind_point: &[u8]) -> Digits
+    requires before { IsTrue (list_all is_digit before_point.now) }
+    requires behind { IsTrue (list_all is_digit behind_point.now) }
+    ensures value { HasDigits (digits_value_after 10 (digits_value_after 10 0 before_point.now) behind_point.now) result.front
+        result.zeros }
+    ensures few { result.zeros ≤ 2 ^ 65 }
+{
+    match mantissa_word(before_point, behind_point) {
+        Some(value) => word_digits(value),
+        None => Digits::NONE.then_all(before_point).then_all(behind_point),
+    }
+}
+
 /// The value of the digits, or [`FAR`] where it is greater.
 fn value_up_to_far(digits: &[u8]) -> u128
     requires { IsTrue (list_all is_digit digits.now) }
@@ -264,7 +325,7 @@ impl Reduced {
         }
         let (mantissa, exponent) = split_around(number, exponent_place(number));
         let (before_point, behind_point) = split_around(mantissa, point_place(mantissa));
-        let digits = Digits::NONE.then_all(before_point).then_all(behind_point);
+        let digits = mantissa_digits(before_point, behind_point);
         let written = signed_up_to_far(exponent);
         Some(Reduced {
             digits: digits.front,
@@ -292,10 +353,23 @@ impl Reduced {
     }
 }
 
+/// The whole number that digits alone are, where they are one of a word, as most whole numbers are.
+fn plain_whole(number: &[u8]) -> Option<u64>
+    ensures { IfSome result (λ value. SpellsWhole number.now (Whole.Value value)) }
+{
+    if number.is_empty() || !are_digits(number) {
+        return None;
+    }
+    word_behind(0, number)
+}
+
 /// The whole number that a number without a sign is, by its value, or `None` where the bytes are no number.
 pub fn whole_of(number: &[u8]) -> Option<Whole>
     ensures spells { MatchOption result (is_number number.now ≡ false) (SpellsWhole number.now) }
     ensures value { result ≡ whole_of_number number.now }
 {
-    Some(Reduced::read(number)?.whole())
+    match plain_whole(number) {
+        Some(value) => Some(Whole::Value(value)),
+        None => Some(Reduced::read(number)?.whole()),
+    }
 }

@@ -1,10 +1,11 @@
-use Rattle.std.proofs.Common.{ap, sym, ◌∙◌, bytes_eq}
+use Rattle.std.proofs.Common.{ap, ◌∙◌, bytes_eq}
 use Rattle.std.specs.List.{list_any}
-use Rattle.can_keys.proofs.Borrowed.{list_any-map}
+use Rattle.can_keys.proofs.MixedKeys.{any_alike, names_alike}
 use Rattle.can_keys.proofs.names.Names.has.Goals as goal
 
 pub returns : goal.returns
 returns c =
-    c.contains.ensures ∙ c.once.ensures c.args.name
-    ∙ sym (list_any-map (bytes_eq c.args.name.now) (λ name. name.now) c.self.inside.keys) ∙ ap (list_any (bytes_eq c.args.name.now))
-    c.self.view_is
+    c.contains.ensures ∙ c.once.ensures c.mixed.result
+    ∙ any_alike _ _ (bytes_eq c.args.name.now) (λ mixed. mixed.key.now)
+    (λ x is. names_alike _ _ _ x.key.now x.mix c.mixed.ensures.mix c.mixed.ensures.key is) c.self.inside.keys c.self.invariant
+    ∙ ap (list_any (bytes_eq c.args.name.now)) c.self.view_is

@@ -2,23 +2,22 @@ use mir.Syntax.{w128}
 use mir.Val.{SFits}
 use Rattle.std.proofs.Common.{rules, ◌≡◌, ◌^◌, to_z, of_z}
 use Rattle.std.proofs.lemmas.Int.{to_z-of_z}
-use Rattle.std.specs.Str.Parse.{digits_value_after}
 use Rattle.std.specs.List.{after_first}
 use Rattle.dbc_values.specs.Lexical.{is_exponent_mark}
 use Rattle.dbc_values.specs.Numbers.{digits_before_point, digits_behind_point, written_exponent, StandsFor}
 use Rattle.dbc_values.proofs.NumberTexts.{digits_before, digits_behind, digits_of_exponent, before_is, behind_is, exponent_is}
-use Rattle.dbc_values.proofs.NumberTexts.{reduced, no_digits}
+use Rattle.dbc_values.proofs.NumberTexts.{reduced}
 use Rattle.dbc_values.proofs.number.Reduced.read.Goals as goal
 
-pub then_all-requires-clause-digits : goal.then_all-requires-clause-digits
-then_all-requires-clause-digits c =
+pub mantissa_digits-digits-requires-clause-before : goal.mantissa_digits-digits-requires-clause-before
+mantissa_digits-digits-requires-clause-before c =
     let part : c.split_around-2.result.0.now ≡ digits_before_point c.args.number.now =
     before_is _ _ _ _ _ c.exponent_place.ensures.value c.split_around.ensures.front c.point_place.ensures.value
     c.split_around-2.ensures.front in
     rw part (digits_before c.args.number.now (search rules))
 
-pub then_all-digits-requires-clause-digits : goal.then_all-digits-requires-clause-digits
-then_all-digits-requires-clause-digits c =
+pub mantissa_digits-digits-requires-clause-behind : goal.mantissa_digits-digits-requires-clause-behind
+mantissa_digits-digits-requires-clause-behind c =
     let part : c.split_around-2.result.1.now ≡ digits_behind_point c.args.number.now =
     behind_is _ _ _ _ _ c.exponent_place.ensures.value c.split_around.ensures.front c.point_place.ensures.value
     c.split_around-2.ensures.back in
@@ -47,11 +46,10 @@ returns c =
     let passed : StandsFor (10 ^ 30) (written_exponent c.args.number.now)
     (to_z w128 (of_z w128 c.signed_up_to_far-written.result)) =
     rw (to_z-of_z w128 c.signed_up_to_far-written.result written_fits) near in
-    let has = c.then_all-digits.ensures.value (digits_value_after 10 0 c.split_around-2.result.0.now)
-    (c.then_all.ensures.value 0 no_digits) in (
+    let has = c.mantissa_digits-digits.ensures.value in (
       search rules,
       rw (to_z-of_z w128 c.reduced_exponent.result fits)
-          (reduced c.args.number.now c.split_around-2.result.0.now c.split_around-2.result.1.now c.then_all-digits.result.front
-          c.then_all-digits.result.zeros c.reduced_exponent.result before behind has
+          (reduced c.args.number.now c.split_around-2.result.0.now c.split_around-2.result.1.now
+          c.mantissa_digits-digits.result.front c.mantissa_digits-digits.result.zeros c.reduced_exponent.result before behind has
           (c.reduced_exponent.ensures (written_exponent c.args.number.now) passed)),
     )
