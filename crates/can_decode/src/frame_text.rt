@@ -8,21 +8,21 @@ use crate::target::Target;
 use dbc_values::Memory;
 use itoa::Buffer;
 use log_frames::{Frame, Kind};
-use ready_texts::push_bytes;
+use ready_texts::{Draft, push_bytes};
 use std::alloc::Global;
 
 // Pieces, one after another.
-fn push_pieces(text: &mut Vec<u8>, pieces: &[&[u8]]) -> Result<(), Memory>
+fn push_pieces(text: &mut Draft, pieces: &[&[u8]]) -> Result<(), Memory>
     ensures { OnOk result (text.new.items ≡ text.old.items ++ flat_map (λ piece. piece.now) pieces.now) }
 {
     for piece in pieces {
-        text.extend_from_slice(piece)?;
+        push_bytes(text, piece)?;
     }
     Ok(())
 }
 
 #[tactic(auto, unfolding(crate::specs::DecodedLines::wrong_size_text))]
-fn push_wrong_size(text: &mut Vec<u8>, there: usize, wanted: u16) -> Result<(), Memory>
+fn push_wrong_size(text: &mut Draft, there: usize, wanted: u16) -> Result<(), Memory>
     ensures { OnOk result (text.new.items ≡ text.old.items ++ wrong_size_text there wanted) }
 {
     let mut there_number = Buffer::new();
@@ -38,7 +38,7 @@ fn push_wrong_size(text: &mut Vec<u8>, there: usize, wanted: u16) -> Result<(), 
 }
 
 #[tactic(auto, unfolding(crate::specs::DecodedLines::unknown_text))]
-fn push_unknown(alloc: Global, text: &mut Vec<u8>, identifier: u32) -> Result<(), Memory>
+fn push_unknown(alloc: Global, text: &mut Draft, identifier: u32) -> Result<(), Memory>
     ensures { OnOk result (text.new.items ≡ text.old.items ++ unknown_text identifier) }
 {
     let mut number = Buffer::new();
@@ -56,7 +56,7 @@ fn push_unknown(alloc: Global, text: &mut Vec<u8>, identifier: u32) -> Result<()
 // What is said of a data frame.
 fn push_data(
     alloc: Global,
-    text: &mut Vec<u8>,
+    text: &mut Draft,
     frame: &Frame,
     target: Option<&Target<'_>>,
 ) -> Result<(), Memory>
@@ -75,7 +75,7 @@ fn push_data(
 /// What is said of a frame, by what it goes to.
 pub(crate) fn push_frame(
     alloc: Global,
-    text: &mut Vec<u8>,
+    text: &mut Draft,
     frame: &Frame,
     target: Option<&Target<'_>>,
 ) -> Result<(), Memory>
@@ -83,8 +83,8 @@ pub(crate) fn push_frame(
         (option_map (λ target. target.now) target.entry)) }
 {
     match frame.kind {
-        Kind::Error => push_bytes(text, b"Error frame"),
-        Kind::Remote => push_bytes(text, b"Remote frame"),
+        Kind::Error => text.push_piece(b"Error frame"),
+        Kind::Remote => text.push_piece(b"Remote frame"),
         Kind::Classic | Kind::Fd => push_data(alloc, text, frame, target),
     }
 }

@@ -14,7 +14,7 @@ use can_layout::{Meter, Plan};
 use dbc_records::Database;
 use dbc_values::Memory;
 use log_frames::body_of;
-use ready_texts::push_bytes;
+use ready_texts::{Draft, push_bytes};
 use std::alloc::Global;
 use std::marker::Model;
 
@@ -73,13 +73,13 @@ impl<'a> Bus<'a> {
         ensures counted { meter.new ≡ with_line meter.old }
     {
         meter.count_line();
-        let mut text = Vec::new(alloc);
+        let mut text = Draft::new(alloc);
         push_bytes(&mut text, body_of(line.bytes()))?;
         if let Some(frame) = line.frame() {
             let target = self.target_with(chosen);
             push_known(alloc, &mut text, frame, target.as_ref())?;
         }
-        Ok(text)
+        text.to_vec()
     }
 }
 

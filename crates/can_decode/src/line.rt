@@ -12,8 +12,8 @@ use crate::target::Target;
 use can_layout::{Meter, Plan};
 use dbc_records::Database;
 use dbc_values::Memory;
-use log_frames::{Frame, body_of, read_frame};
-use ready_texts::push_bytes;
+use log_frames::{Frame, body_of, fill_frame};
+use ready_texts::{Draft, push_bytes};
 use std::alloc::Global;
 use std::marker::Model;
 
@@ -82,14 +82,14 @@ impl<'a, C: Choose> Finder<'a, C> {
 /// What the frame of a line says, by what it goes to, and what stands before that.
 pub(crate) fn push_known(
     alloc: Global,
-    text: &mut Vec<u8>,
+    text: &mut Draft,
     frame: &Frame,
     target: Option<&Target<'_>>,
 ) -> Result<(), Memory>
     ensures { OnOk result (text.new.items ≡ text.old.items ++ (codes " :: " ++ text_of_kind frame.now.kind frame.now
         (option_map (λ target. target.now) target.entry))) }
 {
-    push_bytes(text, b" :: ")?;
+    text.push_piece(b" :: ")?;
     push_frame(alloc, text, frame, target)
 }
 
@@ -97,7 +97,7 @@ pub(crate) fn push_known(
 #[tactic(auto, using(crate::proofs::Pushing::pushed_then), unfolding(crate::specs::DecodedLines::decoded_line))]
 pub(crate) fn push_line<C: Choose>(
     alloc: Global,
-    text: &mut Vec<u8>,
+    text: &mut Draft,
     finder: &mut Finder<'_, C>,
     line: &[u8],
 ) -> Result<(), Memory>
@@ -105,13 +105,12 @@ pub(crate) fn push_line<C: Choose>(
     ensures same { finder.new ≡ finder.old }
 {
     push_bytes(text, body_of(line))?;
-    match &read_frame(line) {
-        None => Ok(()),
-        Some(frame) => {
-            let target = finder.target_of(frame);
-            push_known(alloc, text, frame, target.as_ref())
-        }
+    let mut frame = Frame::empty();
+    if !fill_frame(&mut frame, line) {
+        return Ok(());
     }
+    let target = finder.target_of(&frame);
+    push_known(alloc, text, &frame, target.as_ref())
 }
 
 /// The decoded line: the line without a final CR, and behind it what its frame says. `plans` are those of the messages
@@ -130,7 +129,7 @@ pub fn decode_line(
     ensures counted { meter.new ≡ with_line meter.old }
 {
     meter.count_line();
-    let mut text = Vec::new(alloc);
+    let mut text = Draft::new(alloc);
     let mut finder = Finder {
         database,
         plans,
@@ -138,5 +137,5 @@ pub fn decode_line(
         chooser: Walking { database },
     };
     push_line(alloc, &mut text, &mut finder, line)?;
-    Ok(text)
+    text.to_vec()
 }

@@ -10,33 +10,33 @@ use crate::target::Target;
 use crate::value::push_reading;
 use can_layout::{Plan, Presence, Row};
 use dbc_values::Memory;
-use itoa::Buffer;
 use log_frames::Frame;
-use ready_texts::{ReadyText, push_bytes};
+use ready_texts::{Digits, Draft, ReadyText, push_bytes};
 
 /// A whole number.
-pub(crate) fn push_number(text: &mut Vec<u8>, number: u64) -> Result<(), Memory>
+pub(crate) fn push_number(text: &mut Draft, number: u64) -> Result<(), Memory>
     ensures { OnOk result (text.new.items ≡ text.old.items ++ decimal number) }
 {
-    let mut room = Buffer::new();
-    push_bytes(text, room.format(number).as_bytes())
+    let mut digits = Digits::none();
+    digits.write(number);
+    digits.push_first(text, digits.len())
 }
 
 // What stands before the value of a signal, behind others where `some` says so.
-fn push_label(text: &mut Vec<u8>, some: bool, label: &ReadyText, row: &Row) -> Result<(), Memory>
+fn push_label(text: &mut Draft, some: bool, label: &ReadyText, row: &Row) -> Result<(), Memory>
     requires { label.now ≡ label_of row.now }
     ensures { OnOk result (text.new.items ≡ text.old.items ++ (if some then label_of row.now else row.now.name ++ codes ": ")) }
 {
     if some {
-        return label.push_to(text);
+        label.push_to(text)
+    } else {
+        label.push_behind_two(text)
     }
-    push_bytes(text, row.name.as_bytes())?;
-    push_bytes(text, b": ")
 }
 
 // A signal, behind others where `some` says so.
 fn push_next(
-    text: &mut Vec<u8>,
+    text: &mut Draft,
     some: bool,
     label: &ReadyText,
     row: &Row,
@@ -63,11 +63,11 @@ fn is_shown(plan: &Plan, there: bool, signal: usize, bytes: &[u8]) -> bool
 // The signals that are shown, a comma and a blank between them. It is faster as a function of its own, which has the registers
 // for itself.
 #[inline(never)]
-fn push_signals(text: &mut Vec<u8>, plan: &Plan, bytes: &[u8]) -> Result<(), Memory>
+fn push_signals(text: &mut Draft, plan: &Plan, bytes: &[u8]) -> Result<(), Memory>
     ensures { OnOk result (text.new.items ≡ text.old.items ++ signals_text bytes.now
         (shown_rows bytes.now plan.now plan.now.rows)) }
 {
-    let presence = Presence::of(*text.allocator(), plan, bytes)?;
+    let presence = Presence::of(text.allocator(), plan, bytes)?;
     let mut some = false;
     for signal in 0..plan.signals() {
         if is_shown(plan, presence.has(signal), signal, bytes) {
@@ -79,14 +79,14 @@ fn push_signals(text: &mut Vec<u8>, plan: &Plan, bytes: &[u8]) -> Result<(), Mem
     Ok(())
 }
 
-fn push_destination(text: &mut Vec<u8>, identifier: u32) -> Result<(), Memory>
+fn push_destination(text: &mut Draft, identifier: u32) -> Result<(), Memory>
     ensures { OnOk result (text.new.items ≡ text.old.items ++ destination_text identifier) }
 {
     let fields = J1939::of(identifier);
     if fields.format >= FIRST_BROADCAST_FORMAT {
         return Ok(());
     }
-    push_bytes(text, b" d")?;
+    text.push_piece(b" d")?;
     push_number(text, u64::from(fields.specific))
 }
 
@@ -95,19 +95,19 @@ const FIRST_BROADCAST_FORMAT: u8 = 240;
 
 // Priority, source and destination.
 #[tactic(auto, using(crate::proofs::Pushing::pushed_then), unfolding(crate::specs::DecodedLines::group_text))]
-fn push_group(text: &mut Vec<u8>, identifier: u32) -> Result<(), Memory>
+fn push_group(text: &mut Draft, identifier: u32) -> Result<(), Memory>
     ensures { OnOk result (text.new.items ≡ text.old.items ++ group_text identifier) }
 {
     let fields = J1939::of(identifier);
-    push_bytes(text, b"[p")?;
+    text.push_piece(b"[p")?;
     push_number(text, u64::from(fields.priority))?;
-    push_bytes(text, b" s")?;
+    text.push_piece(b" s")?;
     push_number(text, u64::from(fields.source))?;
     push_destination(text, identifier)?;
-    push_bytes(text, b"]")
+    text.push_piece(b"]")
 }
 
-fn push_bracket(text: &mut Vec<u8>, identifier: u32, group: bool) -> Result<(), Memory>
+fn push_bracket(text: &mut Draft, identifier: u32, group: bool) -> Result<(), Memory>
     ensures { OnOk result (text.new.items ≡ text.old.items ++ bracket_text identifier group) }
 {
     if group {
@@ -120,7 +120,7 @@ fn push_bracket(text: &mut Vec<u8>, identifier: u32, group: bool) -> Result<(), 
 /// The message's name, and the signals that are shown.
 #[tactic(auto, using(crate::proofs::Pushing::pushed_then), unfolding(crate::specs::DecodedLines::message_text))]
 pub(crate) fn push_message(
-    text: &mut Vec<u8>,
+    text: &mut Draft,
     frame: &Frame,
     target: &Target<'_>,
 ) -> Result<(), Memory>
@@ -129,7 +129,7 @@ pub(crate) fn push_message(
     let message = target.message;
     push_bytes(text, message.head.name.as_bytes())?;
     push_bracket(text, frame.identifier, target.group)?;
-    push_bytes(text, b"(")?;
+    text.push_piece(b"(")?;
     push_signals(text, target.plan, frame.bytes.as_slice())?;
     text.push(b')')?;
     Ok(())

@@ -17,6 +17,7 @@ use can_layout::{Meter, Plan};
 use dbc_records::Database;
 use dbc_values::Memory;
 use line_stream::{LineText, StreamFault, stream_texts};
+use ready_texts::Draft;
 use std::alloc::Global;
 use std::mem::swap;
 
@@ -36,9 +37,9 @@ impl<'a, C: Choose> LineText for Decoded<'a, C> {
 
     ghost next = { λ decoded line. record decoded { meter = with_line decoded.meter } };
 
-    fn renew(&mut self, text: &mut Vec<u8>, line: &[u8]) -> Result<(), Memory> {
+    fn renew(&mut self, text: &mut Draft, line: &[u8]) -> Result<(), Memory> {
         text.clear();
-        push_line(*text.allocator(), text, &mut self.finder, line)?;
+        push_line(text.allocator(), text, &mut self.finder, line)?;
         text.push(b'\n')?;
         self.meter.count_line();
         Ok(())

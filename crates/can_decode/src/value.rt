@@ -6,7 +6,7 @@ ghost use Rattle.can_decode.specs.Values.{fewest_places, fixed_text, sign_of, sc
 use can_layout::{Decoder, Reading};
 use dbc_values::Memory;
 use itoa::Buffer;
-use ready_texts::{Digits, push_bytes, push_shown};
+use ready_texts::{Digits, Draft, push_bytes, push_shown};
 
 // The same number with the fewest places behind its point, where it is one of a word, as most are.
 fn fewest_places_of_word(digits: u64, places: u8) -> (u64, u8)
@@ -36,7 +36,7 @@ fn fewest_places_of_any(digits: u128, places: u8) -> (u128, u8)
     (number, behind)
 }
 
-fn push_zeros(text: &mut Vec<u8>, count: usize) -> Result<(), Memory>
+fn push_zeros(text: &mut Draft, count: usize) -> Result<(), Memory>
     ensures { OnOk result (text.new.items ≡ text.old.items ++ zeros count) }
 {
     for _zero in 0..count {
@@ -47,16 +47,16 @@ fn push_zeros(text: &mut Vec<u8>, count: usize) -> Result<(), Memory>
 
 // Digits with a point before the last of them, and zeros in front where there are too few.
 #[tactic(auto, using(crate::proofs::Pushing::pushed_then))]
-fn push_pointed(text: &mut Vec<u8>, digits: &[u8], places: usize) -> Result<(), Memory>
+fn push_pointed(text: &mut Draft, digits: &[u8], places: usize) -> Result<(), Memory>
     ensures { OnOk result (text.new.items ≡ text.old.items ++ point_before_last places (filled places digits.now)) }
 {
     if digits.len() > places {
         let (whole, behind) = digits.split_at(digits.len() - places);
         push_bytes(text, whole)?;
-        push_bytes(text, b".")?;
+        text.push_piece(b".")?;
         push_bytes(text, behind)
     } else {
-        push_bytes(text, b"0.")?;
+        text.push_piece(b"0.")?;
         push_zeros(text, places - digits.len())?;
         push_bytes(text, digits)
     }
@@ -64,19 +64,19 @@ fn push_pointed(text: &mut Vec<u8>, digits: &[u8], places: usize) -> Result<(), 
 
 // The same where there are more digits than places.
 #[tactic(auto, using(crate::proofs::Pushing::pushed_then))]
-fn push_parted(text: &mut Vec<u8>, digits: &Digits, places: usize) -> Result<(), Memory>
+fn push_parted(text: &mut Draft, digits: &Digits, places: usize) -> Result<(), Memory>
     requires { places < length digits.now }
     ensures { OnOk result (text.new.items ≡ text.old.items ++ point_before_last places (filled places digits.now)) }
 {
     let whole = digits.len() - places;
     digits.push_first(text, whole)?;
-    push_bytes(text, b".")?;
+    text.push_piece(b".")?;
     digits.push_behind(text, whole)
 }
 
 // A whole number of one word with the point that many places from the right.
 #[tactic(auto, unfolding(crate::specs::Values::fixed_text))]
-fn push_fixed_word(text: &mut Vec<u8>, number: u64, places: u8) -> Result<(), Memory>
+fn push_fixed_word(text: &mut Draft, number: u64, places: u8) -> Result<(), Memory>
     ensures { OnOk result (text.new.items ≡ text.old.items ++ fixed_text (record { digits = number; places = places })) }
 {
     let mut digits = Digits::none();
@@ -93,7 +93,7 @@ fn push_fixed_word(text: &mut Vec<u8>, number: u64, places: u8) -> Result<(), Me
 
 // Any whole number with the point that many places from the right.
 #[tactic(auto, unfolding(crate::specs::Values::fixed_text))]
-fn push_fixed_any(text: &mut Vec<u8>, digits: u128, places: u8) -> Result<(), Memory>
+fn push_fixed_any(text: &mut Draft, digits: u128, places: u8) -> Result<(), Memory>
     ensures { OnOk result (text.new.items ≡ text.old.items ++ fixed_text (record { digits = digits; places = places })) }
 {
     let mut room = Buffer::new();
@@ -105,11 +105,11 @@ fn push_fixed_any(text: &mut Vec<u8>, digits: u128, places: u8) -> Result<(), Me
     }
 }
 
-fn push_sign(text: &mut Vec<u8>, value: i128) -> Result<(), Memory>
+fn push_sign(text: &mut Draft, value: i128) -> Result<(), Memory>
     ensures { OnOk result (text.new.items ≡ text.old.items ++ sign_of value) }
 {
     if value < 0 {
-        push_bytes(text, b"-")
+        text.push_piece(b"-")
     } else {
         Ok(())
     }
@@ -118,7 +118,7 @@ fn push_sign(text: &mut Vec<u8>, value: i128) -> Result<(), Memory>
 // A number of one digit.
 #[tactic(auto, using(crate::proofs::Pushing::pushed_digit))]
 #[inline(always)]
-fn push_digit(text: &mut Vec<u8>, digit: u8) -> Result<(), Memory>
+fn push_digit(text: &mut Draft, digit: u8) -> Result<(), Memory>
     requires { digit < 10 }
     ensures { OnOk result (text.new.items ≡ text.old.items ++ decimal digit) }
 {
@@ -128,7 +128,7 @@ fn push_digit(text: &mut Vec<u8>, digit: u8) -> Result<(), Memory>
 
 // A number over ten to the number of places. Switches and states have one digit.
 #[tactic(auto, unfolding(crate::specs::Values::fixed_text))]
-fn push_shortest(text: &mut Vec<u8>, number: u128, places: u8) -> Result<(), Memory>
+fn push_shortest(text: &mut Draft, number: u128, places: u8) -> Result<(), Memory>
     ensures { OnOk result (text.new.items ≡ text.old.items ++ fixed_text (fewest_places number places)) }
 {
     if places == 0 && number < 10 {
@@ -148,7 +148,7 @@ fn push_shortest(text: &mut Vec<u8>, number: u128, places: u8) -> Result<(), Mem
 
 // A value over ten to the number of places.
 #[tactic(auto, using(crate::proofs::Pushing::pushed_then), unfolding(crate::specs::Values::scaled_text))]
-fn push_scaled(text: &mut Vec<u8>, value: i128, places: u8) -> Result<(), Memory>
+fn push_scaled(text: &mut Draft, value: i128, places: u8) -> Result<(), Memory>
     ensures { OnOk result (text.new.items ≡ text.old.items ++ scaled_text value places) }
 {
     push_sign(text, value)?;
@@ -157,7 +157,7 @@ fn push_scaled(text: &mut Vec<u8>, value: i128, places: u8) -> Result<(), Memory
 
 // A value as a number with its unit.
 #[tactic(auto, using(crate::proofs::Pushing::pushed_then))]
-fn push_number(text: &mut Vec<u8>, decoder: &Decoder, raw: i128) -> Result<(), Memory>
+fn push_number(text: &mut Draft, decoder: &Decoder, raw: i128) -> Result<(), Memory>
     requires { unsigned_abs raw ≤ 2 ^ decoder.now.scale.length }
     ensures { OnOk result (text.new.items ≡ text.old.items ++ number_text decoder.now raw) }
 {
@@ -166,7 +166,7 @@ fn push_number(text: &mut Vec<u8>, decoder: &Decoder, raw: i128) -> Result<(), M
 }
 
 // A value by its name, which is looked for among the entries, or as a number.
-fn push_searched(text: &mut Vec<u8>, decoder: &Decoder, raw: i128) -> Result<(), Memory>
+fn push_searched(text: &mut Draft, decoder: &Decoder, raw: i128) -> Result<(), Memory>
     requires { unsigned_abs raw ≤ 2 ^ decoder.now.scale.length }
     ensures { OnOk result (text.new.items ≡ text.old.items ++ decoder_text decoder.now raw) }
 {
@@ -178,7 +178,7 @@ fn push_searched(text: &mut Vec<u8>, decoder: &Decoder, raw: i128) -> Result<(),
 
 // A value by its name, or as a number. Most names are kept ready.
 #[tactic(auto, using(crate::proofs::Named::with_name, crate::proofs::Named::without_name))]
-fn push_value(text: &mut Vec<u8>, decoder: &Decoder, raw: i128) -> Result<(), Memory>
+fn push_value(text: &mut Draft, decoder: &Decoder, raw: i128) -> Result<(), Memory>
     requires { unsigned_abs raw ≤ 2 ^ decoder.now.scale.length }
     ensures { OnOk result (text.new.items ≡ text.old.items ++ decoder_text decoder.now raw) }
 {
@@ -191,17 +191,13 @@ fn push_value(text: &mut Vec<u8>, decoder: &Decoder, raw: i128) -> Result<(), Me
 
 /// The value of a signal in data, or why there is none.
 #[tactic(auto, using(crate::proofs::Pushing::pushed_then))]
-pub(crate) fn push_reading(
-    text: &mut Vec<u8>,
-    reading: &Reading,
-    bytes: &[u8],
-) -> Result<(), Memory>
+pub(crate) fn push_reading(text: &mut Draft, reading: &Reading, bytes: &[u8]) -> Result<(), Memory>
     ensures { OnOk result (text.new.items ≡ text.old.items ++ reading_text bytes.now reading.now) }
 {
     match reading {
         Reading::Read(decoder) => push_value(text, decoder, decoder.raw_value(bytes)),
         Reading::Refused(cause) => {
-            push_bytes(text, b"?")?;
+            text.push_piece(b"?")?;
             push_bytes(text, cause.word())
         }
     }

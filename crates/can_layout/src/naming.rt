@@ -4,7 +4,7 @@ ghost use Rattle.can_layout.specs.Decoders.{unit_text, first_entry, name_of, Are
 
 use dbc_records::Entry;
 use dbc_values::Memory;
-use ready_texts::{ReadyText, push_bytes, push_shown};
+use ready_texts::{Draft, ReadyText, push_bytes, push_shown};
 use std::alloc::Global;
 
 // At most so many raw values have their names kept ready.
@@ -12,7 +12,7 @@ const MOST: usize = 64;
 
 // A blank and a unit, where there is one.
 #[tactic(auto, using(crate::proofs::Pushing::pushed_then))]
-fn push_unit(text: &mut Vec<u8>, unit: &[u8]) -> Result<(), Memory>
+fn push_unit(text: &mut Draft, unit: &[u8]) -> Result<(), Memory>
     ensures { OnOk result (text.new.items ≡ text.old.items ++ unit_text unit.now) }
 {
     match unit {
@@ -28,7 +28,7 @@ fn push_unit(text: &mut Vec<u8>, unit: &[u8]) -> Result<(), Memory>
 pub(crate) fn ready_unit(alloc: Global, unit: &[u8]) -> Result<ReadyText, Memory>
     ensures { IfOk result (λ ready. ready ≡ unit_text unit.now) }
 {
-    let mut text = Vec::new(alloc);
+    let mut text = Draft::new(alloc);
     push_unit(&mut text, unit)?;
     ReadyText::of(alloc, text.as_slice())
 }
@@ -52,7 +52,7 @@ fn ready_name(alloc: Global, entries: &[Entry], raw: i128) -> Result<Option<Read
     let Some(entry) = first_entry(entries, raw) else {
         return Ok(None);
     };
-    let mut text = Vec::new(alloc);
+    let mut text = Draft::new(alloc);
     push_shown(&mut text, entry.text.as_bytes())?;
     let ready = ReadyText::of(alloc, text.as_slice())?;
     Ok(Some(ready))

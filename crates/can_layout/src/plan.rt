@@ -23,7 +23,7 @@ use can_bits::Field;
 use can_rows::Lookup;
 use dbc_records::{Entry, Message, Signal};
 use dbc_values::{Copied, List, Memory, Scale};
-use ready_texts::{ReadyText, push_bytes};
+use ready_texts::{Draft, ReadyText, push_bytes};
 use std::alloc::Global;
 use std::marker::Model;
 use std::rc::Rc;
@@ -129,7 +129,7 @@ fn plan_rows<L: Lookup>(
 fn label_of(alloc: Global, row: &Row) -> Result<ReadyText, Memory>
     ensures { IfOk result (λ label. label ≡ label_of row.now) }
 {
-    let mut text = Vec::new(alloc);
+    let mut text = Draft::new(alloc);
     push_bytes(&mut text, b", ")?;
     push_bytes(&mut text, row.name.as_bytes())?;
     push_bytes(&mut text, b": ")?;

@@ -6,6 +6,7 @@ ghost use Rattle.line_stream.specs.Cuts.{HasNoLineFeed};
 
 use crate::fault::Stop;
 use byte_devices::{Out, Sink};
+use ready_texts::Draft;
 
 /// What is done for each line of a stream, in the order of the lines.
 ///
@@ -28,11 +29,11 @@ pub trait Handler: Drop {
 
     /// Handles a line, given without its LF, and sends its text out. At `Stop::Write` the line was handled, but a beginning of
     /// what waited and its text is all that was written; at `Stop::Memory` it is as if there had been no call. `room` is where a
-    /// text can be made: the stream keeps one vector for all lines, and what it holds from one to the next means nothing.
+    /// text can be made: the stream keeps one for all lines, and what it holds from one to the next means nothing.
     fn handle<W: Sink>(
         &self,
         state: &mut Self::State,
-        room: &mut Vec<u8>,
+        room: &mut Draft,
         out: &mut Out<'_, W>,
         line: &[u8],
     ) -> Result<(), Stop>

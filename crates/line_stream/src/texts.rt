@@ -9,6 +9,7 @@ use crate::streaming::stream_lines;
 use arrayvec::ArrayVec;
 use byte_devices::{Out, Sink, Source, WriteFault};
 use dbc_values::Memory;
+use ready_texts::Draft;
 use std::alloc::Global;
 use std::marker::PhantomData;
 
@@ -26,7 +27,7 @@ pub trait LineText: Drop {
     /// was,
     /// and what `text` holds means nothing. What else it changes of itself, such as a table of what was looked up, no contract
     /// sees.
-    fn renew(&mut self, text: &mut Vec<u8>, line: &[u8]) -> Result<(), Memory>
+    fn renew(&mut self, text: &mut Draft, line: &[u8]) -> Result<(), Memory>
         ensures text { OnOk result (text.new.items ≡ text_of self.old line.now ++ line_feed ∷ []) }
         ensures next { OnOk result (self.new ≡ next self.old line.now) }
         ensures same { OnErr result (self.new ≡ self.old) };
@@ -55,7 +56,7 @@ impl<T: LineText> Handler for Writer<T> {
     fn handle<W: Sink>(
         &self,
         texts: &mut T,
-        room: &mut Vec<u8>,
+        room: &mut Draft,
         out: &mut Out<'_, W>,
         line: &[u8],
     ) -> Result<(), Stop> {

@@ -1,6 +1,7 @@
 //! Frames.
-ghost use Rattle.std.specs.Prelude.{◌≡◌};
+ghost use Rattle.std.specs.Prelude.{◌≡◌, [], false};
 ghost use Rattle.log_frames.specs.Frames.{is_data, number_of};
+ghost use Rattle.log_frames.specs.declared.frame.Kind.TheVariants.{Classic};
 
 use arrayvec::ArrayVec;
 use std::marker::Model;
@@ -47,6 +48,18 @@ impl Model for Frame {
 }
 
 impl Frame {
+    /// A classic frame of the identifier 0 without bytes, in the place of which another is read.
+    pub fn empty() -> Frame
+        ensures { result ≡ record { kind = Classic; extended = false; identifier = 0; bytes = [] } }
+    {
+        Frame {
+            kind: Kind::Classic,
+            extended: false,
+            identifier: 0,
+            bytes: ArrayVec::new(),
+        }
+    }
+
     /// Whether it is a data frame: its bytes hold signals.
     pub fn is_data(&self) -> bool
         ensures { result ≡ is_data self.now }

@@ -34,6 +34,7 @@ fn decoded<const D: usize, const N: usize>(digits: &[u8; D]) -> Option<[u8; N]>
 }
 
 #[tactic(auto, unfolding(crate::specs::Frames::of_three_digits))]
+#[inline(always)]
 fn of_three_digits(a: u8, b: u8, c: u8) -> Option<Identifier>
     ensures value { option_map identifier_view result ≡ of_three_digits (a ∷ b ∷ c ∷ []) }
     ensures valid { IfSome result IsIdentifier }
@@ -51,6 +52,7 @@ fn of_three_digits(a: u8, b: u8, c: u8) -> Option<Identifier>
 }
 
 #[tactic(auto, unfolding(crate::specs::Frames::of_eight_digits))]
+#[inline(always)]
 fn of_eight_digits(digits: &[u8; 8]) -> Option<Identifier>
     ensures value { option_map identifier_view result ≡ of_eight_digits digits.now }
     ensures valid { IfSome result IsIdentifier }
@@ -66,6 +68,7 @@ fn of_eight_digits(digits: &[u8; 8]) -> Option<Identifier>
 
 /// The identifier that these digits spell: three of them one of 11 bits, eight of them one of 29 bits.
 #[tactic(auto, unfolding(crate::specs::Frames::identifier_of))]
+#[inline(always)]
 pub fn identifier_of(digits: &[u8]) -> Option<Identifier>
     ensures value { option_map identifier_view result ≡ identifier_of digits.now }
     ensures valid { IfSome result IsIdentifier }

@@ -15,4 +15,4 @@ mod reading;
 
 pub use frame::{Frame, Kind};
 pub use line::body_of;
-pub use reading::read_frame;
+pub use reading::{fill_frame, read_frame};

@@ -1,11 +1,11 @@
 //! Reading of a line's frame: first where its identifier and the digits of its bytes stand, and then the bytes.
-ghost use Rattle.std.specs.Prelude.{◌≡◌, ℕ, [], ◌∷◌, ◌++◌, ◌*◌, ◌<◌, ◌≤◌, true, Some, Ok, length, option_map, option_and_then};
-ghost use Rattle.std.specs.Prelude.{not, IfSome, ◌==◌, if◌then◌else◌};
+ghost use Rattle.std.specs.Prelude.{◌≡◌, ℕ, [], ◌∷◌, ◌++◌, ◌*◌, ◌<◌, ◌≤◌, true, Some, None, Ok, length, option_map};
+ghost use Rattle.std.specs.Prelude.{option_and_then, not, IfSome, ◌==◌, if◌then◌else◌};
 ghost use Rattle.std.specs.List.{prefix_len};
 ghost use Rattle.std.specs.Result.{result_ok};
 ghost use Rattle.hex.specs.Hex.{decode_of};
 ghost use Rattle.log_frames.specs.LogLines.{body_of, first_word};
-ghost use Rattle.log_frames.specs.declared.frame.Kind.TheVariants.{Error};
+ghost use Rattle.log_frames.specs.declared.frame.Kind.TheVariants.{Classic, Error};
 ghost use Rattle.log_frames.specs.Frames.{frame_of, frame_of_word, frame_of_parts, number_sign};
 ghost use Rattle.log_frames.specs.Seen.{identifier_view, form_view, IsIdentifier};
 
@@ -24,21 +24,6 @@ fn identifier_len(word: &[u8]) -> usize
     word.iter().take_while(|b| **b != b'#').count()
 }
 
-// The same, as the bytes of a frame.
-#[inline(always)]
-fn usual_bytes(digits: &[u8; 16]) -> Option<ArrayVec<u8, 64>>
-    ensures { IfSome result (λ bytes. decode_of digits.now ≡ Ok bytes.items) }
-{
-    let Some(eight) = bytes_of_pairs::<16, 8>(digits) else {
-        return None;
-    };
-    let mut bytes = ArrayVec::new();
-    match bytes.try_extend_from_slice(eight.as_slice()) {
-        Ok(()) => Some(bytes),
-        Err(_) => None,
-    }
-}
-
 // The bytes that at most 128 digits spell.
 fn bytes_of(digits: &[u8]) -> Option<ArrayVec<u8, 64>>
     requires { length digits.now ≤ 128 }
@@ -50,8 +35,19 @@ fn bytes_of(digits: &[u8]) -> Option<ArrayVec<u8, 64>>
     Some(bytes)
 }
 
-// A frame of these bytes, of a form of this kind.
+// What a frame is whose form is of this kind.
 #[inline(always)]
+fn kind_of(identifier: Identifier, kind: Kind) -> Kind
+    ensures { result ≡ (if identifier.marks_error then Error else kind) }
+{
+    if identifier.marks_error {
+        Kind::Error
+    } else {
+        kind
+    }
+}
+
+// A frame of these bytes, of a form of this kind.
 fn frame_with(identifier: Identifier, kind: Kind, bytes: ArrayVec<u8, 64>) -> Frame
     requires { IsIdentifier identifier }
     ensures { result ≡ record {
@@ -62,11 +58,7 @@ fn frame_with(identifier: Identifier, kind: Kind, bytes: ArrayVec<u8, 64>) -> Fr
     } }
 {
     Frame {
-        kind: if identifier.marks_error {
-            Kind::Error
-        } else {
-            kind
-        },
+        kind: kind_of(identifier, kind),
         extended: identifier.extended,
         identifier: identifier.number,
         bytes,
@@ -108,34 +100,80 @@ fn before_mark(bytes: &[u8]) -> Option<&[u8]>
     }
 }
 
-// The frame of what begins with its word, where that is an identifier and eight bytes, as in most lines, and ends the line.
+// Makes a frame one of these eight bytes, of the classic form.
 #[inline(always)]
-fn usual_frame(rest: &[u8]) -> Option<Frame>
-    ensures { IfSome result (λ frame. frame_of_word (first_word rest.now) ≡ Some frame) }
+fn become_classic(frame: &mut Frame, identifier: Identifier, eight: &[u8; 8])
+    requires { IsIdentifier identifier }
+    ensures { frame.new ≡ record {
+      kind = (if identifier.marks_error then Error else Classic);
+      extended = identifier.extended;
+      identifier = identifier.number;
+      bytes = eight.now;
+    } }
 {
-    let (front, data) = rest.split_last_chunk::<16>()?;
-    let identifier = identifier_of(before_mark(front)?)?;
-    let bytes = usual_bytes(data)?;
-    Some(frame_with(identifier, Kind::Classic, bytes))
+    frame.kind = kind_of(identifier, Kind::Classic);
+    frame.extended = identifier.extended;
+    frame.identifier = identifier.number;
+    frame.bytes.clear();
+    let _ = frame.bytes.try_extend_from_slice(eight.as_slice());
 }
 
-// The frame of a word that something may stand behind.
-#[inline(never)]
-fn other_frame(rest: &[u8]) -> Option<Frame>
-    ensures { result ≡ frame_of_word (first_word rest.now) }
+// Reads the frame of what begins with its word, where that is an identifier and eight bytes, as in most lines, and ends the line.
+#[inline(always)]
+fn fill_usual(frame: &mut Frame, rest: &[u8]) -> bool
+    ensures { result ≡ true → frame_of_word (first_word rest.now) ≡ Some frame.new }
 {
-    frame_of_word(first_word(rest))
+    let Some((front, data)) = rest.split_last_chunk::<16>() else {
+        return false;
+    };
+    let Some(digits) = before_mark(front) else {
+        return false;
+    };
+    let Some(identifier) = identifier_of(digits) else {
+        return false;
+    };
+    let Some(eight) = bytes_of_pairs::<16, 8>(data) else {
+        return false;
+    };
+    become_classic(frame, identifier, &eight);
+    true
+}
+
+// Reads the frame of a word that something may stand behind.
+#[inline(never)]
+fn fill_other(frame: &mut Frame, rest: &[u8]) -> bool
+    ensures { (if result then Some frame.new else None) ≡ frame_of_word (first_word rest.now) }
+{
+    match frame_of_word(first_word(rest)) {
+        Some(found) => {
+            *frame = found;
+            true
+        }
+        None => false,
+    }
+}
+
+/// Reads the frame of a log line, as [`read_frame`], into the place of another, and answers whether there is one. It is faster, as
+/// no frame is moved. Where there is none, what then stands there means nothing.
+#[tactic(auto, unfolding(crate::specs::Frames::frame_of))]
+pub fn fill_frame(frame: &mut Frame, line: &[u8]) -> bool
+    ensures { (if result then Some frame.new else None) ≡ frame_of (body_of line.now) }
+{
+    match behind_interface(body_of(line)) {
+        Some(rest) => fill_usual(frame, rest) || fill_other(frame, rest),
+        None => false,
+    }
 }
 
 /// The frame of a log line, which stands without its LF and may end in a CR. `None` where it is no frame line, as a
 /// comment or a line cut short.
-#[tactic(auto, unfolding(crate::specs::Frames::frame_of))]
 pub fn read_frame(line: &[u8]) -> Option<Frame>
     ensures { result ≡ frame_of (body_of line.now) }
 {
-    let rest = behind_interface(body_of(line))?;
-    match usual_frame(rest) {
-        Some(frame) => Some(frame),
-        None => other_frame(rest),
+    let mut frame = Frame::empty();
+    if fill_frame(&mut frame, line) {
+        Some(frame)
+    } else {
+        None
     }
 }

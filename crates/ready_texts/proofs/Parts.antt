@@ -1,7 +1,9 @@
 -- Parts of digits that stand in a larger room.
-use Rattle.std.proofs.Common.{◌≡◌, ℕ, ◌+◌, ◌-◌, ◌≤◌, List, ◌++◌, length, min, take, drop, sym, ap, ◌∙◌, arith}
-use Rattle.std.proofs.Math.Seq.{take-append_seam}
-use Rattle.std.proofs.lemmas.List.{drop-drop, take-take, drop-take, length-take}
+use Rattle.std.proofs.Common.{◌≡◌, ℕ, ◌+◌, ◌-◌, ◌<◌, ◌≤◌, List, [], ◌++◌, length, min, take, drop, sym, ap, ◌∙◌, arith}
+use Rattle.std.proofs.Common.{append-nil, append_assoc}
+use Rattle.std.proofs.Math.Seq.{take-append_seam, take-append-add}
+use Rattle.std.proofs.lemmas.List.{drop-drop, take-take, drop-take, length-take, length-take-le, length-drop}
+use Rattle.std.proofs.lemmas.List.{take-append-le, drop-append-le, drop_all}
 
 -- the digits, as they were written
 pub digits_in_room : (start : ℕ) (room rest digits : List ℕ) → drop start room ≡ digits ++ rest → start + length digits ≡ 20
@@ -37,3 +39,41 @@ part_is start from count room digits chunk inside seen within is =
       within,
       long,
     ))))
+
+-- a part of a piece that was written whole
+pub part_written : (at count n : ℕ) (room piece rest : List ℕ) → count ≤ n → length piece ≡ n → at ≤ length room
+    → take (at + count) (take at room ++ (piece ++ rest)) ≡ take at room ++ take count piece
+part_written at count n room piece rest few whole within =
+    let before : length (take at room) ≡ at = length-take-le at room within in
+    ap (λ (m : ℕ). take (m + count) (take at room ++ (piece ++ rest))) (sym before)
+    ∙ take-append-add (take at room) (piece ++ rest) count
+    ∙ ap (λ (ys : List ℕ). take at room ++ ys) (take-append-le count piece rest (omega (arith, few, whole)))
+
+-- a text behind its first two bytes, as it is copied
+behind_two : (count : ℕ) (front chunk rest : List ℕ) → chunk ≡ take 30 (take 30 (drop 2 front)) → 2 ≤ count → count ≤ 32
+    → 30 ≤ length (take 30 (drop 2 front)) → drop 2 (take count front ++ rest) ≡ take (count - 2) chunk ++ rest
+behind_two count front chunk rest is some few whole =
+    let all : count ≡ 2 + (count - 2) = omega (arith, some) in
+    let long : 2 ≤ length (take count front) =
+    omega (arith, some, few, whole, length-take count front, length-take 30 (drop 2 front), length-drop 2 front) in
+    drop-append-le 2 (take count front) rest long
+    ∙ ap (λ (ys : List ℕ). ys ++ rest) (ap (λ (n : ℕ). drop 2 (take n front)) all
+    ∙ drop-take 2 (count - 2) front
+    ∙ sym (take-take (count - 2) 30 (drop 2 front) (omega (arith, few)))
+    ∙ ap (take (count - 2)) (sym (is ∙ take-take 30 30 (drop 2 front) (omega arith))))
+
+pub pushed_behind_two : (old mid new front chunk rest : List ℕ) (count : ℕ) → new ≡ mid ++ rest
+    → mid ≡ old ++ take (count - 2) chunk → chunk ≡ take 30 (take 30 (drop 2 front)) → 2 ≤ count → count ≤ 32
+    → 30 ≤ length (take 30 (drop 2 front)) → new ≡ old ++ drop 2 (take count front ++ rest)
+pushed_behind_two old mid new front chunk rest count pushed first is some few whole =
+    pushed
+    ∙ ap (λ (ys : List ℕ). ys ++ rest) first
+    ∙ append_assoc old (take (count - 2) chunk) rest
+    ∙ ap (λ (ys : List ℕ). old ++ ys) (sym (behind_two count front chunk rest is some few whole))
+
+-- a shorter text has none
+pub behind_two_of_short : (count : ℕ) (front rest : List ℕ) → count < 2 → rest ≡ [] → drop 2 (take count front ++ rest) ≡ []
+behind_two_of_short count front rest few none =
+    ap (λ (ys : List ℕ). drop 2 (take count front ++ ys)) none
+    ∙ ap (drop 2) (append-nil (take count front))
+    ∙ drop_all 2 (take count front) (omega (arith, few, length-take count front))

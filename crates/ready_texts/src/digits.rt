@@ -1,7 +1,7 @@
 //! The digits of numbers of one word.
 ghost use Rattle.std.specs.Prelude.{◌≡◌, [], ◌+◌, ◌≤◌, ◌++◌, OnOk, length, take, drop, decimal};
 
-use crate::ready::push_front;
+use crate::draft::Draft;
 use dbc_values::Memory;
 use itoa::write_digits;
 use std::marker::Model;
@@ -65,19 +65,19 @@ impl Digits {
 
     // Appends some of the digits, from one on.
     #[inline(always)]
-    fn push_part(&self, text: &mut Vec<u8>, from: usize, count: usize) -> Result<(), Memory>
+    fn push_part(&self, text: &mut Draft, from: usize, count: usize) -> Result<(), Memory>
         requires { from + count ≤ length self.now }
         ensures { OnOk result (text.new.items ≡ text.old.items ++ take count (drop from self.now)) }
     {
         match self.room[self.start + from..].first_chunk::<32>() {
-            Some(front) => push_front(text, front, count),
+            Some(front) => text.push_first(front, count),
             None => unreachable!(),
         }
     }
 
     /// Appends the first digits.
     #[inline(always)]
-    pub fn push_first(&self, text: &mut Vec<u8>, count: usize) -> Result<(), Memory>
+    pub fn push_first(&self, text: &mut Draft, count: usize) -> Result<(), Memory>
         requires { count ≤ length self.now }
         ensures { OnOk result (text.new.items ≡ text.old.items ++ take count self.now) }
     {
@@ -86,7 +86,7 @@ impl Digits {
 
     /// Appends the digits behind the first.
     #[inline(always)]
-    pub fn push_behind(&self, text: &mut Vec<u8>, count: usize) -> Result<(), Memory>
+    pub fn push_behind(&self, text: &mut Draft, count: usize) -> Result<(), Memory>
         requires { count ≤ length self.now }
         ensures { OnOk result (text.new.items ≡ text.old.items ++ drop count self.now) }
     {

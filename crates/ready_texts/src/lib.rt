@@ -2,9 +2,11 @@
 #![tactic(auto)]
 
 mod digits;
+mod draft;
 mod ready;
 mod showing;
 
 pub use digits::Digits;
+pub use draft::{Draft, push_bytes};
 pub use ready::ReadyText;
-pub use showing::{push_bytes, push_shown};
+pub use showing::push_shown;

@@ -1,6 +1,7 @@
 //! Texts kept ready to be appended.
-ghost use Rattle.std.specs.Prelude.{◌≡◌, ◌≤◌, ◌++◌, IfOk, OnOk, length, take};
+ghost use Rattle.std.specs.Prelude.{◌≡◌, [], ◌<◌, ◌≤◌, ◌++◌, IfOk, OnOk, drop};
 
+use crate::draft::{Draft, push_bytes};
 use dbc_values::Memory;
 use std::alloc::Global;
 use std::marker::Model;
@@ -18,6 +19,7 @@ pub struct ReadyText {
     // The bytes behind them.
     rest: Vec<u8>,
     ghost within: { count ≤ 32 },
+    ghost full: { count < 32 → rest.items ≡ [] },
 }
 
 impl Model for ReadyText {
@@ -26,6 +28,17 @@ impl Model for ReadyText {
     ghost Value = { List ℕ };
 
     ghost view = { λ a. take a.count a.front ++ a.rest.items };
+}
+
+// Appends what stands behind a front, which is mostly nothing.
+#[inline(always)]
+fn push_rest(text: &mut Draft, rest: &[u8]) -> Result<(), Memory>
+    ensures { OnOk result (text.new.items ≡ text.old.items ++ rest.now) }
+{
+    if !rest.is_empty() {
+        push_bytes(text, rest)?;
+    }
+    Ok(())
 }
 
 impl ReadyText {
@@ -43,29 +56,28 @@ impl ReadyText {
 
     /// Appends the text.
     #[inline(always)]
-    pub fn push_to(&self, text: &mut Vec<u8>) -> Result<(), Memory>
+    pub fn push_to(&self, text: &mut Draft) -> Result<(), Memory>
         ensures { OnOk result (text.new.items ≡ text.old.items ++ self.now) }
     {
-        push_front(text, &self.front, self.count)?;
-        if !self.rest.is_empty() {
-            text.extend_from_slice(self.rest.as_slice())?;
-        }
+        text.push_first(&self.front, self.count)?;
+        push_rest(text, self.rest.as_slice())?;
         Ok(())
     }
-}
 
-/// Appends the first of 32 bytes. They are all copied, which is faster than as many as are wanted.
-#[inline(always)]
-pub(crate) fn push_front(
-    text: &mut Vec<u8>,
-    front: &[u8; FRONT],
-    count: usize,
-) -> Result<(), Memory>
-    requires { count ≤ 32 }
-    ensures { OnOk result (text.new.items ≡ text.old.items ++ take count front.now) }
-{
-    let end = text.len() + count;
-    text.extend_from_slice(front.as_slice())?;
-    text.truncate(end);
-    Ok(())
+    /// Appends the text behind its first two bytes.
+    #[tactic(auto, using(crate::proofs::Parts::behind_two_of_short))]
+    #[inline(always)]
+    pub fn push_behind_two(&self, text: &mut Draft) -> Result<(), Memory>
+        ensures { OnOk result (text.new.items ≡ text.old.items ++ drop 2 self.now) }
+    {
+        if self.count < 2 {
+            return Ok(());
+        }
+        match self.front[2..].first_chunk::<30>() {
+            Some(behind) => text.push_first(behind, self.count - 2)?,
+            None => unreachable!(),
+        }
+        push_rest(text, self.rest.as_slice())?;
+        Ok(())
+    }
 }

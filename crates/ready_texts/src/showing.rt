@@ -3,15 +3,8 @@ ghost use Rattle.std.specs.Prelude.{◌≡◌, ◌==◌, ◌++◌, OnOk, if◌th
 ghost use Rattle.std.specs.List.{list_any};
 ghost use Rattle.ready_texts.specs.Shown.{shown_byte, breaks_line, shown};
 
+use crate::draft::{Draft, push_bytes};
 use dbc_values::Memory;
-
-/// Bytes, as they are.
-pub fn push_bytes(text: &mut Vec<u8>, bytes: &[u8]) -> Result<(), Memory>
-    ensures { OnOk result (text.new.items ≡ text.old.items ++ bytes.now) }
-{
-    text.extend_from_slice(bytes)?;
-    Ok(())
-}
 
 fn breaks_line(b: u8) -> bool
     ensures { result ≡ breaks_line b }
@@ -26,7 +19,7 @@ fn shown_byte(b: u8) -> u8
 }
 
 // A text, byte by byte on one line.
-fn push_each_shown(text: &mut Vec<u8>, bytes: &[u8]) -> Result<(), Memory>
+fn push_each_shown(text: &mut Draft, bytes: &[u8]) -> Result<(), Memory>
     ensures { OnOk result (text.new.items ≡ text.old.items ++ shown bytes.now) }
 {
     for b in bytes {
@@ -43,7 +36,7 @@ fn has_break(bytes: &[u8]) -> bool
 
 /// A text, with a blank in the place of each break of a line. Most texts have none.
 #[tactic(auto, using(crate::proofs::Shown::shown_whole))]
-pub fn push_shown(text: &mut Vec<u8>, bytes: &[u8]) -> Result<(), Memory>
+pub fn push_shown(text: &mut Draft, bytes: &[u8]) -> Result<(), Memory>
     ensures { OnOk result (text.new.items ≡ text.old.items ++ shown bytes.now) }
 {
     if has_break(bytes) {

@@ -8,6 +8,7 @@ use byte_devices::{Out, Sink, Source, WriteFault};
 use can_session::Session;
 use dbc_values::Memory;
 use line_stream::{Handler, Stop, StreamFault, stream_lines};
+use ready_texts::Draft;
 use std::alloc::Global;
 
 // The most bytes of a line of a script.
@@ -35,7 +36,7 @@ impl Handler for Script {
     fn handle<W: Sink>(
         &self,
         session: &mut Session,
-        _room: &mut Vec<u8>,
+        _room: &mut Draft,
         out: &mut Out<'_, W>,
         line: &[u8],
     ) -> Result<(), Stop> {

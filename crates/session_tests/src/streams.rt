@@ -4,6 +4,7 @@ ghost use Rattle.std.specs.Prelude.{ℕ, List, ◌++◌};
 use byte_devices::limp::Limp;
 use dbc_values::Memory;
 use line_stream::{LineText, StreamFault, stream_texts};
+use ready_texts::{Draft, push_bytes};
 use std::marker::Model;
 use std::test::Fail;
 
@@ -28,11 +29,11 @@ impl<'t> LineText for Marked<'t> {
 
     ghost next = { λ mark line. mark };
 
-    fn renew(&mut self, text: &mut Vec<u8>, line: &[u8]) -> Result<(), Memory> {
+    fn renew(&mut self, text: &mut Draft, line: &[u8]) -> Result<(), Memory> {
         self.lines = self.lines.saturating_add(1);
         text.clear();
-        text.extend_from_slice(self.mark)?;
-        text.extend_from_slice(line)?;
+        push_bytes(text, self.mark)?;
+        push_bytes(text, line)?;
         text.push(b'\n')?;
         Ok(())
     }

@@ -7,4 +7,4 @@ returns c =
     let same : take c.args.count (drop c.args.from c.args.self.now) ≡ take c.args.count c.in-Some.front.now =
     part_is c.self.inside.start c.args.from c.args.count c.self.inside.room c.args.self.now c.in-Some.front.now c.self.invariant
     c.self.view_is c.requires c.in-Some.ensures.cases.same in
-    rw same c.push_front.ensures
+    rw same c.push_first.ensures
