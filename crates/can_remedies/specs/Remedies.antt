@@ -1,10 +1,13 @@
--- What to do about what is doubtful in a database.
-use Rattle.std.specs.Prelude.{ℕ, List, [], ◌∷◌, ◌++◌, codes}
+-- What to do about what is doubtful in a database, and how it is told beside where it stands.
+use Rattle.std.specs.Prelude.{ℕ, List, [], ◌∷◌, ◌++◌, codes, decimal}
 use Rattle.std.specs.List.{flat_map}
 use Rattle.can_diagnostics.specs.Lines.{join, line_text}
 use Rattle.can_diagnostics.specs.declared.code.Code.{Code}
 use Rattle.can_diagnostics.specs.declared.code.Code.TheVariants as kinds
 use Rattle.can_diagnostics.specs.declared.diagnostic.Diagnostic.{Diagnostic}
+use Rattle.can_remedies.specs.declared.placed.Place.{Place}
+use Rattle.can_remedies.specs.declared.placed.Place.TheVariants as places
+use Rattle.can_remedies.specs.declared.placed.Placed.{Placed}
 
 -- the usual remedy
 unfoldable pub remedy : Code → List ℕ
@@ -31,6 +34,14 @@ remedy kinds.UnknownAttribute = codes "add a BA_DEF_ for the attribute, or take 
 unfoldable pub remedy_line : Code → List ℕ
 remedy_line code = join (codes "\n  remedy: " ∷ remedy code ∷ codes "\n" ∷ [])
 
--- the line of a diagnostic, and one with its remedy
-unfoldable pub explained_text : Diagnostic → List ℕ
-explained_text diagnostic = line_text diagnostic ++ remedy_line diagnostic.code
+unfoldable pub number_text : List ℕ → ℕ → List ℕ → List ℕ
+number_text before number behind = join (before ∷ decimal number ∷ behind ∷ [])
+
+-- the line, or the two lines, in which what it speaks of begins
+unfoldable pub place_text : Place → List ℕ
+place_text (places.Line line) = number_text (codes "line ") line (codes ": ")
+place_text (places.Lines first second) = number_text (codes "lines ") first (codes " and ") ++ number_text [] second (codes ": ")
+
+-- the line of a diagnostic behind where it stands, and one with its remedy
+unfoldable pub explained_text : Placed → List ℕ
+explained_text placed = place_text placed.place ++ (line_text placed.diagnostic ++ remedy_line placed.diagnostic.code)

@@ -22,7 +22,8 @@ use Rattle.candesk_calls.specs.Statuses.{done, doubtful, device, memory}
 abbrev pub found_text : List Diagnostic → List ℕ
 found_text found = flat_map (λ diagnostic. line_text diagnostic ++ codes "\n") found
 
-abbrev pub verdict_of : List Diagnostic → Verdict
+-- by what was found
+abbrev pub verdict_of : {X : Type 0} → List X → Verdict
 verdict_of [] = verdicts.Clean
 verdict_of (first ∷ others) = verdicts.Doubtful
 
@@ -51,7 +52,7 @@ ChecksAll text old new (Err faults.Write) = (database : Database) × HasDatabase
 ChecksAll text old new (Err faults.Memory) = (database : Database) × HasDatabase text database
     × Says (all_faults database) old new (Err faults.Memory)
 
--- the exit status of an outcome
+-- the exit status of an outcome of `check` or of `explain`
 abbrev pub check_status_of : Result Verdict CheckFault → ℕ
 check_status_of (Ok verdicts.Clean) = done
 check_status_of (Ok verdicts.Doubtful) = doubtful

@@ -21,8 +21,8 @@ pub enum Verdict {
     Doubtful,
 }
 
-/// The verdict on a database with these diagnostics.
-pub fn verdict_of(found: &[Diagnostic]) -> Verdict
+/// The verdict on a database in which these things were found.
+pub fn verdict_of<T>(found: &[T]) -> Verdict
     ensures { result ≡ verdict_of found.now }
 {
     match found {

@@ -21,7 +21,7 @@ pub use checking::{Verdict, check_run};
 pub use decoding::decode_run;
 pub use dumping::dump_run;
 pub use explaining::explain_run;
-pub use fault::{CheckFault, DumpFault, ExplainFault, PrintFault, RunFault};
+pub use fault::{CheckFault, DumpFault, PrintFault, RunFault};
 pub use line_stream::StreamFault;
 pub use printing::print_run;
 pub use refusing::{refuse, refuse_file};

@@ -3,7 +3,7 @@ ghost use Rattle.std.specs.Prelude.{◌≡◌, Err};
 ghost use Rattle.candesk_calls.specs.Printing.{status_of_cause, print_status_of, PrintingEndsWith};
 ghost use Rattle.candesk_calls.specs.Dumping.{dump_status_of, DumpingEndsWith};
 ghost use Rattle.candesk_calls.specs.Checking.{check_status_of, CheckingEndsWith};
-ghost use Rattle.candesk_calls.specs.Explaining.{explain_status_of, ExplainingEndsWith};
+ghost use Rattle.candesk_calls.specs.Explaining.{ExplainingEndsWith};
 ghost use Rattle.candesk_calls.specs.Scripting.{session_status_of};
 ghost use Rattle.candesk_calls.specs.Run.{EndsWith, options_of, status_of};
 
@@ -11,7 +11,7 @@ use crate::checking::{Verdict, check_run};
 use crate::decoding::decode_run;
 use crate::dumping::dump_run;
 use crate::explaining::explain_run;
-use crate::fault::{CheckFault, DumpFault, ExplainFault, PrintFault, RunFault};
+use crate::fault::{CheckFault, DumpFault, PrintFault, RunFault};
 use crate::printing::print_run;
 use arrayvec::ArrayString;
 use can_decode::Short;
@@ -83,7 +83,7 @@ fn dump_status_of(fault: DumpFault) -> u8
     }
 }
 
-// The status of an outcome of `check`.
+// The status of an outcome of `check` or of `explain`.
 fn check_status_of(outcome: Result<Verdict, CheckFault>) -> u8
     ensures { result ≡ check_status_of outcome }
 {
@@ -93,19 +93,6 @@ fn check_status_of(outcome: Result<Verdict, CheckFault>) -> u8
         Err(CheckFault::Read(fault)) => status_of_cause(fault.cause),
         Err(CheckFault::Write) => status::DEVICE,
         Err(CheckFault::Memory) => status::MEMORY,
-    }
-}
-
-// The status of an outcome of `explain`.
-fn explain_status_of(outcome: Result<Verdict, ExplainFault>) -> u8
-    ensures { result ≡ explain_status_of outcome }
-{
-    match outcome {
-        Ok(Verdict::Clean) => status::DONE,
-        Ok(Verdict::Doubtful) => status::DOUBTFUL,
-        Err(ExplainFault::Read(fault)) => status_of_cause(fault.cause),
-        Err(ExplainFault::Write) => status::DEVICE,
-        Err(ExplainFault::Memory) => status::MEMORY,
     }
 }
 
@@ -139,7 +126,7 @@ fn explain<W: Sink, E: Sink>(alloc: Global, text: &[u8], sink: &mut W, errors: &
     if let Err(fault) = outcome {
         report(errors, fault);
     }
-    explain_status_of(outcome)
+    check_status_of(outcome)
 }
 
 // Says the fault of `decode`, if there is one.

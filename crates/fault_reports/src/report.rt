@@ -1,18 +1,20 @@
 //! Reports of faults.
-ghost use Rattle.std.specs.Prelude.{option_map, IfOk};
+ghost use Rattle.std.specs.Prelude.{◌≡◌, ◌++◌, option_map, IfOk, OnOk, IfSome};
 ghost use Rattle.dbc_reader.specs.Grammar as grammar;
 ghost use Rattle.fault_places.specs.Places.{IsPlace};
 ghost use Rattle.fault_places.specs.Walks.{found_of};
+ghost use Rattle.fault_reports.specs.Headlines.{cause_words, headline, BeginsSo};
 
 use crate::classes::push_classes;
 use crate::finding::push_found;
 use crate::going_on::next_statement;
 use crate::marked_line::push_marked_line;
 use crate::reason::Reason;
-use crate::words::{push_all, push_number};
+use crate::words::push_all;
 use dbc_tokens::Cause;
 use dbc_values::Memory;
 use fault_places::{Beginning, Place, fault_place};
+use itoa::Buffer;
 use std::alloc::Global;
 
 /// The first fault of a text, and what is said of it and of those behind it that can be guessed at.
@@ -28,7 +30,10 @@ pub struct Report<'t> {
 const MOST_GUESSES: usize = 20;
 
 // The number and the word of a cause.
-fn cause_words(cause: Cause) -> &'static [u8] {
+#[tactic(auto, unfolding(crate::specs::Headlines::cause_words))]
+fn cause_words(cause: Cause) -> &'static [u8]
+    ensures { result.now ≡ cause_words cause }
+{
     match cause {
         Cause::Token => b"1 Token",
         Cause::Statement => b"2 Statement",
@@ -40,16 +45,22 @@ fn cause_words(cause: Cause) -> &'static [u8] {
     }
 }
 
-// Puts what is said of a fault in this line behind the text.
-fn push_fault(
-    alloc: Global,
-    text: &mut Vec<u8>,
-    line: u64,
-    place: &Place<'_>,
-) -> Result<(), Memory> {
-    push_all(text, &[b"line "])?;
-    push_number(text, line)?;
-    push_all(text, &[b": ", cause_words(place.fault.cause), b"\n"])?;
+// Puts what is said first of a fault behind the text: its line, and its number and word.
+#[tactic(auto, using(crate::proofs::Pushed::pushed_then), unfolding(crate::specs::Headlines::headline))]
+fn push_headline(text: &mut Vec<u8>, line: u64, cause: Cause) -> Result<(), Memory>
+    ensures { OnOk result (text.new.items ≡ text.old.items ++ headline line cause) }
+{
+    let mut digits = Buffer::new();
+    text.extend_from_slice(b"line ")?;
+    text.extend_from_slice(digits.format(line).as_bytes())?;
+    text.extend_from_slice(b": ")?;
+    text.extend_from_slice(cause_words(cause))?;
+    text.extend_from_slice(b"\n")?;
+    Ok(())
+}
+
+// Puts what else is said of a fault behind the text.
+fn push_fault(alloc: Global, text: &mut Vec<u8>, place: &Place<'_>) -> Result<(), Memory> {
     push_marked_line(text, place)?;
     push_all(text, &[b"found: "])?;
     push_found(text, place)?;
@@ -91,26 +102,38 @@ fn push_guesses(
         };
         let fault_line = line.saturating_add(place.fault.line).saturating_sub(1);
         push_all(text, &[b"\nguess: "])?;
-        push_fault(alloc, text, fault_line, &place)?;
+        push_headline(text, fault_line, place.fault.cause)?;
+        push_fault(alloc, text, &place)?;
         line = fault_line.saturating_add(line_feeds(place.token));
         behind = place.behind;
     }
     push_all(text, &[b"\nNo more is guessed at.\n"])
 }
 
-// What is said of a text's first fault, and of those behind it.
-fn words_of(alloc: Global, place: &Place<'_>) -> Result<Vec<u8>, Memory> {
+// What is said of a text's first fault behind its line and its cause, and of those behind it.
+fn words_behind(alloc: Global, place: &Place<'_>) -> Result<Vec<u8>, Memory> {
     let mut words = Vec::new(alloc);
-    let line = place.fault.line;
-    push_fault(alloc, &mut words, line, place)?;
-    push_guesses(alloc, &mut words, line, place)?;
+    push_fault(alloc, &mut words, place)?;
+    push_guesses(alloc, &mut words, place.fault.line, place)?;
+    Ok(words)
+}
+
+// What is said of a text's first fault, and of those behind it.
+fn words_of(alloc: Global, place: &Place<'_>) -> Result<Vec<u8>, Memory>
+    ensures { IfOk result (λ words. BeginsSo place.now.fault words.items) }
+{
+    let mut words = Vec::new(alloc);
+    push_headline(&mut words, place.fault.line, place.fault.cause)?;
+    let mut behind = words_behind(alloc, place)?;
+    words.append(&mut behind)?;
     Ok(words)
 }
 
 /// What is said of the faults of a text, if it has any: of the first one, and, as guesses, of those that are met where one goes on
-/// with the next line behind a fault that begins with a statement's word.
+/// with the next line behind a fault that begins with a statement's word. The words begin with the first one's line and cause.
 pub fn fault_report(alloc: Global, text: &[u8]) -> Result<Option<Report<'_>>, Memory>
-    ensures { IfOk result (λ report. IsPlace grammar.text text.now (option_map (λ r. found_of r.place) report)) }
+    ensures place { IfOk result (λ report. IsPlace grammar.text text.now (option_map (λ r. found_of r.place) report)) }
+    ensures words { IfOk result (λ report. IfSome report (λ r. BeginsSo r.place.fault r.words.items)) }
 {
     match fault_place(alloc, text, Beginning::Text)? {
         Some(place) => {

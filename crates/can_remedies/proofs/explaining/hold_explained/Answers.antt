@@ -7,11 +7,11 @@ pub returns-in_err-hold_one : goal.returns-in_err-hold_one
 returns-in_err-hold_one g c =
     MatchResult-from_err c.from_residual.result _ _ c.from_residual.ensures.0
     (λ _. Lost-item g.W.Sink.written explained_text c.args.found.now
-    c.loop-diagnostic.diagnostic-index _ _ _ _ _ c.loop-diagnostic-test.true c.diagnostic-item.is c.loop-diagnostic.invariant
+    c.loop-placed.placed-index _ _ _ _ _ c.loop-placed-test.true c.placed-item.is c.loop-placed.invariant
     c.in_err-hold_one.ensures)
 
-pub loop-diagnostic-preserved : goal.loop-diagnostic-preserved
-loop-diagnostic-preserved g c =
+pub loop-placed-preserved : goal.loop-placed-preserved
+loop-placed-preserved g c =
     Took-item g.W.Sink.written explained_text c.args.found.now
-    c.loop-diagnostic.diagnostic-index _ _ _ _ _ c.loop-diagnostic-test.true c.diagnostic-item.is c.loop-diagnostic.invariant
+    c.loop-placed.placed-index _ _ _ _ _ c.loop-placed-test.true c.placed-item.is c.loop-placed.invariant
     c.in_ok-hold_one.ensures

@@ -1,0 +1,4 @@
+pub mod Rows
+pub mod KeyLines
+pub mod Same
+pub mod SignalLines

@@ -1,0 +1,116 @@
+-- What is placed, without its lines.
+use Rattle.std.proofs.Common.{◌≡◌, ℕ, List, [], ◌∷◌, ◌++◌, map, take, drop, length, refl, ap, ◌∙◌}
+use Rattle.std.specs.List.{flat_map}
+use Rattle.dbc_records.specs.Records.{Signal, Message}
+use Rattle.dbc_records.specs.Databases.{Database}
+use Rattle.can_diagnostics.specs.Keys.{key_of_table, key_of_comment, key_of_definition, key_of_default, key_of_attribute}
+use Rattle.can_diagnostics.specs.Keys.{key_of_values, key_of_float, key_of_mux}
+use Rattle.can_diagnostics.specs.declared.diagnostic.Diagnostic.{Diagnostic}
+use Rattle.can_diagnostics.specs.declared.row_key.RowKey.{RowKey}
+use Rattle.can_references.specs.Finding.{each_after}
+use Rattle.can_references.specs.RowFaults.{row_fault, front_keys, attribute_keys, signal_keys, row_keys, row_faults}
+use Rattle.can_check.specs.MessageFaults.{message_faults}
+use Rattle.can_check.specs.AllFaults.{all_faults}
+use Rattle.can_remedies.specs.declared.placed.Placed.{Placed}
+use Rattle.statement_lines.specs.declared.lines.Line.{Line}
+use Rattle.statement_lines.specs.declared.lines.Lines.{Lines}
+use Rattle.placed_faults.specs.Fronts.{first_line, behind_first}
+use Rattle.placed_faults.specs.RowLines.{RowLines, row_lines_of}
+use Rattle.placed_faults.specs.MessagePlaces.{placed_in, placed_messages}
+use Rattle.placed_faults.specs.RowPlaces.{placed_at, keys_at, keys_in, placed_after, front_rows, attribute_rows, signal_rows}
+use Rattle.placed_faults.specs.RowPlaces.{all_rows}
+use Rattle.placed_faults.specs.PlacedFaults.{placed_faults}
+
+abbrev bare : List Placed → List Diagnostic
+bare found = map (λ (p : Placed). p.diagnostic) found
+
+bare-append : (xs ys : List Placed) → bare (xs ++ ys) ≡ bare xs ++ bare ys
+bare-append [] ys = refl
+bare-append (x ∷ xs) ys = ap (λ (r : List Diagnostic). x.diagnostic ∷ r) (bare-append xs ys)
+
+bare-in : (rows : RowLines) (signals : List Signal) (line : ℕ) (lines : List Line) (found : List Diagnostic)
+    → bare (map (placed_in rows signals line lines) found) ≡ found
+bare-in rows signals line lines [] = refl
+bare-in rows signals line lines (d ∷ found) = ap (λ (r : List Diagnostic). d ∷ r) (bare-in rows signals line lines found)
+
+bare-at : (line : ℕ) (found : List Diagnostic) → bare (map (placed_at line) found) ≡ found
+bare-at line [] = refl
+bare-at line (d ∷ found) = ap (λ (r : List Diagnostic). d ∷ r) (bare-at line found)
+
+bare-messages : (d : Database) (rows : RowLines) (messages : List Message) (heads lines : List Line)
+    → bare (placed_messages d rows messages heads lines) ≡ flat_map (message_faults d) messages
+bare-messages d rows [] heads lines = refl
+bare-messages d rows (m ∷ messages) heads lines =
+    let behind = placed_messages d rows messages (behind_first heads) (drop (length m.signals) lines) in
+    let own = take (length m.signals) lines in
+    bare-append (map (placed_in rows m.signals (first_line heads) own) (message_faults d m)) behind
+    ∙ ap (λ (r : List Diagnostic). r ++ bare behind) (bare-in rows m.signals (first_line heads) own (message_faults d m))
+    ∙ ap (λ (r : List Diagnostic). message_faults d m ++ r)
+    (bare-messages d rows messages (behind_first heads) (drop (length m.signals) lines))
+
+bare-after : (d : Database) (before : List RowKey) (rows : List (RowKey × ℕ)) → bare (placed_after d before rows)
+    ≡ each_after (row_fault d) before (keys_in rows)
+bare-after d before [] = refl
+bare-after d before (row ∷ rows) =
+    let behind = placed_after d (before ++ row.0 ∷ []) rows in
+    bare-append (map (placed_at row.1) (row_fault d before row.0)) behind
+    ∙ ap (λ (r : List Diagnostic). r ++ bare behind) (bare-at row.1 (row_fault d before row.0))
+    ∙ ap (λ (r : List Diagnostic). row_fault d before row.0 ++ r) (bare-after d (before ++ row.0 ∷ []) rows)
+
+-- ---- keys
+
+keys-at : (keys : List RowKey) (lines : List Line) → keys_in (keys_at keys lines) ≡ keys
+keys-at [] lines = refl
+keys-at (key ∷ keys) lines = ap (λ (r : List RowKey). key ∷ r) (keys-at keys (behind_first lines))
+
+keys-append : (xs ys : List (RowKey × ℕ)) → keys_in (xs ++ ys) ≡ keys_in xs ++ keys_in ys
+keys-append [] ys = refl
+keys-append (x ∷ xs) ys = ap (λ (r : List RowKey). x.0 ∷ r) (keys-append xs ys)
+
+keys-two : (xs ys : List RowKey) (first second : List Line) → keys_in (keys_at xs first ++ keys_at ys second) ≡ xs ++ ys
+keys-two xs ys first second =
+    keys-append (keys_at xs first) (keys_at ys second)
+    ∙ ap (λ (r : List RowKey). r ++ keys_in (keys_at ys second)) (keys-at xs first)
+    ∙ ap (λ (r : List RowKey). xs ++ r) (keys-at ys second)
+
+keys-three : (xs ys zs : List RowKey) (first second third : List Line)
+    → keys_in (keys_at xs first ++ (keys_at ys second ++ keys_at zs third)) ≡ xs ++ (ys ++ zs)
+keys-three xs ys zs first second third =
+    keys-append (keys_at xs first) (keys_at ys second ++ keys_at zs third)
+    ∙ ap (λ (r : List RowKey). r ++ keys_in (keys_at ys second ++ keys_at zs third)) (keys-at xs first)
+    ∙ ap (λ (r : List RowKey). xs ++ r) (keys-two ys zs second third)
+
+keys-front : (d : Database) (lines : Lines) → keys_in (front_rows d lines) ≡ front_keys d
+unfolding front_rows front_keys
+keys-front d lines = keys-two (map key_of_table d.tables) (map key_of_comment d.comments) lines.tables lines.comments
+
+keys-attributes : (d : Database) (lines : Lines) → keys_in (attribute_rows d lines) ≡ attribute_keys d
+unfolding attribute_rows attribute_keys
+keys-attributes d lines = keys-three (map key_of_definition d.definitions) (map key_of_default d.defaults)
+    (map key_of_attribute d.attributes) lines.definitions lines.defaults lines.attributes
+
+keys-signals : (d : Database) (lines : Lines) → keys_in (signal_rows d lines) ≡ signal_keys d
+unfolding signal_rows signal_keys
+keys-signals d lines = keys-three (map key_of_values d.values) (map key_of_float d.floats) (map key_of_mux d.muxes) lines.values
+    lines.floats lines.muxes
+
+keys-all : (d : Database) (lines : Lines) → keys_in (all_rows d lines) ≡ row_keys d
+unfolding all_rows row_keys
+keys-all d lines =
+    keys-append (front_rows d lines) (attribute_rows d lines ++ signal_rows d lines)
+    ∙ ap (λ (r : List RowKey). r ++ keys_in (attribute_rows d lines ++ signal_rows d lines)) (keys-front d lines)
+    ∙ ap (λ (r : List RowKey). front_keys d ++ r) (keys-append (attribute_rows d lines) (signal_rows d lines)
+    ∙ ap (λ (r : List RowKey). r ++ keys_in (signal_rows d lines)) (keys-attributes d lines)
+    ∙ ap (λ (r : List RowKey). attribute_keys d ++ r) (keys-signals d lines))
+
+-- ---- all of it
+
+pub same_faults : (d : Database) (lines : Lines) → map (λ (p : Placed). p.diagnostic) (placed_faults d lines) ≡ all_faults d
+unfolding placed_faults all_faults row_faults
+same_faults d lines =
+    let messages = placed_messages d (row_lines_of d lines) d.messages lines.messages lines.signals in
+    let rows = placed_after d [] (all_rows d lines) in
+    bare-append messages rows
+    ∙ ap (λ (r : List Diagnostic). r ++ bare rows) (bare-messages d (row_lines_of d lines) d.messages lines.messages lines.signals)
+    ∙ ap (λ (r : List Diagnostic). flat_map (message_faults d) d.messages ++ r) (bare-after d [] (all_rows d lines)
+    ∙ ap (each_after (row_fault d) []) (keys-all d lines))

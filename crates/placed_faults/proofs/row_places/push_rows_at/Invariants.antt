@@ -1,0 +1,15 @@
+use Rattle.std.proofs.Common.{◌≡◌, ◌++◌, map, length}
+use Rattle.placed_faults.specs.RowPlaces.{keys_at, keys_in, placed_after}
+use Rattle.placed_faults.proofs.row_places.push_rows_at.Given as goal
+
+-- what is left is put behind what was found, and its keys behind those that were seen
+abbrev pub invariant-rows : goal.invariant-rows
+invariant-rows g l = record {
+  placed : l.placed.items ++ placed_after l.known l.seen (keys_at (map g.R.Row.key_of l.left) l.further)
+      ≡ l.initial.placed.items ++ placed_after l.known l.initial.seen (keys_at (map g.R.Row.key_of l.rows) l.lines);
+  seen : l.seen ++ keys_in (keys_at (map g.R.Row.key_of l.left) l.further)
+      ≡ l.initial.seen ++ keys_in (keys_at (map g.R.Row.key_of l.rows) l.lines);
+}
+
+abbrev pub decreases-rows : goal.decreases-rows
+decreases-rows g l = length l.left

@@ -1,0 +1,5 @@
+pub mod Fronts
+pub mod RowLines
+pub mod MessagePlaces
+pub mod RowPlaces
+pub mod PlacedFaults

@@ -1,0 +1,41 @@
+-- The lines in which rows of signals begin, by the keys of the rows.
+use Rattle.std.specs.Prelude.{◌==◌, ◌&&◌, ℕ, List, [], ◌∷◌, Option, option_map}
+use Rattle.std.specs.List.{find}
+use Rattle.std.specs.Str.{bytes_eq}
+use Rattle.dbc_records.specs.Databases.{Database}
+use Rattle.statement_lines.specs.declared.lines.Line.{Line}
+use Rattle.statement_lines.specs.declared.lines.Lines.{Lines}
+use Rattle.placed_faults.specs.declared.row_lines.RowLine.{RowLine}
+use Rattle.placed_faults.specs.Fronts.{first_line, behind_first}
+
+-- a message number and the name of a signal, and the line in which a row of them begins
+pub record KeyLine : Type 0 where
+  pub number : ℕ
+  pub signal : List ℕ
+  pub line : ℕ
+
+-- without where the name lies in memory
+abbrev pub key_line : RowLine → KeyLine
+key_line row = record { number = row.number; signal = row.signal.now; line = row.line }
+
+-- those of rows that begin in these lines
+abbrev pub key_lines : {R : Type 0} → (R → ℕ) → (R → List ℕ) → List R → List Line → List KeyLine
+key_lines number_of signal_of [] lines = []
+key_lines number_of signal_of (row ∷ rows) lines =
+    record { number = number_of row; signal = signal_of row; line = first_line lines }
+    ∷ key_lines number_of signal_of rows (behind_first lines)
+
+-- the line of the first row of the key
+abbrev pub line_of_key : ℕ → List ℕ → List KeyLine → Option ℕ
+line_of_key number name rows = option_map (λ row. row.line) (find (λ row. row.number == number && bytes_eq row.signal name) rows)
+
+-- the lines of the rows of named values and of multiplexing
+pub record RowLines : Type 0 where
+  pub values : List KeyLine
+  pub muxes : List KeyLine
+
+abbrev pub row_lines_of : Database → Lines → RowLines
+row_lines_of database lines = record {
+  values = key_lines (λ row. row.number) (λ row. row.signal) database.values lines.values;
+  muxes = key_lines (λ row. row.number) (λ row. row.signal) database.muxes lines.muxes;
+}

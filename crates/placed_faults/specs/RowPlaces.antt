@@ -1,0 +1,49 @@
+-- Where what is doubtful of rows stands in the text.
+use Rattle.std.specs.Prelude.{ℕ, List, [], ◌∷◌, ◌++◌, map}
+use Rattle.dbc_records.specs.Databases.{Database}
+use Rattle.can_diagnostics.specs.Keys.{key_of_table, key_of_comment, key_of_definition, key_of_default, key_of_attribute}
+use Rattle.can_diagnostics.specs.Keys.{key_of_values, key_of_float, key_of_mux}
+use Rattle.can_diagnostics.specs.declared.diagnostic.Diagnostic.{Diagnostic}
+use Rattle.can_diagnostics.specs.declared.row_key.RowKey.{RowKey}
+use Rattle.can_references.specs.RowFaults.{row_fault}
+use Rattle.can_remedies.specs.declared.placed.Place.TheVariants as places
+use Rattle.can_remedies.specs.declared.placed.Placed.{Placed}
+use Rattle.statement_lines.specs.declared.lines.Line.{Line}
+use Rattle.statement_lines.specs.declared.lines.Lines.{Lines}
+use Rattle.placed_faults.specs.Fronts.{first_line, behind_first}
+
+-- a row that begins in this line
+abbrev pub placed_at : ℕ → Diagnostic → Placed
+placed_at line diagnostic = record { place = places.Line line; diagnostic = diagnostic }
+
+-- keys of rows, each with the line in which the row begins
+abbrev pub keys_at : List RowKey → List Line → List (RowKey × ℕ)
+keys_at [] lines = []
+keys_at (key ∷ keys) lines = (key, first_line lines) ∷ keys_at keys (behind_first lines)
+
+abbrev pub keys_in : List (RowKey × ℕ) → List RowKey
+keys_in rows = map (λ row. row.0) rows
+
+-- of rows, given those before them
+abbrev pub placed_after : Database → List RowKey → List (RowKey × ℕ) → List Placed
+placed_after database before [] = []
+placed_after database before (row ∷ rows) =
+    map (placed_at row.1) (row_fault database before row.0) ++ placed_after database (before ++ row.0 ∷ []) rows
+
+-- ---- all rows, kind by kind in the order in which they are printed
+
+unfoldable pub front_rows : Database → Lines → List (RowKey × ℕ)
+front_rows d lines = keys_at (map key_of_table d.tables) lines.tables ++ keys_at (map key_of_comment d.comments) lines.comments
+
+unfoldable pub attribute_rows : Database → Lines → List (RowKey × ℕ)
+attribute_rows d lines = keys_at (map key_of_definition d.definitions) lines.definitions
+    ++ (keys_at (map key_of_default d.defaults) lines.defaults
+    ++ keys_at (map key_of_attribute d.attributes) lines.attributes)
+
+unfoldable pub signal_rows : Database → Lines → List (RowKey × ℕ)
+signal_rows d lines = keys_at (map key_of_values d.values) lines.values
+    ++ (keys_at (map key_of_float d.floats) lines.floats
+    ++ keys_at (map key_of_mux d.muxes) lines.muxes)
+
+unfoldable pub all_rows : Database → Lines → List (RowKey × ℕ)
+all_rows d lines = front_rows d lines ++ (attribute_rows d lines ++ signal_rows d lines)

@@ -1,0 +1,95 @@
+//! All that is doubtful in a database, with its lines.
+ghost use Rattle.std.specs.Prelude.{◌≡◌, IfOk, map};
+ghost use Rattle.placed_faults.specs.RowLines.{key_line, row_lines_of};
+ghost use Rattle.placed_faults.specs.PlacedFaults.{placed_faults};
+
+use crate::message_places::push_messages;
+use crate::row_lines::{KeyedLines, RowLine, row_lines};
+use crate::row_places::push_all_rows;
+use can_references::Known;
+use can_remedies::Placed;
+use can_rows::{Indexed, Lookup};
+use dbc_records::Database;
+use dbc_values::Memory;
+use statement_lines::Lines;
+use std::alloc::Global;
+
+// By what is known of the database, and the lines of its rows.
+#[tactic(auto, using(crate::proofs::Rows::pushed_then), unfolding(crate::specs::PlacedFaults::placed_faults))]
+fn placed_by<L: Lookup>(
+    alloc: Global,
+    known: &Known<'_, L>,
+    lines: &Lines,
+    rows: &KeyedLines<'_>,
+) -> Result<Vec<Placed>, Memory>
+    requires { rows.now ≡ row_lines_of known.now lines.now }
+    ensures { IfOk result (λ placed. placed.items ≡ placed_faults known.now lines.now) }
+{
+    let database = known.database();
+    let mut placed = Vec::new(alloc);
+    push_messages(
+        &mut placed,
+        known,
+        database.messages.as_slice(),
+        lines,
+        rows,
+    )?;
+    push_all_rows(&mut placed, known, database, lines)?;
+    Ok(placed)
+}
+
+// By what is known of the database, and the keys of its rows.
+fn placed_by_keys<L: Lookup>(
+    alloc: Global,
+    known: &Known<'_, L>,
+    lines: &Lines,
+    values: &[RowLine<'_>],
+    muxes: &[RowLine<'_>],
+) -> Result<Vec<Placed>, Memory>
+    requires values { map key_line values.now ≡ (row_lines_of known.now lines.now).values }
+    requires muxes { map key_line muxes.now ≡ (row_lines_of known.now lines.now).muxes }
+    ensures { IfOk result (λ placed. placed.items ≡ placed_faults known.now lines.now) }
+{
+    match KeyedLines::of(alloc, values, muxes) {
+        Ok(rows) => placed_by(alloc, known, lines, &rows),
+        Err(Memory) => Err(Memory),
+    }
+}
+
+// By what is known of the database.
+fn placed_in<L: Lookup>(
+    alloc: Global,
+    known: &Known<'_, L>,
+    lines: &Lines,
+) -> Result<Vec<Placed>, Memory>
+    ensures { IfOk result (λ placed. placed.items ≡ placed_faults known.now lines.now) }
+{
+    let database = known.database();
+    let values = row_lines(alloc, database.values.as_slice(), lines.values.as_slice())?;
+    let muxes = row_lines(alloc, database.muxes.as_slice(), lines.muxes.as_slice())?;
+    placed_by_keys(alloc, known, lines, values.as_slice(), muxes.as_slice())
+}
+
+fn placed_with<L: Lookup>(alloc: Global, lookup: &L, lines: &Lines) -> Result<Vec<Placed>, Memory>
+    ensures { IfOk result (λ placed. placed.items ≡ placed_faults (L.whole lookup.now) lines.now) }
+{
+    match Known::of(alloc, lookup) {
+        Ok(known) => placed_in(alloc, &known, lines),
+        Err(Memory) => Err(Memory),
+    }
+}
+
+/// All diagnostics of a database, as `can_check` finds them, each with the lines in which what it speaks of begins. The lines are
+/// those of the database's text.
+pub fn placed_faults(
+    alloc: Global,
+    database: &Database,
+    lines: &Lines,
+) -> Result<Vec<Placed>, Memory>
+    ensures { IfOk result (λ placed. placed.items ≡ placed_faults database.now lines.now) }
+{
+    match Indexed::of(alloc, database) {
+        Ok(indexed) => placed_with(alloc, &indexed, lines),
+        Err(Memory) => Err(Memory),
+    }
+}

@@ -1,0 +1,207 @@
+//! What is doubtful of messages, with its lines.
+ghost use Rattle.std.specs.Prelude.{◌≡◌, ◌++◌, IfOk, OnOk, map};
+ghost use Rattle.can_check.specs.MessageFaults.{message_faults};
+ghost use Rattle.can_remedies.specs.declared.placed.Place.TheVariants as places;
+ghost use Rattle.placed_faults.specs.RowLines.{key_line, line_of_key};
+ghost use Rattle.placed_faults.specs.MessagePlaces.{signal_line, signal_lines, rows_at_fault, line_or, place_of, placed_in};
+ghost use Rattle.placed_faults.specs.MessagePlaces.{placed_messages};
+
+use crate::front::{behind_first, first_line, parted};
+use crate::row_lines::{KeyedLines, RowLine, line_in};
+use can_check::{Code, Diagnostic, Occupancy, Subject, report_message};
+use can_references::Known;
+use can_remedies::{Place, Placed};
+use can_rows::{Index, Lookup};
+use dbc_records::{Message, Signal};
+use dbc_values::{Memory, Name};
+use statement_lines::{Line, Lines};
+use std::alloc::Global;
+
+// A message, and the lines in which it and its signals begin.
+#[derive(Clone, Copy)]
+struct Begun<'m, 'l> {
+    message: &'m Message,
+    line: u64,
+    signals: &'l [Line],
+}
+
+// The same, and the lines of its signals are found by their names.
+#[derive(Drop)]
+struct Lined<'a> {
+    message: &'a Message,
+    line: u64,
+    signals: &'a [Line],
+    index: Index<'a, RowLine<'a>>,
+    ghost indexed: { map key_line index ≡ signal_lines message.now.signals signals.now },
+}
+
+// The names of a message's signals, each with the line in which the signal begins.
+fn signal_lines<'a>(
+    alloc: Global,
+    signals: &'a [Signal],
+    lines: &[Line],
+) -> Result<Vec<RowLine<'a>>, Memory>
+    ensures { IfOk result (λ made. map key_line made.items ≡ signal_lines signals.now lines.now) }
+{
+    let mut made = Vec::new(alloc);
+    let (mut left, mut further) = (signals, lines);
+    'signals: while let [signal, others @ ..] = left {
+        made.push(RowLine {
+            number: 0,
+            signal: signal.name.as_bytes(),
+            line: first_line(further),
+        })?;
+        (left, further) = (others, behind_first(further));
+    }
+    Ok(made)
+}
+
+// The line of the signal of the name.
+fn signal_line(name: &Name, here: &Lined<'_>) -> u64
+    ensures { result ≡ signal_line name.now here.now.message.now.signals here.now.signals.now }
+{
+    match line_in(&here.index, 0, name) {
+        Some(line) => line,
+        None => 0,
+    }
+}
+
+// The line of the row at fault, where the code is told of a signal and means one.
+fn line_at_fault(rows: &KeyedLines<'_>, code: Code, number: u32, signal: &Name) -> Option<u64>
+    ensures { result ≡ line_of_key number signal.now (rows_at_fault code rows.now) }
+{
+    match code {
+        Code::BadMuxRow => rows.mux(number, signal),
+        _ => None,
+    }
+}
+
+// The line of the row, if there is one, or else that of the signal.
+fn line_or(row_line: Option<u64>, here: &Lined<'_>, signal: &Name) -> Place
+    ensures { result ≡ places.Line (line_or row_line (signal_line signal.now here.now.message.now.signals here.now.signals.now)) }
+{
+    match row_line {
+        Some(line) => Place::Line(line),
+        None => Place::Line(signal_line(signal, here)),
+    }
+}
+
+// The lines of two signals.
+fn lines_of(here: &Lined<'_>, first: &Name, second: &Name) -> Place
+    ensures { result ≡ places.Lines (signal_line first.now here.now.message.now.signals here.now.signals.now)
+        (signal_line second.now here.now.message.now.signals here.now.signals.now) }
+{
+    Place::Lines(signal_line(first, here), signal_line(second, here))
+}
+
+// Where what a diagnostic of a message speaks of begins.
+fn place_of(code: Code, subject: &Subject, here: &Lined<'_>, rows: &KeyedLines<'_>) -> Place
+    ensures { result ≡ place_of rows.now here.now.message.now.signals here.now.line here.now.signals.now code subject.now }
+{
+    match subject {
+        Subject::Message(..) | Subject::Sender(..) | Subject::Row(_) => Place::Line(here.line),
+        Subject::Signal(number, _, signal) => {
+            line_or(line_at_fault(rows, code, *number, signal), here, signal)
+        }
+        Subject::Receiver(_, _, signal, _) => line_or(None, here, signal),
+        Subject::Value(number, _, signal, _) => {
+            line_or(rows.values(*number, signal), here, signal)
+        }
+        Subject::Pair(_, _, first, second) => lines_of(here, first, second),
+    }
+}
+
+// Adds diagnostics of a message, each with its place.
+fn push_placed(
+    placed: &mut Vec<Placed>,
+    here: &Lined<'_>,
+    rows: &KeyedLines<'_>,
+    found: Vec<Diagnostic>,
+) -> Result<(), Memory>
+    ensures { OnOk result (placed.new.items ≡ placed.old.items ++ map (placed_in rows.now here.now.message.now.signals here.now.line
+        here.now.signals.now)
+        found.items) }
+{
+    for diagnostic in found {
+        let place = place_of(diagnostic.code, &diagnostic.subject, here, rows);
+        placed.push(Placed { place, diagnostic })?;
+    }
+    Ok(())
+}
+
+// Adds diagnostics of a message of whose signals these are the lines.
+fn push_found(
+    placed: &mut Vec<Placed>,
+    here: &Begun<'_, '_>,
+    named: &[RowLine<'_>],
+    rows: &KeyedLines<'_>,
+    found: Vec<Diagnostic>,
+) -> Result<(), Memory>
+    requires { map key_line named.now ≡ signal_lines here.now.message.now.signals here.now.signals.now }
+    ensures { OnOk result (placed.new.items ≡ placed.old.items ++ map (placed_in rows.now here.now.message.now.signals here.now.line
+        here.now.signals.now)
+        found.items) }
+{
+    let index = Index::of(*placed.allocator(), named)?;
+    let lined = Lined {
+        message: here.message,
+        line: here.line,
+        signals: here.signals,
+        index,
+    };
+    push_placed(placed, &lined, rows, found)
+}
+
+// Adds what is doubtful of a message. The table for overlaps is empty before and after.
+fn push_message<'a, L: Lookup>(
+    placed: &mut Vec<Placed>,
+    known: &Known<'a, L>,
+    occupancy: Occupancy,
+    here: &Begun<'a, '_>,
+    rows: &KeyedLines<'_>,
+) -> Result<Occupancy, Memory>
+    ensures { OnOk result (placed.new.items ≡ placed.old.items ++ map (placed_in rows.now here.now.message.now.signals here.now.line
+        here.now.signals.now)
+        (message_faults known.now here.now.message.now)) }
+{
+    let mut found = Vec::new(occupancy.allocator());
+    let Ok(occupancy) = report_message(&mut found, known, occupancy, here.message) else {
+        return Err(Memory);
+    };
+    if found.is_empty() {
+        return Ok(occupancy);
+    }
+    let message = here.message;
+    let signals = message.signals.as_slice();
+    let named = signal_lines(occupancy.allocator(), signals, here.signals)?;
+    push_found(placed, here, named.as_slice(), rows, found)?;
+    Ok(occupancy)
+}
+
+/// Adds what is doubtful of messages, in order.
+pub(crate) fn push_messages<'a, L: Lookup>(
+    placed: &mut Vec<Placed>,
+    known: &Known<'a, L>,
+    messages: &'a [Message],
+    lines: &Lines,
+    rows: &KeyedLines<'_>,
+) -> Result<(), Memory>
+    ensures { OnOk result (placed.new.items ≡ placed.old.items ++ placed_messages known.now rows.now messages.now
+        lines.now.messages lines.now.signals) }
+{
+    let mut occupancy = Occupancy::new(*placed.allocator());
+    let (mut left, mut heads) = (messages, lines.messages.as_slice());
+    let mut further = lines.signals.as_slice();
+    'messages: while let [message, others @ ..] = left {
+        let (signals, behind) = parted(further, message.signals.len());
+        let line = first_line(heads);
+        let here = Begun {
+            message,
+            line,
+            signals,
+        };
+        occupancy = push_message(placed, known, occupancy, &here, rows)?;
+        (left, heads, further) = (others, behind_first(heads), behind);
+    }
+    Ok(())
+}
