@@ -1,7 +1,7 @@
 #!/usr/bin/env bash
 # How long an edit of a session takes: milliseconds of processor time for one edit, the mean of twenty, with databases of 100,
-# 1,000 and 10,000 messages of four signals with named values and no log; and with 1,000 messages and 1,000,000 retained lines, of
-# 1,000 numbers and of one.
+# 1,000, 10,000 and 65,000 messages of four signals with named values and no log; and with 1,000 messages and 1,000,000 retained
+# lines, of 1,000 numbers and of one.
 #
 #     edit_session.sh [PROGRAM]
 set -eu
@@ -49,7 +49,7 @@ def write(name, text):
 
 EDIT = 'change-signal 0 SG_ Signal0 : 0|16@1+ (0.25,-40) [0|0] "km/h" Ecu\n'
 TABLE = 'set-table VAL_TABLE_ T 0 "off" ;\n'
-for count in (100, 1000, 10000):
+for count in (100, 1000, 10000, 65000):
     write("database", database(count))
     opened = seconds("database", "")
     edited = seconds("database", EDIT * EDITS)

@@ -8,27 +8,13 @@ work=$(mktemp -d)
 trap 'rm -rf "$work"' EXIT
 "$root/scripts/build"
 
-python3 - "$root/crates/candesk/out/candesk" "$work" <<'REPORT'
+python3 - "$root/crates/candesk/out/candesk" "$work" "$root" <<'REPORT'
 import os
+import subprocess
 import sys
 import time
 
-program, folder = sys.argv[1:]
-
-
-def write(path, messages):
-    with open(path, "w") as out:
-        nodes = " ".join("Node%d" % n for n in range(30))
-        out.write('VERSION "generated"\n\nNS_ :\n\tCM_\n\tBA_\n\nBS_:\n\nBU_: ' + nodes + "\n\n")
-        for message in range(messages):
-            out.write("BO_ %d Message%d: 8 Node%d\n" % (2147483648 + message, message, message % 30))
-            for signal in range(4):
-                out.write(' SG_ Signal%d : %d|16@1+ (0.03125,-40) [-40|2007.96875] "km/h"  Node1,Node2\n' % (signal, 16 * signal))
-            out.write("\n")
-        for message in range(messages):
-            out.write('CM_ SG_ %d Signal1 "How fast it turns,\n in km/h";\n' % (2147483648 + message))
-        for message in range(messages):
-            out.write('VAL_ %d Signal0 0 "off" 1 "on" 2 "fault" ;\n' % (2147483648 + message))
+program, folder, root = sys.argv[1:]
 
 
 def run(words, sink):
@@ -48,7 +34,7 @@ def best(words, sink):
 
 def report(messages):
     text = os.path.join(folder, "text.dbc")
-    write(text, messages)
+    subprocess.run([os.path.join(root, "benches/make_text.py"), text, str(messages)], check=True)
     size = os.path.getsize(text) / 1e6
     for name, sink in (("/dev/null", os.devnull), ("a file", os.path.join(folder, "printed"))):
         taken, memory = best([program, "print", text], sink)
