@@ -1,68 +1,98 @@
 #!/usr/bin/env bash
-# How long an edit of a session takes: milliseconds of processor time for one edit, the mean of twenty, with databases of 100,
-# 1,000, 10,000 and 65,000 messages of four signals with named values and no log; and with 1,000 messages and 1,000,000 retained
-# lines, of 1,000 numbers and of one.
+# How long an edit of a session takes, beside a plain reader and decoder in Rust (`plain/`) that do all of it anew: milliseconds of
+# processor time for one edit, the mean of twenty, with databases of 100, 1,000, 10,000 and 65,000 messages of four signals with
+# named values and no log, and its ratio to the plain reader's reading of the edited text; and with 1,000 messages and 1,000,000
+# lines, of 1,000 numbers and of one, nanoseconds for a line that is retained and for one that an edit touches, and their ratios to
+# the plain decoder's for a line of that log. Of each run the least of several rounds. Needs rustc and python3. Times go with the
+# machine, ratios less so.
 #
-#     edit_session.sh [PROGRAM]
+#     edit_session.sh [PROGRAM [ROUNDS]]      3 rounds, where they aren't said
 set -eu
 root=$(cd "$(dirname "$(readlink -f "$0")")/.." && pwd)
-program=${1:-$root/crates/candesk/out/candesk}
 work=$(mktemp -d)
 trap 'rm -rf "$work"' EXIT
+[ $# -gt 0 ] || "$root/scripts/build"
+program=${1:-$root/crates/candesk/out/candesk}
+rounds=${2:-3}
+"$root/benches/plain/build" "$work/plain"
 
 cat > "$work/measure.py" <<'PYTHON'
-import os, resource, subprocess, sys
+import os
+import resource
+import subprocess
+import sys
 
-program, work = sys.argv[1:]
+program, work, rounds = sys.argv[1], sys.argv[2], int(sys.argv[3])
+plain, text, script, log = (os.path.join(work, name) for name in ("plain", "text.dbc", "script", "log"))
 EDITS = 20
+LINES = 1_000_000
+EDIT = 'change-signal 0 SG_ Signal0 : 0|16@1+ (0.25,-40) [0|0] "km/h" Ecu\n'
+TABLE = 'set-table VAL_TABLE_ T 0 "off" ;\n'
 
 
 def database(count):
+    numbers = [number if count <= 2048 else number + 2**31 for number in range(count)]
     lines = ["BU_: Ecu"]
-    for number in range(count):
-        lines.append("BO_ %d Message%d: 8 Ecu" % (number if count <= 2048 else number + 2**31, number))
+    for number in numbers:
+        lines.append("BO_ %d Message%d: 8 Ecu" % (number, number % 2**31))
         for place in range(4):
             lines.append(' SG_ Signal%d : %d|16@1+ (0.5,-40) [0|0] "km/h" Ecu' % (place, 16 * place))
-    for number in range(count):
-        for place in range(4):
-            lines.append('VAL_ %d Signal%d 0 "off" 1 "on" ;' % (number if count <= 2048 else number + 2**31, place))
+    lines += ['VAL_ %d Signal%d 0 "off" 1 "on" ;' % (number, place) for number in numbers for place in range(4)]
     return "\n".join(lines) + "\n"
 
 
-def seconds(name, script):
-    path = os.path.join(work, "script")
+def write(path, what):
     with open(path, "w") as file:
-        file.write(script)
+        file.write(what)
+
+
+def once(words, source):
+    """Processor time of a run, in seconds."""
     before = resource.getrusage(resource.RUSAGE_CHILDREN)
-    with open(path) as file:
-        done = subprocess.run([program, "session", os.path.join(work, name)], stdin=file, stdout=subprocess.DEVNULL)
+    with open(source) as file:
+        subprocess.run(words, stdin=file, stdout=subprocess.DEVNULL, check=True)
     after = resource.getrusage(resource.RUSAGE_CHILDREN)
-    if done.returncode != 0:
-        sys.exit("the session ended with status %d" % done.returncode)
     return after.ru_utime + after.ru_stime - before.ru_utime - before.ru_stime
 
 
-def write(name, text):
-    with open(os.path.join(work, name), "w") as file:
-        file.write(text)
+def least(words, source=os.devnull):
+    return min(once(words, source) for _ in range(rounds))
 
 
-EDIT = 'change-signal 0 SG_ Signal0 : 0|16@1+ (0.25,-40) [0|0] "km/h" Ecu\n'
-TABLE = 'set-table VAL_TABLE_ T 0 "off" ;\n'
+def session(commands):
+    """Processor time of a session of these commands."""
+    write(script, commands)
+    return least([program, "session", text], script)
+
+
 for count in (100, 1000, 10000, 65000):
-    write("database", database(count))
-    opened = seconds("database", "")
-    edited = seconds("database", EDIT * EDITS)
-    print("%5d messages: opened in %.1f ms, an edit %.1f ms" % (count, 1000 * opened, 1000 * (edited - opened) / EDITS))
-write("database", database(1000))
-for numbers in (1000, 1):
-    log = "".join("log (%d.000001) can0 %03X#0011223344556677\n" % (line, line % numbers) for line in range(1000000))
-    retained = seconds("database", log)
-    touching = seconds("database", log + EDIT * EDITS)
-    untouching = seconds("database", log + TABLE * EDITS)
+    write(text, database(count))
+    read = least([plain, "read", text])
+    opened = session("")
+    edit = (session(EDIT * EDITS) - opened) / EDITS
     print(
-        "1,000,000 lines of %d numbers: retained in %.1f s, an edit that touches %d of them %.1f ms, one that touches none %.1f ms"
-        % (numbers, retained, 1000000 // numbers, 1000 * (touching - retained) / EDITS, 1000 * (untouching - retained) / EDITS)
+        "%5d messages: opened in %.1f ms, an edit %.1f ms, the text read by the plain reader %.1f ms: ratios %.2f, %.2f"
+        % (count, 1000 * opened, 1000 * edit, 1000 * read, opened / read, edit / read)
     )
+write(text, database(1000))
+opened = session("")
+unlogged = session(EDIT * EDITS)
+for numbers in (1000, 1):
+    frames = ["(%d.000001) can0 %03X#0011223344556677\n" % (line, line % numbers) for line in range(LINES)]
+    write(log, "".join(frames))
+    decoded = 1e9 * least([plain, "decode", text], log) / LINES
+    commands = "".join("log " + frame for frame in frames)
+    kept = session(commands)
+    retained = 1e9 * (kept - opened) / LINES
+    edited = session(commands + EDIT * EDITS) - kept
+    tables = session(commands + TABLE * EDITS) - kept
+    touched = 1e9 * (edited - (unlogged - opened)) / EDITS / (LINES // numbers)
+    print("%s lines of %d numbers, the plain decoder %.0f ns a line:" % (format(LINES, ","), numbers, decoded))
+    print("    a line retained %.0f ns: ratio %.2f" % (retained, retained / decoded))
+    print("    an edit that touches %s of them %.1f ms" % (format(LINES // numbers, ","), 1000 * edited / EDITS))
+    print("    one that touches none %.1f ms" % (1000 * tables / EDITS))
+    # (of few lines the difference of two edits says nothing)
+    if numbers == 1:
+        print("    a line touched %.0f ns: ratio %.2f" % (touched, touched / decoded))
 PYTHON
-python3 "$work/measure.py" "$program" "$work"
+python3 "$work/measure.py" "$program" "$work" "$rounds"
