@@ -1,2 +1,3 @@
 pub mod FirstRows
-pub mod NamedRows
+pub mod SortedRows
+pub mod IndexedRows

@@ -1,28 +1,42 @@
 -- What an index of rows has at each key: the first row of the key.
-use Rattle.std.specs.Prelude.{◌≡◌, ℕ, List, Option, None}
-use Rattle.std.specs.Option.{option_map, option_map_or}
+use Rattle.std.specs.Prelude.{◌≡◌, ℕ, List, Option, All, map}
+use Rattle.std.specs.Option.{option_map}
 use Rattle.std.specs.List.{find}
-use Rattle.std.specs.Ordering.{nat_cmp}
+use Rattle.std.specs.List.Sorted.{IsSortedBy}
+use Rattle.std.specs.declared.cmp.Ordering.{Ordering}
+use Rattle.std.specs.Ordering.{nat_cmp, ordering_then, is_lt}
 use Rattle.std.specs.Cmp.Lexicographic.{slice_cmp}
-use Rattle.std.specs.BTreeMap.{BTreeMap, get, get_by}
+use Rattle.std.specs.BTreeMap.{BTreeMap, get}
 use Rattle.dbc_records.specs.Records.{ValueRow, FloatRow, MuxRow}
 use Rattle.dbc_records.specs.Attributes.{AttrDef, AttrRow, AttrDefault}
 use Rattle.dbc_records.specs.Databases.{Database}
+use Rattle.can_rows.specs.declared.index.Entry.{Entry}
 use Rattle.can_rows.specs.Rows.{first_row}
+use Rattle.can_rows.specs.Mixes.{key_mix}
 use Rattle.can_rows.specs.Groups.{gives_format, format_default, format_definition}
 use denote.Ref.{Bor}
 
--- what rows of one message number have at the name of a signal
-abbrev pub row_named : {R : Type 0} → List ℕ → BTreeMap (Bor (List ℕ)) (Bor R) → Option R
-row_named name by_name = option_map (λ row. row.now) (get_by (λ key. slice_cmp nat_cmp name key.now) by_name)
+-- a key behind its number, as an entry has it
+abbrev pub key_of : {R : Type 0} → (R → List ℕ) → Entry R → ℕ × List ℕ
+key_of signal_of entry = (entry.mix, signal_of entry.row.now)
 
--- what rows have at a number and a name
-abbrev pub row_at : {R : Type 0} → ℕ → List ℕ → BTreeMap ℕ (BTreeMap (Bor (List ℕ)) (Bor R)) → Option R
-row_at number name by_number = option_map_or (row_named name) (get nat_cmp by_number number) None
+-- by the numbers, and by the names where those are equal
+abbrev pub key_order : ℕ × List ℕ → ℕ × List ℕ → Ordering
+key_order first second = ordering_then (nat_cmp first.0 second.0) (slice_cmp nat_cmp first.1 second.1)
 
-abbrev pub IsIndex : {R : Type 0} → (R → ℕ) → (R → List ℕ) → BTreeMap ℕ (BTreeMap (Bor (List ℕ)) (Bor R)) → List R → Type 0
-IsIndex number_of signal_of by_number rows = (number : ℕ) (name : List ℕ) → row_at number name by_number ≡ first_row number_of
-    signal_of number name rows
+-- the number of an entry is that of its row's key
+abbrev pub has_own_mix : {R : Type 0} → (R → ℕ) → (R → List ℕ) → Entry R → Type 0
+has_own_mix number_of signal_of entry = entry.mix ≡ key_mix (number_of entry.row.now) (signal_of entry.row.now)
+
+abbrev pub AreInOrder : {R : Type 0} → (R → List ℕ) → List (Entry R) → Type 0
+AreInOrder signal_of entries = IsSortedBy (λ first second. is_lt (key_order (key_of signal_of first) (key_of signal_of second))) entries
+
+-- entries in the order of their keys, of which the first of each key is the first row of the key
+pub record IsIndex {R : Type 0} (number_of : R → ℕ) (signal_of : R → List ℕ) (entries : List (Entry R)) (rows : List R) : Type 0 where
+  pub own_mixes : All (has_own_mix number_of signal_of) entries
+  pub in_order : AreInOrder signal_of entries
+  pub first_rows : (number : ℕ) (name : List ℕ) → first_row number_of signal_of number name (map (λ entry. entry.row.now) entries)
+      ≡ first_row number_of signal_of number name rows
 
 -- what attribute rows have at a message number
 abbrev pub format_at : ℕ → BTreeMap ℕ (Bor AttrRow) → Option AttrRow

@@ -1,3 +1,4 @@
 pub mod Rows
 pub mod Groups
+pub mod Mixes
 pub mod Indexes

@@ -1,22 +1,37 @@
 //! Rows found by their keys in logarithmic time.
-ghost use Rattle.std.specs.Prelude.{◌≡◌, ◌==◌, ℕ, List, IfOk, OnOk, Some, None, filter, if◌then◌else◌};
-ghost use Rattle.std.specs.Option.{option_map, option_or};
-ghost use Rattle.std.specs.Str.{bytes_eq};
-ghost use Rattle.can_rows.specs.Rows.{first_named, has_key};
-ghost use Rattle.can_rows.specs.Indexes.{row_named, row_at};
+ghost use Rattle.std.specs.Prelude.{◌≡◌, ◌==◌, ◌≤◌, true, false, All, IfOk, length, map, filter};
+ghost use Rattle.std.specs.List.{find};
+ghost use Rattle.std.specs.List.Sorted.{IsPartitionPoint};
+ghost use Rattle.std.specs.Option.{option_map};
+ghost use Rattle.std.specs.Ordering.{is_lt, is_eq};
+ghost use Rattle.can_rows.specs.declared.index.Entry.{Entry as PlainEntry};
+ghost use Rattle.can_rows.specs.Rows.{first_named};
+ghost use Rattle.can_rows.specs.Mixes.{name_mix, key_mix};
+ghost use Rattle.can_rows.specs.Indexes.{key_order, key_of, has_own_mix, AreInOrder};
 
 use crate::row::Keyed;
-use dbc_values::Memory;
+use dbc_values::{Memory, same};
 use std::alloc::Global;
-use std::collections::BTreeMap;
+use std::cmp::Ordering;
 use std::marker::Model;
 
-/// Rows of one kind, and the first row of each key. Keys are compared whole and not by a hash, so no rows, however they
-/// are chosen, make it slow.
+const FACTOR: u32 = 0x9E37_79B1;
+
+const ABOVE_NAMES: u64 = 0x1_0000_0000;
+
+/// A row behind a number that is made of its key. Most keys are put in order by their numbers alone.
+#[derive(Drop)]
+struct Entry<'a, R: Keyed> {
+    mix: u64,
+    row: &'a R,
+}
+
+/// Rows of one kind in the order of their keys. Keys with one number are told apart by their names, so no rows, however they are
+/// chosen, make it slow.
 #[derive(Drop)]
 pub struct Index<'a, R: Keyed> {
     rows: &'a [R],
-    by_number: BTreeMap<u32, BTreeMap<&'a [u8], &'a R>>,
+    entries: Vec<Entry<'a, R>>,
 }
 
 impl<'a, R: Keyed> Model for Index<'a, R> {
@@ -27,47 +42,102 @@ impl<'a, R: Keyed> Model for Index<'a, R> {
 
     ghost view = { λ index. index.rows.now };
 
-    ghost invariant = { λ index. IsIndex R.number_of R.signal_of index.by_number index.rows.now };
+    ghost invariant = { λ index. IsIndex R.number_of R.signal_of index.entries.items index.rows.now };
 }
 
-/// Puts a row at its name, unless one is there.
-fn keep_first<'a, R: Keyed>(
-    by_name: &mut BTreeMap<&'a [u8], &'a R>,
-    row: &'a R,
-) -> Result<(), Memory>
-    ensures { OnOk result ((name : List ℕ) → row_named name by_name.new ≡ option_or (row_named name by_name.old)
-        (if bytes_eq (R.signal_of row.now) name then Some row.now else None)) }
+#[tactic(auto, unfolding(crate::specs::Mixes::name_mix, crate::specs::Mixes::mixed_byte))]
+fn name_mix(name: &[u8]) -> u32
+    ensures { result ≡ name_mix name.now }
 {
-    let name = row.signal();
-    if by_name.contains_key(name) {
-        return Ok(());
+    let mut mix: u32 = 0;
+    for byte in name {
+        mix = mix.wrapping_mul(FACTOR).wrapping_add(u32::from(*byte));
     }
-    by_name.insert(name, row)?;
-    Ok(())
+    mix
 }
 
-/// Puts a row at its key, unless one is there.
-fn keep_first_of_key<'a, R: Keyed>(
-    by_number: &mut BTreeMap<u32, BTreeMap<&'a [u8], &'a R>>,
-    row: &'a R,
-) -> Result<(), Memory>
-    ensures { OnOk result ((number : ℕ) (name : List ℕ) → row_at number name by_number.new
-        ≡ option_or (row_at number name by_number.old) (if has_key R.number_of R.signal_of number name row.now then Some row.now
-        else None)) }
+fn key_mix(number: u32, name: &[u8]) -> u64
+    ensures { result ≡ key_mix number name.now }
 {
-    keep_first(by_number.entry(row.number())?.or_default(), row)
+    u64::from(number) * ABOVE_NAMES + u64::from(name_mix(name))
 }
 
-fn row_at<'a, R: Keyed>(
-    by_number: &BTreeMap<u32, BTreeMap<&'a [u8], &'a R>>,
-    number: u32,
+fn entry_of<'a, R: Keyed>(row: &'a R) -> Entry<'a, R>
+    ensures row { result.row.now ≡ row.now }
+    ensures mix { has_own_mix R.number_of R.signal_of result }
+{
+    Entry {
+        mix: key_mix(row.number(), row.signal()),
+        row,
+    }
+}
+
+/// The order of two rows by their keys.
+fn order_of_rows<'a, R: Keyed>(first: &Entry<'a, R>, second: &Entry<'a, R>) -> Ordering
+    ensures { result ≡ key_order (key_of R.signal_of first.now) (key_of R.signal_of second.now) }
+{
+    match first.mix.cmp(&second.mix) {
+        Ordering::Equal => first.row.signal().cmp(&second.row.signal()),
+        Ordering::Less => Ordering::Less,
+        Ordering::Greater => Ordering::Greater,
+    }
+}
+
+/// Whether a row comes before those of a key.
+fn comes_before<'a, R: Keyed>(entry: &Entry<'a, R>, mix: u64, name: &[u8]) -> bool
+    ensures { result ≡ is_lt (key_order (key_of R.signal_of entry.now) (mix, name.now)) }
+{
+    match entry.mix.cmp(&mix) {
+        Ordering::Equal => entry.row.signal().cmp(&name).is_lt(),
+        Ordering::Less => true,
+        Ordering::Greater => false,
+    }
+}
+
+fn has_key<'a, R: Keyed>(entry: &Entry<'a, R>, mix: u64, name: &[u8]) -> bool
+    ensures { result ≡ is_eq (key_order (key_of R.signal_of entry.now) (mix, name.now)) }
+{
+    entry.mix == mix && same(entry.row.signal(), name)
+}
+
+fn entries_of<'a, R: Keyed>(alloc: Global, rows: &'a [R]) -> Result<Vec<Entry<'a, R>>, Memory>
+    ensures rows { IfOk result (λ entries. map (λ (entry : PlainEntry R). entry.row.now) entries.items ≡ rows.now) }
+    ensures mixes { IfOk result (λ entries. All (has_own_mix R.number_of R.signal_of) entries.items) }
+{
+    let mut entries = Vec::with_capacity(alloc, rows.len())?;
+    for row in rows {
+        entries.push(entry_of(row))?;
+    }
+    Ok(entries)
+}
+
+/// How many rows come before those of a key.
+fn place_of<'a, R: Keyed>(entries: &[Entry<'a, R>], mix: u64, name: &[u8]) -> usize
+    requires { AreInOrder R.signal_of entries.now }
+    ensures bound { result ≤ length entries.now }
+    ensures parted { IsPartitionPoint (λ (entry : PlainEntry R). is_lt (key_order (key_of R.signal_of entry) (mix, name.now)) ≡ true)
+        (λ (entry : PlainEntry R). is_lt (key_order (key_of R.signal_of entry) (mix, name.now)) ≡ false) entries.now result }
+{
+    entries.partition_point(|entry| comes_before(entry, mix, name))
+}
+
+fn entry_at<'a, 'e, R: Keyed>(
+    entries: &'e [Entry<'a, R>],
+    mix: u64,
     name: &[u8],
-) -> Option<&'a R>
-    ensures { option_map (λ row. row.now) result ≡ row_at number name.now by_number.now }
+) -> Option<&'e Entry<'a, R>>
+    requires { AreInOrder R.signal_of entries.now }
+    ensures { option_map (λ entry. entry.now) result ≡ find (λ (entry : PlainEntry R). is_eq (key_order (key_of R.signal_of entry)
+        (mix, name.now))) entries.now }
 {
-    match by_number.get(&number) {
-        Some(by_name) => by_name.get(name).copied(),
-        None => None,
+    let place = place_of(entries, mix, name);
+    let Some(entry) = entries.get(place) else {
+        return None;
+    };
+    if has_key(entry, mix, name) {
+        Some(entry)
+    } else {
+        None
     }
 }
 
@@ -76,11 +146,9 @@ impl<'a, R: Keyed> Index<'a, R> {
     pub fn of(alloc: Global, rows: &'a [R]) -> Result<Index<'a, R>, Memory>
         ensures { IfOk result (λ index. index ≡ rows.now) }
     {
-        let mut by_number: BTreeMap<u32, BTreeMap<&'a [u8], &'a R>> = BTreeMap::new(alloc);
-        for row in rows {
-            keep_first_of_key(&mut by_number, row)?;
-        }
-        Ok(Index { rows, by_number })
+        let mut entries = entries_of(alloc, rows)?;
+        entries.sort_by(|first, second| order_of_rows(first, second))?;
+        Ok(Index { rows, entries })
     }
 
     /// The first row of a key.
@@ -88,6 +156,12 @@ impl<'a, R: Keyed> Index<'a, R> {
         ensures { option_map (λ row. row.now) result ≡ first_named R.signal_of signal.now (filter (λ row. R.number_of row == number)
             self.now) }
     {
-        row_at(&self.by_number, number, signal)
+        if self.entries.is_empty() {
+            return None;
+        }
+        match entry_at(&self.entries, key_mix(number, signal), signal) {
+            Some(entry) => Some(entry.row),
+            None => None,
+        }
     }
 }

@@ -1,11 +1,21 @@
-use Rattle.std.proofs.Common.{◌==◌, filter, ap, sym, ◌∙◌}
-use Rattle.can_rows.specs.Rows.{first_named}
-use Rattle.can_rows.proofs.FirstRows.{first_of_number}
+use Rattle.std.proofs.Common.{◌≡◌, length, None, Some, rules}
+use Rattle.can_rows.proofs.IndexedRows.{first_is, none_in_nothing}
 use Rattle.can_rows.proofs.index.Index.first.Goals as goal
 
-pub returns : goal.returns
-returns g c =
-    c.row_at.ensures ∙ c.self.invariant c.args.number c.args.signal.now
-    ∙ sym (first_of_number g.R.Keyed.number_of g.R.Keyed.signal_of c.args.number c.args.signal.now c.self.inside.rows.now)
-    ∙ ap (λ rows. first_named g.R.Keyed.signal_of c.args.signal.now (filter (λ row. g.R.Keyed.number_of row == c.args.number) rows))
-    c.self.view_is
+pub returns-then-is_empty : goal.returns-then-is_empty
+returns-then-is_empty g c =
+    let empty : length c.self.inside.entries.items ≡ 0 = search rules in
+    none_in_nothing g.R.Keyed.number_of g.R.Keyed.signal_of c.args.number c.args.signal.now c.self.inside.entries.items
+    c.self.inside.rows.now c.args.self.now c.self.invariant c.self.view_is empty
+
+pub returns-in-Some : goal.returns-in-Some
+returns-in-Some g c =
+    first_is g.R.Keyed.number_of g.R.Keyed.signal_of c.args.number c.args.signal.now c.self.inside.entries.items
+    c.self.inside.rows.now c.args.self.now c.self.invariant c.self.view_is (Some c.in-Some.entry.now) c.deref.result.now
+    c.key_mix.result c.deref.ensures.value c.key_mix.ensures c.in-Some.ensures
+
+pub returns-in-None : goal.returns-in-None
+returns-in-None g c =
+    first_is g.R.Keyed.number_of g.R.Keyed.signal_of c.args.number c.args.signal.now c.self.inside.entries.items
+    c.self.inside.rows.now c.args.self.now c.self.invariant c.self.view_is None c.deref.result.now c.key_mix.result
+    c.deref.ensures.value c.key_mix.ensures c.in-None.ensures
