@@ -1,3 +1,3 @@
-pub mod Adding
 pub mod MixedKeys
 pub mod SameKeys
+pub mod Ranks

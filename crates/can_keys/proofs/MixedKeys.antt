@@ -69,7 +69,7 @@ same_targets (targets.Node a) t same = grind (arith, common_steps, alike)
 same_targets (targets.Message m) t same = grind (arith, common_steps)
 same_targets (targets.Signal m a) t same = grind (arith, common_steps, alike)
 
-same_rows : (a b : RowKey) → same_key a b ≡ true → row_mix a ≡ row_mix b
+pub same_rows : (a b : RowKey) → same_key a b ≡ true → row_mix a ≡ row_mix b
 same_rows (rows.Table a) b same = grind (arith, common_steps, alike)
 same_rows (rows.Comment s) b same = grind (arith, common_steps, same_targets)
 same_rows (rows.Definition o a) b same = grind (arith, common_steps, alike)

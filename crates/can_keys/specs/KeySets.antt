@@ -1,11 +1,24 @@
--- What a set of keys has, of the list of all keys that were added.
-use Rattle.std.specs.Prelude.{◌≡◌, nat_le, List, count_by}
+-- What a set of keys has, of the list of all keys that were added, and what keys in order say of one that is asked for.
+use Rattle.std.specs.Prelude.{◌≡◌, ◌≤◌, ⊤, ℕ, Bool, List, [], ◌∷◌, count_by}
 use Rattle.std.specs.List.{list_any}
-use Rattle.std.specs.Ordering.{eq_by_cmp}
+use Rattle.std.specs.Ordering.{eq_by_cmp, ordering_index}
 use Rattle.std.specs.BTreeSet.{BTreeSet, contains}
 use Rattle.std.specs.declared.cmp.Ordering.{Ordering}
 
--- the keys that were added, and those that were added at least twice
-pub record AreKeys {K : Type 0} (cmp : K → K → Ordering) (once twice : BTreeSet K) (added : List K) : Type 0 where
+-- the keys that were added
+pub record AreKeys {K : Type 0} (cmp : K → K → Ordering) (once : BTreeSet K) (added : List K) : Type 0 where
   pub has : (key : K) → contains cmp once key ≡ list_any (eq_by_cmp cmp key) added
-  pub shared : (key : K) → contains cmp twice key ≡ nat_le 2 (count_by (eq_by_cmp cmp key) added)
+
+-- where a key stands beside the one that is asked for: 0 below it, 1 where they are equal, 2 above it
+abbrev pub rank : {K : Type 0} → (K → K → Ordering) → K → K → ℕ
+rank cmp asked key = ordering_index (cmp key asked)
+
+-- the numbers of the items do not fall, from n on
+abbrev pub RisesFrom : {K : Type 0} → (K → ℕ) → ℕ → List K → Type 0
+RisesFrom number n [] = ⊤
+RisesFrom number n (key ∷ keys) = (n ≤ number key) × RisesFrom number (number key) keys
+
+-- the keys of `rest` are not below the one that is asked for, those equal to it stand first, and they are all of `whole`
+pub record HoldsFrom {K : Type 0} (cmp : K → K → Ordering) (same : K → K → Bool) (asked : K) (whole rest : List K) : Type 0 where
+  pub rises : RisesFrom (rank cmp asked) 1 rest
+  pub all : count_by (same asked) rest ≡ count_by (same asked) whole

@@ -2,8 +2,10 @@
 ghost use Rattle.std.specs.Prelude.{◌≡◌};
 ghost use Rattle.can_diagnostics.specs.Keys.{key_of_table, key_of_comment, key_of_definition, key_of_default, key_of_attribute};
 ghost use Rattle.can_diagnostics.specs.Keys.{key_of_values, key_of_float, key_of_mux};
+ghost use Rattle.can_keys.specs.Mixes.{row_mix};
 ghost use Rattle.can_keys.specs.RowKeys.{target_of, row_key};
 
+use crate::mix::row_mix;
 use dbc_records::{
     AttrDef, AttrDefault, AttrRow, Comment, FloatRow, MuxRow, Object, TableRow, Target, ValueRow,
 };
@@ -59,6 +61,13 @@ impl<'a> Place<'a> {
 }
 
 impl<'a> Key<'a> {
+    /// A number that is made of the key: equal keys have equal numbers, and most others have others.
+    pub fn mix(&self) -> u64
+        ensures { result ≡ row_mix (row_key self.now) }
+    {
+        row_mix(self)
+    }
+
     /// The key of a value table.
     pub fn of_table(row: &'a TableRow) -> Key<'a>
         ensures { row_key result ≡ key_of_table row.now }

@@ -4,6 +4,7 @@
 //! list of all keys that were added, in order.
 #![tactic(auto)]
 
+mod apart;
 mod integers;
 mod key;
 mod keys;
@@ -12,7 +13,9 @@ mod names;
 mod numbers;
 mod row_keys;
 mod signal_names;
+mod sorted;
 
+pub use apart::all_differ;
 pub use integers::Integers;
 pub use key::{Key, Place};
 pub use names::Names;

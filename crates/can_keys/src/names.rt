@@ -1,19 +1,20 @@
 //! Names.
-ghost use Rattle.std.specs.Prelude.{◌≡◌, nat_le, not, [], ◌∷◌, ◌++◌, count_by, IfOk, OnOk, OnErr};
+ghost use Rattle.std.specs.Prelude.{◌≡◌, nat_le, All, map, count_by, IfOk};
 ghost use Rattle.std.specs.List.{list_any};
+ghost use Rattle.std.specs.List.Sorted.{IsPermutation};
 ghost use Rattle.std.specs.Str.{bytes_eq};
 ghost use Rattle.can_keys.specs.Mixes.{mixed_bytes};
 
-use crate::keys::Keys;
 use crate::mix::{Mixed, mixed_bytes};
+use crate::sorted::Sorted;
 use dbc_values::Memory;
 use std::alloc::Global;
 use std::marker::Model;
 
-/// Names that were added, in order.
+/// Names, in any order.
 #[derive(Drop)]
 pub struct Names<'a> {
-    keys: Keys<Mixed<&'a [u8]>>,
+    keys: Sorted<Mixed<&'a [u8]>>,
 }
 
 impl<'a> Model for Names<'a> {
@@ -38,36 +39,39 @@ fn mixed(name: &[u8]) -> Mixed<&[u8]>
     }
 }
 
+// The names behind their numbers.
+fn mixed_all<'a>(alloc: Global, names: &[&'a [u8]]) -> Result<Vec<Mixed<&'a [u8]>>, Memory>
+    ensures keys { IfOk result (λ keys. map (λ mixed. mixed.key.now) keys.items ≡ map (λ name. name.now) names.now) }
+    ensures mixes { IfOk result (λ keys. All (λ mixed. mixed.mix ≡ mixed_bytes 0 mixed.key.now) keys.items) }
+{
+    let mut keys = Vec::with_capacity(alloc, names.len())?;
+    for name in names {
+        keys.push(mixed(name))?;
+    }
+    Ok(keys)
+}
+
 impl<'a> Names<'a> {
-    /// No names. It takes no memory.
-    pub fn new(alloc: Global) -> Names<'a>
-        ensures { result ≡ [] }
+    /// These names.
+    pub fn of(alloc: Global, names: &[&'a [u8]]) -> Result<Names<'a>, Memory>
+        ensures { IfOk result (λ made. IsPermutation (map (λ name. name.now) names.now) made) }
     {
-        Names {
-            keys: Keys::new(alloc),
-        }
+        Ok(Names {
+            keys: Sorted::of(mixed_all(alloc, names)?),
+        })
     }
 
-    /// Adds the name, and answers whether it is new.
-    pub fn add(&mut self, name: &'a [u8]) -> Result<bool, Memory>
-        ensures added { OnOk result (self.new ≡ self.old ++ name.now ∷ []) }
-        ensures is_new { IfOk result (λ is_new. is_new ≡ not (list_any (bytes_eq name.now) self.old)) }
-        ensures err { OnErr result (self.new ≡ self.old) }
-    {
-        self.keys.add(mixed(name))
-    }
-
-    /// Whether the name was added.
+    /// Whether the name is among them.
     pub fn has(&self, name: &'a [u8]) -> bool
         ensures { result ≡ list_any (bytes_eq name.now) self.now }
     {
-        self.keys.once().contains(&mixed(name))
+        self.keys.has(mixed(name))
     }
 
-    /// Whether the name was added at least twice.
+    /// Whether the name is among them at least twice.
     pub fn is_shared(&self, name: &'a [u8]) -> bool
         ensures { result ≡ nat_le 2 (count_by (bytes_eq name.now) self.now) }
     {
-        self.keys.twice().contains(&mixed(name))
+        self.keys.is_shared(mixed(name))
     }
 }

@@ -1,16 +1,15 @@
 //! Numbers of messages.
-ghost use Rattle.std.specs.Prelude.{◌≡◌, ◌==◌, nat_le, not, [], ◌∷◌, ◌++◌, count_by, IfOk, OnOk, OnErr};
+ghost use Rattle.std.specs.Prelude.{◌≡◌, ◌==◌, nat_le, count_by};
 ghost use Rattle.std.specs.List.{list_any};
+ghost use Rattle.std.specs.List.Sorted.{IsPermutation};
 
-use crate::keys::Keys;
-use dbc_values::Memory;
-use std::alloc::Global;
+use crate::sorted::Sorted;
 use std::marker::Model;
 
-/// Numbers that were added, in order.
+/// Numbers, in any order.
 #[derive(Drop)]
 pub struct Numbers {
-    keys: Keys<u32>,
+    keys: Sorted<u32>,
 }
 
 impl Model for Numbers {
@@ -22,35 +21,26 @@ impl Model for Numbers {
 }
 
 impl Numbers {
-    /// No numbers. It takes no memory.
-    pub fn new(alloc: Global) -> Numbers
-        ensures { result ≡ [] }
+    /// These numbers. It takes no memory.
+    pub fn of(numbers: Vec<u32>) -> Numbers
+        ensures { IsPermutation numbers.items result }
     {
         Numbers {
-            keys: Keys::new(alloc),
+            keys: Sorted::of(numbers),
         }
     }
 
-    /// Adds the number, and answers whether it is new.
-    pub fn add(&mut self, number: u32) -> Result<bool, Memory>
-        ensures added { OnOk result (self.new ≡ self.old ++ number ∷ []) }
-        ensures is_new { IfOk result (λ is_new. is_new ≡ not (list_any (λ other. number == other) self.old)) }
-        ensures err { OnErr result (self.new ≡ self.old) }
-    {
-        self.keys.add(number)
-    }
-
-    /// Whether the number was added.
+    /// Whether the number is among them.
     pub fn has(&self, number: u32) -> bool
         ensures { result ≡ list_any (λ other. number == other) self.now }
     {
-        self.keys.once().contains(&number)
+        self.keys.has(number)
     }
 
-    /// Whether the number was added at least twice.
+    /// Whether the number is among them at least twice.
     pub fn is_shared(&self, number: u32) -> bool
         ensures { result ≡ nat_le 2 (count_by (λ other. number == other) self.now) }
     {
-        self.keys.twice().contains(&number)
+        self.keys.is_shared(number)
     }
 }

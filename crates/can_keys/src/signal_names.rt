@@ -1,28 +1,30 @@
 //! Signals by the numbers of their messages and their names.
-ghost use Rattle.std.specs.Prelude.{◌≡◌, not, [], ◌∷◌, ◌++◌, IfOk, OnOk, OnErr};
+ghost use Rattle.std.specs.Prelude.{◌≡◌, All, map, IfOk};
 ghost use Rattle.std.specs.List.{list_any};
+ghost use Rattle.std.specs.List.Sorted.{IsPermutation};
 ghost use Rattle.can_keys.specs.Mixes.{mixed_bytes};
-ghost use Rattle.can_keys.specs.SignalNames.{same_signal};
+ghost use Rattle.can_keys.specs.SignalNames.{same_signal, named_signal};
 
-use crate::keys::Keys;
 use crate::mix::{Mixed, mixed_bytes};
+use crate::sorted::Sorted;
 use dbc_values::Memory;
 use std::alloc::Global;
 use std::marker::Model;
 
-/// Signals that were added, in order: the number of the message, and the signal's name.
+/// Signals, in any order: the number of the message, and the signal's name.
 #[derive(Drop)]
 pub struct SignalNames<'a> {
-    keys: Keys<Mixed<(u32, &'a [u8])>>,
+    keys: Sorted<Mixed<(u32, &'a [u8])>>,
 }
 
 impl<'a> Model for SignalNames<'a> {
     ghost use Rattle.std.specs.Prelude.{◌≡◌, ℕ, List, All, map};
     ghost use Rattle.can_keys.specs.Mixes.{mixed_bytes};
+    ghost use Rattle.can_keys.specs.SignalNames.{named_signal};
 
     ghost Value = { List (ℕ × List ℕ) };
 
-    ghost view = { λ names. map (λ mixed. (mixed.key.0, mixed.key.1.now)) names.keys };
+    ghost view = { λ names. map (λ mixed. named_signal mixed.key) names.keys };
 
     ghost invariant = { λ names. All (λ mixed. mixed.mix ≡ mixed_bytes mixed.key.0 mixed.key.1.now) names.keys };
 }
@@ -39,29 +41,35 @@ fn mixed<'a>(key: (u32, &'a [u8])) -> Mixed<(u32, &'a [u8])>
     }
 }
 
+// The signals behind their numbers.
+fn mixed_all<'a>(
+    alloc: Global,
+    signals: &[(u32, &'a [u8])],
+) -> Result<Vec<Mixed<(u32, &'a [u8])>>, Memory>
+    ensures keys { IfOk result (λ keys. map (λ mixed. named_signal mixed.key) keys.items ≡ map named_signal signals.now) }
+    ensures mixes { IfOk result (λ keys. All (λ mixed. mixed.mix ≡ mixed_bytes mixed.key.0 mixed.key.1.now) keys.items) }
+{
+    let mut keys = Vec::with_capacity(alloc, signals.len())?;
+    for signal in signals {
+        keys.push(mixed(*signal))?;
+    }
+    Ok(keys)
+}
+
 impl<'a> SignalNames<'a> {
-    /// No signals. It takes no memory.
-    pub fn new(alloc: Global) -> SignalNames<'a>
-        ensures { result ≡ [] }
+    /// These signals.
+    pub fn of(alloc: Global, signals: &[(u32, &'a [u8])]) -> Result<SignalNames<'a>, Memory>
+        ensures { IfOk result (λ made. IsPermutation (map named_signal signals.now) made) }
     {
-        SignalNames {
-            keys: Keys::new(alloc),
-        }
+        Ok(SignalNames {
+            keys: Sorted::of(mixed_all(alloc, signals)?),
+        })
     }
 
-    /// Adds the signal, and answers whether it is new.
-    pub fn add(&mut self, key: (u32, &'a [u8])) -> Result<bool, Memory>
-        ensures added { OnOk result (self.new ≡ self.old ++ (key.entry.0, key.entry.1.now) ∷ []) }
-        ensures is_new { IfOk result (λ is_new. is_new ≡ not (list_any (same_signal (key.entry.0, key.entry.1.now)) self.old)) }
-        ensures err { OnErr result (self.new ≡ self.old) }
-    {
-        self.keys.add(mixed(key))
-    }
-
-    /// Whether the signal was added.
+    /// Whether the signal is among them.
     pub fn has(&self, key: (u32, &'a [u8])) -> bool
         ensures { result ≡ list_any (same_signal (key.entry.0, key.entry.1.now)) self.now }
     {
-        self.keys.once().contains(&mixed(key))
+        self.keys.has(mixed(key))
     }
 }

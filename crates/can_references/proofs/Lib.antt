@@ -1,2 +1,5 @@
 pub mod Rows
 pub mod Pushing
+pub mod Alone
+pub mod ByKind
+pub mod Alike

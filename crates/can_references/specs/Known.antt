@@ -1,6 +1,7 @@
 -- What the whole of a database says of a number, a name or a node: lists of keys in the order of the database.
-use Rattle.std.specs.Prelude.{◌≡◌, ◌||◌, ℕ, Bool, List, [], ◌∷◌, Option, Some, None, map, codes}
+use Rattle.std.specs.Prelude.{◌||◌, ℕ, Bool, List, [], ◌∷◌, Option, Some, None, map, codes}
 use Rattle.std.specs.List.{flat_map}
+use Rattle.std.specs.List.Sorted.{IsPermutation}
 use Rattle.std.specs.Str.{bytes_eq}
 use Rattle.dbc_records.specs.Records.{Message}
 use Rattle.dbc_records.specs.Databases.{Database}
@@ -45,12 +46,12 @@ is_known_node database name = stands_in bytes_eq name database.nodes || bytes_eq
 
 -- ---- what is found by keys
 
--- these are all keys of a database
+-- these are all keys of a database, each kind in any order
 pub record IsKnown (database : Database) (numbers : List ℕ) (names : List (List ℕ)) (groups : List ℕ) (signals : List (ℕ × List ℕ))
     (nodes defined : List (List ℕ)) : Type 0 where
-  pub all_numbers : numbers ≡ numbers_of database
-  pub all_names : names ≡ names_of database
-  pub all_groups : groups ≡ groups_of database
-  pub all_signals : signals ≡ signals_of database
-  pub all_nodes : nodes ≡ database.nodes
-  pub all_defined : defined ≡ defined_in database
+  pub all_numbers : IsPermutation (numbers_of database) numbers
+  pub all_names : IsPermutation (names_of database) names
+  pub all_groups : IsPermutation (groups_of database) groups
+  pub all_signals : IsPermutation (signals_of database) signals
+  pub all_nodes : IsPermutation database.nodes nodes
+  pub all_defined : IsPermutation (defined_in database) defined

@@ -71,12 +71,16 @@ is_undefined database (keys.Mux number signal) = false
 
 -- ---- all of it
 
+-- of a row whose key a row before it has, or none
+unfoldable pub faults_of_row : Database → Bool → RowKey → List Diagnostic
+faults_of_row database is_repeated key =
+    where_true (is_dangling database key) (of_row codes.DanglingRow key)
+    ++ (where_true is_repeated (of_row codes.RepeatedRow key)
+    ++ where_true (is_undefined database key) (of_row codes.UnknownAttribute key))
+
 -- of a row, given the rows before it
 unfoldable pub row_fault : Database → List RowKey → RowKey → List Diagnostic
-row_fault database before key =
-    where_true (is_dangling database key) (of_row codes.DanglingRow key)
-    ++ (where_true (stands_in same_key key before) (of_row codes.RepeatedRow key)
-    ++ where_true (is_undefined database key) (of_row codes.UnknownAttribute key))
+row_fault database before key = faults_of_row database (stands_in same_key key before) key
 
 unfoldable pub row_faults : Database → List Diagnostic
 row_faults database = each_after (row_fault database) [] (row_keys database)

@@ -1,8 +1,9 @@
 //! What the whole of a database says of numbers, names and nodes, found by keys.
 ghost use Rattle.std.specs.Prelude.{◌≡◌, ◌==◌, ◌++◌, IfOk, OnOk, map};
 ghost use Rattle.std.specs.List.{flat_map};
+ghost use Rattle.std.specs.List.Sorted.{IsPermutation};
 ghost use Rattle.std.specs.Str.{bytes_eq};
-ghost use Rattle.can_keys.specs.SignalNames.{same_signal};
+ghost use Rattle.can_keys.specs.SignalNames.{same_signal, named_signal};
 ghost use Rattle.can_rows.specs.Groups.{group_of};
 ghost use Rattle.can_references.specs.Finding.{is_shared, stands_in};
 ghost use Rattle.can_references.specs.Known.{numbers_of, names_of, groups_of, signals_in, signals_of, defined_in, perhaps};
@@ -43,87 +44,90 @@ impl<'a, L: Lookup> Model for Known<'a, L> {
 }
 
 fn numbers_of(alloc: Global, messages: &[Message]) -> Result<Numbers, Memory>
-    ensures { IfOk result (λ numbers. numbers ≡ map (λ message. message.head.number) messages.now) }
+    ensures { IfOk result (IsPermutation (map (λ message. message.head.number) messages.now)) }
 {
-    let mut numbers = Numbers::new(alloc);
+    let mut numbers = Vec::with_capacity(alloc, messages.len())?;
     for message in messages {
-        numbers.add(message.head.number)?;
+        numbers.push(message.head.number)?;
     }
-    Ok(numbers)
+    Ok(Numbers::of(numbers))
 }
 
 fn names_of<'a>(alloc: Global, messages: &'a [Message]) -> Result<Names<'a>, Memory>
-    ensures { IfOk result (λ names. names ≡ map (λ message. message.head.name) messages.now) }
+    ensures { IfOk result (IsPermutation (map (λ message. message.head.name) messages.now)) }
 {
-    let mut names = Names::new(alloc);
+    let mut names = Vec::with_capacity(alloc, messages.len())?;
     for message in messages {
-        names.add(message.head.name.as_bytes())?;
+        names.push(message.head.name.as_bytes())?;
     }
-    Ok(names)
+    Names::of(alloc, names.as_slice())
 }
 
 // The groups of messages of a database whose rows are found by `lookup`.
 fn groups_of<L: Lookup>(alloc: Global, lookup: &L, messages: &[Message]) -> Result<Numbers, Memory>
-    ensures { IfOk result (λ numbers. numbers ≡ flat_map (λ message. perhaps (group_of message.head.number (L.whole lookup.now)))
-        messages.now) }
+    ensures { IfOk result (IsPermutation (flat_map (λ message. perhaps (group_of message.head.number (L.whole lookup.now)))
+        messages.now)) }
 {
-    let mut numbers = Numbers::new(alloc);
+    let mut numbers = Vec::new(alloc);
     for message in messages {
         if let Some(group) = group_in(lookup, message.head.number) {
-            numbers.add(group)?;
+            numbers.push(group)?;
         }
     }
-    Ok(numbers)
+    Ok(Numbers::of(numbers))
 }
 
 // Adds the signals of a message of a number.
 fn add_signals<'a>(
-    names: &mut SignalNames<'a>,
+    names: &mut Vec<(u32, &'a [u8])>,
     number: u32,
     signals: &'a [Signal],
 ) -> Result<(), Memory>
-    ensures { OnOk result (names.new ≡ names.old ++ map (λ signal. (number, signal.name)) signals.now) }
+    ensures { OnOk result (map named_signal names.new.items ≡ map named_signal names.old.items ++ map (λ signal. (
+      number,
+      signal.name,
+    )) signals.now) }
 {
     for signal in signals {
-        names.add((number, signal.name.as_bytes()))?;
+        names.push((number, signal.name.as_bytes()))?;
     }
     Ok(())
 }
 
-fn add_message<'a>(names: &mut SignalNames<'a>, message: &'a Message) -> Result<(), Memory>
-    ensures { OnOk result (names.new ≡ names.old ++ signals_in message.now) }
+fn add_message<'a>(names: &mut Vec<(u32, &'a [u8])>, message: &'a Message) -> Result<(), Memory>
+    ensures { OnOk result (map named_signal names.new.items ≡ map named_signal names.old.items ++ signals_in message.now) }
 {
     add_signals(names, message.head.number, message.signals.as_slice())
 }
 
 fn signals_of<'a>(alloc: Global, messages: &'a [Message]) -> Result<SignalNames<'a>, Memory>
-    ensures { IfOk result (λ names. names ≡ flat_map signals_in messages.now) }
+    ensures { IfOk result (IsPermutation (flat_map signals_in messages.now)) }
 {
-    let mut names = SignalNames::new(alloc);
+    let mut names = Vec::new(alloc);
     for message in messages {
         add_message(&mut names, message)?;
     }
-    Ok(names)
+    SignalNames::of(alloc, names.as_slice())
 }
 
 fn names_among<'a>(alloc: Global, names: &'a [Name]) -> Result<Names<'a>, Memory>
-    ensures { IfOk result (λ added. added ≡ names.now) }
+    ensures { IfOk result (IsPermutation names.now) }
 {
-    let mut added = Names::new(alloc);
+    let mut added = Vec::with_capacity(alloc, names.len())?;
     for name in names {
-        added.add(name.as_bytes())?;
+        added.push(name.as_bytes())?;
     }
-    Ok(added)
+    Names::of(alloc, added.as_slice())
 }
 
 fn defined_in<'a>(alloc: Global, definitions: &'a [AttrDef]) -> Result<Names<'a>, Memory>
-    ensures { IfOk result (λ names. names ≡ map (λ definition. definition.name) definitions.now) }
+    ensures { IfOk result (IsPermutation (map (λ definition. definition.name) definitions.now)) }
 {
-    let mut names = Names::new(alloc);
+    let mut names = Vec::with_capacity(alloc, definitions.len())?;
     for definition in definitions {
-        names.add(definition.name.as_bytes())?;
+        names.push(definition.name.as_bytes())?;
     }
-    Ok(names)
+    Names::of(alloc, names.as_slice())
 }
 
 impl<'a, L: Lookup> Known<'a, L> {

@@ -1,18 +1,21 @@
 //! What is doubtful of rows.
-ghost use Rattle.std.specs.Prelude.{◌≡◌, [], ◌∷◌, ◌++◌, OnOk, map};
+ghost use Rattle.std.specs.Prelude.{◌≡◌, false, [], ◌∷◌, ◌++◌, IfOk, OnOk, map};
+ghost use Rattle.std.specs.List.{flat_map};
+ghost use Rattle.can_keys.specs.Mixes.{row_mix};
 ghost use Rattle.can_keys.specs.RowKeys.{target_of, row_key};
 ghost use Rattle.can_diagnostics.specs.Diagnostics.{of_row};
 ghost use Rattle.can_references.specs.Finding.{where_true, each_after};
 ghost use Rattle.can_references.specs.RowFaults.{lacks_signal, lacks_target, is_dangling, lacks_definition, is_undefined};
-ghost use Rattle.can_references.specs.RowFaults.{row_fault, front_keys, attribute_keys, signal_keys, row_faults};
+ghost use Rattle.can_references.specs.RowFaults.{faults_of_row, row_fault, front_keys, attribute_keys, signal_keys, row_faults};
 
 use crate::known::Known;
 use crate::row::Row;
 use can_diagnostics::{Code, Diagnostic};
-use can_keys::{Key, Place, RowKeys};
+use can_keys::{Key, Place, RowKeys, all_differ};
 use can_rows::Lookup;
 use dbc_records::Database;
 use dbc_values::Memory;
+use std::alloc::Global;
 
 // Whether no message of the number has the signal.
 fn lacks_signal<'a, L: Lookup>(known: &Known<'a, L>, number: u32, name: &'a [u8]) -> bool
@@ -81,8 +84,24 @@ fn push_where<R: Row>(
     Ok(())
 }
 
+// Adds what is doubtful of a row whose key a row before it has, or none.
+#[tactic(auto, using(crate::proofs::Pushing::pushed_then), unfolding(crate::specs::RowFaults::faults_of_row))]
+fn push_faults_of_row<'a, L: Lookup, R: Row>(
+    found: &mut Vec<Diagnostic>,
+    known: &Known<'a, L>,
+    row: &'a R,
+    is_repeated: bool,
+) -> Result<(), Memory>
+    ensures { OnOk result (found.new.items ≡ found.old.items ++ faults_of_row known.now is_repeated (R.key_of row.now)) }
+{
+    let key = row.key();
+    push_where(found, is_dangling(known, key), Code::DanglingRow, row)?;
+    push_where(found, is_repeated, Code::RepeatedRow, row)?;
+    push_where(found, is_undefined(known, key), Code::UnknownAttribute, row)
+}
+
 /// Adds what is doubtful of a row, given the rows before it, and takes it among them.
-#[tactic(auto, using(crate::proofs::Pushing::pushed_then), unfolding(crate::specs::RowFaults::row_fault))]
+#[tactic(auto, unfolding(crate::specs::RowFaults::row_fault))]
 pub fn push_row<'a, L: Lookup, R: Row>(
     found: &mut Vec<Diagnostic>,
     known: &Known<'a, L>,
@@ -92,79 +111,105 @@ pub fn push_row<'a, L: Lookup, R: Row>(
     ensures found { OnOk result (found.new.items ≡ found.old.items ++ row_fault known.now seen.old (R.key_of row.now)) }
     ensures seen { OnOk result (seen.new ≡ seen.old ++ R.key_of row.now ∷ []) }
 {
-    let key = row.key();
-    let is_new = seen.add(key)?;
-    push_where(found, is_dangling(known, key), Code::DanglingRow, row)?;
-    push_where(found, !is_new, Code::RepeatedRow, row)?;
-    push_where(found, is_undefined(known, key), Code::UnknownAttribute, row)
+    let is_new = seen.add(row.key())?;
+    push_faults_of_row(found, known, row, !is_new)
 }
 
-// Adds what is doubtful of rows of one kind, given the rows before them.
-fn push_rows<'a, L: Lookup, R: Row>(
+// Adds what is doubtful of rows of one kind, each beside those before it.
+fn push_in_turn<'a, L: Lookup, R: Row>(
     found: &mut Vec<Diagnostic>,
     known: &Known<'a, L>,
-    seen: &mut RowKeys<'a>,
     rows: &'a [R],
 ) -> Result<(), Memory>
-    ensures found { OnOk result (found.new.items ≡ found.old.items ++ each_after (row_fault known.now) seen.old
-        (map R.key_of rows.now)) }
-    ensures seen { OnOk result (seen.new ≡ seen.old ++ map R.key_of rows.now) }
+    ensures { OnOk result (found.new.items ≡ found.old.items ++ each_after (row_fault known.now) [] (map R.key_of rows.now)) }
 {
+    let mut seen = RowKeys::new(*found.allocator());
     for row in rows {
-        push_row(found, known, seen, row)?;
+        push_row(found, known, &mut seen, row)?;
     }
     Ok(())
 }
 
-#[tactic(auto, using(crate::proofs::Rows::after_then), unfolding(crate::specs::RowFaults::front_keys))]
+// Adds what is doubtful of rows none of which is repeated.
+fn push_alone<'a, L: Lookup, R: Row>(
+    found: &mut Vec<Diagnostic>,
+    known: &Known<'a, L>,
+    rows: &'a [R],
+) -> Result<(), Memory>
+    ensures { OnOk result (found.new.items ≡ found.old.items ++ flat_map (faults_of_row known.now false) (map R.key_of
+        rows.now)) }
+{
+    for row in rows {
+        push_faults_of_row(found, known, row, false)?;
+    }
+    Ok(())
+}
+
+// The numbers of the rows' keys.
+fn mixes_of<R: Row>(alloc: Global, rows: &[R]) -> Result<Vec<u64>, Memory>
+    ensures { IfOk result (λ mixes. mixes.items ≡ map row_mix (map R.key_of rows.now)) }
+{
+    let mut mixes = Vec::with_capacity(alloc, rows.len())?;
+    for row in rows {
+        mixes.push(row.key().mix())?;
+    }
+    Ok(mixes)
+}
+
+// Adds what is doubtful of rows of one kind. Where the numbers of their keys differ, and mostly they do, no row is repeated, and no
+// key is kept.
+fn push_rows<'a, L: Lookup, R: Row>(
+    found: &mut Vec<Diagnostic>,
+    known: &Known<'a, L>,
+    rows: &'a [R],
+) -> Result<(), Memory>
+    ensures { OnOk result (found.new.items ≡ found.old.items ++ each_after (row_fault known.now) [] (map R.key_of rows.now)) }
+{
+    if all_differ(mixes_of(*found.allocator(), rows)?) {
+        push_alone(found, known, rows)
+    } else {
+        push_in_turn(found, known, rows)
+    }
+}
+
 fn push_front<'a, L: Lookup>(
     found: &mut Vec<Diagnostic>,
     known: &Known<'a, L>,
-    seen: &mut RowKeys<'a>,
     database: &'a Database,
 ) -> Result<(), Memory>
-    ensures found { OnOk result (found.new.items ≡ found.old.items ++ each_after (row_fault known.now) seen.old
-        (front_keys database.now)) }
-    ensures seen { OnOk result (seen.new ≡ seen.old ++ front_keys database.now) }
+    ensures { OnOk result (found.new.items ≡ found.old.items ++ each_after (row_fault known.now) [] (front_keys database.now)) }
 {
-    push_rows(found, known, seen, database.tables.as_slice())?;
-    push_rows(found, known, seen, database.comments.as_slice())
+    push_rows(found, known, database.tables.as_slice())?;
+    push_rows(found, known, database.comments.as_slice())
 }
 
-#[tactic(auto, using(crate::proofs::Rows::after_then), unfolding(crate::specs::RowFaults::attribute_keys))]
 fn push_attributes<'a, L: Lookup>(
     found: &mut Vec<Diagnostic>,
     known: &Known<'a, L>,
-    seen: &mut RowKeys<'a>,
     database: &'a Database,
 ) -> Result<(), Memory>
-    ensures found { OnOk result (found.new.items ≡ found.old.items ++ each_after (row_fault known.now) seen.old
-        (attribute_keys database.now)) }
-    ensures seen { OnOk result (seen.new ≡ seen.old ++ attribute_keys database.now) }
+    ensures { OnOk result (found.new.items ≡ found.old.items ++ each_after (row_fault known.now) [] (attribute_keys
+        database.now)) }
 {
-    push_rows(found, known, seen, database.definitions.as_slice())?;
-    push_rows(found, known, seen, database.defaults.as_slice())?;
-    push_rows(found, known, seen, database.attributes.as_slice())
+    push_rows(found, known, database.definitions.as_slice())?;
+    push_rows(found, known, database.defaults.as_slice())?;
+    push_rows(found, known, database.attributes.as_slice())
 }
 
-#[tactic(auto, using(crate::proofs::Rows::after_then), unfolding(crate::specs::RowFaults::signal_keys))]
 fn push_signal_rows<'a, L: Lookup>(
     found: &mut Vec<Diagnostic>,
     known: &Known<'a, L>,
-    seen: &mut RowKeys<'a>,
     database: &'a Database,
 ) -> Result<(), Memory>
-    ensures found { OnOk result (found.new.items ≡ found.old.items ++ each_after (row_fault known.now) seen.old
-        (signal_keys database.now)) }
-    ensures seen { OnOk result (seen.new ≡ seen.old ++ signal_keys database.now) }
+    ensures { OnOk result (found.new.items ≡ found.old.items ++ each_after (row_fault known.now) [] (signal_keys
+        database.now)) }
 {
-    push_rows(found, known, seen, database.values.as_slice())?;
-    push_rows(found, known, seen, database.floats.as_slice())?;
-    push_rows(found, known, seen, database.muxes.as_slice())
+    push_rows(found, known, database.values.as_slice())?;
+    push_rows(found, known, database.floats.as_slice())?;
+    push_rows(found, known, database.muxes.as_slice())
 }
 
 /// Adds what is doubtful of the rows of a database: codes 16 to 18.
-#[tactic(auto, using(crate::proofs::Rows::after_then), unfolding(crate::specs::RowFaults::row_keys, crate::specs::RowFaults::row_faults))]
 pub fn push_row_faults<'a, L: Lookup>(
     found: &mut Vec<Diagnostic>,
     known: &Known<'a, L>,
@@ -172,8 +217,7 @@ pub fn push_row_faults<'a, L: Lookup>(
     ensures { OnOk result (found.new.items ≡ found.old.items ++ row_faults known.now) }
 {
     let database = known.database();
-    let mut seen = RowKeys::new(*found.allocator());
-    push_front(found, known, &mut seen, database)?;
-    push_attributes(found, known, &mut seen, database)?;
-    push_signal_rows(found, known, &mut seen, database)
+    push_front(found, known, database)?;
+    push_attributes(found, known, database)?;
+    push_signal_rows(found, known, database)
 }

@@ -1,42 +1,58 @@
 //! What no contract says: that calls succeed.
 
-use can_keys::{Key, Names, Numbers, Place, RowKeys, SignalNames};
+use can_keys::{Key, Names, Numbers, Place, RowKeys, SignalNames, all_differ};
 use dbc_records::{Comment, Object, Target};
 use dbc_values::Text;
 use std::test::Fail;
 
 #[test]
-fn numbers(rt: HostRuntime) {
-    let mut numbers = Numbers::new(rt.alloc());
-    assert_eq!(rt; numbers.add(5), Ok(true));
-    assert_eq!(rt; numbers.add(6), Ok(true));
-    assert_eq!(rt; numbers.add(5), Ok(false));
+fn numbers(rt: HostRuntime) -> Result<(), Fail> {
+    let mut added = Vec::new(rt.alloc());
+    added.push(5)?;
+    added.push(6)?;
+    added.push(5)?;
+    let numbers = Numbers::of(added);
     assert!(rt; numbers.has(6));
     assert!(rt; !numbers.has(7));
     assert!(rt; numbers.is_shared(5));
     assert!(rt; !numbers.is_shared(6));
+    Ok(())
 }
 
 #[test]
-fn names(rt: HostRuntime) {
-    let mut names = Names::new(rt.alloc());
-    assert_eq!(rt; names.add(b"a"), Ok(true));
-    assert_eq!(rt; names.add(b"ab"), Ok(true));
-    assert_eq!(rt; names.add(b"a"), Ok(false));
+fn names(rt: HostRuntime) -> Result<(), Fail> {
+    let added: [&[u8]; 3] = [b"a", b"ab", b"a"];
+    let names = Names::of(rt.alloc(), &added)?;
     assert!(rt; names.has(b"ab"));
     assert!(rt; !names.has(b"b"));
     assert!(rt; names.is_shared(b"a"));
     assert!(rt; !names.is_shared(b"ab"));
+    Ok(())
 }
 
 #[test]
-fn signals(rt: HostRuntime) {
-    let mut names = SignalNames::new(rt.alloc());
-    assert_eq!(rt; names.add((1, b"S")), Ok(true));
-    assert_eq!(rt; names.add((2, b"S")), Ok(true));
-    assert_eq!(rt; names.add((1, b"S")), Ok(false));
+fn signals(rt: HostRuntime) -> Result<(), Fail> {
+    let added: [(u32, &[u8]); 3] = [(1, b"S"), (2, b"S"), (1, b"S")];
+    let names = SignalNames::of(rt.alloc(), &added)?;
     assert!(rt; names.has((2, b"S")));
     assert!(rt; !names.has((2, b"T")));
+    assert!(rt; !names.has((3, b"S")));
+    Ok(())
+}
+
+#[test]
+fn mixes(rt: HostRuntime) -> Result<(), Fail> {
+    let mut mixes = Vec::new(rt.alloc());
+    mixes.push(Key::Default(b"n").mix())?;
+    mixes.push(Key::Default(b"m").mix())?;
+    mixes.push(Key::Default(b"o").mix())?;
+    assert!(rt; all_differ(mixes));
+    let mut twice = Vec::new(rt.alloc());
+    twice.push(Key::Default(b"n").mix())?;
+    twice.push(Key::Default(b"m").mix())?;
+    twice.push(Key::Default(b"n").mix())?;
+    assert!(rt; !all_differ(twice));
+    Ok(())
 }
 
 #[test]

@@ -3,4 +3,5 @@ use Rattle.can_references.proofs.known.defined_in.Given as goal
 
 -- the names so far
 abbrev pub invariant-loop-definition : goal.invariant-loop-definition
-invariant-loop-definition l = l.names ≡ map (λ definition. definition.name) (take l.definition-index l.definitions)
+invariant-loop-definition l = map (λ name. name.now) l.names.items
+    ≡ map (λ definition. definition.name) (take l.definition-index l.definitions)

@@ -6,5 +6,5 @@ use Rattle.can_references.proofs.known.groups_of.Given as goal
 
 -- the groups of the messages so far
 abbrev pub invariant-loop-message : goal.invariant-loop-message
-invariant-loop-message g l = l.numbers ≡ flat_map (λ message. perhaps (group_of message.head.number (g.L.Lookup.whole l.lookup)))
-    (take l.message-index l.messages)
+invariant-loop-message g l = l.numbers.items
+    ≡ flat_map (λ message. perhaps (group_of message.head.number (g.L.Lookup.whole l.lookup))) (take l.message-index l.messages)

@@ -3,4 +3,4 @@ use Rattle.can_references.proofs.known.numbers_of.Given as goal
 
 -- the numbers of the messages so far
 abbrev pub invariant-loop-message : goal.invariant-loop-message
-invariant-loop-message l = l.numbers ≡ map (λ message. message.head.number) (take l.message-index l.messages)
+invariant-loop-message l = l.numbers.items ≡ map (λ message. message.head.number) (take l.message-index l.messages)

@@ -1,10 +1,12 @@
-use Rattle.can_references.specs.RowFaults.{row_fault}
-use Rattle.can_references.proofs.Rows.{more_after}
+use Rattle.std.proofs.Common.{◌≡◌, ◌++◌, List, map, subst, eqb}
+use Rattle.std.specs.Prelude.{OnOk}
+use Rattle.std.specs.List.{IsDistinct}
+use Rattle.can_diagnostics.specs.declared.diagnostic.Diagnostic.{Diagnostic}
+use Rattle.can_references.proofs.Alone.{each_alone}
 use Rattle.can_references.proofs.row_rules.push_rows.Goals as goal
 
-pub loop-row-preserved : goal.loop-row-preserved
-loop-row-preserved g c =
-    let more = more_after (row_fault c.args.known.now) g.R.Row.key_of c.args.rows.now c.loop-row.row-index c.row-item.result
-    c.loop-row-test.true c.row-item.is _ _ _ _ _ _
-    c.loop-row.invariant.found c.loop-row.invariant.seen c.in_ok-push_row.ensures.found c.in_ok-push_row.ensures.seen in
-    record { found = more.0; seen = more.1 }
+pub returns-then-all_differ : goal.returns-then-all_differ
+returns-then-all_differ g c =
+    let differ = subst (IsDistinct eqb) c.in_ok-mixes_of.ensures (c.all_differ.ensures.0 c.if-all_differ.true) in
+    subst (λ (l : List Diagnostic). OnOk c.push_alone.result (c.push_alone.new.found.items ≡ c.args.found.now.items ++ l))
+    (each_alone c.args.known.now (map g.R.Row.key_of c.args.rows.now) differ) c.push_alone.ensures

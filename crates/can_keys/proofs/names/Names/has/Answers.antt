@@ -5,7 +5,7 @@ use Rattle.can_keys.proofs.names.Names.has.Goals as goal
 
 pub returns : goal.returns
 returns c =
-    c.contains.ensures ∙ c.once.ensures c.mixed.result
+    c.has.ensures
     ∙ any_alike _ _ (bytes_eq c.args.name.now) (λ mixed. mixed.key.now)
     (λ x is. names_alike _ _ _ x.key.now x.mix c.mixed.ensures.mix c.mixed.ensures.key is) c.self.inside.keys c.self.invariant
     ∙ ap (list_any (bytes_eq c.args.name.now)) c.self.view_is

@@ -5,7 +5,7 @@ use Rattle.can_keys.proofs.names.Names.is_shared.Goals as goal
 
 pub returns : goal.returns
 returns c =
-    c.contains.ensures ∙ c.twice.ensures c.mixed.result
+    c.is_shared.ensures
     ∙ ap (nat_le 2) (count_alike _ _ (bytes_eq c.args.name.now) (λ mixed. mixed.key.now)
     (λ x is. names_alike _ _ _ x.key.now x.mix c.mixed.ensures.mix c.mixed.ensures.key is) c.self.inside.keys c.self.invariant
     ∙ ap (count_by (bytes_eq c.args.name.now)) c.self.view_is)

@@ -1,0 +1,26 @@
+//! Numbers that differ.
+ghost use Rattle.std.specs.Prelude.{◌↔◌, eqb, IsTrue};
+ghost use Rattle.std.specs.List.{IsDistinct};
+ghost use Rattle.std.specs.List.Sorted.{IsStrictlyIncreasing};
+
+// Whether each number is below the next.
+fn rise(numbers: &[u64]) -> bool
+    ensures { IsTrue result ↔ IsStrictlyIncreasing numbers.now }
+{
+    let mut place = 1;
+    while place < numbers.len() {
+        if numbers[place] <= numbers[place - 1] {
+            return false;
+        }
+        place += 1;
+    }
+    true
+}
+
+/// Whether no two of the numbers are equal.
+pub fn all_differ(mut numbers: Vec<u64>) -> bool
+    ensures { IsTrue result ↔ IsDistinct eqb numbers.items }
+{
+    numbers.sort_unstable();
+    rise(numbers.as_slice())
+}
