@@ -9,7 +9,7 @@ use crate::report::{Report, Stop};
 use can_diagnostics::{Code, Diagnostic};
 use can_layout::{Field, Walk, fields_of};
 use can_overlap::laws::pairs_by_signal;
-use can_overlap::{Marked, Occupancy, Pair};
+use can_overlap::{Marked, Occupancy, Pair, are_seen_apart};
 use can_references::is_pseudo;
 use dbc_records::{Head, Message, Signal};
 use dbc_values::Memory;
@@ -108,7 +108,7 @@ fn report_marked<T: Report>(
     Ok(())
 }
 
-// Hands on the pairs of signals that lie in these fields.
+// Hands on the pairs of signals that lie in these fields. Most lie one behind the other, and then there are none.
 fn report_laid<T: Report>(
     to: &mut T,
     occupancy: Occupancy,
@@ -120,11 +120,11 @@ fn report_laid<T: Report>(
     requires few { length fields.now ≤ 999 }
     ensures { Takes T.Took T.Stopped to.old to.new result (flat_map (pair_at message.now) (overlapping fields.now walks.now)) }
 {
-    pairs_by_signal(fields, walks);
-    let count = fields.len().saturating_sub(1);
-    if count == 0 {
+    if are_seen_apart(fields) {
         return Ok(occupancy);
     }
+    pairs_by_signal(fields, walks);
+    let count = fields.len().saturating_sub(1);
     let alloc = occupancy.allocator();
     let marked = occupancy.marked(fields, walks)?;
     report_marked(to, alloc, message, &marked, count)?;

@@ -1,3 +1,4 @@
+pub mod Apart
 pub mod Occupancy
 pub mod Ordered
 pub mod Overlaps

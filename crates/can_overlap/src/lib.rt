@@ -5,6 +5,7 @@
 #![tactic(auto)]
 
 mod agreeing;
+mod apart;
 mod beside;
 pub mod laws;
 mod occupancy;
@@ -19,5 +20,6 @@ mod tidy;
 mod ways;
 
 pub use agreeing::together;
+pub use apart::are_seen_apart;
 pub use occupancy::{Marked, Occupancy};
 pub use pair::Pair;

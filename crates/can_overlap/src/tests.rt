@@ -2,6 +2,7 @@
 ghost use Rattle.std.specs.Prelude.{◌≡◌, ◌≤◌, length};
 
 use crate::agreeing::together;
+use crate::apart::are_seen_apart;
 use crate::occupancy::Occupancy;
 use crate::pair::Pair;
 use crate::places::Places;
@@ -174,5 +175,28 @@ fn ranges_in_any_order(rt: HostRuntime) -> Result<(), Fail> {
     assert!(rt; touching);
     let between = do_meet(rt.alloc(), &these, &[Range { first: 3, last: 6 }])?;
     assert!(rt; !between);
+    Ok(())
+}
+
+// Four signals of 16 bits, one behind the other in either order of bytes, and one that shares a bit with the first.
+#[test]
+fn signals_behind_each_other(rt: HostRuntime) -> Result<(), Fail> {
+    let motorola = |start| Field {
+        start,
+        length: 16,
+        intel: false,
+    };
+    assert_eq!(rt;
+        are_seen_apart(&[intel(48, 16), intel(0, 16), intel(16, 16), intel(32, 16)]),
+        true
+    );
+    assert_eq!(rt;
+        are_seen_apart(&[motorola(7), motorola(23), motorola(39)]),
+        true
+    );
+    assert_eq!(rt;
+        are_seen_apart(&[intel(0, 16), intel(16, 16), intel(15, 1)]),
+        false
+    );
     Ok(())
 }
