@@ -76,10 +76,12 @@ fn entry_of<'a, R: Keyed>(row: &'a R) -> Entry<'a, R>
 fn order_of_rows<'a, R: Keyed>(first: &Entry<'a, R>, second: &Entry<'a, R>) -> Ordering
     ensures { result ≡ key_order (key_of R.signal_of first.now) (key_of R.signal_of second.now) }
 {
-    match first.mix.cmp(&second.mix) {
-        Ordering::Equal => first.row.signal().cmp(&second.row.signal()),
-        Ordering::Less => Ordering::Less,
-        Ordering::Greater => Ordering::Greater,
+    if first.mix == second.mix {
+        first.row.signal().cmp(&second.row.signal())
+    } else if first.mix < second.mix {
+        Ordering::Less
+    } else {
+        Ordering::Greater
     }
 }
 
@@ -87,10 +89,10 @@ fn order_of_rows<'a, R: Keyed>(first: &Entry<'a, R>, second: &Entry<'a, R>) -> O
 fn comes_before<'a, R: Keyed>(entry: &Entry<'a, R>, mix: u64, name: &[u8]) -> bool
     ensures { result ≡ is_lt (key_order (key_of R.signal_of entry.now) (mix, name.now)) }
 {
-    match entry.mix.cmp(&mix) {
-        Ordering::Equal => entry.row.signal().cmp(&name).is_lt(),
-        Ordering::Less => true,
-        Ordering::Greater => false,
+    if entry.mix == mix {
+        entry.row.signal().cmp(&name).is_lt()
+    } else {
+        entry.mix < mix
     }
 }
 
