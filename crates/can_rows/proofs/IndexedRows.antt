@@ -1,6 +1,7 @@
 -- The first row of a key, among the entries of an index.
-use Rattle.std.proofs.Common.{cond, ◌≢◌, nat_lt, [], ◌∷◌, ◌≡◌, ◌==◌, ◌&&◌, ◌+◌, ◌*◌, Bool, true, false, ℕ, List, length, get_or, refl, ap, sym, ◌∙◌, arith, None, Option, map, bytes_eq, filter}
-use Rattle.std.specs.List.{find, All}
+use Rattle.std.proofs.Common.{◌≡◌, ◌≢◌, ◌==◌, ◌&&◌, ◌+◌, ◌*◌, nat_lt, cond, Bool, true, false, ℕ, List, [], ◌∷◌, length}
+use Rattle.std.proofs.Common.{get_or, refl, ap, sym, ◌∙◌, arith, None, Option, map, bytes_eq, filter}
+use Rattle.std.specs.List.{find, All, AllWithin}
 use Rattle.std.specs.List.Sorted.{IsPartitionedBy, IsSortedBy, IsSortedByClosure, IsStableByClosure, IsStableBy, IsPermutation}
 use Rattle.std.specs.Option.{option_map}
 use Rattle.std.specs.declared.cmp.Ordering.{Ordering}
@@ -32,7 +33,8 @@ module _ {X : Type 0} where
   AnswersBy lt {F} g f = (a : Bor X × (Bor X × Unit {0})) (r : Ordering) (f' : F) → Called g f a r f'
       → (is_lt r ≡ lt a.0.now a.1.0.now) × (f' ≡ f)
 
-  module _ (lt : X → X → Bool) (weak : IsStrictWeakOrder lt) {F : Type 0} {g : Mut F (Bor X × (Bor X × Unit {0})) Ordering} {f : F} where
+  module _ (lt : X → X → Bool) (weak : IsStrictWeakOrder lt) {F : Type 0} {g : Mut F (Bor X × (Bor X × Unit {0})) Ordering}
+      {f : F} where
     pub sorted_by : (xs : List X) → IsSortedByClosure g f xs → AnswersBy lt g f → IsSortedBy lt xs
     sorted_by xs sorted answers = sorted lt weak (always_returns_same g (λ a r. is_lt r ≡ lt a.0.now a.1.0.now) f answers)
 
@@ -68,7 +70,7 @@ key_found a b same =
 nat_above : (a b : ℕ) → nat_lt a b ≡ false → a ≢ b → nat_cmp a b ≡ Greater
 nat_above a b least other = grind (arith, least, other)
 
-pub mix_below : (key : ℕ × List ℕ) (mix : ℕ) (name : List ℕ) → nat_lt key.0 mix ≡ true → is_lt (key_order key (mix, name)) ≡ true
+mix_below : (key : ℕ × List ℕ) (mix : ℕ) (name : List ℕ) → nat_lt key.0 mix ≡ true → is_lt (key_order key (mix, name)) ≡ true
 mix_below key mix name less =
     ap (λ b. is_lt (ordering_then (cond b Less (cond (key.0 == mix) Equal Greater)) (slice_cmp nat_cmp key.1 name))) less
 
@@ -92,6 +94,13 @@ parted_by_mix signal_of mix entries ordered i j d le below less =
     sym (below_mix (key_of signal_of (get_or entries i d)) mix)
     ∙ parted key_order-total (key_of signal_of) (mix, []) entries ordered i j d le below
     (below_mix (key_of signal_of (get_or entries j d)) mix ∙ less)
+
+-- entries with lower numbers come before the key
+pub ahead_by_mix : {R : Type 0} (signal_of : R → List ℕ) (mix : ℕ) (name : List ℕ) (entries : List (Entry R)) (i : ℕ)
+    → AllWithin (λ entry. nat_lt entry.mix mix ≡ true) entries 0 i
+    → AllWithin (λ entry. is_lt (key_order (key_of signal_of entry) (mix, name)) ≡ true) entries 0 i
+ahead_by_mix signal_of mix name entries i lower k d least below =
+    mix_below (key_of signal_of (get_or entries k d)) mix name (lower k d least below)
 
 same_mix : (a b mix : ℕ) → (a * 4294967296 + mix == b * 4294967296 + mix) ≡ (a == b)
 same_mix a b mix = grind arith
@@ -128,7 +137,8 @@ module _ {R : Type 0} (number_of : R → ℕ) (signal_of : R → List ℕ) (numb
       (λ k d below. own_key (get_or entries k d) (own k d below)))
 
   -- a stable sort leaves the first row of a key
-  pub first-stable : (entries sorted : List (Entry R)) → All (has_own_mix number_of signal_of) entries → IsPermutation entries sorted
+  pub first-stable : (entries sorted : List (Entry R)) → All (has_own_mix number_of signal_of) entries
+      → IsPermutation entries sorted
       → IsStableBy (λ a b. is_lt (key_order (key_of signal_of a) (key_of signal_of b))) entries sorted
       → first_row number_of signal_of number name (map (λ entry. entry.row.now) sorted)
       ≡ first_row number_of signal_of number name (map (λ entry. entry.row.now) entries)
@@ -139,10 +149,11 @@ module _ {R : Type 0} (number_of : R → ℕ) (signal_of : R → List ℕ) (numb
       (tied key_order-total (key_of signal_of) (key_mix number name, name)) entries sorted stable)
       ∙ sym (found entries own)
 
-  module _ (entries : List (Entry R)) (rows all : List R) (index : IsIndex number_of signal_of entries rows) (are : rows ≡ all) where
+  module _ (entries : List (Entry R)) (rows all : List R) (index : IsIndex number_of signal_of entries rows)
+      (are : rows ≡ all) where
     -- what is found in an index is the first row of the key
-    pub first_is : (answer : Option (Entry R)) (searched : List (Entry R)) (mix : ℕ) → searched ≡ entries → mix ≡ key_mix number name
-        → answer ≡ find (λ entry. is_eq (key_order (key_of signal_of entry) (mix, name))) searched
+    pub first_is : (answer : Option (Entry R)) (searched : List (Entry R)) (mix : ℕ) → searched ≡ entries
+        → mix ≡ key_mix number name → answer ≡ find (λ entry. is_eq (key_order (key_of signal_of entry) (mix, name))) searched
         → option_map (λ entry. entry.row.now) answer ≡ first_named signal_of name (filter (λ row. number_of row == number) all)
     first_is answer searched mix same own is =
         ap (option_map (λ entry. entry.row.now))

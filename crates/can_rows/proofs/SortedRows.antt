@@ -1,5 +1,6 @@
 -- The first element of a key: in a list and in one that a stable sort makes of it, and where a list is in the order of its keys.
-use Rattle.std.proofs.Common.{◌≡◌, ◌&&◌, ◌<◌, ◌≤◌, Bool, true, false, not, ℕ, List, [], ◌∷◌, Option, Some, None, cond, filter, map, length, get_or, refl, ap, sym, ◌∙◌, arith, suc, zero, ◌⊎◌, inl, inr, ⊎_elim, true≢false}
+use Rattle.std.proofs.Common.{◌≡◌, ◌&&◌, ◌<◌, ◌≤◌, Bool, true, false, true≢false, not, ℕ, suc, zero, List, [], ◌∷◌, Option}
+use Rattle.std.proofs.Common.{Some, None, cond, filter, map, length, get_or, refl, ap, sym, ◌∙◌, arith, ◌⊎◌, inl, inr, ⊎_elim}
 use Rattle.std.specs.List.{find, All, AllWithin}
 use Rattle.std.specs.Option.{option_map}
 use Rattle.std.specs.List.Sorted.{ties, IsStableBy, IsSortedBy, IsPartitionedBy, IsNonDecreasingBy}
@@ -107,7 +108,8 @@ other_behind Greater Equal rises least other = absurd (omega arith)
 other_behind Greater Greater rises least other = refl
 
 module _ {X K : Type 0} {R : K → K → Ordering} (o : IsTotalOrder R) (key : X → K) where
-  pub tied : (t : K) (x : X) → is_eq (R (key x) t) ≡ true → (y : X) → ties (λ x y. is_lt (R (key x) (key y))) x y ≡ is_eq (R (key y) t)
+  pub tied : (t : K) (x : X) → is_eq (R (key x) t) ≡ true → (y : X)
+      → ties (λ x y. is_lt (R (key x) (key y))) x y ≡ is_eq (R (key y) t)
   tied t x passes y =
       let equal : R (key x) t ≡ Equal = (Equal-is (R (key x) t)).0 passes in
       let ahead : R (key x) (key y) ≡ ordering_reverse (R (key y) t) = o.congr (key x) t (key y) equal ∙ o.antisymm t (key y) in

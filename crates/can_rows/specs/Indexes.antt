@@ -1,4 +1,4 @@
--- What an index of rows has at each key: the first row of the key.
+-- What an index of rows is: rows in the order of their keys, of which the first of each key is found.
 use Rattle.std.specs.Prelude.{◌≡◌, ℕ, List, Option, All, map}
 use Rattle.std.specs.Option.{option_map}
 use Rattle.std.specs.List.{find}
@@ -29,10 +29,12 @@ abbrev pub has_own_mix : {R : Type 0} → (R → ℕ) → (R → List ℕ) → E
 has_own_mix number_of signal_of entry = entry.mix ≡ key_mix (number_of entry.row.now) (signal_of entry.row.now)
 
 abbrev pub AreInOrder : {R : Type 0} → (R → List ℕ) → List (Entry R) → Type 0
-AreInOrder signal_of entries = IsSortedBy (λ first second. is_lt (key_order (key_of signal_of first) (key_of signal_of second))) entries
+AreInOrder signal_of entries =
+    IsSortedBy (λ first second. is_lt (key_order (key_of signal_of first) (key_of signal_of second))) entries
 
 -- entries in the order of their keys, of which the first of each key is the first row of the key
-pub record IsIndex {R : Type 0} (number_of : R → ℕ) (signal_of : R → List ℕ) (entries : List (Entry R)) (rows : List R) : Type 0 where
+pub record IsIndex {R : Type 0} (number_of : R → ℕ) (signal_of : R → List ℕ) (entries : List (Entry R)) (rows : List R)
+    : Type 0 where
   pub own_mixes : All (has_own_mix number_of signal_of) entries
   pub in_order : AreInOrder signal_of entries
   pub first_rows : (number : ℕ) (name : List ℕ) → first_row number_of signal_of number name (map (λ entry. entry.row.now) entries)

@@ -72,8 +72,8 @@ fn entry_of<'a, R: Keyed>(row: &'a R) -> Entry<'a, R>
     }
 }
 
-/// The order of two rows by their keys.
-fn order_of_rows<'a, R: Keyed>(first: &Entry<'a, R>, second: &Entry<'a, R>) -> Ordering
+/// The order of two entries by their keys.
+fn order_of<'a, R: Keyed>(first: &Entry<'a, R>, second: &Entry<'a, R>) -> Ordering
     ensures { result ≡ key_order (key_of R.signal_of first.now) (key_of R.signal_of second.now) }
 {
     if first.mix == second.mix {
@@ -85,7 +85,7 @@ fn order_of_rows<'a, R: Keyed>(first: &Entry<'a, R>, second: &Entry<'a, R>) -> O
     }
 }
 
-/// Whether a row comes before those of a key.
+/// Whether an entry comes before those of a key.
 fn comes_before<'a, R: Keyed>(entry: &Entry<'a, R>, mix: u64, name: &[u8]) -> bool
     ensures { result ≡ is_lt (key_order (key_of R.signal_of entry.now) (mix, name.now)) }
 {
@@ -113,17 +113,18 @@ fn entries_of<'a, R: Keyed>(alloc: Global, rows: &'a [R]) -> Result<Vec<Entry<'a
     Ok(entries)
 }
 
-/// How many rows come before those of a key.
+/// How many entries come before those of a key.
 fn place_of<'a, R: Keyed>(entries: &[Entry<'a, R>], mix: u64, name: &[u8]) -> usize
     requires { AreInOrder R.signal_of entries.now }
     ensures bound { result ≤ length entries.now }
-    ensures parted { IsPartitionPoint (λ (entry : PlainEntry R). is_lt (key_order (key_of R.signal_of entry) (mix, name.now)) ≡ true)
+    ensures parted { IsPartitionPoint
+        (λ (entry : PlainEntry R). is_lt (key_order (key_of R.signal_of entry) (mix, name.now)) ≡ true)
         (λ (entry : PlainEntry R). is_lt (key_order (key_of R.signal_of entry) (mix, name.now)) ≡ false) entries.now result }
 {
     entries.partition_point(|entry| comes_before(entry, mix, name))
 }
 
-/// The first row of a key, found by numbers and names.
+/// The first entry of a key, by numbers and names.
 fn entry_by_name<'a, 'e, R: Keyed>(
     entries: &'e [Entry<'a, R>],
     mix: u64,
@@ -144,7 +145,7 @@ fn entry_by_name<'a, 'e, R: Keyed>(
     }
 }
 
-/// How many rows have lower numbers.
+/// How many entries have lower numbers.
 fn place_of_mix<'a, R: Keyed>(entries: &[Entry<'a, R>], mix: u64) -> usize
     requires { AreInOrder R.signal_of entries.now }
     ensures bound { result ≤ length entries.now }
@@ -154,7 +155,7 @@ fn place_of_mix<'a, R: Keyed>(entries: &[Entry<'a, R>], mix: u64) -> usize
     entries.partition_point(|entry| entry.mix < mix)
 }
 
-/// The first row of a key, found by its number where no other key has that.
+/// The first entry of a key. By its number alone, where no other key has that.
 fn entry_at<'a, 'e, R: Keyed>(
     entries: &'e [Entry<'a, R>],
     mix: u64,
@@ -183,7 +184,7 @@ impl<'a, R: Keyed> Index<'a, R> {
         ensures { IfOk result (λ index. index ≡ rows.now) }
     {
         let mut entries = entries_of(alloc, rows)?;
-        entries.sort_by(|first, second| order_of_rows(first, second))?;
+        entries.sort_by(|first, second| order_of(first, second))?;
         Ok(Index { rows, entries })
     }
 
