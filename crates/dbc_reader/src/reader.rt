@@ -175,15 +175,15 @@ fn one_of_six(alloc: Global, at: &mut Cursor<'_>) -> Result<Statement, Stopped>
         return Ok(Statement::Signal(signal(alloc, at, &[])?));
     }
     if at.starts_word(b"VAL_TABLE_") {
-        *at = at.behind();
+        at.step();
         return Ok(Statement::Table(table(alloc, at)?));
     }
     if at.starts_word(b"VAL_") {
-        *at = at.behind();
+        at.step();
         return Ok(Statement::Values(values(alloc, at)?));
     }
     if at.starts_word(b"SG_MUL_VAL_") {
-        *at = at.behind();
+        at.step();
         return Ok(Statement::Mux(mux(alloc, at)?));
     }
     Ok(Statement::Attribute(message_attribute(alloc, at)?))
