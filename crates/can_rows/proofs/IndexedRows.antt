@@ -1,7 +1,7 @@
 -- The first row of a key, among the entries of an index.
-use Rattle.std.proofs.Common.{◌≡◌, ◌==◌, ◌&&◌, ◌+◌, ◌*◌, Bool, true, false, ℕ, List, length, get_or, refl, ap, sym, ◌∙◌, arith, None, Option, map, bytes_eq, filter}
+use Rattle.std.proofs.Common.{cond, ◌≢◌, nat_lt, [], ◌∷◌, ◌≡◌, ◌==◌, ◌&&◌, ◌+◌, ◌*◌, Bool, true, false, ℕ, List, length, get_or, refl, ap, sym, ◌∙◌, arith, None, Option, map, bytes_eq, filter}
 use Rattle.std.specs.List.{find, All}
-use Rattle.std.specs.List.Sorted.{IsSortedBy, IsSortedByClosure, IsStableByClosure, IsStableBy, IsPermutation}
+use Rattle.std.specs.List.Sorted.{IsPartitionedBy, IsSortedBy, IsSortedByClosure, IsStableByClosure, IsStableBy, IsPermutation}
 use Rattle.std.specs.Option.{option_map}
 use Rattle.std.specs.declared.cmp.Ordering.{Ordering}
 use Rattle.std.specs.declared.cmp.Ordering.TheVariants.{Less, Equal, Greater}
@@ -17,9 +17,9 @@ use Rattle.std.proofs.lemmas.List.Sorted.{All-permutation}
 use Rattle.can_rows.specs.declared.index.Entry.{Entry}
 use Rattle.can_rows.specs.Rows.{has_key, first_row, first_named}
 use Rattle.can_rows.specs.Mixes.{name_mix, key_mix}
-use Rattle.can_rows.specs.Indexes.{key_of, key_order, has_own_mix, IsIndex}
+use Rattle.can_rows.specs.Indexes.{key_of, key_order, has_own_mix, AreInOrder, IsIndex}
 use Rattle.can_rows.proofs.FirstRows.{first_of_number}
-use Rattle.can_rows.proofs.SortedRows.{find-stable, find-same, find-map, tied, find_none}
+use Rattle.can_rows.proofs.SortedRows.{parted, find-stable, find-same, find-map, tied, find_none}
 
 pub key_order-total : IsTotalOrder key_order
 key_order-total = then_total (on_total (λ key. key.0) nat_cmp_total) (on_total (λ key. key.1) nat_list_cmp_total)
@@ -62,6 +62,36 @@ pub key_found : (a b : ℕ × List ℕ) → a.0 ≡ b.0 → is_eq (key_order a b
 key_found a b same =
     key_equal a b ∙ ap (λ mix. mix == b.0 && bytes_eq a.1 b.1) same
     ∙ ap (λ equal. equal && bytes_eq a.1 b.1) (nat_same b.0)
+
+-- ---- numbers alone
+
+nat_above : (a b : ℕ) → nat_lt a b ≡ false → a ≢ b → nat_cmp a b ≡ Greater
+nat_above a b least other = grind (arith, least, other)
+
+pub mix_below : (key : ℕ × List ℕ) (mix : ℕ) (name : List ℕ) → nat_lt key.0 mix ≡ true → is_lt (key_order key (mix, name)) ≡ true
+mix_below key mix name less =
+    ap (λ b. is_lt (ordering_then (cond b Less (cond (key.0 == mix) Equal Greater)) (slice_cmp nat_cmp key.1 name))) less
+
+pub mix_above : (key : ℕ × List ℕ) (mix : ℕ) (name : List ℕ) → nat_lt key.0 mix ≡ false → key.0 ≢ mix
+    → key_order key (mix, name) ≡ Greater
+mix_above key mix name least other =
+    ap (λ order. ordering_then order (slice_cmp nat_cmp key.1 name)) (nat_above key.0 mix least other)
+
+-- no name comes before the empty one
+nothing_before : (name : List ℕ) → is_lt (slice_cmp nat_cmp name []) ≡ false
+nothing_before [] = refl
+nothing_before (byte ∷ name) = refl
+
+below_mix : (key : ℕ × List ℕ) (mix : ℕ) → is_lt (key_order key (mix, [])) ≡ nat_lt key.0 mix
+below_mix key mix = grind (arith, nothing_before key.1)
+
+-- no number that is lower comes behind one that is not
+pub parted_by_mix : {R : Type 0} (signal_of : R → List ℕ) (mix : ℕ) (entries : List (Entry R)) → AreInOrder signal_of entries
+    → IsPartitionedBy (λ entry. nat_lt entry.mix mix) entries
+parted_by_mix signal_of mix entries ordered i j d le below less =
+    sym (below_mix (key_of signal_of (get_or entries i d)) mix)
+    ∙ parted key_order-total (key_of signal_of) (mix, []) entries ordered i j d le below
+    (below_mix (key_of signal_of (get_or entries j d)) mix ∙ less)
 
 same_mix : (a b mix : ℕ) → (a * 4294967296 + mix == b * 4294967296 + mix) ≡ (a == b)
 same_mix a b mix = grind arith

@@ -2,7 +2,7 @@
 use Rattle.std.proofs.Common.{◌≡◌, ◌&&◌, ◌<◌, ◌≤◌, Bool, true, false, not, ℕ, List, [], ◌∷◌, Option, Some, None, cond, filter, map, length, get_or, refl, ap, sym, ◌∙◌, arith, suc, zero, ◌⊎◌, inl, inr, ⊎_elim, true≢false}
 use Rattle.std.specs.List.{find, All, AllWithin}
 use Rattle.std.specs.Option.{option_map}
-use Rattle.std.specs.List.Sorted.{ties, IsStableBy, IsSortedBy, IsPartitionPoint, IsPartitionedBy, IsNonDecreasingBy}
+use Rattle.std.specs.List.Sorted.{ties, IsStableBy, IsSortedBy, IsPartitionedBy, IsNonDecreasingBy}
 use Rattle.std.specs.declared.cmp.Ordering.{Ordering}
 use Rattle.std.specs.declared.cmp.Ordering.TheVariants.{Less, Equal, Greater}
 use Rattle.std.specs.Ordering.{is_lt, is_eq, ordering_reverse, ordering_index}
@@ -123,9 +123,10 @@ module _ {X K : Type 0} {R : K → K → Ordering} (o : IsTotalOrder R) (key : X
     pub parted : IsPartitionedBy (λ y. is_lt (R (key y) t)) xs
     parted i j d le below less = less_before (R (key (get_or xs i d)) t) (R (key (get_or xs j d)) t) (rises i j d le below) less
 
-    module _ (i : ℕ) (place : IsPartitionPoint (λ y. is_lt (R (key y) t) ≡ true) (λ y. is_lt (R (key y) t) ≡ false) xs i) where
+    -- all before a place come before the key
+    module _ (i : ℕ) (ahead : AllWithin (λ y. is_lt (R (key y) t) ≡ true) xs 0 i) where
       before : AllWithin (λ y. is_eq (R (key y) t) ≡ false) xs 0 i
-      before k d least below = less_is_other (R (key (get_or xs k d)) t) (place.0 k d least below)
+      before k d least below = less_is_other (R (key (get_or xs k d)) t) (ahead k d least below)
 
       pub first_there : (d : X) → i < length xs → is_eq (R (key (get_or xs i d)) t) ≡ true
           → find (λ y. is_eq (R (key y) t)) xs ≡ Some (get_or xs i d)
@@ -134,8 +135,11 @@ module _ {X K : Type 0} {R : K → K → Ordering} (o : IsTotalOrder R) (key : X
       pub none_at_end : length xs ≤ i → find (λ y. is_eq (R (key y) t)) xs ≡ None
       none_at_end end = find_none (λ y. is_eq (R (key y) t)) xs (λ k d below. before k d (omega arith) (omega arith))
 
-      pub none_there : (d : X) → i < length xs → is_eq (R (key (get_or xs i d)) t) ≡ false → find (λ y. is_eq (R (key y) t)) xs ≡ None
-      none_there d below other = find_none (λ y. is_eq (R (key y) t)) xs (λ k e within.
-          ⊎_elim (λ less. before k e (omega arith) less)
-          (λ least. other_behind (R (key (get_or xs i e)) t) (R (key (get_or xs k e)) t) (rises i k e least within)
-          (place.1 i e (omega arith) below) (ap (λ y. is_eq (R (key y) t)) (get_or_default xs i e d below) ∙ other)) (cases_lt k i))
+      pub none_there : (d : X) → i < length xs → is_lt (R (key (get_or xs i d)) t) ≡ false
+          → is_eq (R (key (get_or xs i d)) t) ≡ false → find (λ y. is_eq (R (key y) t)) xs ≡ None
+      none_there d below least other =
+          find_none (λ y. is_eq (R (key y) t)) xs (λ k e within. ⊎_elim
+          (λ less. before k e (omega arith) less)
+          (λ behind. let same : get_or xs i e ≡ get_or xs i d = get_or_default xs i e d below in
+          other_behind (R (key (get_or xs i e)) t) (R (key (get_or xs k e)) t) (rises i k e behind within)
+          (ap (λ y. is_lt (R (key y) t)) same ∙ least) (ap (λ y. is_eq (R (key y) t)) same ∙ other)) (cases_lt k i))

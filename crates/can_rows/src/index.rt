@@ -1,5 +1,5 @@
 //! Rows found by their keys in logarithmic time.
-ghost use Rattle.std.specs.Prelude.{◌≡◌, ◌==◌, ◌≤◌, true, false, All, IfOk, length, map, filter};
+ghost use Rattle.std.specs.Prelude.{◌≡◌, ◌==◌, ◌≤◌, nat_lt, true, false, All, IfOk, length, map, filter};
 ghost use Rattle.std.specs.List.{find};
 ghost use Rattle.std.specs.List.Sorted.{IsPartitionPoint};
 ghost use Rattle.std.specs.Option.{option_map};
@@ -76,10 +76,12 @@ fn entry_of<'a, R: Keyed>(row: &'a R) -> Entry<'a, R>
 fn order_of_rows<'a, R: Keyed>(first: &Entry<'a, R>, second: &Entry<'a, R>) -> Ordering
     ensures { result ≡ key_order (key_of R.signal_of first.now) (key_of R.signal_of second.now) }
 {
-    match first.mix.cmp(&second.mix) {
-        Ordering::Equal => first.row.signal().cmp(&second.row.signal()),
-        Ordering::Less => Ordering::Less,
-        Ordering::Greater => Ordering::Greater,
+    if first.mix == second.mix {
+        first.row.signal().cmp(&second.row.signal())
+    } else if first.mix < second.mix {
+        Ordering::Less
+    } else {
+        Ordering::Greater
     }
 }
 
@@ -87,10 +89,10 @@ fn order_of_rows<'a, R: Keyed>(first: &Entry<'a, R>, second: &Entry<'a, R>) -> O
 fn comes_before<'a, R: Keyed>(entry: &Entry<'a, R>, mix: u64, name: &[u8]) -> bool
     ensures { result ≡ is_lt (key_order (key_of R.signal_of entry.now) (mix, name.now)) }
 {
-    match entry.mix.cmp(&mix) {
-        Ordering::Equal => entry.row.signal().cmp(&name).is_lt(),
-        Ordering::Less => true,
-        Ordering::Greater => false,
+    if entry.mix == mix {
+        entry.row.signal().cmp(&name).is_lt()
+    } else {
+        entry.mix < mix
     }
 }
 
@@ -121,7 +123,8 @@ fn place_of<'a, R: Keyed>(entries: &[Entry<'a, R>], mix: u64, name: &[u8]) -> us
     entries.partition_point(|entry| comes_before(entry, mix, name))
 }
 
-fn entry_at<'a, 'e, R: Keyed>(
+/// The first row of a key, found by numbers and names.
+fn entry_by_name<'a, 'e, R: Keyed>(
     entries: &'e [Entry<'a, R>],
     mix: u64,
     name: &[u8],
@@ -139,6 +142,39 @@ fn entry_at<'a, 'e, R: Keyed>(
     } else {
         None
     }
+}
+
+/// How many rows have lower numbers.
+fn place_of_mix<'a, R: Keyed>(entries: &[Entry<'a, R>], mix: u64) -> usize
+    requires { AreInOrder R.signal_of entries.now }
+    ensures bound { result ≤ length entries.now }
+    ensures parted { IsPartitionPoint (λ (entry : PlainEntry R). nat_lt entry.mix mix ≡ true)
+        (λ (entry : PlainEntry R). nat_lt entry.mix mix ≡ false) entries.now result }
+{
+    entries.partition_point(|entry| entry.mix < mix)
+}
+
+/// The first row of a key, found by its number where no other key has that.
+fn entry_at<'a, 'e, R: Keyed>(
+    entries: &'e [Entry<'a, R>],
+    mix: u64,
+    name: &[u8],
+) -> Option<&'e Entry<'a, R>>
+    requires { AreInOrder R.signal_of entries.now }
+    ensures { option_map (λ entry. entry.now) result ≡ find (λ (entry : PlainEntry R). is_eq (key_order (key_of R.signal_of entry)
+        (mix, name.now))) entries.now }
+{
+    let place = place_of_mix(entries, mix);
+    let Some(entry) = entries.get(place) else {
+        return None;
+    };
+    if entry.mix != mix {
+        return None;
+    }
+    if has_key(entry, mix, name) {
+        return Some(entry);
+    }
+    entry_by_name(entries, mix, name)
 }
 
 impl<'a, R: Keyed> Index<'a, R> {
