@@ -175,15 +175,15 @@ fn one_of_six(alloc: Global, at: &mut Cursor<'_>) -> Result<Statement, Stopped>
         return Ok(Statement::Signal(signal(alloc, at, &[])?));
     }
     if at.starts_word(b"VAL_TABLE_") {
-        at.step();
+        *at = at.behind();
         return Ok(Statement::Table(table(alloc, at)?));
     }
     if at.starts_word(b"VAL_") {
-        at.step();
+        *at = at.behind();
         return Ok(Statement::Values(values(alloc, at)?));
     }
     if at.starts_word(b"SG_MUL_VAL_") {
-        at.step();
+        *at = at.behind();
         return Ok(Statement::Mux(mux(alloc, at)?));
     }
     Ok(Statement::Attribute(message_attribute(alloc, at)?))
