@@ -49,7 +49,8 @@ impl<'t> Cursor<'t> {
         Ok(token)
     }
 
-    /// Goes behind the token that stands here, and stays where none does.
+    /// Goes behind the token that stands here, and stays where none does. Callers don't take it in: so the next token is made where
+    /// it stays, and isn't handed over by memory.
     #[inline(never)]
     pub fn step(&mut self)
         ensures { left_at self.new ≡ behind (left_at self.old) }
