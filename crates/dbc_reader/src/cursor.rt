@@ -45,12 +45,22 @@ impl<'t> Cursor<'t> {
         ensures { TakesTo result (left_at self.new) (token_at (left_at self.old)) }
     {
         let token = self.token()?;
-        *self = self.behind();
+        self.step();
         Ok(token)
+    }
+
+    /// Goes behind the token that stands here, and stays where none does. Callers don't take it in: so the next token is made where
+    /// it stays, and isn't handed over by memory.
+    #[inline(never)]
+    pub fn step(&mut self)
+        ensures { left_at self.new ≡ behind (left_at self.old) }
+    {
+        *self = self.behind();
     }
 
     /// The place behind the token that stands here; this place where none does.
     #[tactic(auto, unfolding(crate::specs::Reading::Cursors::left_at))]
+    #[inline(always)]
     pub fn behind(self) -> Cursor<'t>
         ensures { left_at result ≡ behind (left_at self.entry) }
     {

@@ -78,18 +78,18 @@ fn int_if_any(at: &mut Cursor<'_>) -> Result<Option<i128>, Stopped>
         return Ok(None);
     };
     if has_mark(token, b'-') {
-        *at = at.behind();
+        at.step();
         let n = whole(at, 0, 9_223_372_036_854_775_808)?;
         return Ok(Some(-i128::from(n)));
     }
     if has_mark(token, b'+') {
-        *at = at.behind();
+        at.step();
         let n = whole(at, 0, u64::MAX)?;
         return Ok(Some(i128::from(n)));
     }
     match whole_of(token.bytes) {
         Some(Whole::Value(n)) => {
-            *at = at.behind();
+            at.step();
             Ok(Some(i128::from(n)))
         }
         Some(Whole::TooLarge) => Err(Stopped::at(token.line, Cause::Limit)),

@@ -65,7 +65,7 @@ fn name_if_any(alloc: Global, at: &mut Cursor<'_>) -> Result<Option<Name>, Stopp
     let Some(name) = Name::new(alloc, token.bytes)? else {
         return Ok(None);
     };
-    *at = at.behind();
+    at.step();
     Ok(Some(name))
 }
 
@@ -119,7 +119,7 @@ pub fn text(alloc: Global, at: &mut Cursor<'_>) -> Result<Text, Stopped>
     ensures { GivesTo result (left_at at.new) (text_at (left_at at.old)) }
 {
     let text = text_here(alloc, *at)?;
-    *at = at.behind();
+    at.step();
     Ok(text)
 }
 

@@ -23,7 +23,7 @@ fn add_symbols(alloc: Global, at: &mut Cursor<'_>, database: &mut Database) -> R
     requires { keyword_at (left_at at.old) ≡ Some keywords.Symbols }
     ensures { MakesTo result database.new (left_at at.new) (statement_into database.old (left_at at.old)) }
 {
-    *at = at.behind();
+    at.step();
     mark(at, b':')?;
     let read = symbols(alloc, at, &mut database.symbols);
     // that the list is one of symbols again is what the database's own bounds need
@@ -37,7 +37,7 @@ fn add_nodes(alloc: Global, at: &mut Cursor<'_>, database: &mut Database) -> Res
     requires { keyword_at (left_at at.old) ≡ Some keywords.Nodes }
     ensures { MakesTo result database.new (left_at at.new) (statement_into database.old (left_at at.old)) }
 {
-    *at = at.behind();
+    at.step();
     mark(at, b':')?;
     let read = names(alloc, at, &mut database.nodes);
     // as for symbols
@@ -70,7 +70,7 @@ fn add_table(alloc: Global, at: &mut Cursor<'_>, database: &mut Database) -> Res
     requires { keyword_at (left_at at.old) ≡ Some keywords.Table }
     ensures { MakesTo result database.new (left_at at.new) (statement_into database.old (left_at at.old)) }
 {
-    *at = at.behind();
+    at.step();
     let row = table(alloc, at)?;
     database.tables.push(row)?;
     Ok(())
@@ -97,7 +97,7 @@ fn add_float(alloc: Global, at: &mut Cursor<'_>, database: &mut Database) -> Res
     requires { keyword_at (left_at at.old) ≡ Some keywords.Float }
     ensures { MakesTo result database.new (left_at at.new) (statement_into database.old (left_at at.old)) }
 {
-    *at = at.behind();
+    at.step();
     let row = float(alloc, at)?;
     database.floats.push(row)?;
     Ok(())
@@ -108,7 +108,7 @@ fn add_mux(alloc: Global, at: &mut Cursor<'_>, database: &mut Database) -> Resul
     requires { keyword_at (left_at at.old) ≡ Some keywords.Mux }
     ensures { MakesTo result database.new (left_at at.new) (statement_into database.old (left_at at.old)) }
 {
-    *at = at.behind();
+    at.step();
     let row = mux(alloc, at)?;
     database.muxes.push(row)?;
     Ok(())
@@ -139,7 +139,7 @@ fn add_definition(
     requires { keyword_at (left_at at.old) ≡ Some keywords.Definition }
     ensures { MakesTo result database.new (left_at at.new) (statement_into database.old (left_at at.old)) }
 {
-    *at = at.behind();
+    at.step();
     let definition = definition(alloc, at)?;
     database.definitions.push(definition)?;
     Ok(())
@@ -150,7 +150,7 @@ fn add_default(alloc: Global, at: &mut Cursor<'_>, database: &mut Database) -> R
     requires { keyword_at (left_at at.old) ≡ Some keywords.Default }
     ensures { MakesTo result database.new (left_at at.new) (statement_into database.old (left_at at.old)) }
 {
-    *at = at.behind();
+    at.step();
     let row = default(alloc, at)?;
     database.defaults.push(row)?;
     Ok(())

@@ -1,5 +1,5 @@
 -- What stands behind the gap at the front of a text.
-use Rattle.std.proofs.Common.{◌≡◌, ℕ, ◌+◌, false, List, [], ◌++◌, length, take, drop, refl, sym, ap, subst, ◌∙◌, arith}
+use Rattle.std.proofs.Common.{◌≡◌, ℕ, ◌+◌, false, List, [], ◌++◌, take, drop, refl, sym, ap, subst, ◌∙◌, arith}
 use Rattle.std.proofs.lemmas.List.{take-append-drop}
 use Rattle.dbc_tokens.specs.Tokens.{IsGap, IsLongest, BeginsNoGap, Token, Cut, ◌▸◌, line_feeds, HasTokens}
 use Rattle.dbc_tokens.specs.Reading.Scanner.{gap_len, rest_then, cut_of}

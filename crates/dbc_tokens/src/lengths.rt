@@ -128,6 +128,7 @@ pub fn gap_len(bytes: &[u8]) -> usize
 
 /// The kind of the token at the front and how many bytes it has, or `None` where no token begins.
 #[tactic(auto, unfolding(crate::specs::Reading::Scanner::token_at))]
+#[inline(always)]
 pub fn token_at(bytes: &[u8]) -> Option<(Kind, usize)>
     ensures value { result ≡ token_at bytes.now }
     ensures in_range { IfSome result (λ t. (0 < t.1) × (t.1 ≤ length bytes.now)) }

@@ -1,6 +1,6 @@
 -- What digits alone spell.
 use Rattle.std.proofs.Common.{◌≡◌, ℕ, ◌<◌, ◌≤◌, ◌^◌, ◌==◌, Bool, true, false, IsTrue, List, [], ◌∷◌, pos}
-use Rattle.std.proofs.Common.{length, get_or, refl, sym, arith, inl, inr}
+use Rattle.std.proofs.Common.{length, get_or, refl, sym, arith, inl, inr, ◌∙◌}
 use Rattle.std.specs.List.{list_all, list_any, before_first, after_first, position_or_len}
 use Rattle.std.specs.Str.Parse.{digits_value}
 use Rattle.std.proofs.lemmas.Bool.{and_parts, cases_lt, both_ways}
@@ -99,3 +99,13 @@ pub plain_made : (number : List ℕ) (made : Option ℕ) → false ≡ (length n
     → IfSome made (λ n. SpellsWhole number (Value n))
 plain_made number None not_empty digits value fits = value
 plain_made number (Some n) not_empty digits value fits = plain_spells number n (some number not_empty) digits value fits
+
+pub plain_value : (number : List ℕ) (made : Option ℕ) → IsTrue (list_all is_digit number)
+    → IfSome made (λ n. n ≡ digits_value 10 number) → IfSome made (λ n. mantissa_of number ≡ n)
+plain_value number None digits value = value
+plain_value number (Some n) digits value = plain_mantissa number digits ∙ sym value
+
+pub plain_power : (number : List ℕ) (made : Option ℕ) → IsTrue (list_all is_digit number) → IfSome made (λ n. n < 2 ^ 64)
+    → IfSome made (λ n. exponent_of number ≡ pos 0)
+plain_power number None digits fits = fits
+plain_power number (Some n) digits fits = plain_exponent number digits

@@ -315,11 +315,25 @@ fn reduced_exponent(written: i128, behind_point: usize, zeros: u128) -> i128
 }
 
 impl Reduced {
+    /// A whole number of a word.
+    fn of_word(value: u64) -> Reduced
+        ensures { IsReduced value (pos 0) result.digits result.exponent }
+    {
+        let digits = word_digits(value);
+        Reduced {
+            digits: digits.front,
+            exponent: digits.zeros as i128,
+        }
+    }
+
     /// What the bytes spell, or `None` where they are no number.
     pub fn read(number: &[u8]) -> Option<Reduced>
         ensures { MatchOption result (is_number number.now ≡ false) (λ r. IsTrue (is_number number.now)
             × IsReduced (mantissa_of number.now) (exponent_of number.now) r.digits r.exponent) }
     {
+        if let Some(value) = plain_whole(number) {
+            return Some(Reduced::of_word(value));
+        }
         if !is_number(number) {
             return None;
         }
@@ -355,7 +369,9 @@ impl Reduced {
 
 /// The whole number that digits alone are, where they are one of a word, as most whole numbers are.
 fn plain_whole(number: &[u8]) -> Option<u64>
-    ensures { IfSome result (λ value. SpellsWhole number.now (Whole.Value value)) }
+    ensures spells { IfSome result (λ value. SpellsWhole number.now (Whole.Value value)) }
+    ensures digits { IfSome result (λ value. mantissa_of number.now ≡ value) }
+    ensures power { IfSome result (λ value. exponent_of number.now ≡ pos 0) }
 {
     if number.is_empty() || !are_digits(number) {
         return None;

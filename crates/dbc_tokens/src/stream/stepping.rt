@@ -17,6 +17,18 @@ fn line_feeds(bytes: &[u8]) -> usize
     bytes.iter().filter(|b| **b == b'\n').count()
 }
 
+// How many LF a gap holds. Most gaps are nothing or a blank, and aren't looked through.
+#[inline(always)]
+fn gap_line_feeds(gap: &[u8]) -> usize
+    ensures value { result ≡ line_feeds gap.now }
+    ensures in_range { result ≤ length gap.now }
+{
+    match gap {
+        [] | [b' '] => 0,
+        _ => line_feeds(gap),
+    }
+}
+
 // How many LF a token holds. Only strings hold any, so that the other tokens aren't looked through again.
 fn token_line_feeds(kind: Kind, bytes: &[u8]) -> usize
     requires { IsToken kind bytes.now }
@@ -40,12 +52,13 @@ impl<'a> Tokens<'a> {
     }
 
     /// What comes next, and the tokens that are left behind it: for a reader that looks at one token at a time.
+    #[inline(always)]
     pub fn advance(self) -> (Next<'a>, Tokens<'a>)
         ensures next { left self.entry ≡ cut_from result.0 (left result.1) }
         ensures last { NothingAfter result.0 (left result.1) }
     {
         let (gap, rest) = self.rest.split_at(gap_len(self.rest));
-        let line = self.line + line_feeds(gap) as u64;
+        let line = self.line + gap_line_feeds(gap) as u64;
         match token_at(rest) {
             Some((kind, len)) => {
                 let (bytes, rest) = rest.split_at(len);

@@ -10,7 +10,7 @@ returns-in_err-read-in-None-clause-value c =
 
 pub returns-in-Some-clause-value : goal.returns-in-Some-clause-value
 returns-in-Some-clause-value c =
-    let spells : SpellsWhole c.args.number.now (Value c.in-Some.value) = rw c.in-Some.is at c.plain_whole.ensures in
+    let spells : SpellsWhole c.args.number.now (Value c.in-Some.value) = rw c.in-Some.is at c.plain_whole.ensures.spells in
     whole_is_made c.args.number.now (Some (Value c.in-Some.value)) spells
 
 pub returns-in_ok-read-in-None-clause-value : goal.returns-in_ok-read-in-None-clause-value
