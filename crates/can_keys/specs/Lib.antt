@@ -3,3 +3,4 @@ pub mod KeySets
 pub mod SignalNames
 pub mod RowKeys
 pub mod Mixes
+pub mod NumberedKeys
