@@ -1,4 +1,3 @@
 pub mod MixedKeys
 pub mod SameKeys
 pub mod Ranks
-pub mod RisingNumbers

@@ -2,19 +2,19 @@
 use Rattle.std.proofs.Common.{◌≡◌, ◌≢◌, ◌+◌, ◌<◌, ◌≤◌, ◌==◌, ℕ, Bool, true, false, cond, ◌||◌}
 use Rattle.std.proofs.Common.{List, [], ◌∷◌, ◌++◌, take, drop, length, get_or, refl, sym, ap, ◌∙◌, arith}
 use Rattle.std.proofs.Common.{get_or-take, get_or-drop, length-take, length-drop, take-append-drop}
-use Rattle.std.proofs.Common.{suc, subst, ltb, ltb-true, ltb-false, lt-ltb}
+use Rattle.std.proofs.Common.{suc, ltb, ltb-true, ltb-false}
 use Rattle.std.specs.Prelude.{nat_le, count_by}
 use Rattle.std.specs.List.{list_any, AllWithin}
-use Rattle.std.specs.List.Sorted.{IsNonDecreasingBy, IsSorted}
+use Rattle.std.specs.List.Sorted.{IsNonDecreasingBy}
 use Rattle.std.proofs.lemmas.Grind.{common_steps}
 use Rattle.std.proofs.lemmas.List.Sums.{sum_by-cons, sum_by-append}
-use Rattle.std.proofs.lemmas.List.Sorted.{IsNonDecreasingBy-drop, searchable_from_sorted}
+use Rattle.std.proofs.lemmas.List.Sorted.{IsNonDecreasingBy-drop}
 use Rattle.std.proofs.lemmas.Cmp.{eq_by_cmp_equiv, is_eq_index}
 use Rattle.std.specs.Cmp.{IsTotalOrder, IsEquivalence}
-use Rattle.std.specs.Ordering.{eq_by_cmp, is_lt, ordering_index, ordering_reverse}
+use Rattle.std.specs.Ordering.{eq_by_cmp, is_lt, ordering_index}
 use Rattle.std.specs.declared.cmp.Ordering.{Ordering}
 use Rattle.std.specs.declared.cmp.Ordering.TheVariants.{Less, Equal, Greater}
-use Rattle.can_keys.specs.KeySets.{rank, RisesFrom, HoldsFrom}
+use Rattle.can_keys.specs.KeySets.{rank, RisesFrom}
 
 -- some pass the test where their number is at least 1
 any_step : (e b : Bool) (n : ℕ) → b ≡ nat_le 1 n → (e || b) ≡ nat_le 1 (cond e 1 0 + n)
@@ -164,79 +164,3 @@ pub same_rank : {K : Type 0} {cmp : K → K → Ordering} {same : K → K → Bo
 same_rank {K} {cmp} o tied asked key =
     let laws : IsEquivalence (eq_by_cmp cmp) = eq_by_cmp_equiv o in
     tied asked key ∙ laws.symm asked key ∙ is_eq_index (cmp key asked)
-
--- the first is not below the one that is asked for, so none is
-pub rises_at : {X : Type 0} (number : X → ℕ) (xs : List X) → IsNonDecreasingBy number xs
-    → ((d : X) → 0 < length xs → 1 ≤ number (get_or xs 0 d)) → RisesFrom number 1 xs
-rises_at number [] up first = tt
-rises_at number (x ∷ xs) up first = (
-  first x (omega arith),
-  rises number (number x) xs (λ k d within. up 0 (suc k) d (omega arith) (omega arith))
-      (λ i j d le within. up (suc i) (suc j) d (omega arith) (omega arith)),
-)
-
-plus_none : (n : ℕ) → n + 0 ≡ n
-plus_none n = omega arith
-
-less_rank : (o : Ordering) → o ≡ Less → ordering_index o ≡ 0
-less_rank o is = ap ordering_index is
-
-same_low : (b : Bool) (n : ℕ) → b ≡ (n == 1) → b ≡ true → 1 ≤ n
-same_low b n tie is = grind (arith, common_steps)
-
-greater_rank : (o p : Ordering) → o ≡ ordering_reverse p → p ≡ Less → 1 ≤ ordering_index o
-greater_rank o p turned is = omega (arith, ap ordering_index (turned ∙ ap ordering_reverse is))
-
-at_head : {X : Type 0} (P : X → Type 0) (xs : List X) (x : X) → 1 ≤ length xs → x ≡ get_or xs 0 x → P x
-    → (d : X) → 0 < length xs → P (get_or xs 0 d)
-at_head P [] x some is holds d within = let no : ⊥ = omega arith in absurd no
-at_head P (y ∷ ys) x some is holds d within = subst P is holds
-
--- ---- keys that begin with a number, in order
-
-module _ {K : Type 0} {cmp : K → K → Ordering} {same : K → K → Bool} (o : IsTotalOrder cmp)
-    (tied : (x y : K) → same x y ≡ eq_by_cmp cmp x y) (number : K → ℕ)
-    (rising : (x y : K) → number x < number y → cmp x y ≡ Less) (asked : K) (keys : List K) (sorted : IsSorted cmp keys) (first : ℕ)
-    (within : first ≤ length keys) (low : AllWithin (λ y. ltb (number y) (number asked) ≡ true) keys 0 first)
-    (high : AllWithin (λ y. ltb (number y) (number asked) ≡ false) keys first (length keys)) where
-  up : IsNonDecreasingBy (rank cmp asked) keys
-  up = searchable_from_sorted o (λ x. x) keys asked sorted
-
-  front : AllWithin (λ y. ltb (rank cmp asked y) 1 ≡ true) keys 0 first
-  front k d above below =
-      let lower = ltb-true _ _ (low k d above below) in
-      let zero = less_rank _ (rising (get_or keys k d) asked lower) in
-      lt-ltb _ 1 (omega arith)
-
-  held : (rest : List K) → rest ≡ drop first keys → ((d : K) → 0 < length rest → 1 ≤ rank cmp asked (get_or rest 0 d))
-      → HoldsFrom cmp same asked keys rest
-  held rest is above = record {
-    rises = rises_at (rank cmp asked) rest (subst (IsNonDecreasingBy (rank cmp asked)) (sym is)
-        (IsNonDecreasingBy-drop (rank cmp asked) first keys up)) above;
-    all = ap (count_by (same asked)) is ∙ all_from (same asked) (rank cmp asked) (same_rank o tied asked) first keys within front;
-  }
-
-  low_same : (key : K) → same key asked ≡ true → 1 ≤ rank cmp asked key
-  low_same key is = same_low (same asked key) (rank cmp asked key) (same_rank o tied asked key)
-      (tied asked key ∙ (eq_by_cmp_equiv o).symm asked key ∙ sym (tied key asked) ∙ is)
-
-  low_other : (key : K) → number asked < number key → 1 ≤ rank cmp asked key
-  low_other key is = greater_rank (cmp key asked) (cmp asked key) (o.antisymm key asked) (rising asked key is)
-
-  pub held_none : (rest : List K) → rest ≡ drop first keys → length rest < 1 → HoldsFrom cmp same asked keys rest
-  held_none rest is none = held rest is (λ d some. let no : ⊥ = omega arith in absurd no)
-
-  pub held_same : (rest : List K) → rest ≡ drop first keys → (next : K) → 1 ≤ length rest → next ≡ get_or rest 0 next
-      → same next asked ≡ true → HoldsFrom cmp same asked keys rest
-  held_same rest is next some at equal =
-      held rest is (at_head (λ key. 1 ≤ rank cmp asked key) rest next some at (low_same next equal))
-
-  pub held_other : (rest : List K) → rest ≡ drop first keys → (next : K) → 1 ≤ length rest → next ≡ get_or rest 0 next
-      → number next ≢ number asked → HoldsFrom cmp same asked keys rest
-  held_other rest is next some at other =
-      let long = length-drop first keys in
-      let size = ap length is in
-      let there = ap (λ l. get_or l 0 next) is ∙ get_or-drop first keys 0 next ∙ ap (λ n. get_or keys n next) (plus_none first) in
-      let least = ltb-false _ _ (high first next (omega arith) (omega arith)) in
-      let here = ap number (at ∙ there) in
-      held rest is (at_head (λ key. 1 ≤ rank cmp asked key) rest next some at (low_other next (omega arith)))

@@ -3,4 +3,3 @@ pub mod KeySets
 pub mod SignalNames
 pub mod RowKeys
 pub mod Mixes
-pub mod NumberedKeys

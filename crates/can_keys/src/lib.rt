@@ -1,7 +1,7 @@
-//! Keys that are told apart: whether a key is among others, and how often, in logarithmic time.
+//! Keys that are told apart: each set says of a key whether it was added, and how often, in logarithmic time.
 //!
-//! Keys are compared whole and not by a hash, so no keys, however they are chosen, make a look slow. Names, numbers and signals are
-//! given all at once, and contracts see them in any order; a set to which keys are added is seen as the list of these, in order.
+//! Keys are compared whole and not by a hash, so no keys, however they are chosen, make a set slow. Contracts see a set as the
+//! list of all keys that were added, in order.
 #![tactic(auto)]
 
 mod apart;
@@ -10,7 +10,6 @@ mod key;
 mod keys;
 mod mix;
 mod names;
-mod numbered;
 mod numbers;
 mod row_keys;
 mod signal_names;

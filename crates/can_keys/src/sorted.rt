@@ -1,20 +1,19 @@
 //! Keys of any one type, in order.
-ghost use Rattle.std.specs.Prelude.{◌≡◌, ltb, nat_le, count_by};
+ghost use Rattle.std.specs.Prelude.{◌≡◌, nat_le, count_by};
 ghost use Rattle.std.specs.List.{list_any};
-ghost use Rattle.std.specs.List.Sorted.{IsPermutation, IsSorted};
+ghost use Rattle.std.specs.List.Sorted.{IsPermutation};
 ghost use Rattle.std.specs.Ordering.{is_lt};
 ghost use Rattle.can_keys.specs.KeySets.{HoldsFrom};
 
-use crate::numbered::Numbered;
 use std::marker::Model;
 
 /// Keys, the lowest first, so that equal ones stand side by side.
 #[derive(Drop)]
-pub(crate) struct Sorted<K: Numbered> {
+pub(crate) struct Sorted<K: Ord + Copy> {
     keys: Vec<K>,
 }
 
-impl<K: Numbered> Model for Sorted<K> {
+impl<K: Ord + Copy> Model for Sorted<K> {
     ghost use Rattle.std.specs.Prelude.{List};
     ghost use Rattle.std.specs.List.Sorted.{IsSorted};
 
@@ -25,20 +24,7 @@ impl<K: Numbered> Model for Sorted<K> {
     ghost invariant = { λ sorted. IsSorted K.cmp sorted.keys.items };
 }
 
-// The keys from the first on that is not below this one, found by whole keys.
-fn not_below<K: Numbered>(keys: &[K], key: K) -> &[K]
-    requires { IsSorted K.cmp keys.now }
-    ensures { HoldsFrom K.cmp K.eq key keys.now result.now }
-{
-    let first = keys.partition_point(
-        |other: &K| -> bool
-            ensures { result ≡ is_lt (K.cmp other.now key) }
-        { other.cmp(&key).is_lt() },
-    );
-    &keys[first..]
-}
-
-impl<K: Numbered> Sorted<K> {
+impl<K: Ord + Copy> Sorted<K> {
     /// These keys. It takes no memory.
     pub(crate) fn of(mut keys: Vec<K>) -> Sorted<K>
         ensures { IsPermutation keys.items result }
@@ -51,19 +37,13 @@ impl<K: Numbered> Sorted<K> {
     fn from(&self, key: K) -> &[K]
         ensures { HoldsFrom K.cmp K.eq key self.now result.now }
     {
-        let number = key.number();
         let keys = self.keys.as_slice();
         let first = keys.partition_point(
             |other: &K| -> bool
-                ensures { result ≡ ltb (K.number_of other.now) number }
-            { other.number() < number },
+                ensures { result ≡ is_lt (K.cmp other.now key) }
+            { other.cmp(&key).is_lt() },
         );
-        let rest = &keys[first..];
-        // (mostly no two keys have one number, so that whole keys are compared once)
-        match rest {
-            [next, ..] if next.number() == number && *next != key => not_below(keys, key),
-            _ => rest,
-        }
+        &keys[first..]
     }
 
     /// Whether the key is among them.
