@@ -6,14 +6,14 @@
 # the plain decoder's for a line of that log. Of each run the least of several rounds. Needs rustc and python3. Times go with the
 # machine, ratios less so.
 #
-#     edit_session.sh [PROGRAM [ROUNDS]]      3 rounds, where they aren't said
+#     edit_session.sh [PROGRAM [ROUNDS]]      5 rounds, where they aren't said
 set -eu
 root=$(cd "$(dirname "$(readlink -f "$0")")/.." && pwd)
 work=$(mktemp -d)
 trap 'rm -rf "$work"' EXIT
 [ $# -gt 0 ] || "$root/scripts/build"
 program=${1:-$root/crates/candesk/out/candesk}
-rounds=${2:-3}
+rounds=${2:-5}
 "$root/benches/plain/build" "$work/plain"
 
 cat > "$work/measure.py" <<'PYTHON'
