@@ -7,6 +7,7 @@
 mod job;
 mod line;
 mod notes;
+mod version;
 
 pub use can_session::{Keep, LineCount};
 pub use job::{Command, Job, NoJob, job_of};

@@ -5,13 +5,11 @@ ghost use Rattle.clap.specs.declared.builder.command.Command.TheViews.{out-Comma
 ghost use Rattle.candesk_words.specs.Words.{before_command, on_file, on_frames, on_session, with_command, command_line};
 
 use crate::notes;
+use crate::version::VERSION;
 use can_session::LineCount;
 use clap::builder::ValueParser;
 use clap::{Arg, ArgAction, Command};
 use std::alloc::{AllocError, Global};
-
-// What `--version` says behind the program's name.
-const VERSION: &str = "0.1.0";
 
 // The words before a command.
 #[tactic(auto, unfolding(crate::specs::Words::before_command))]
