@@ -8,9 +8,9 @@ trap 'rm -rf "$work"' EXIT
 
 line=$(head -n 1 "$root/examples/wheel.log")
 (yes "$line" || true) | head -n 1000000 > "$work/log"
-"$root/scripts/build"
+program=$("$root/scripts/build")
 
-python3 - "$root/crates/candesk/out/candesk" "$root/examples/wheel.dbc" "$work/log" <<'REPORT'
+python3 - "$program" "$root/examples/wheel.dbc" "$work/log" <<'REPORT'
 import subprocess
 import sys
 import time

@@ -8,8 +8,7 @@ root=$(cd "$(dirname "$(readlink -f "$0")")/.." && pwd)
 work=$(mktemp -d)
 trap 'rm -rf "$work"' EXIT
 if [ -z "${CANDESK:-}" ]; then
-    "$root/scripts/build"
-    CANDESK="$root/crates/candesk/out/candesk"
+    CANDESK=$("$root/scripts/build")
 fi
 export CANDESK
 database="$root/examples/car.dbc"

@@ -6,9 +6,9 @@ set -eu
 root=$(cd "$(dirname "$(readlink -f "$0")")/.." && pwd)
 work=$(mktemp -d)
 trap 'rm -rf "$work"' EXIT
-"$root/scripts/build"
+program=$("$root/scripts/build")
 
-python3 - "$root/crates/candesk/out/candesk" "$work" "$root" <<'REPORT'
+python3 - "$program" "$work" "$root" <<'REPORT'
 import os
 import subprocess
 import sys

@@ -9,8 +9,7 @@ set -eu
 root=$(cd "$(dirname "$(readlink -f "$0")")/.." && pwd)
 work=$(mktemp -d)
 trap 'rm -rf "$work"' EXIT
-[ $# -gt 0 ] || "$root/scripts/build"
-program=${1:-$root/crates/candesk/out/candesk}
+program=${1:-$("$root/scripts/build")}
 rounds=${2:-5}
 "$root/benches/plain/build" "$work/plain"
 

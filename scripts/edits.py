@@ -17,6 +17,8 @@ import sys
 import tempfile
 from dataclasses import dataclass, field
 
+import proving
+
 # what a try of an edit comes to
 REFUSED = "refused"
 NOT_REFUSED = "NOT REFUSED: what it changes is still proved"
@@ -37,8 +39,11 @@ ENDED = re.compile(r"only=\d+ proved=\d+|logic=(not-)?proved")
 
 
 def kit():
-    """The kit's own rt, by whose calls copies of a crate are checked."""
-    path = os.path.realpath(shutil.which("rt"))
+    """The kit's own rt, by whose calls copies of a crate are checked; where there is none, the run ends."""
+    found = shutil.which("rt")
+    if not found:
+        sys.exit(f"{os.path.basename(sys.argv[0])}: {proving.NO_KIT}")
+    path = os.path.realpath(found)
     loader = importlib.machinery.SourceFileLoader("rt", path)
     made = importlib.util.module_from_spec(importlib.util.spec_from_loader("rt", loader))
     sys.modules["rt"] = made

@@ -1,4 +1,7 @@
-"""What the scripts share that prove, build and hand on: the crates of crates.txt, bare rooms for `rt ci`, digests of sources."""
+"""What the scripts share that prove, build and pass on programs: the crates of crates.txt, bare copies for `rt ci`, digests of
+sources, and the programs that a proof leaves in the checkout, each with a stamp that tells what it was built from and how."""
+
+from __future__ import annotations
 
 import contextlib
 import fcntl
@@ -9,17 +12,110 @@ import shutil
 import subprocess
 import sys
 import tempfile
+import time
+from collections.abc import Iterable, Iterator
+from dataclasses import dataclass
 
 ROOT = os.path.dirname(os.path.dirname(os.path.realpath(__file__)))
 PROGRAM = "candesk"
-# the program that was built, and what it was built of
-BUILT = f"{ROOT}/crates/{PROGRAM}/out/{PROGRAM}"
-STAMP = f"{BUILT}.stamp-of-sources"
 # what a proof of a crate reads of it
 PARTS = ("src", "specs", "proofs")
+# the file with the program's version, the word there that a proof of the whole replaces by digits of the digest, and how many
+VERSION_FILE = "crates/candesk_words/src/version.rt"
+UNPROVED = "development"
+DIGITS = 12
+# how the program in the checkout came about: a complete proof here, a build over kept checks, a pack, or dist/
+PROOF, KEPT, PACK, DIST = "proof", "kept", "pack", "dist"
+NO_KIT = "rt of the Rattle kit isn't on the PATH"
+# how much earlier than now a file's time is set so that no change of the same moment is missed, in nanoseconds
+MOMENT = 10_000_000
 
 
-def stands_on(root=ROOT):
+@dataclass(frozen=True)
+class Stamp:
+    """What a program was built from, by which kit, the sum of its bytes, and how it came here."""
+
+    kit: str
+    sources: str
+    program: str
+    origin: str
+
+    def packed(self) -> str:
+        """What is said of the program in a pack or a package: all but how it came here."""
+        return f"{self.kit}\nsources {self.sources}\nprogram {self.program}\n"
+
+    def text(self) -> str:
+        return f"{self.packed()}from {self.origin}\n"
+
+
+@dataclass(frozen=True)
+class Built:
+    """A program that a proof leaves in the checkout: its crate, and the name of its file."""
+
+    crate: str
+    name: str
+
+    @property
+    def path(self) -> str:
+        return f"{ROOT}/crates/{self.crate}/out/{self.name}"
+
+    @property
+    def stamp_path(self) -> str:
+        return f"{self.path}.stamp-of-sources"
+
+    def stamp(self) -> Stamp:
+        """Its stamp; ValueError or OSError where it has none that can be read."""
+        with open(self.stamp_path, encoding="utf-8") as text:
+            kit, *rest = text.read().splitlines()
+        found = dict(line.split(" ", 1) for line in rest)
+        try:
+            return Stamp(kit, found["sources"], found["program"], found["from"])
+        except KeyError as missing:
+            raise ValueError(f"the stamp has no {missing}") from None
+
+    def current(self) -> Stamp | None:
+        """Its stamp where it is built of the sources as they are, by the kit that is here if one is."""
+        try:
+            stamp = self.stamp()
+            is_same = stamp.sources == sources_of(self.crate) and stamp.program == sum_of(self.path)
+            return stamp if is_same and os.access(self.path, os.X_OK) and kit_line() in ("", stamp.kit) else None
+        except (OSError, ValueError):
+            return None
+
+    def take(self, file: str, sources: str, kit: str, origin: str, read_at: int | None = None) -> None:
+        """Puts a program into the checkout that was built of these sources, which were read at this time, in nanoseconds."""
+        os.makedirs(os.path.dirname(self.path), exist_ok=True)
+        shutil.copyfile(file, f"{self.path}.new")
+        os.chmod(f"{self.path}.new", 0o755)
+        set_time(f"{self.path}.new", read_at)
+        with contextlib.suppress(FileNotFoundError):
+            os.remove(self.stamp_path)
+        os.replace(f"{self.path}.new", self.path)
+        self.stamp_as(sources, kit, origin)
+
+    def stamp_as(self, sources: str, kit: str, origin: str) -> None:
+        with open(f"{self.stamp_path}.new", "w", encoding="utf-8") as text:
+            text.write(Stamp(kit, sources, sum_of(self.path), origin).text())
+        os.replace(f"{self.stamp_path}.new", self.stamp_path)
+
+
+CANDESK = Built(PROGRAM, PROGRAM)
+# what tests the program's calls: their tests, and what makes them one by one
+TESTS = Built(f"{PROGRAM}_tests", f"{PROGRAM}_tests_tests")
+GROWTHS = Built("growths", "growths")
+ALL_BUILT = (CANDESK, TESTS, GROWTHS)
+
+
+def set_time(file: str, at: int | None = None) -> None:
+    """Says of a program that sources are newer that change after this time, in nanoseconds, or from now on."""
+    before = (at or time.time_ns()) - MOMENT
+    os.utime(file, ns=(before, before))
+
+
+# ---- crates
+
+
+def stands_on(root: str = ROOT) -> dict[str, list[str]]:
     """The crates of crates.txt, each with the names of what it stands on."""
     found = {}
     with open(f"{root}/crates.txt", encoding="utf-8") as lines:
@@ -30,11 +126,12 @@ def stands_on(root=ROOT):
     return found
 
 
-def with_below(*names):
+def with_below(*names: str) -> list[str]:
     """These crates and all crates that they stand on, each behind its own."""
-    below, found = stands_on(), []
+    below = stands_on()
+    found: list[str] = []
 
-    def add(name):
+    def add(name: str) -> None:
         if name in below and name not in found:
             for it in below[name]:
                 add(it)
@@ -45,7 +142,7 @@ def with_below(*names):
     return found
 
 
-def files_of(crate, parts=PARTS, root=ROOT):
+def files_of(crate: str, parts: Iterable[str] = PARTS, root: str = ROOT) -> Iterator[str]:
     for part in parts:
         for at, folders, names in os.walk(f"{root}/crates/{crate}/{part}"):
             folders.sort()
@@ -53,16 +150,25 @@ def files_of(crate, parts=PARTS, root=ROOT):
                 yield f"{at}/{name}"
 
 
-def kit_line():
+def kit_line() -> str:
     """The kit's name for itself, or nothing where there is no kit."""
-    if not shutil.which("rt"):
+    rt = shutil.which("rt")
+    if not rt:
         return ""
-    return subprocess.run(["rt", "version"], capture_output=True, text=True, check=False).stdout.strip()
+    try:
+        # (`rt version` prints this file; to read it saves the start of another Python)
+        with open(f"{os.path.dirname(os.path.dirname(os.path.realpath(rt)))}/KIT-ID", encoding="utf-8") as text:
+            return text.read().strip()
+    except OSError:
+        return subprocess.run(["rt", "version"], capture_output=True, text=True, check=False).stdout.strip()
 
 
-def digest_of(names, root=ROOT, others=()):
+# ---- digests
+
+
+def digest_of(names: Iterable[str], root: str = ROOT, others: Iterable[str] = ()) -> str:
     """A digest of what some crates are made of, and of other files; contents count, and no times or places."""
-    total, below = hashlib.sha256(), stands_on(root)
+    total, below, names = hashlib.sha256(), stands_on(root), list(names)
     for name in names:
         total.update(f"\0{name}: {' '.join(below[name])}".encode())
     for file in [f"{root}/HANDLES", *(it for name in names for it in files_of(name, root=root)), *others]:
@@ -70,13 +176,26 @@ def digest_of(names, root=ROOT, others=()):
     return total.hexdigest()
 
 
-def sum_of(file):
+def sources_of(crate: str, root: str = ROOT) -> str:
+    """The digest of the sources of a crate and of all below it."""
+    return digest_of(with_below(crate), root)
+
+
+def build_digest(sources: str, kit: str) -> str:
+    """The digest of all that a proof of the program reads: of its sources, and of the kit. `--version` has its first digits."""
+    return hashlib.sha256(f"{kit}\0{sources}".encode()).hexdigest()
+
+
+def sum_of(file: str) -> str:
     with open(file, "rb") as text:
         return hashlib.sha256(text.read()).hexdigest()
 
 
+# ---- proofs
+
+
 @contextlib.contextmanager
-def alone(what):
+def alone(what: str) -> Iterator[None]:
     """Waits until no other run holds this checkout, and says on standard error that it waits."""
     held = os.open(ROOT, os.O_RDONLY)
     try:
@@ -90,11 +209,32 @@ def alone(what):
         os.close(held)
 
 
+@dataclass(frozen=True)
+class Room:
+    """A bare copy of crates that `rt ci` takes for a whole repository: its folder, when it was made, the kit that is here, and the
+    digest of the sources of each program that it builds, as they were copied."""
+
+    path: str
+    made_at: int
+    kit: str
+    sources: dict[str, str]
+
+    def take(self, built: Built) -> bool:
+        """Puts a program that was built here into the checkout, and answers whether there is one."""
+        file = f"{self.path}/crates/{built.crate}/out/{built.name}"
+        if built.crate not in self.sources or not os.path.isfile(file):
+            return False
+        built.take(file, self.sources[built.crate], self.kit, PROOF, self.made_at)
+        return True
+
+
 @contextlib.contextmanager
-def room_for(names):
-    """A temporary copy of the crates, without must-fail edits and what was built, which `rt ci` takes for a whole repository."""
+def room_for(names: list[str]) -> Iterator[Room]:
+    """A temporary copy of the crates, without must-fail edits and what was built. The program says there by its version what it is
+    built from."""
     sweep()
     with tempfile.TemporaryDirectory(prefix=f"candesk-room-{os.getpid()}-") as room:
+        made_at, kit = time.time_ns(), kit_line()
         # (it is the top of a repository)
         os.mkdir(f"{room}/.git")
         for name in names:
@@ -103,46 +243,25 @@ def room_for(names):
         with open(f"{room}/crates.txt", "w", encoding="utf-8") as lines:
             lines.writelines(f"{name}: {' '.join(below[name])}\n" for name in names)
         shutil.copyfile(f"{ROOT}/HANDLES", f"{room}/HANDLES")
-        yield room
+        sources = {it.crate: sources_of(it.crate, room) for it in ALL_BUILT if set(with_below(it.crate)) <= set(names)}
+        if os.path.dirname(os.path.dirname(VERSION_FILE)) in (f"crates/{it}" for it in names):
+            name_build(f"{room}/{VERSION_FILE}", build_digest(sources.get(PROGRAM) or sources_of(PROGRAM), kit))
+        yield Room(room, made_at, kit, sources)
 
 
-def sweep():
+def name_build(file: str, digest: str) -> None:
+    """Puts digits of the digest into the program's version."""
+    with open(file, encoding="utf-8") as text:
+        before, *behind = text.read().split(UNPROVED)
+    if len(behind) != 1:
+        sys.exit(f"{os.path.basename(sys.argv[0])}: {VERSION_FILE} must have the word {UNPROVED} once, and has it {len(behind)} times")
+    with open(file, "w", encoding="utf-8") as text:
+        text.write(f"{before}{digest[:DIGITS]}{behind[0]}")
+
+
+def sweep() -> None:
     """Removes the rooms of runs that were killed."""
     for name in os.listdir(tempfile.gettempdir()):
         of = re.match(r"candesk-room-(\d+)-", name)
         if of and not os.path.exists(f"/proc/{of[1]}"):
             shutil.rmtree(f"{tempfile.gettempdir()}/{name}", ignore_errors=True)
-
-
-def take_program(file, sources, kit=None):
-    """Puts a program into the checkout that was built of sources of this digest, and says so beside it."""
-    os.makedirs(os.path.dirname(BUILT), exist_ok=True)
-    shutil.copyfile(file, f"{BUILT}.new")
-    os.chmod(f"{BUILT}.new", 0o755)
-    with contextlib.suppress(FileNotFoundError):
-        os.remove(STAMP)
-    os.replace(f"{BUILT}.new", BUILT)
-    stamp_program(sources, kit)
-
-
-def stamp_program(sources, kit=None):
-    """Says beside the program in the checkout that it was built of sources of this digest, by the kit that is here or another."""
-    with open(f"{STAMP}.new", "w", encoding="utf-8") as stamp:
-        stamp.write(f"{kit or kit_line()}\nsources {sources}\nprogram {sum_of(BUILT)}\n")
-    os.replace(f"{STAMP}.new", STAMP)
-
-
-def program_sources(root=ROOT):
-    """The digest of the sources of the program."""
-    return digest_of(with_below(PROGRAM), root)
-
-
-def is_program_current():
-    """Whether the program in the checkout is that built of the sources as they are, by the kit that is here if one is."""
-    try:
-        with open(STAMP, encoding="utf-8") as stamp:
-            kit, *rest = stamp.read().splitlines()
-        is_same = rest == [f"sources {program_sources()}", f"program {sum_of(BUILT)}"]
-        return is_same and os.access(BUILT, os.X_OK) and kit_line() in ("", kit)
-    except (OSError, ValueError):
-        return False

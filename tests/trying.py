@@ -1,13 +1,20 @@
 """What the tests share: runs of a program, also with a library preloaded, what passed and failed, and texts that several try."""
 
+from __future__ import annotations
+
 import difflib
 import importlib
 import os
+import shutil
 import subprocess
 import sys
+from types import ModuleType
+from typing import IO, Any
+
+# what a run ends with: status, output and errors
+Ended = tuple[Any, bytes, bytes]
 
 ROOT = os.path.dirname(os.path.dirname(os.path.realpath(__file__)))
-PROGRAM = f"{ROOT}/crates/candesk/out/candesk"
 EXAMPLES = f"{ROOT}/examples"
 # the outside cases, each a folder with a database f.dbc; none where CANDESK_CASES doesn't say where they are
 CASES = os.path.join(os.environ["CANDESK_CASES"], "cases") if os.environ.get("CANDESK_CASES") else None
@@ -68,7 +75,7 @@ FRAMES = [
 ]
 
 
-def decoded(line, behind):
+def decoded(line: bytes, behind: bytes | None) -> bytes:
     """What is written for a line of a log behind which this stands, or nothing."""
     return (line if behind is None else line + b" :: " + behind) + b"\n"
 
@@ -76,12 +83,12 @@ def decoded(line, behind):
 # ---- files
 
 
-def content(path):
+def content(path: str) -> bytes:
     with open(path, "rb") as file:
         return file.read()
 
 
-def put(folder, name, data):
+def put(folder: str, name: str, data: bytes) -> str:
     """Puts a file into a folder, and answers its path."""
     path = os.path.join(folder, name)
     with open(path, "wb") as file:
@@ -89,7 +96,7 @@ def put(folder, name, data):
     return path
 
 
-def script(name):
+def script(name: str) -> ModuleType:
     """A module of scripts/."""
     sys.path.insert(0, f"{ROOT}/scripts")
     return importlib.import_module(name)
@@ -98,17 +105,40 @@ def script(name):
 # ---- runs
 
 
-def given(at=0, otherwise=PROGRAM):
-    """The path of the program that a word of the command line names, or else that of another, which is the built one."""
-    path = os.path.abspath(sys.argv[1 + at] if len(sys.argv) > 1 + at else otherwise)
+def program() -> str:
+    """The path of the program that is tried where none is named: the one built of the sources as they are, else dist's of these
+    sources; where there is neither, one that was built of others, which is told."""
+    proving, dist = script("proving"), script("dist")
+    found, _ = dist.find()
+    if found:
+        return str(found.path)
+    if os.path.isfile(proving.CANDESK.path):
+        print("what is tried is a program that wasn't built of the sources as they are", file=sys.stderr)
+    return there(str(proving.CANDESK.path))
+
+
+def there(path: str) -> str:
+    """The path of a program that is there; where it isn't, the run ends."""
     if not os.path.isfile(path):
         sys.exit(f"there is no {path}: ./candesk --help builds the program, ./test all others")
-    return path
+    return os.path.abspath(path)
 
 
-def run(words, stdin=b"", **settings):
+def given(at: int = 0, otherwise: str | None = None) -> str:
+    """The path of the program that a word of the command line names, or else that of another, which is `program`."""
+    return there(sys.argv[1 + at] if len(sys.argv) > 1 + at else otherwise or program())
+
+
+def compile_c(words: list[str]) -> None:
+    """Runs the C compiler; where there is none, the run ends."""
+    if not shutil.which("cc"):
+        sys.exit("a C compiler, as cc, is needed and isn't at hand")
+    subprocess.run(["cc", *words], check=True)
+
+
+def run(words: list[str], stdin: bytes | int | IO[bytes] = b"", **settings: Any) -> Ended:
     """What a run ends with: status, output and errors. Standard input is these bytes; a run that takes too long has no status."""
-    streams = {"stdout": subprocess.PIPE, "stderr": subprocess.PIPE, **settings}
+    streams: dict[str, Any] = {"stdout": subprocess.PIPE, "stderr": subprocess.PIPE, **settings}
     if isinstance(stdin, bytes):
         streams["input"] = stdin
     else:
@@ -123,14 +153,14 @@ def run(words, stdin=b"", **settings):
 class Preloaded:
     """A library of tests/, built in a folder by the C compiler, and preloaded into runs of a program."""
 
-    def __init__(self, name, folder):
+    def __init__(self, name: str, folder: str) -> None:
         self.library = os.path.join(folder, name + ".so")
         self.met = os.path.join(folder, name + ".met")
         self.folder, self.input = folder, name + ".input"
         source = f"{ROOT}/tests/{name}.c"
-        subprocess.run(["cc", "-O1", "-shared", "-fPIC", "-o", self.library, source, "-ldl"], check=True)
+        compile_c(["-O1", "-shared", "-fPIC", "-o", self.library, source, "-ldl"])
 
-    def run(self, words, stdin=b"", **settings):
+    def run(self, words: list[str], stdin: bytes = b"", **settings: Any) -> tuple[bool, Ended]:
         """Whether the library did what these settings tell it, and what the run ended with: status, output and errors. Standard
         input is a file with these bytes."""
         if os.path.exists(self.met):
@@ -145,14 +175,14 @@ class Preloaded:
 # ---- what is said
 
 
-def shown(it):
+def shown(it: object) -> str:
     """Something, in short."""
     if isinstance(it, tuple):
         return "(" + ", ".join(shown(part) for part in it) + ")"
     return repr(it[:100] + b" .. " + it[-200:] if isinstance(it, bytes) and len(it) > 304 else it)
 
 
-def tell_difference(wanted, got, name):
+def tell_difference(wanted: bytes, got: bytes, name: str) -> None:
     """Prints the lines in which a text differs from the one that is wanted, whose name this is."""
     texts = [it.decode(errors="replace").splitlines() for it in (wanted, got)]
     for line in difflib.unified_diff(*texts, name, "what was written", lineterm=""):
@@ -162,10 +192,10 @@ def tell_difference(wanted, got, name):
 class Counted:
     """What passed and failed; what failed is printed at once."""
 
-    def __init__(self):
+    def __init__(self) -> None:
         self.passed = self.failed = self.skipped = 0
 
-    def note(self, name, fault=None):
+    def note(self, name: str, fault: object = None) -> bool:
         """Counts a case by its fault, which is none where it passed, and answers whether it did."""
         if fault is None:
             self.passed += 1
@@ -174,18 +204,18 @@ class Counted:
             print(f"{name}: {fault}", flush=True)
         return fault is None
 
-    def note_equal(self, name, got, wanted):
+    def note_equal(self, name: str, got: object, wanted: object) -> bool:
         return self.note(name, None if got == wanted else f"{shown(got)} for {shown(wanted)}")
 
-    def note_true(self, name, holds, fault="it isn't so"):
+    def note_true(self, name: str, holds: object, fault: object = "it isn't so") -> bool:
         return self.note(name, None if holds else fault)
 
-    def skip(self, name, missing):
+    def skip(self, name: str, missing: str) -> None:
         """Tells a case that isn't tried, since it needs something that isn't at hand."""
         self.skipped += 1
         print(f"{name}: skipped, as {missing} isn't at hand", flush=True)
 
-    def end(self):
+    def end(self) -> int:
         """Prints the last line, and answers the exit status."""
         print(f"{self.passed} passed, {self.failed} failed" + (f", {self.skipped} skipped" if self.skipped else ""))
         return 1 if self.failed or not self.passed else 0

@@ -1,0 +1,149 @@
+"""dist/: the program in the repository, as a complete proof of exactly these sources built it, so that it runs without a build.
+
+Beside the program are its sum (SHA256SUMS) and what it was built from (BUILD): its version, the kit, and the digest of its sources
+and the kit. Everything that needs the program and finds none of these sources that was built here takes it from there.
+"""
+
+from __future__ import annotations
+
+import contextlib
+import os
+import subprocess
+import sys
+import time
+from dataclasses import dataclass
+
+import proving
+
+FOLDER = "dist"
+NAME = "candesk-x86_64-linux"
+PROGRAM = f"{proving.ROOT}/{FOLDER}/{NAME}"
+SUMS = f"{proving.ROOT}/{FOLDER}/SHA256SUMS"
+BUILD = f"{proving.ROOT}/{FOLDER}/BUILD"
+# what a complete proof of the program costs
+PROOF_COST = "about 25 minutes on four processors"
+PROVE = "scripts/prove candesk"
+MAKE = "scripts/release --dist"
+NOTICE = (
+    f"running {FOLDER}/{NAME}, which a complete proof of exactly these sources built on another machine; "
+    f"to prove it on this one: {PROVE} ({PROOF_COST})"
+)
+# is there while the notice has still to be shown
+UNTOLD = f"{proving.CANDESK.path}.notice"
+
+
+@dataclass(frozen=True)
+class Found:
+    """A program of the sources as they are: its path, and its stamp."""
+
+    path: str
+    stamp: proving.Stamp
+
+
+def build_lines() -> dict[str, str]:
+    """What BUILD says, by the first word of each line; nothing where it can't be read."""
+    try:
+        with open(BUILD, encoding="utf-8") as text:
+            return dict(line.split(" ", 1) for line in text.read().splitlines())
+    except (OSError, ValueError):
+        return {}
+
+
+def state(sources: str | None = None) -> tuple[proving.Stamp | None, str]:
+    """The stamp of dist's program if it is built from the sources as they are, or none and why it isn't."""
+    said, kit = build_lines(), proving.kit_line()
+    if not ("kit" in said and "digest" in said and os.path.isfile(PROGRAM)):
+        return None, f"{FOLDER}/ has no program"
+    if kit not in ("", said["kit"]):
+        return None, f"{FOLDER}/ is stale: it was built by {said['kit']}, and the kit here is {kit}"
+    sources = sources or proving.sources_of(proving.PROGRAM)
+    if said["digest"] != proving.build_digest(sources, said["kit"]):
+        return None, f"{FOLDER}/ is stale: it was built from other sources than this checkout has"
+    try:
+        with open(SUMS, encoding="utf-8") as text:
+            sums = text.read()
+    except OSError:
+        sums = ""
+    total = proving.sum_of(PROGRAM)
+    if sums != sums_line(total):
+        return None, f"{FOLDER}/ is damaged: {NAME} hasn't the sum that {FOLDER}/SHA256SUMS gives"
+    return proving.Stamp(said["kit"], sources, total, proving.DIST), ""
+
+
+def sums_line(total: str) -> str:
+    return f"{total}  {NAME}\n"
+
+
+def find() -> tuple[Found | None, str]:
+    """The program of the sources as they are, and nothing else: what was built here, or else dist's, which is put in its place where
+    the checkout can be written. Where there is none, why dist's isn't it."""
+    stamp = proving.CANDESK.current()
+    if stamp:
+        return Found(proving.CANDESK.path, stamp), ""
+    read_at = time.time_ns()
+    stamp, why = state()
+    if not stamp:
+        return None, why
+    try:
+        proving.CANDESK.take(PROGRAM, stamp.sources, stamp.kit, proving.DIST, read_at)
+        with open(UNTOLD, "w", encoding="utf-8"):
+            pass
+    except OSError:
+        return Found(PROGRAM, stamp), ""
+    return Found(proving.CANDESK.path, stamp), ""
+
+
+def tell_once(found: Found) -> None:
+    """Says on a terminal, once, that it is dist's program that runs."""
+    if not sys.stderr.isatty():
+        return
+    if found.stamp.origin == proving.DIST and (found.path == PROGRAM or os.path.exists(UNTOLD)):
+        print(f"candesk: {NOTICE}", file=sys.stderr, flush=True)
+    with contextlib.suppress(OSError):
+        os.remove(UNTOLD)
+
+
+# ---- making it
+
+
+def version_of(program: str) -> str:
+    """What a program says that its version is."""
+    said = subprocess.run([program, "--version"], capture_output=True, text=True, check=True).stdout
+    return said.split()[1]
+
+
+def files(found: Found) -> dict[str, tuple[bytes, int]]:
+    """What dist/ has to be for a program: each file with its bytes and its mode."""
+    with open(found.path, "rb") as data:
+        program = data.read()
+    digest = proving.build_digest(found.stamp.sources, found.stamp.kit)
+    build = f"version {version_of(found.path)}\nkit {found.stamp.kit}\ndigest {digest}\n"
+    return {
+        PROGRAM: (program, 0o755),
+        SUMS: (sums_line(found.stamp.program).encode(), 0o644),
+        BUILD: (build.encode(), 0o644),
+    }
+
+
+def is_already(path: str, data: bytes, mode: int) -> bool:
+    """Whether a file has these bytes, and may be run if it has to be."""
+    try:
+        with open(path, "rb") as text:
+            return text.read() == data and os.access(path, os.X_OK) == bool(mode & 0o111)
+    except OSError:
+        return False
+
+
+def make(found: Found) -> list[str]:
+    """Makes dist/ from a program, and answers which of its files were written: none that was already so."""
+    written = []
+    os.makedirs(os.path.dirname(PROGRAM), exist_ok=True)
+    for path, (data, mode) in files(found).items():
+        if is_already(path, data, mode):
+            continue
+        with open(f"{path}.new", "wb") as to:
+            to.write(data)
+        os.chmod(f"{path}.new", mode)
+        os.replace(f"{path}.new", path)
+        written.append(os.path.relpath(path, proving.ROOT))
+    return written
