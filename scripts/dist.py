@@ -75,8 +75,8 @@ def sums_line(total: str) -> str:
 
 
 def find() -> tuple[Found | None, str]:
-    """The program of the sources as they are, and nothing else: what was built here, or else dist's, which is put in its place where
-    the checkout can be written. Where there is none, why dist's isn't it."""
+    """The program of the sources as they are: the one that was built here, or else dist's, which is put in its place where the
+    checkout can be written. Where there is none, why dist's isn't it."""
     stamp = proving.CANDESK.current()
     if stamp:
         return Found(proving.CANDESK.path, stamp), ""

@@ -254,7 +254,8 @@ def name_build(file: str, digest: str) -> None:
     with open(file, encoding="utf-8") as text:
         before, *behind = text.read().split(UNPROVED)
     if len(behind) != 1:
-        sys.exit(f"{os.path.basename(sys.argv[0])}: {VERSION_FILE} must have the word {UNPROVED} once, and has it {len(behind)} times")
+        what = f"must have the word {UNPROVED} once, and has it {len(behind)} times"
+        sys.exit(f"{os.path.basename(sys.argv[0])}: {VERSION_FILE} {what}")
     with open(file, "w", encoding="utf-8") as text:
         text.write(f"{before}{digest[:DIGITS]}{behind[0]}")
 

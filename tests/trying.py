@@ -96,6 +96,13 @@ def put(folder: str, name: str, data: bytes) -> str:
     return path
 
 
+def first_example() -> tuple[str, str]:
+    """The first command of README, and what it writes."""
+    block = content(f"{ROOT}/README.md").decode().split("```\n")[1]
+    command, _, output = block.partition("\n")
+    return command.removeprefix("$ "), output
+
+
 def script(name: str) -> ModuleType:
     """A module of scripts/."""
     sys.path.insert(0, f"{ROOT}/scripts")
@@ -184,8 +191,8 @@ def shown(it: object) -> str:
 
 def tell_difference(wanted: bytes, got: bytes, name: str) -> None:
     """Prints the lines in which a text differs from the one that is wanted, whose name this is."""
-    texts = [it.decode(errors="replace").splitlines() for it in (wanted, got)]
-    for line in difflib.unified_diff(*texts, name, "what was written", lineterm=""):
+    before, after = (it.decode(errors="replace").splitlines() for it in (wanted, got))
+    for line in difflib.unified_diff(before, after, name, "what was written", lineterm=""):
         print("    " + line)
 
 
