@@ -25,8 +25,8 @@ PROOF_COST = "about 25 minutes on four processors"
 PROVE = "scripts/prove candesk"
 MAKE = "scripts/release --dist"
 NOTICE = (
-    f"running {FOLDER}/{NAME}, which a complete proof of exactly these sources built on another machine; "
-    f"to prove it on this one: {PROVE} ({PROOF_COST})"
+    f"running {FOLDER}/{NAME}, built by a complete proof of exactly these sources; "
+    f"to prove it here, run {PROVE} ({PROOF_COST})"
 )
 # is there while the notice has still to be shown
 UNTOLD = f"{proving.CANDESK.path}.notice"
@@ -55,10 +55,10 @@ def state(sources: str | None = None) -> tuple[proving.Stamp | None, str]:
     if not ("kit" in said and "digest" in said and os.path.isfile(PROGRAM)):
         return None, f"{FOLDER}/ has no program"
     if kit not in ("", said["kit"]):
-        return None, f"{FOLDER}/ is stale: it was built by {said['kit']}, and the kit here is {kit}"
+        return None, f"{FOLDER}/ is stale (built by {said['kit']}, but the kit here is {kit})"
     sources = sources or proving.sources_of(proving.PROGRAM)
     if said["digest"] != proving.build_digest(sources, said["kit"]):
-        return None, f"{FOLDER}/ is stale: it was built from other sources than this checkout has"
+        return None, f"{FOLDER}/ is stale (built from other sources)"
     try:
         with open(SUMS, encoding="utf-8") as text:
             sums = text.read()
@@ -66,7 +66,7 @@ def state(sources: str | None = None) -> tuple[proving.Stamp | None, str]:
         sums = ""
     total = proving.sum_of(PROGRAM)
     if sums != sums_line(total):
-        return None, f"{FOLDER}/ is damaged: {NAME} hasn't the sum that {FOLDER}/SHA256SUMS gives"
+        return None, f"{FOLDER}/ is damaged (SHA256SUMS has another sum of {NAME})"
     return proving.Stamp(said["kit"], sources, total, proving.DIST), ""
 
 

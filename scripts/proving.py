@@ -143,11 +143,13 @@ def with_below(*names: str) -> list[str]:
 
 
 def files_of(crate: str, parts: Iterable[str] = PARTS, root: str = ROOT) -> Iterator[str]:
+    """The files in these parts of a crate; what an editor puts beside them isn't theirs."""
     for part in parts:
         for at, folders, names in os.walk(f"{root}/crates/{crate}/{part}"):
             folders.sort()
             for name in sorted(names):
-                yield f"{at}/{name}"
+                if not name.startswith(".") and not name.endswith("~"):
+                    yield f"{at}/{name}"
 
 
 def kit_line() -> str:

@@ -120,7 +120,7 @@ def program() -> str:
     if found:
         return str(found.path)
     if os.path.isfile(proving.CANDESK.path):
-        print("what is tried is a program that wasn't built of the sources as they are", file=sys.stderr)
+        print("note: the program under test wasn't built from these sources", file=sys.stderr)
     return there(str(proving.CANDESK.path))
 
 
@@ -139,7 +139,7 @@ def given(at: int = 0, otherwise: str | None = None) -> str:
 def compile_c(words: list[str]) -> None:
     """Runs the C compiler; where there is none, the run ends."""
     if not shutil.which("cc"):
-        sys.exit("a C compiler, as cc, is needed and isn't at hand")
+        sys.exit("a C compiler is needed, as cc, and there is none")
     subprocess.run(["cc", *words], check=True)
 
 
