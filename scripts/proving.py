@@ -85,18 +85,20 @@ class Built:
     def take(self, file: str, sources: str, kit: str, origin: str, read_at: int | None = None) -> None:
         """Puts a program into the checkout that was built of these sources, which were read at this time, in nanoseconds."""
         os.makedirs(os.path.dirname(self.path), exist_ok=True)
-        shutil.copyfile(file, f"{self.path}.new")
-        os.chmod(f"{self.path}.new", 0o755)
-        set_time(f"{self.path}.new", read_at)
+        made = f"{self.path}.new-{os.getpid()}"
+        shutil.copyfile(file, made)
+        os.chmod(made, 0o755)
+        set_time(made, read_at)
         with contextlib.suppress(FileNotFoundError):
             os.remove(self.stamp_path)
-        os.replace(f"{self.path}.new", self.path)
+        os.replace(made, self.path)
         self.stamp_as(sources, kit, origin)
 
     def stamp_as(self, sources: str, kit: str, origin: str) -> None:
-        with open(f"{self.stamp_path}.new", "w", encoding="utf-8") as text:
+        made = f"{self.stamp_path}.new-{os.getpid()}"
+        with open(made, "w", encoding="utf-8") as text:
             text.write(Stamp(kit, sources, sum_of(self.path), origin).text())
-        os.replace(f"{self.stamp_path}.new", self.stamp_path)
+        os.replace(made, self.stamp_path)
 
 
 CANDESK = Built(PROGRAM, PROGRAM)
