@@ -49,14 +49,14 @@ def build_lines() -> dict[str, str]:
         return {}
 
 
-def state(sources: str | None = None) -> tuple[proving.Stamp | None, str]:
+def state() -> tuple[proving.Stamp | None, str]:
     """The stamp of dist's program if it is built from the sources as they are, or none and why it isn't."""
     said, kit = build_lines(), proving.kit_line()
     if not ("kit" in said and "digest" in said and os.path.isfile(PROGRAM)):
         return None, f"{FOLDER}/ has no program"
     if kit not in ("", said["kit"]):
         return None, f"{FOLDER}/ is stale (built by {said['kit']}, but the kit here is {kit})"
-    sources = sources or proving.sources_of(proving.PROGRAM)
+    sources = proving.sources_of(proving.PROGRAM)
     if said["digest"] != proving.build_digest(sources, said["kit"]):
         return None, f"{FOLDER}/ is stale (built from other sources)"
     try:
