@@ -1,6 +1,6 @@
 -- What comments and attributes speak of, and comments, as plain data.
 -- Source: the DBC file format, "Comment Definitions".
-use Rattle.std.specs.Prelude.{ℕ, List}
+use Rattle.std.specs.Prelude.{◌==◌, ℕ, Bool, false, List}
 use Rattle.dbc_values.specs.Names.{IsName, IsText}
 use Rattle.dbc_records.specs.Records.{IsNumber}
 use Rattle.dbc_records.specs.declared.target.Target.{Target}
@@ -12,6 +12,13 @@ IsTarget targets.Whole = Unit {0}
 IsTarget (targets.Node name) = IsName name
 IsTarget (targets.Message number) = IsNumber number
 IsTarget (targets.Signal number name) = IsNumber number × IsName name
+
+-- whether it is the message of this number
+abbrev pub is_for_message : ℕ → Target → Bool
+is_for_message number targets.Whole = false
+is_for_message number (targets.Node name) = false
+is_for_message number (targets.Message other) = other == number
+is_for_message number (targets.Signal other name) = false
 
 pub record Comment : Type 0 where
   pub target : Target

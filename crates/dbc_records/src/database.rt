@@ -1,5 +1,5 @@
 //! Databases.
-ghost use Rattle.std.specs.Prelude.{◌≡◌, Some, None, if◌then◌else◌, not, IfSome};
+ghost use Rattle.std.specs.Prelude.{◌≡◌, Some, None, if◌then◌else◌, not, IfOk, IfSome};
 ghost use Rattle.std.specs.List.{list_all};
 ghost use Rattle.dbc_records.specs.Databases.{IsBitTiming, timing_fits, database_fits};
 
@@ -178,36 +178,143 @@ impl Checked for Database {
     ghost IsValid = { IsDatabase };
 }
 
+// The parts of a database are copied some at a time: a function that holds thirteen copies lets go of each at each way out, and
+// takes minutes to prove.
+
+// What stands before the messages.
+#[derive(Drop)]
+struct Preamble {
+    version: Text,
+    symbols: List<Symbol>,
+    nodes: List<Name>,
+    tables: List<TableRow>,
+}
+
+fn copied_preamble(database: &Database) -> Result<Preamble, Memory>
+    ensures { IfOk result (λ copy. copy ≡ record {
+      version = database.now.version;
+      symbols = database.now.symbols;
+      nodes = database.now.nodes;
+      tables = database.now.tables;
+    }) }
+{
+    let version = database.version.copy()?;
+    let symbols = database.symbols.copy()?;
+    let nodes = database.nodes.copy()?;
+    let tables = database.tables.copy()?;
+    Ok(Preamble {
+        version,
+        symbols,
+        nodes,
+        tables,
+    })
+}
+
+// The messages, their comments, and what attributes there may be.
+#[derive(Drop)]
+struct Objects {
+    messages: List<Message>,
+    comments: List<Comment>,
+    definitions: List<AttrDef>,
+    defaults: List<AttrDefault>,
+}
+
+fn copied_objects(database: &Database) -> Result<Objects, Memory>
+    ensures { IfOk result (λ copy. copy ≡ record {
+      messages = database.now.messages;
+      comments = database.now.comments;
+      definitions = database.now.definitions;
+      defaults = database.now.defaults;
+    }) }
+{
+    let messages = database.messages.copy()?;
+    let comments = database.comments.copy()?;
+    let definitions = database.definitions.copy()?;
+    let defaults = database.defaults.copy()?;
+    Ok(Objects {
+        messages,
+        comments,
+        definitions,
+        defaults,
+    })
+}
+
+// The rows of messages and signals, and the statements that are kept as they stand.
+#[derive(Drop)]
+struct Rows {
+    attributes: List<AttrRow>,
+    values: List<ValueRow>,
+    floats: List<FloatRow>,
+    muxes: List<MuxRow>,
+    kept: List<Kept>,
+}
+
+fn copied_rows(database: &Database) -> Result<Rows, Memory>
+    ensures { IfOk result (λ copy. copy ≡ record {
+      attributes = database.now.attributes;
+      values = database.now.values;
+      floats = database.now.floats;
+      muxes = database.now.muxes;
+      kept = database.now.kept;
+    }) }
+{
+    let attributes = database.attributes.copy()?;
+    let values = database.values.copy()?;
+    let floats = database.floats.copy()?;
+    let muxes = database.muxes.copy()?;
+    let kept = database.kept.copy()?;
+    Ok(Rows {
+        attributes,
+        values,
+        floats,
+        muxes,
+        kept,
+    })
+}
+
+// The database of these parts and of the bit timing of another with as many messages.
+fn joined(database: &Database, preamble: Preamble, objects: Objects, rows: Rows) -> Database
+    requires { objects.messages ≡ database.now.messages }
+    ensures { result ≡ record {
+      version = preamble.version;
+      symbols = preamble.symbols;
+      bit_timing = database.now.bit_timing;
+      nodes = preamble.nodes;
+      tables = preamble.tables;
+      messages = objects.messages;
+      comments = objects.comments;
+      definitions = objects.definitions;
+      defaults = objects.defaults;
+      attributes = rows.attributes;
+      values = rows.values;
+      floats = rows.floats;
+      muxes = rows.muxes;
+      kept = rows.kept;
+    } }
+{
+    Database {
+        version: preamble.version,
+        symbols: preamble.symbols,
+        bit_timing: database.bit_timing,
+        nodes: preamble.nodes,
+        tables: preamble.tables,
+        messages: objects.messages,
+        comments: objects.comments,
+        definitions: objects.definitions,
+        defaults: objects.defaults,
+        attributes: rows.attributes,
+        values: rows.values,
+        floats: rows.floats,
+        muxes: rows.muxes,
+        kept: rows.kept,
+    }
+}
+
 impl Copied for Database {
     fn copy(&self) -> Result<Database, Memory> {
-        let version = self.version.copy()?;
-        let symbols = self.symbols.copy()?;
-        let nodes = self.nodes.copy()?;
-        let tables = self.tables.copy()?;
-        let messages = self.messages.copy()?;
-        let comments = self.comments.copy()?;
-        let definitions = self.definitions.copy()?;
-        let defaults = self.defaults.copy()?;
-        let attributes = self.attributes.copy()?;
-        let values = self.values.copy()?;
-        let floats = self.floats.copy()?;
-        let muxes = self.muxes.copy()?;
-        let kept = self.kept.copy()?;
-        Ok(Database {
-            version,
-            symbols,
-            bit_timing: self.bit_timing,
-            nodes,
-            tables,
-            messages,
-            comments,
-            definitions,
-            defaults,
-            attributes,
-            values,
-            floats,
-            muxes,
-            kept,
-        })
+        let preamble = copied_preamble(self)?;
+        let objects = copied_objects(self)?;
+        let rows = copied_rows(self)?;
+        Ok(joined(self, preamble, objects, rows))
     }
 }

@@ -1,5 +1,6 @@
 //! Definitions of attributes.
-ghost use Rattle.std.specs.Prelude.{◌≡◌, Some, None, if◌then◌else◌};
+ghost use Rattle.std.specs.Prelude.{◌≡◌, Some, None, IfOk, if◌then◌else◌};
+ghost use Rattle.dbc_records.specs.declared.definition.Form.TheVariants as forms;
 ghost use Rattle.dbc_records.specs.Attributes.{form_fits};
 
 use dbc_values::{Checked, Copied, Decimal, List, Memory, Text};
@@ -48,6 +49,14 @@ impl Checked for Form {
     ghost IsValid = { IsForm };
 }
 
+// The enumeration of the same texts. (In an arm of `copy` this fallible call costs minutes of proof.)
+fn enumeration_of(texts: &List<Text>) -> Result<Form, Memory>
+    ensures { IfOk result (λ form. form ≡ forms.Enumeration texts.now) }
+{
+    let texts = texts.copy()?;
+    Ok(Form::Enumeration(texts))
+}
+
 impl Copied for Form {
     fn copy(&self) -> Result<Form, Memory> {
         match self {
@@ -55,7 +64,7 @@ impl Copied for Form {
             Form::Hex(limits) => Ok(Form::Hex(*limits)),
             Form::Float(limits) => Ok(Form::Float(*limits)),
             Form::Str => Ok(Form::Str),
-            Form::Enumeration(texts) => Ok(Form::Enumeration(texts.copy()?)),
+            Form::Enumeration(texts) => enumeration_of(texts),
         }
     }
 }

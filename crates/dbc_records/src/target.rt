@@ -1,4 +1,6 @@
 //! What comments and attributes speak of.
+ghost use Rattle.std.specs.Prelude.{◌≡◌};
+ghost use Rattle.dbc_records.specs.Comments.{is_for_message};
 
 use dbc_values::{Checked, Copied, Memory, Name};
 
@@ -13,6 +15,18 @@ pub enum Target {
     Message(u32),
     /// A signal of a message: `SG_ number name`.
     Signal(u32, Name),
+}
+
+impl Target {
+    /// Whether it is the message of this number. A signal of that message isn't.
+    pub fn is_for_message(&self, number: u32) -> bool
+        ensures { result ≡ is_for_message number self.now }
+    {
+        match self {
+            Target::Message(other) => *other == number,
+            _ => false,
+        }
+    }
 }
 
 impl Checked for Target {
