@@ -1,14 +1,14 @@
 //! One chain beside the ways of its message.
 ghost use Rattle.std.specs.Prelude.{◌≡◌, ℕ, Some, None, IsTrue, IfOk, length, slice_get};
 ghost use Rattle.std.specs.Option.{option_map};
-ghost use Rattle.can_layout.specs.declared.walk.Walk.TheVariants.{Chain};
+ghost use Rattle.can_mux.specs.declared.walk.Walk.TheVariants.{Chain};
 ghost use Rattle.can_overlap.specs.Overlaps.{agrees_with};
 ghost use Rattle.can_overlap.specs.Ways.{of_switch, noted_if, goes_at, AreEntered, AreNoted};
 
 use crate::agreeing::{agrees_with, all_agree};
 use crate::tidy::Tidy;
 use crate::ways::Ways;
-use can_layout::Link;
+use can_mux::Link;
 use dbc_values::Memory;
 use std::alloc::Global;
 use std::marker::Model;
@@ -165,19 +165,52 @@ fn note(noted: &mut [Option<bool>], beside: &Beside<'_>, place: usize, goes: boo
     }
 }
 
+// Whether a signal with that chain and the one at a place can be there together: up from there, link by link, to one of which it
+// is known. It takes no memory, and the stack of one call, however many links there are.
+fn goes_up(beside: &Beside<'_>, noted: &[Option<bool>], place: usize) -> bool
+    requires { AreNoted beside.now noted.now }
+    ensures { result ≡ goes_at beside.now.links beside.now.walks place }
+{
+    let mut current = place;
+    for _passed in 0..beside.count() {
+        if let Some(goes) = noted_at(noted, current) {
+            return goes;
+        }
+        match beside.ways.own_at(current) {
+            Some(own) if beside.agrees(own) => current = own.switch(),
+            Some(_) => return false,
+            None => return beside.goes_slowly(current),
+        }
+    }
+    beside.goes_slowly(current)
+}
+
+// Notes what was found of the signal at a place, and so of all on its way up for which that decided it.
+fn note_up(noted: &mut [Option<bool>], beside: &Beside<'_>, place: usize, goes: bool)
+    requires noted { AreNoted beside.now noted.old }
+    requires goes { goes ≡ goes_at beside.now.links beside.now.walks place }
+    ensures { AreNoted beside.now noted.new }
+{
+    let mut current = place;
+    for _passed in 0..beside.count() {
+        if noted_at(noted, current).is_some() {
+            return;
+        }
+        note(noted, beside, current, goes);
+        match beside.ways.own_at(current) {
+            Some(own) if beside.agrees(own) => current = own.switch(),
+            _ => return,
+        }
+    }
+}
+
 /// Whether a signal with that chain and the one at a place can be there together. What is found on the way up is noted.
 pub(crate) fn goes_with(beside: &Beside<'_>, noted: &mut [Option<bool>], place: usize) -> bool
     requires { AreNoted beside.now noted.old }
     ensures goes { result ≡ goes_at beside.now.links beside.now.walks place }
     ensures noted { AreNoted beside.now noted.new }
 {
-    if let Some(goes) = noted_at(noted, place) {
-        return goes;
-    }
-    let goes = match beside.ways.own_at(place) {
-        Some(own) => beside.agrees(own) && goes_with(beside, noted, own.switch()),
-        None => beside.goes_slowly(place),
-    };
-    note(noted, beside, place, goes);
+    let goes = goes_up(beside, noted, place);
+    note_up(noted, beside, place, goes);
     goes
 }

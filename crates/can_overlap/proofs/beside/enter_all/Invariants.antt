@@ -1,6 +1,6 @@
 use Rattle.std.proofs.Common.{◌≡◌, Some, take, drop}
 use Rattle.std.specs.Prelude.{slice_get}
-use Rattle.can_layout.specs.declared.walk.Walk.TheVariants.{Chain}
+use Rattle.can_mux.specs.declared.walk.Walk.TheVariants.{Chain}
 use Rattle.can_overlap.specs.Ways.{AreEntered}
 use Rattle.can_overlap.proofs.beside.enter_all.Given as goal
 
