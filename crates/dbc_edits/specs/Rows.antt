@@ -4,12 +4,11 @@ use Rattle.std.specs.Prelude.{ℕ, Bool, false, not, ◌&&◌, ◌||◌, ◌==�
 use Rattle.std.specs.List.{list_any}
 use Rattle.std.specs.Str.{bytes_eq}
 use Rattle.dbc_records.specs.Records.{ValueRow, FloatRow, MuxRow, TableRow}
-use Rattle.dbc_records.specs.Comments.{Comment}
+use Rattle.dbc_records.specs.Comments.{Comment, is_for_message}
 use Rattle.dbc_records.specs.Attributes.{AttrRow}
 use Rattle.dbc_records.specs.Databases.{Database}
 use Rattle.dbc_records.specs.declared.target.Target.{Target}
 use Rattle.dbc_records.specs.declared.target.Target.TheVariants as targets
-use Rattle.can_rows.specs.Groups.{is_for_message}
 
 -- ---- lists of rows
 

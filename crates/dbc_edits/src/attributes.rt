@@ -26,17 +26,39 @@ fn is_defined(definitions: &[AttrDef], name: &[u8]) -> bool
     false
 }
 
-// The row of an attribute of a message.
+// The row of an attribute of a message. (It is made apart from the copies: beside their ways out it takes minutes to prove.)
+fn message_row(name: Text, number: u32, value: AttrValue) -> AttrRow
+    ensures { result ≡ record { name = name; target = targets.Message number; value = value } }
+{
+    AttrRow {
+        name,
+        target: Target::Message(number),
+        value,
+    }
+}
+
+// The row of an attribute of a message, with copies of its name and value.
 fn row_of(name: &Text, number: u32, value: &AttrValue) -> Result<AttrRow, Memory>
     ensures { IfOk result (λ row. row ≡ record { name = name.now; target = targets.Message number; value = value.now }) }
 {
     let name = name.copy()?;
     let value = value.copy()?;
-    Ok(AttrRow {
-        name,
-        target: Target::Message(number),
-        value,
-    })
+    Ok(message_row(name, number, value))
+}
+
+// The database with the row in place of those of the attribute for messages of the number.
+fn with_row(database: &Database, name: &Text, number: u32, row: AttrRow) -> Result<Database, Memory>
+    ensures { IfOk result (λ edited. edited ≡ record database.now {
+      attributes = with_item (is_attribute_of name.now number) row database.now.attributes;
+    }) }
+{
+    let key = OfAttribute {
+        name: name.as_bytes(),
+        number,
+    };
+    let mut edited = database.copy()?;
+    set_row(&mut edited.attributes, &key, row)?;
+    Ok(edited)
 }
 
 // The database with the attribute of the messages of the number set.
@@ -51,14 +73,8 @@ fn with_attribute(
           (record { name = name.now; target = targets.Message number; value = value.now }) database.now.attributes;
     }) }
 {
-    let key = OfAttribute {
-        name: name.as_bytes(),
-        number,
-    };
     let row = row_of(name, number, value)?;
-    let mut edited = database.copy()?;
-    set_row(&mut edited.attributes, &key, row)?;
-    Ok(edited)
+    with_row(database, name, number, row)
 }
 
 /// The database with the attribute set, where there are such messages and the attribute is defined.

@@ -2,7 +2,6 @@
 ghost use Rattle.std.specs.Prelude.{◌≡◌, Bool};
 ghost use Rattle.dbc_records.specs.declared.target.Target.{Target as TargetSpec};
 ghost use Rattle.dbc_records.specs.declared.target.Target.TheVariants as targets;
-ghost use Rattle.can_rows.specs.Groups.{is_for_message};
 
 use dbc_records::{AttrRow, Comment, FloatRow, MuxRow, Signal, TableRow, Target, ValueRow};
 use dbc_values::{Checked, Name, same};
@@ -179,22 +178,13 @@ pub(crate) struct OfAttribute<'a> {
     pub(crate) number: u32,
 }
 
-fn is_of_message(target: &Target, number: u32) -> bool
-    ensures { result ≡ is_for_message number target.now }
-{
-    match target {
-        Target::Message(other) => *other == number,
-        _ => false,
-    }
-}
-
 impl<'a> Key<AttrRow> for OfAttribute<'a> {
     ghost use Rattle.dbc_edits.specs.Rows.{is_attribute_of};
 
     ghost has = { λ key. is_attribute_of key.name.now key.number };
 
     fn has(&self, row: &AttrRow) -> bool {
-        is_of_message(&row.target, self.number) && same(row.name.as_bytes(), self.name)
+        row.target.is_for_message(self.number) && same(row.name.as_bytes(), self.name)
     }
 }
 
