@@ -1,10 +1,12 @@
 //! Where a signal lies, and the positions of its bits.
-ghost use Rattle.std.specs.Prelude.{◌≡◌, ◌^◌, ◌<◌, not};
+ghost use Rattle.std.specs.Prelude.{◌≡◌, ◌^◌, ◌<◌, IfOk, map, not};
 ghost use Rattle.can_bits.specs.Bits.{field_of, mirrored, position_of, is_outside};
 ghost use Rattle.can_bits.specs.Steps.{passed_at};
 ghost use Rattle.can_bits.specs.Cells.{numbered};
 
 use dbc_records::Signal;
+use dbc_values::Memory;
+use std::alloc::Global;
 
 /// Where the bits of a signal lie: `start|length@order`.
 #[derive(Clone, Copy, Debug, PartialEq, Eq)]
@@ -80,4 +82,15 @@ pub fn position(signal: &Signal, place: u16) -> u32
     ensures { result ≡ position_of (field_of signal.now) place }
 {
     Field::of(signal).position(place)
+}
+
+/// Where the signals lie, in order.
+pub fn fields_of(alloc: Global, signals: &[Signal]) -> Result<Vec<Field>, Memory>
+    ensures { IfOk result (λ fields. fields.items ≡ map field_of signals.now) }
+{
+    let mut fields = Vec::with_capacity(alloc, signals.len())?;
+    for signal in signals {
+        fields.push(Field::of(signal))?;
+    }
+    Ok(fields)
 }

@@ -15,7 +15,7 @@ mod table;
 mod tests;
 mod window;
 
-pub use field::{Field, position};
+pub use field::{Field, fields_of, position};
 pub use grid::{push_grid, push_right};
 pub use step::{Shift, Step};
 pub use steps::Steps;

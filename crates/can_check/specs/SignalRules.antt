@@ -12,9 +12,9 @@ use Rattle.dbc_records.specs.declared.tag.Tag.TheVariants as tags
 use Rattle.dbc_records.specs.declared.mux_row.Range.{Range}
 use Rattle.can_bits.specs.Bits.{field_of, is_outside}
 use Rattle.can_rows.specs.Rows.{SignalRows, first_float}
-use Rattle.can_layout.specs.Plans.{is_float_row}
-use Rattle.can_layout.specs.declared.walk.Walk.{Walk}
-use Rattle.can_layout.specs.declared.walk.Walk.TheVariants as walks
+use Rattle.can_rows.specs.Rows.{is_float_row}
+use Rattle.can_mux.specs.declared.walk.Walk.{Walk}
+use Rattle.can_mux.specs.declared.walk.Walk.TheVariants as walks
 
 -- ---- multiplexing
 

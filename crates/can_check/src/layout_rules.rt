@@ -8,8 +8,9 @@ ghost use Rattle.can_check.specs.MessageFaults.{switch_loop, switch_faults};
 use crate::signal_rules::{HasBadRow, LiesOutside, push_where};
 use crate::walk_rules::{HasNoSwitch, IsLoop, WalkTest};
 use can_diagnostics::{Code, Diagnostic};
-use can_layout::{Lookup, MessageRows, Walk};
+use can_mux::{MessageRows, Walk};
 use can_references::is_pseudo;
+use can_rows::Lookup;
 use dbc_records::{Head, Message, Signal};
 use dbc_values::Memory;
 

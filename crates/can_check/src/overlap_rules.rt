@@ -6,8 +6,9 @@ ghost use Rattle.can_check.specs.MessageFaults.{pair_between, pair_at, overlaps}
 ghost use Rattle.can_check.specs.Reports.{Takes};
 
 use crate::report::{Report, Stop};
+use can_bits::{Field, fields_of};
 use can_diagnostics::{Code, Diagnostic};
-use can_layout::{Field, Walk, fields_of};
+use can_mux::Walk;
 use can_overlap::laws::pairs_by_signal;
 use can_overlap::{Marked, Occupancy, Pair, are_seen_apart};
 use can_references::is_pseudo;

@@ -1,13 +1,15 @@
 //! Tests of signals, and the diagnostics of those that pass.
 ghost use Rattle.std.specs.Prelude.{◌≡◌, ◌++◌, OnOk, option_map};
 ghost use Rattle.std.specs.List.{list_any};
-ghost use Rattle.can_layout.specs.Plans.{is_float_row};
+ghost use Rattle.can_rows.specs.Rows.{is_float_row};
 ghost use Rattle.can_check.specs.SignalRules.{can_switch, is_empty_range, is_no_switch, is_bad_row, lies_outside, is_float};
 ghost use Rattle.can_check.specs.SignalRules.{is_long, has_no_scale};
 ghost use Rattle.can_check.specs.MessageFaults.{signals_where};
 
+use can_bits::Field;
 use can_diagnostics::{Code, Diagnostic};
-use can_layout::{Field, Lookup, MessageRows};
+use can_mux::MessageRows;
+use can_rows::Lookup;
 use dbc_records::{FloatRow, Head, MuxRow, Range, Signal, Tag};
 use dbc_values::{Memory, Name, Scale, same};
 

@@ -2,14 +2,15 @@
 ghost use Rattle.std.specs.Prelude.{◌≡◌, ◌^◌, ◌<◌, nat_lt, [], ◌∷◌, ◌++◌, OnOk, IsTrue, option_map};
 ghost use Rattle.std.specs.List.{flat_map};
 ghost use Rattle.dbc_records.specs.Records.{entry_fits};
-ghost use Rattle.can_layout.specs.Plans.{entries_of};
+ghost use Rattle.can_rows.specs.Rows.{entries_of};
 ghost use Rattle.can_check.specs.SignalRules.{in_raw_range, is_out_of_range};
 ghost use Rattle.can_check.specs.MessageFaults.{named, out_of_range, values_out_of_range, repeated_value, repeated_among};
 ghost use Rattle.can_check.specs.MessageFaults.{repeated_in, repeated_values, value_faults};
 
 use can_diagnostics::{Code, Diagnostic};
 use can_keys::Integers;
-use can_layout::{Lookup, MessageRows};
+use can_mux::MessageRows;
+use can_rows::Lookup;
 use dbc_records::{Entry, Head, Message, Signal, ValueRow};
 use dbc_values::Memory;
 

@@ -2,12 +2,12 @@
 ghost use Rattle.std.specs.Prelude.{◌≡◌};
 ghost use Rattle.can_check.specs.SignalRules.{has_no_switch, is_loop};
 
-use can_layout::Walk;
+use can_mux::Walk;
 
 /// A test of ways up.
 pub(crate) trait WalkTest {
     ghost use Rattle.std.specs.Prelude.{Bool};
-    ghost use Rattle.can_layout.specs.declared.walk.Walk.{Walk as PlainWalk};
+    ghost use Rattle.can_mux.specs.declared.walk.Walk.{Walk as PlainWalk};
 
     // Whether a way up passes.
     ghost passes: { Self → PlainWalk → Bool };

@@ -1,7 +1,6 @@
 pub mod Pushing
 pub mod Signals
 pub mod Targets
-pub mod Indexes
 pub mod LogParts
 pub mod Named
 pub mod Labels

@@ -9,12 +9,6 @@ use Rattle.can_layout.specs.Plans.{Plan, plan_of}
 use Rattle.can_decode.specs.declared.short.Short.{Short}
 use Rattle.can_decode.specs.DecodedLines.{target_of}
 
--- a group message has a group
-pub has_group : (number : ℕ) (database : Database) → is_some (group_of number database) ≡ is_group_number number database
-unfolding group_of
-has_group number database = elim (is_group_number number database) as (λ group. is_some (if group then Some (group_number_of number)
-    else None) ≡ group) [ true ↦ refl | false ↦ refl ]
-
 pub target_is : (short : Short) (database : Database) (plans : List Plan) (place : ℕ) (message : Message) (plan : Plan)
     → plans ≡ map (plan_of database) database.messages → Some message ≡ slice_get database.messages place
     → Some plan ≡ slice_get plans place

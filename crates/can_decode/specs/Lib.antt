@@ -4,7 +4,6 @@ pub use Rattle.line_stream.specs.LineTexts
 pub mod Values
 pub mod ScaledTexts
 pub mod Identifiers
-pub mod Choices
-pub mod Remembering
 pub mod DecodedLines
 pub mod Counting
+pub mod Decodings

@@ -2,11 +2,10 @@
 ghost use Rattle.std.specs.Prelude.{◌≡◌, IfOk, OnOk, length, map};
 ghost use Rattle.can_layout.specs.Plans.{plan_of};
 ghost use Rattle.can_layout.specs.Meters.{with_plan, repeated, AtMost};
-ghost use Rattle.can_decode.specs.Remembering.{IsDecoding};
+ghost use Rattle.can_decode.specs.Decodings.{IsDecoding};
 
-use crate::choices::Choices;
-use crate::message_index::MessageIndex;
 use crate::short::Short;
+use can_choice::{Choices, MessageIndex};
 use can_layout::{Indexed, Meter, Plan, plans_with};
 use dbc_records::Database;
 use dbc_values::Memory;
@@ -25,7 +24,7 @@ pub struct Decoding {
 
 impl Model for Decoding {
     ghost use Rattle.can_decode.specs.DecodedLines.{Bus};
-    ghost use Rattle.can_decode.specs.Remembering.{IsDecoding};
+    ghost use Rattle.can_decode.specs.Decodings.{IsDecoding};
 
     ghost Value = { Bus };
 

@@ -2,14 +2,14 @@
 ghost use Rattle.std.specs.Prelude.{◌≡◌, IfOk, IfSome, Some, slice_get, option_map, option_and_then};
 ghost use Rattle.can_layout.specs.Plans.{plan_of};
 ghost use Rattle.can_layout.specs.Meters.{with_line};
-ghost use Rattle.can_decode.specs.Choices.{line_place};
+ghost use Rattle.can_choice.specs.Choices.{line_place};
 ghost use Rattle.can_decode.specs.DecodedLines.{target_of, decoded_line, bus_line};
 
-use crate::choosing::{is_group, message_at, number_of};
 use crate::line::push_known;
 use crate::read_line::ReadLine;
 use crate::short::Short;
 use crate::target::Target;
+use can_choice::{is_group, message_at, number_of};
 use can_layout::{Meter, Plan};
 use dbc_records::Database;
 use dbc_values::Memory;

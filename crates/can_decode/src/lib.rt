@@ -4,9 +4,6 @@
 //! a frame goes to.
 #![tactic(auto)]
 
-mod choice;
-mod choices;
-mod choosing;
 mod decoding;
 mod frame_text;
 mod j1939;
@@ -14,24 +11,20 @@ mod known_line;
 pub mod laws;
 mod line;
 mod message;
-mod message_index;
 mod read_line;
-mod remembered;
 mod short;
 mod stream;
 mod target;
 mod value;
 
+pub use can_choice::{Choices, MessageIndex, choose};
 pub use can_rows::group_number;
-pub use choice::choose;
-pub use choices::Choices;
 pub use decoding::Decoding;
 pub use j1939::J1939;
 pub use known_line::{Bus, decode_at};
 pub use line::decode_line;
 pub use line_stream::StreamFault;
 pub use log_frames::{Frame, Kind, read_frame};
-pub use message_index::MessageIndex;
 pub use read_line::ReadLine;
 pub use short::Short;
 pub use stream::{decode_stream, decode_stream_by};

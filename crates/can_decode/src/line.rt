@@ -2,13 +2,13 @@
 ghost use Rattle.std.specs.Prelude.{◌≡◌, ◌++◌, OnOk, IfOk, map, slice_get, codes, option_map};
 ghost use Rattle.can_layout.specs.Plans.{plan_of};
 ghost use Rattle.can_layout.specs.Meters.{with_line};
-ghost use Rattle.can_decode.specs.Choices.{choice_at};
+ghost use Rattle.can_choice.specs.Choices.{choice_at};
 ghost use Rattle.can_decode.specs.DecodedLines.{target_of, chosen_target, text_of_kind, bus_line, decoded_line};
 
-use crate::choosing::{Choice, Choose, Walking, message_at};
 use crate::frame_text::push_frame;
 use crate::short::Short;
 use crate::target::Target;
+use can_choice::{Choice, Choose, Walking, message_at};
 use can_layout::{Meter, Plan};
 use dbc_records::Database;
 use dbc_values::Memory;
@@ -33,7 +33,7 @@ pub(crate) struct Finder<'a, C: Choose> {
 
 impl<'a, C: Choose> Model for Finder<'a, C> {
     ghost use Rattle.can_decode.specs.DecodedLines.{Bus};
-    ghost use Rattle.can_decode.specs.Remembering.{DecodesBy};
+    ghost use Rattle.can_decode.specs.Decodings.{DecodesBy};
 
     ghost Value = { Bus };
 
@@ -66,7 +66,7 @@ impl<'a, C: Choose> Finder<'a, C> {
     }
 
     // What a frame goes to.
-    #[tactic(auto, unfolding(crate::specs::DecodedLines::chosen_target, crate::specs::Choices::chosen_place, crate::specs::Choices::choice_of))]
+    #[tactic(auto, unfolding(crate::specs::DecodedLines::chosen_target, can_choice::specs::Choices::chosen_place, can_choice::specs::Choices::choice_of))]
     fn target_of(&mut self, frame: &Frame) -> Option<Target<'a>>
         ensures target { result ≡ chosen_target self.old.short self.old.database frame.now }
         ensures same { self.new ≡ self.old }

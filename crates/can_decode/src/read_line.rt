@@ -1,7 +1,7 @@
 //! Lines that were read.
 ghost use Rattle.std.specs.Prelude.{◌≡◌, option_map};
 ghost use Rattle.log_frames.specs.Frames.{body_of, frame_of};
-ghost use Rattle.can_decode.specs.Choices.{data_number, number_of_data};
+ghost use Rattle.can_choice.specs.Choices.{data_number, number_of_data};
 
 use log_frames::{Frame, read_frame};
 use std::marker::Model;
@@ -60,7 +60,7 @@ impl<'l> ReadLine<'l> {
     }
 
     /// The number of its frame, where that is a data frame: what a database knows it by.
-    #[tactic(auto, unfolding(crate::specs::Choices::data_number))]
+    #[tactic(auto, unfolding(can_choice::specs::Choices::data_number))]
     pub fn number(&self) -> Option<u32>
         ensures { result ≡ data_number self.now }
     {

@@ -6,13 +6,11 @@ ghost use Rattle.can_layout.specs.Meters.{with_line, repeated};
 ghost use Rattle.can_decode.specs.Counting.{refused_count, counted};
 ghost use Rattle.can_decode.specs.DecodedLines.{decoded_line, bus_line};
 
-use crate::choices::Finding;
-use crate::choosing::{Choose, Walking};
 use crate::decoding::Decoding;
 use crate::line::{Finder, push_line};
-use crate::remembered::Remembered;
 use crate::short::Short;
 use byte_devices::{Sink, Source};
+use can_choice::{Choose, Finding, Remembered, Walking};
 use can_layout::{Meter, Plan};
 use dbc_records::Database;
 use dbc_values::Memory;

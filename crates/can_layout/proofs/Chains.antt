@@ -7,17 +7,17 @@ use Rattle.std.proofs.lemmas.Bool.{cases_lt}
 use Rattle.std.proofs.lemmas.Option.{slice_get_past}
 use Rattle.dbc_records.specs.Records.{Signal}
 use Rattle.can_rows.specs.Rows.{SignalRows}
-use Rattle.can_layout.specs.Links.{Link}
+use Rattle.can_mux.specs.Links.{Link}
 use Rattle.can_layout.specs.Plans.{chain_of, row_of, plan_rows, is_met, are_met, is_present}
 use Rattle.can_layout.specs.Presence.{link_of, chain_at, AreChained}
-use Rattle.can_layout.specs.Walks.{above_or_missing, above_at, with_link, walk_above, walk_up, walk_of, links_in}
-use Rattle.can_layout.specs.declared.above.Above.{Above}
-use Rattle.can_layout.specs.declared.above.Above.TheVariants.{Nothing, Missing, Switch}
+use Rattle.can_mux.specs.Walks.{above_or_missing, above_at, with_link, walk_above, walk_up, walk_of, links_in}
+use Rattle.can_mux.specs.declared.above.Above.{Above}
+use Rattle.can_mux.specs.declared.above.Above.TheVariants.{Nothing, Missing, Switch}
 use Rattle.can_layout.specs.declared.row.Row.{Row}
-use Rattle.can_layout.specs.declared.walk.Walk.{Walk}
-use Rattle.can_layout.specs.declared.walk.Walk.TheVariants.{Chain, Absent, Loop}
-use Rattle.can_layout.proofs.Walks.{walk_step}
-use Rattle.can_layout.proofs.WalkLaws.{further}
+use Rattle.can_mux.specs.declared.walk.Walk.{Walk}
+use Rattle.can_mux.specs.declared.walk.Walk.TheVariants.{Chain, Absent, Loop}
+use Rattle.can_mux.proofs.WalkSteps.{walk_step}
+use Rattle.can_mux.proofs.WalkLaws.{further}
 
 -- a question to ways up: only a chain passes, and one that begins with a link where the link does and the way behind it
 pub record IsAsked (asked : Walk → Bool) (met : Link → Bool) : Type 0 where

@@ -5,6 +5,3 @@ pub mod Meters
 pub mod Names
 pub mod Placed
 pub mod Pushing
-pub mod Reaching
-pub mod WalkLaws
-pub mod Walks

@@ -2,10 +2,6 @@ pub use Rattle.can_bits.specs.Bits
 pub use Rattle.can_bits.specs.Grids
 pub use Rattle.can_rows.specs.Rows
 pub use Rattle.can_rows.specs.Groups
-pub mod Links
-pub mod Ranges
-pub mod Walks
-pub mod Switches
 pub mod Decoders
 pub mod Plans
 pub mod Presence

@@ -8,15 +8,15 @@ use Rattle.dbc_records.specs.declared.mux_row.Range.{Range}
 use Rattle.can_bits.specs.Bits.{field_of}
 use Rattle.can_bits.specs.Grids.{right, grid_text}
 use Rattle.can_rows.specs.Rows.{SignalRows, rows_of}
-use Rattle.can_layout.specs.Links.{Link}
-use Rattle.can_layout.specs.Walks.{walk_of}
-use Rattle.can_layout.specs.Switches.{aboves_of}
+use Rattle.can_mux.specs.Links.{Link}
+use Rattle.can_mux.specs.Walks.{walk_of}
+use Rattle.can_mux.specs.Switches.{aboves_of}
 use Rattle.can_layout.specs.Plans.{cause_of}
-use Rattle.can_layout.specs.declared.above.Above.{Above}
+use Rattle.can_mux.specs.declared.above.Above.{Above}
 use Rattle.can_layout.specs.declared.refusal.Cause.{Cause}
 use Rattle.can_layout.specs.declared.refusal.Cause.TheVariants as causes
-use Rattle.can_layout.specs.declared.walk.Walk.{Walk}
-use Rattle.can_layout.specs.declared.walk.Walk.TheVariants as walks
+use Rattle.can_mux.specs.declared.walk.Walk.{Walk}
+use Rattle.can_mux.specs.declared.walk.Walk.TheVariants as walks
 
 -- `Message name number size`
 unfoldable pub title_line : Head → List ℕ

@@ -8,30 +8,25 @@ use Rattle.std.specs.Prelude.{Some, None, slice_get, if◌then◌else◌}
 use Rattle.std.specs.List.{list_any, list_all, enumerate_from}
 use Rattle.std.specs.Option.{option_map, option_and_then}
 use Rattle.dbc_values.specs.Scales.{scale_fits, scale_of, most_raw_bits}
-use Rattle.dbc_records.specs.Records.{Signal, Message, Entry, ValueRow, FloatRow}
+use Rattle.dbc_records.specs.Records.{Signal, Message}
 use Rattle.dbc_records.specs.Databases.{Database}
 use Rattle.dbc_records.specs.declared.mux_row.Range.{Range}
 use Rattle.can_bits.specs.Bits.{field_of, is_outside, bits_of, unsigned_raw, raw_value}
-use Rattle.can_rows.specs.Rows.{SignalRows, rows_of, first_values, first_float}
-use Rattle.can_layout.specs.Links.{Link}
-use Rattle.can_layout.specs.Ranges.{in_range}
-use Rattle.can_layout.specs.Walks.{walk_of}
-use Rattle.can_layout.specs.Switches.{aboves_of}
-use Rattle.can_layout.specs.declared.above.Above.{Above}
+use Rattle.can_rows.specs.Rows.{SignalRows, rows_of, first_values, first_float, is_float_row, entries_of}
+use Rattle.can_mux.specs.Links.{Link}
+use Rattle.can_mux.specs.Ranges.{in_range}
+use Rattle.can_mux.specs.Walks.{walk_of}
+use Rattle.can_mux.specs.Switches.{aboves_of}
+use Rattle.can_mux.specs.declared.above.Above.{Above}
 use Rattle.can_layout.specs.declared.refusal.Cause.{Cause}
 use Rattle.can_layout.specs.declared.refusal.Cause.TheVariants as causes
 use Rattle.can_layout.specs.declared.row.Reading.{Reading}
 use Rattle.can_layout.specs.declared.row.Reading.TheVariants.{Refused, Read}
 use Rattle.can_layout.specs.declared.row.Row.{Row}
-use Rattle.can_layout.specs.declared.walk.Walk.{Walk}
-use Rattle.can_layout.specs.declared.walk.Walk.TheVariants as walks
+use Rattle.can_mux.specs.declared.walk.Walk.{Walk}
+use Rattle.can_mux.specs.declared.walk.Walk.TheVariants as walks
 
 -- ---- why a signal is refused
-
--- 0 is the type of whole numbers
-abbrev pub is_float_row : Option FloatRow → Bool
-is_float_row None = false
-is_float_row (Some row) = not (row.kind == 0)
 
 -- the first cause that holds: a bit is not in the message, the values are floats, there are more bits than a scale takes,
 -- or the values have too many digits
@@ -44,10 +39,6 @@ cause_of rows size signal =
     else None
 
 -- ---- plans
-
-abbrev pub entries_of : Option ValueRow → List Entry
-entries_of None = []
-entries_of (Some row) = row.entries
 
 abbrev pub reading_unless : Option Cause → SignalRows → Signal → Reading
 reading_unless (Some cause) rows signal = Refused cause

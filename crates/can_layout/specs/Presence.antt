@@ -1,11 +1,11 @@
 -- Which signals of a plan are there in data, as it is kept while a line is decoded.
 use Rattle.std.specs.Prelude.{◌≡◌, ℕ, Bool, List, [], All, Option, Some, None, slice_get}
 use Rattle.std.specs.Option.{option_and_then}
-use Rattle.can_layout.specs.Links.{Link}
-use Rattle.can_layout.specs.Walks.{walk_of}
+use Rattle.can_mux.specs.Links.{Link}
+use Rattle.can_mux.specs.Walks.{walk_of}
 use Rattle.can_layout.specs.Plans.{chain_of, is_present}
-use Rattle.can_layout.specs.declared.above.Above.{Above}
-use Rattle.can_layout.specs.declared.above.Above.TheVariants.{Nothing, Missing, Switch}
+use Rattle.can_mux.specs.declared.above.Above.{Above}
+use Rattle.can_mux.specs.declared.above.Above.TheVariants.{Nothing, Missing, Switch}
 use Rattle.can_layout.specs.declared.row.Row.{Row}
 
 -- the link that stands above a signal

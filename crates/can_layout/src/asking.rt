@@ -1,17 +1,13 @@
 //! What is asked of one signal: why it is refused, and which switches stand above it.
-ghost use Rattle.std.specs.Prelude.{◌≡◌, IfOk, IsSome, Some, map};
-ghost use Rattle.std.specs.List.{range_with_len};
+ghost use Rattle.std.specs.Prelude.{◌≡◌, IfOk, IsSome, Some};
 ghost use Rattle.std.specs.Option.{option_map};
 ghost use Rattle.can_rows.specs.Rows.{rows_of};
-ghost use Rattle.can_layout.specs.Walks.{walk_of};
-ghost use Rattle.can_layout.specs.Switches.{aboves_of, walks_of};
+ghost use Rattle.can_mux.specs.Walks.{walk_of};
+ghost use Rattle.can_mux.specs.Switches.{aboves_of};
 ghost use Rattle.can_layout.specs.Plans.{cause_of, signal_at};
 
-use crate::above::Above;
 use crate::refusal::{Cause, cause_of};
-use crate::rows::MessageRows;
-use crate::switches::aboves_of;
-use crate::walk::{Walk, walk_of};
+use can_mux::{MessageRows, Walk, aboves_of, walk_of};
 use can_rows::Lookup;
 use dbc_records::{Database, Signal};
 use dbc_values::Memory;
@@ -49,27 +45,4 @@ pub fn chain(
     let rows = MessageRows::of(database, message.head.number);
     let aboves = aboves_of(alloc, &rows, message.signals.as_slice())?;
     walk_of(alloc, aboves.as_slice(), signal)
-}
-
-// The ways up from the first signals, of all that stand below `aboves`.
-fn walks_below(alloc: Global, aboves: &[Above], count: usize) -> Result<Vec<Walk>, Memory>
-    ensures { IfOk result (λ walks. walks.items ≡ map (walk_of aboves.now) (range_with_len 0 count)) }
-{
-    let mut walks = Vec::with_capacity(alloc, count)?;
-    for place in 0..count {
-        walks.push(walk_of(alloc, aboves, place)?)?;
-    }
-    Ok(walks)
-}
-
-/// The ways up from all signals of a message, in order. `rows` are those of the message's number.
-pub fn message_walks<L: Lookup>(
-    alloc: Global,
-    rows: &MessageRows<'_, L>,
-    signals: &[Signal],
-) -> Result<Vec<Walk>, Memory>
-    ensures { IfOk result (λ walks. walks.items ≡ walks_of rows.now signals.now) }
-{
-    let aboves = aboves_of(alloc, rows, signals)?;
-    walks_below(alloc, aboves.as_slice(), signals.len())
 }

@@ -6,7 +6,7 @@ ghost use Rattle.can_layout.specs.Meters.{with_picture, repeated, AtMost};
 
 use crate::legend::picture_in;
 use crate::meter::Meter;
-use crate::rows::MessageRows;
+use can_mux::MessageRows;
 use can_rows::{Indexed, Lookup};
 use dbc_records::{Database, Message};
 use dbc_values::Memory;

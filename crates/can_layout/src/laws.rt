@@ -1,19 +1,10 @@
 //! Laws of the definitions. The functions do nothing: what they ensure is the law.
-ghost use Rattle.std.specs.Prelude.{◌≡◌, ◌↔◌, ℕ, List};
-ghost use Rattle.can_layout.specs.Walks.{walk_of, IsWalk};
+ghost use Rattle.std.specs.Prelude.{◌≡◌};
 ghost use Rattle.dbc_records.specs.Records.{Message};
 ghost use Rattle.dbc_records.specs.Databases.{Database};
 ghost use Rattle.can_rows.specs.Rows.{rows_of};
 ghost use Rattle.can_layout.specs.Plans.{plan_of};
 ghost use Rattle.can_layout.specs.Pictures.{picture_of};
-ghost use Rattle.can_layout.specs.declared.above.Above.{Above};
-ghost use Rattle.can_layout.specs.declared.walk.Walk.{Walk};
-
-/// The way up from a signal is exactly one of these: a chain of switches up to a signal that is not multiplexed, a way to a
-/// signal whose switch is not there, or a way that leads back to a signal.
-pub fn one_walk()
-    ensures { (aboves : List Above) (place : ℕ) (walk : Walk) → (walk_of aboves place ≡ walk) ↔ IsWalk aboves place walk }
-{}
 
 /// The plan and the picture of a message read only the message and the rows of its number, so they are the same by two
 /// databases that agree in these.

@@ -1,16 +1,12 @@
 //! The picture of a message, and its legend.
-ghost use Rattle.std.specs.Prelude.{◌≡◌, ◌++◌, IfOk, OnOk, map, decimal};
-ghost use Rattle.can_bits.specs.Bits.{field_of};
+ghost use Rattle.std.specs.Prelude.{◌≡◌, ◌++◌, IfOk, OnOk, decimal};
 ghost use Rattle.can_bits.specs.Grids.{right};
 ghost use Rattle.can_layout.specs.Pictures.{signal_text, legend_line, legend_text, picture_in};
 
-use crate::above::Above;
 use crate::refusal::{Cause, cause_of};
-use crate::rows::MessageRows;
-use crate::switches::aboves_of;
 use crate::text::{push_bytes, push_cause, push_span, push_title, push_walk};
-use crate::walk::{Walk, walk_of};
-use can_bits::{Field, push_grid, push_right};
+use can_bits::{fields_of, push_grid, push_right};
+use can_mux::{Above, MessageRows, Walk, aboves_of, walk_of};
 use can_rows::Lookup;
 use dbc_records::{Message, Signal};
 use dbc_values::Memory;
@@ -72,17 +68,6 @@ fn push_legend<L: Lookup>(
         push_legend_line(text, signals, place, signal, cause, &walk)?;
     }
     Ok(())
-}
-
-/// Where the signals lie, in order.
-pub fn fields_of(alloc: Global, signals: &[Signal]) -> Result<Vec<Field>, Memory>
-    ensures { IfOk result (λ fields. fields.items ≡ map field_of signals.now) }
-{
-    let mut fields = Vec::with_capacity(alloc, signals.len())?;
-    for signal in signals {
-        fields.push(Field::of(signal))?;
-    }
-    Ok(fields)
 }
 
 /// The picture of a message, by the rows of its number.

@@ -4,37 +4,29 @@
 //! rows of its number.
 #![tactic(auto)]
 
-mod above;
 mod asking;
 mod decoder;
 mod drawing;
 mod entries;
 pub mod laws;
 mod legend;
-mod link;
 mod making;
 mod meter;
 mod naming;
 mod order;
 mod plan;
 mod presence;
-mod range_index;
 mod refusal;
 mod row;
-mod rows;
 mod switch_chain;
-mod switches;
 mod text;
-mod walk;
 
-pub use above::Above;
-pub use asking::{cause, chain, message_walks};
+pub use asking::{cause, chain};
 pub use can_bits::{Field, Steps, position};
+pub use can_mux::{Link, Walk};
 pub use can_rows::{Indexed, Lookup, group_in, group_number, group_of, is_bad_number};
 pub use decoder::Decoder;
 pub use drawing::{picture, picture_with, pictures};
-pub use legend::fields_of;
-pub use link::Link;
 pub use making::{make_plan, make_plans, plan_with, plans_with};
 pub use meter::Meter;
 pub use naming::first_entry;
@@ -42,6 +34,4 @@ pub use plan::Plan;
 pub use presence::Presence;
 pub use refusal::Cause;
 pub use row::{Reading, Row};
-pub use rows::MessageRows;
 pub use switch_chain::Chain;
-pub use walk::{Walk, walk_of};

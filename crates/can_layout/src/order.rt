@@ -1,6 +1,6 @@
 //! In which order the signals of a message are looked for in data.
 
-use crate::above::Above;
+use can_mux::Above;
 use dbc_values::Memory;
 use std::alloc::Global;
 

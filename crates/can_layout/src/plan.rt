@@ -1,25 +1,22 @@
 //! Decode plans.
 ghost use Rattle.std.specs.Prelude.{◌≡◌, ℕ, List, [], ◌<◌, IfOk, Some, true, is_some, length, map, slice_get};
-ghost use Rattle.can_layout.specs.Plans.{entries_of, reading_of, chain_of, row_of, plan_rows, label_of, plan_in, raw_at};
+ghost use Rattle.can_rows.specs.Rows.{entries_of};
+ghost use Rattle.can_layout.specs.Plans.{reading_of, chain_of, row_of, plan_rows, label_of, plan_in, raw_at};
 ghost use Rattle.can_layout.specs.Plans.{raw_value_at, has_number, is_met, are_met, is_present};
 ghost use Rattle.can_layout.specs.Presence.{AreKnown, ArePlain, chain_at};
-ghost use Rattle.can_layout.specs.Walks.{walk_of};
-ghost use Rattle.can_layout.specs.declared.above.Above.{Above as PlainAbove};
+ghost use Rattle.can_mux.specs.Walks.{walk_of};
+ghost use Rattle.can_mux.specs.declared.above.Above.{Above as PlainAbove};
 ghost use Rattle.can_rows.specs.Rows.{first_values};
-ghost use Rattle.can_layout.specs.Switches.{aboves_of};
+ghost use Rattle.can_mux.specs.Switches.{aboves_of};
 
-use crate::above::Above;
 use crate::decoder::Decoder;
-use crate::link::Link;
 use crate::order::order_of;
 use crate::presence::known_at;
 use crate::refusal::cause_of;
 use crate::row::{Reading, Row};
-use crate::rows::MessageRows;
 use crate::switch_chain::Chain;
-use crate::switches::aboves_of;
-use crate::walk::above_at;
 use can_bits::Field;
+use can_mux::{Above, Link, MessageRows, above_at, aboves_of};
 use can_rows::Lookup;
 use dbc_records::{Entry, Message, Signal};
 use dbc_values::{Copied, List, Memory, Scale};

@@ -1,11 +1,11 @@
 //! Why a signal can't be decoded.
 ghost use Rattle.std.specs.Prelude.{◌≡◌};
-ghost use Rattle.can_rows.specs.Rows.{first_float};
-ghost use Rattle.can_layout.specs.Plans.{cause_of, is_float_row};
+ghost use Rattle.can_rows.specs.Rows.{first_float, is_float_row};
+ghost use Rattle.can_layout.specs.Plans.{cause_of};
 ghost use Rattle.can_layout.specs.Pictures.{cause_word};
 
-use crate::rows::MessageRows;
 use can_bits::Field;
+use can_mux::MessageRows;
 use can_rows::Lookup;
 use dbc_records::Signal;
 use dbc_values::Scale;

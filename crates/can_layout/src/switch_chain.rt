@@ -3,11 +3,9 @@ ghost use Rattle.std.specs.Prelude.{◌≡◌, [], true, IfOk, slice_get, is_som
 ghost use Rattle.std.specs.Option.{option_map};
 ghost use Rattle.can_layout.specs.Plans.{chain_of};
 ghost use Rattle.can_layout.specs.Presence.{link_of};
-ghost use Rattle.can_layout.specs.Walks.{walk_of, above_at};
+ghost use Rattle.can_mux.specs.Walks.{walk_of, above_at};
 
-use crate::above::Above;
-use crate::link::Link;
-use crate::walk::above_at;
+use can_mux::{Above, Link, above_at};
 use dbc_values::{List, Memory};
 use std::marker::Model;
 use std::rc::Rc;
@@ -22,9 +20,9 @@ pub struct Chain {
 
 impl Model for Chain {
     ghost use Rattle.std.specs.Prelude.{◌≡◌, List as Items};
-    ghost use Rattle.can_layout.specs.Links as links;
-    ghost use Rattle.can_layout.specs.Walks.{walk_of, links_in};
-    ghost use Rattle.can_layout.specs.declared.walk.Walk.TheVariants.{Chain as IsOf};
+    ghost use Rattle.can_mux.specs.Links as links;
+    ghost use Rattle.can_mux.specs.Walks.{walk_of, links_in};
+    ghost use Rattle.can_mux.specs.declared.walk.Walk.TheVariants.{Chain as IsOf};
 
     ghost Value = { Items links.Link };
 

@@ -4,9 +4,8 @@ ghost use Rattle.std.specs.List.{flat_map};
 ghost use Rattle.can_layout.specs.Pictures.{title_line, span_text, cause_text, range_text, further_range, ranges_text, name_of};
 ghost use Rattle.can_layout.specs.Pictures.{link_text, walk_text};
 
-use crate::link::Link;
 use crate::refusal::Cause;
-use crate::walk::Walk;
+use can_mux::{Link, Walk};
 use dbc_records::{Head, Range, Signal};
 use dbc_values::Memory;
 

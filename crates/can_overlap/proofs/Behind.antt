@@ -6,7 +6,7 @@ use Rattle.std.specs.List.{flat_map, list_any, list_all, range_with_len}
 use Rattle.can_bits.specs.declared.field.Field.{Field}
 use Rattle.can_bits.specs.Bits.{mirrored, position_of, has_position}
 use Rattle.can_bits.specs.Steps.{passed_at}
-use Rattle.can_layout.specs.declared.walk.Walk.{Walk}
+use Rattle.can_mux.specs.declared.walk.Walk.{Walk}
 use Rattle.can_overlap.specs.declared.pair.Pair.{Pair}
 use Rattle.can_overlap.specs.Apart.{ends_before, apart, all_apart, seen_apart}
 use Rattle.can_overlap.specs.Overlaps.{Laid, laid_from, share, together, pair_where, pair_of, for_pairs, overlapping}

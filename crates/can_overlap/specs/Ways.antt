@@ -1,9 +1,9 @@
 -- Ways up, each by its first link and the way of that one's switch.
 use Rattle.std.specs.Prelude.{◌≡◌, ℕ, Bool, true, false, List, ◌∷◌, Option, Some, None, length, slice_get}
 use Rattle.std.specs.Option.{option_and_then}
-use Rattle.can_layout.specs.Links.{Link}
-use Rattle.can_layout.specs.declared.walk.Walk.{Walk}
-use Rattle.can_layout.specs.declared.walk.Walk.TheVariants.{Chain, Absent, Loop}
+use Rattle.can_mux.specs.Links.{Link}
+use Rattle.can_mux.specs.declared.walk.Walk.{Walk}
+use Rattle.can_mux.specs.declared.walk.Walk.TheVariants.{Chain, Absent, Loop}
 use Rattle.can_overlap.specs.Overlaps.{agree, agrees_with, together}
 
 -- the way at a place begins with the link and goes on as that of the link's switch

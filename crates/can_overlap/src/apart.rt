@@ -2,11 +2,11 @@
 ghost use Rattle.std.specs.Prelude.{◌≡◌, [], IsTrue, List};
 ghost use Rattle.std.specs.List.{list_all};
 ghost use Rattle.can_bits.specs.Steps.{passed_at};
-ghost use Rattle.can_layout.specs.declared.walk.Walk.{Walk as Way};
+ghost use Rattle.can_mux.specs.declared.walk.Walk.{Walk as Way};
 ghost use Rattle.can_overlap.specs.Apart.{ends_before, apart, all_apart, seen_apart};
 ghost use Rattle.can_overlap.specs.Overlaps.{overlapping};
 
-use can_layout::Field;
+use can_bits::Field;
 
 /// The most fields that are compared each with each.
 const MOST_COMPARED: usize = 64;

@@ -3,7 +3,8 @@ ghost use Rattle.std.specs.Prelude.{◌≡◌, ◌-◌, length};
 ghost use Rattle.std.specs.List.{flat_map, range_with_len};
 ghost use Rattle.can_overlap.specs.Overlaps.{overlapping, pairs_from};
 
-use can_layout::{Field, Walk};
+use can_bits::Field;
+use can_mux::Walk;
 
 /// The pairs of a message are those of each signal but the last with later ones.
 #[tactic(auto, unfolding(crate::specs::Overlaps::overlapping))]

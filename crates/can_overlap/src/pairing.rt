@@ -1,6 +1,6 @@
 //! The pairs of signals that overlap, where a table has their positions.
 ghost use Rattle.std.specs.Prelude.{◌≡◌, Some, ◌+◌, ◌≤◌, ◌<◌, ◌++◌, length, drop, OnOk, All, slice_get};
-ghost use Rattle.can_layout.specs.declared.walk.Walk.TheVariants.{Chain};
+ghost use Rattle.can_mux.specs.declared.walk.Walk.TheVariants.{Chain};
 ghost use Rattle.can_overlap.specs.Overlaps.{pair_where, pairs_from};
 ghost use Rattle.can_overlap.specs.Occupancy.{met_pairs, reach, IsOccupancy};
 ghost use Rattle.can_overlap.specs.Ways.{goes_at, AreNoted};
@@ -10,7 +10,8 @@ use crate::pair::Pair;
 use crate::places::Places;
 use crate::table::met_by;
 use crate::ways::Ways;
-use can_layout::{Field, Link};
+use can_bits::Field;
+use can_mux::Link;
 use dbc_values::Memory;
 use std::alloc::Global;
 

@@ -6,7 +6,7 @@ ghost use Rattle.can_overlap.specs.Places.{has};
 ghost use Rattle.can_overlap.specs.Occupancy.{is_marked, reach, IsClear, IsOccupancy};
 
 use crate::places::Places;
-use can_layout::Field;
+use can_bits::Field;
 use dbc_values::Memory;
 use std::alloc::Global;
 

@@ -1,12 +1,12 @@
 //! The ways up of a message's signals, each by its own link and the way of its switch.
 ghost use Rattle.std.specs.Prelude.{◌≡◌, List, ◌∷◌, Some, None, IsTrue, IfOk, IfSome, length, slice_get};
 ghost use Rattle.std.specs.Option.{option_map};
-ghost use Rattle.can_layout.specs.Links.{Link as PlainLink};
-ghost use Rattle.can_layout.specs.declared.walk.Walk.TheVariants.{Chain};
+ghost use Rattle.can_mux.specs.Links.{Link as PlainLink};
+ghost use Rattle.can_mux.specs.declared.walk.Walk.TheVariants.{Chain};
 ghost use Rattle.can_overlap.specs.Ways.{IsStep, own_at, chain_if};
 
 use crate::tidy::Tidy;
-use can_layout::{Link, Walk};
+use can_mux::{Link, Walk};
 use dbc_records::Range;
 use dbc_values::Memory;
 use std::alloc::Global;

@@ -12,8 +12,7 @@ use Rattle.dbc_records.specs.declared.attribute.AttrValue.{AttrValue}
 use Rattle.dbc_records.specs.declared.attribute.AttrValue.TheVariants as values
 use Rattle.dbc_records.specs.declared.definition.Form.{Form}
 use Rattle.dbc_records.specs.declared.definition.Form.TheVariants as forms
-use Rattle.dbc_records.specs.declared.target.Target.{Target}
-use Rattle.dbc_records.specs.declared.target.Target.TheVariants as targets
+use Rattle.dbc_records.specs.Comments.{is_for_message}
 
 -- ---- the fields of a 29-bit identifier; higher bits count for nothing
 
@@ -67,12 +66,6 @@ pseudo_number = 3221225472
 
 abbrev pub frame_format_name : List ℕ
 frame_format_name = codes "VFrameFormat"
-
-abbrev pub is_for_message : ℕ → Target → Bool
-is_for_message number targets.Whole = false
-is_for_message number (targets.Node name) = false
-is_for_message number (targets.Message other) = other == number
-is_for_message number (targets.Signal other name) = false
 
 -- whether a row gives the message its frame format
 abbrev pub gives_format : ℕ → AttrRow → Bool

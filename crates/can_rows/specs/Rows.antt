@@ -2,10 +2,10 @@
 -- written, whether or not such a message or signal is there; of several rows with one key the first counts.
 -- Source: the DBC file format, "Signal Value Descriptions (Value Encodings)", "Signal Extended Value Type Definitions" and
 -- "Extended Multiplexing". Of rows that are written twice it says nothing; that the first counts is the profile of candesk.
-use Rattle.std.specs.Prelude.{◌==◌, ◌&&◌, ℕ, Bool, List, Option, filter}
+use Rattle.std.specs.Prelude.{◌==◌, ◌&&◌, not, ℕ, Bool, false, List, [], Option, Some, None, filter}
 use Rattle.std.specs.List.{find}
 use Rattle.std.specs.Str.{bytes_eq}
-use Rattle.dbc_records.specs.Records.{ValueRow, FloatRow, MuxRow}
+use Rattle.dbc_records.specs.Records.{Entry, ValueRow, FloatRow, MuxRow}
 use Rattle.dbc_records.specs.Databases.{Database}
 
 -- the rows of one message number
@@ -37,6 +37,16 @@ first_float name rows = first_named (λ row. row.signal) name rows.floats
 -- its switch, and the numbers of it with which the signal is there
 abbrev pub first_mux : List ℕ → SignalRows → Option MuxRow
 first_mux name rows = first_named (λ row. row.signal) name rows.muxes
+
+-- a row that says that the values are floats: 0 is the type of whole numbers
+abbrev pub is_float_row : Option FloatRow → Bool
+is_float_row None = false
+is_float_row (Some row) = not (row.kind == 0)
+
+-- the named values of a row, none where there is no row
+abbrev pub entries_of : Option ValueRow → List Entry
+entries_of None = []
+entries_of (Some row) = row.entries
 
 -- ---- by number and name at once
 

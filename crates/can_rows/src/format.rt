@@ -2,28 +2,19 @@
 ghost use Rattle.std.specs.Prelude.{◌≡◌, ◌*◌, ◌^◌, ◌≤◌, MatchOption, slice_get};
 ghost use Rattle.std.specs.List.{find};
 ghost use Rattle.std.specs.Option.{option_map};
-ghost use Rattle.can_rows.specs.Groups.{is_for_message, gives_format, frame_format, text_at, texts_of, index_of};
+ghost use Rattle.can_rows.specs.Groups.{gives_format, frame_format, text_at, texts_of, index_of};
 
 use crate::lookup::Lookup;
-use dbc_records::{AttrDef, AttrRow, AttrValue, Form, Target};
+use dbc_records::{AttrDef, AttrRow, AttrValue, Form};
 use dbc_values::{Decimal, Text, same};
 
 /// The attribute whose value is a message's frame format.
 pub const FRAME_FORMAT: &[u8] = b"VFrameFormat";
 
-fn is_for_message(target: &Target, number: u32) -> bool
-    ensures { result ≡ is_for_message number target.now }
-{
-    match target {
-        Target::Message(other) => *other == number,
-        _ => false,
-    }
-}
-
 fn gives_format(row: &AttrRow, number: u32) -> bool
     ensures { result ≡ gives_format number row.now }
 {
-    is_for_message(&row.target, number) && same(row.name.as_bytes(), FRAME_FORMAT)
+    row.target.is_for_message(number) && same(row.name.as_bytes(), FRAME_FORMAT)
 }
 
 /// The first row of the frame format of a message.

@@ -2,10 +2,11 @@
 use Rattle.std.proofs.Common.{◌≡◌, ◌<◌, ◌≤◌, ◌+◌, ◌-◌, ℕ, false, List, [], ◌∷◌, ◌++◌, length, Ok, drop, refl, ap, arith}
 use Rattle.std.proofs.Common.{length-append}
 use Rattle.std.proofs.lemmas.Bool.{leb-false, le-ltb}
-use Rattle.can_session.specs.Counts.{most_lines}
-use Rattle.can_session.specs.declared.keep.Keep.{Keep}
-use Rattle.can_session.specs.declared.keep.Keep.TheVariants.{All, Last}
-use Rattle.can_session.specs.States.{most_kept, kept, is_full, longest_line, with_line}
+use Rattle.kept_lines.specs.Counts.{most_lines}
+use Rattle.kept_lines.specs.declared.keep.Keep.{Keep}
+use Rattle.kept_lines.specs.declared.keep.Keep.TheVariants.{All, Last}
+use Rattle.can_session.specs.States.{longest_line, with_line}
+use Rattle.kept_lines.specs.Keeping.{most_kept, kept, is_full}
 
 -- with as many as are retained the first goes
 pub one_goes : {X : Type 0} (keep : Keep) (lines : List X) (line : X) → length lines ≤ most_kept keep → is_full keep (length lines)

@@ -1,10 +1,2 @@
-pub mod Kept
-pub mod Exchanges
-pub mod Chosen
-pub mod Places
-pub mod Reached
-pub mod Covered
-pub mod Serials
-pub mod Indexed
 pub mod Keeping
 pub mod Raising

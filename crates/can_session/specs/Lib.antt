@@ -1,12 +1,5 @@
 pub use Rattle.dbc_edits.specs.Edits
 pub use Rattle.dbc_edits.specs.Refusals
 pub use Rattle.edit_reach.specs.Touched
-pub mod Counts
 pub mod States
-pub mod Compiled
-pub mod Shown
-pub mod Acceptance
-pub mod Places
-pub mod Indexes
-pub mod Logs
 pub mod Sessions

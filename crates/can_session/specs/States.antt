@@ -1,5 +1,5 @@
 -- What a session is to its callers, and one step of it.
-use Rattle.std.specs.Prelude.{◌≡◌, ℕ, ◌-◌, nat_le, nat_lt, Bool, false, List, [], ◌∷◌, ◌++◌, length, drop, count_by, Result, Ok}
+use Rattle.std.specs.Prelude.{◌≡◌, ℕ, nat_lt, List, [], ◌∷◌, ◌++◌, length, count_by, Result, Ok}
 use Rattle.std.specs.Prelude.{Err, MatchResult, if◌then◌else◌}
 use Rattle.dbc_records.specs.Databases.{Database}
 use Rattle.dbc_tokens.specs.declared.fault.ReadFault.{ReadFault}
@@ -13,10 +13,10 @@ use Rattle.dbc_edits.specs.Edits.{edited}
 use Rattle.edit_reach.specs.Touched.{line_touched}
 use Rattle.can_decode.specs.declared.short.Short.TheVariants.{Refuse}
 use Rattle.can_session.specs.declared.options.Options.{Options}
-use Rattle.can_session.specs.declared.keep.Keep.{Keep}
-use Rattle.can_session.specs.declared.keep.Keep.TheVariants.{All, Last}
-use Rattle.can_session.specs.Counts.{most_lines}
-use Rattle.can_session.specs.Compiled.{count_here, Raised, nothing_made}
+use Rattle.kept_lines.specs.declared.keep.Keep.{Keep}
+use Rattle.kept_lines.specs.declared.keep.Keep.TheVariants.{All}
+use Rattle.kept_lines.specs.Keeping.{kept, is_full}
+use Rattle.compiled_database.specs.Compiled.{count_here, Raised, nothing_made}
 
 -- what is chosen as the session is opened, and what commands change: the database, and the retained lines in order of arrival
 pub record State : Type 0 where
@@ -68,21 +68,6 @@ RaisedBy defined numbers lines before after =
 -- the most bytes of one
 abbrev pub longest_line : ℕ
 longest_line = 4096
-
--- so many are retained at most
-abbrev pub most_kept : Keep → ℕ
-most_kept All = most_lines
-most_kept (Last count) = count
-
--- what is retained of lines: all of them, or the last so many
-abbrev pub kept : {X : Type 0} → Keep → List X → List X
-kept All lines = lines
-kept (Last count) lines = drop (length lines - count) lines
-
--- whether there is no room for a line more behind so many; where the oldest goes for it there always is
-abbrev pub is_full : Keep → ℕ → Bool
-is_full All lines = nat_le most_lines lines
-is_full (Last count) lines = false
 
 -- the retained lines with one more, or why it is refused
 abbrev pub with_line : Keep → List (List ℕ) → List ℕ → Result (List (List ℕ)) Refusal

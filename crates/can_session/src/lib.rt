@@ -6,17 +6,8 @@
 //! makes anew only what it can change.
 #![tactic(auto)]
 
-mod accepted;
-mod compiled;
-mod keep;
-mod keyed_serials;
-mod line;
-mod log;
-mod log_index;
 mod options;
-mod recompiling;
 mod session;
-mod shown;
 mod shown_bus;
 mod touching;
 
@@ -24,6 +15,6 @@ pub use can_check::Diagnostic;
 pub use can_decode::Short;
 pub use can_layout::{Meter, Plan};
 pub use dbc_edits::{Change, Edit, Refusal};
-pub use keep::{Keep, LineCount};
+pub use kept_lines::{Keep, LineCount};
 pub use options::Options;
 pub use session::Session;

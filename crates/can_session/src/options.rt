@@ -2,8 +2,8 @@
 ghost use Rattle.std.specs.Prelude.{◌≡◌};
 ghost use Rattle.can_session.specs.States.{usual};
 
-use crate::keep::Keep;
 use can_decode::Short;
+use kept_lines::Keep;
 
 /// What is chosen for a session as it is opened. No command changes it.
 #[derive(Clone, Copy, Debug, PartialEq, Eq)]

@@ -7,26 +7,24 @@ ghost use Rattle.can_check.specs.AllFaults.{all_faults};
 ghost use Rattle.can_decode.specs.DecodedLines.{decoded_line};
 ghost use Rattle.dbc_edits.specs.Edits.{edited};
 ghost use Rattle.edit_reach.specs.Touched.{edit_numbers, line_touched};
-ghost use Rattle.can_session.specs.Acceptance.{numbers_of};
-ghost use Rattle.can_session.specs.Compiled.{count_here, Raised, nothing_made};
-ghost use Rattle.can_session.specs.Logs.{bytes_of, IsDecoded, Completes};
+ghost use Rattle.compiled_database.specs.Acceptance.{numbers_of};
+ghost use Rattle.compiled_database.specs.Compiled.{count_here, Raised, nothing_made};
+ghost use Rattle.session_log.specs.Logs.{bytes_of, IsDecoded, Completes};
 ghost use Rattle.can_session.specs.States.{Applies, Adds, RaisedBy, Opens, usual};
 
-use crate::accepted::Accepted;
-use crate::line::Fresh;
-use crate::log::Log;
 use crate::options::Options;
-use crate::shown::Shown;
 use crate::shown_bus::ShownBus;
 use crate::touching::decode_touched;
 use can_check::Diagnostic;
 use can_decode::Short;
 use can_layout::{Meter, Plan};
+use compiled_database::{Accepted, Shown};
 use dbc_edits::{Edit, Refusal};
 use dbc_reader::read;
 use dbc_records::Database;
 use dbc_tokens::{Cause, ReadFault};
 use dbc_values::Memory;
+use session_log::{Fresh, Log};
 use std::alloc::Global;
 use std::marker::Model;
 
@@ -49,7 +47,7 @@ pub struct Session {
 impl Model for Session {
     ghost use Rattle.std.specs.Prelude.{map};
     ghost use Rattle.can_session.specs.States.{Open};
-    ghost use Rattle.can_session.specs.Logs.{bytes_of};
+    ghost use Rattle.session_log.specs.Logs.{bytes_of};
     ghost use Rattle.can_session.specs.Sessions.{IsOpen};
 
     ghost Value = { Open };

@@ -2,14 +2,14 @@
 ghost use Rattle.std.specs.Prelude.{◌≡◌, IfOk};
 ghost use Rattle.can_layout.specs.Meters.{with_line};
 ghost use Rattle.can_decode.specs.DecodedLines.{bus_line};
-ghost use Rattle.can_session.specs.Compiled.{Raised};
-ghost use Rattle.can_session.specs.Logs.{bytes_of, IsNumbered, IsDecoded};
+ghost use Rattle.compiled_database.specs.Compiled.{Raised};
+ghost use Rattle.session_log.specs.Logs.{bytes_of, IsNumbered, IsDecoded};
 
-use crate::line::Line;
-use crate::shown::Shown;
 use can_decode::{Bus, ReadLine, Short};
 use can_layout::Meter;
+use compiled_database::Shown;
 use dbc_values::Memory;
+use session_log::Line;
 use std::alloc::Global;
 use std::marker::Model;
 

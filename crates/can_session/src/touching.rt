@@ -1,18 +1,17 @@
 //! The lines that an edit touches, and their new texts.
 ghost use Rattle.std.specs.Prelude.{◌≡◌, ◌<◌, All, IfOk, length, count_by, map};
 ghost use Rattle.edit_reach.specs.Touched.{line_touched};
-ghost use Rattle.can_session.specs.Acceptance.{numbers_of};
-ghost use Rattle.can_session.specs.Compiled.{Raised};
-ghost use Rattle.can_session.specs.Logs.{bytes_of, TextsAt, IsTextOf, IsDecoded, Completes};
+ghost use Rattle.compiled_database.specs.Acceptance.{numbers_of};
+ghost use Rattle.compiled_database.specs.Compiled.{Raised};
+ghost use Rattle.session_log.specs.Logs.{bytes_of, TextsAt, IsTextOf, IsDecoded, Completes};
 
-use crate::accepted::Remade;
-use crate::line::Fresh;
-use crate::log::Log;
 use crate::shown_bus::ShownBus;
 use can_decode::{ReadLine, Short};
 use can_layout::Meter;
+use compiled_database::Remade;
 use dbc_values::Memory;
 use edit_reach::laws::untouched_lines_stay;
+use session_log::{Fresh, Log};
 use std::alloc::Global;
 
 // The text of the line at a place.

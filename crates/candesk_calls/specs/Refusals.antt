@@ -3,7 +3,7 @@ use Rattle.std.specs.Prelude.{◌≡◌, ℕ, ◌⊎◌}
 use Rattle.byte_devices.specs.Device.{Written, Wrote, Broke}
 use Rattle.candesk_words.specs.declared.job.NoJob.{NoJob}
 use Rattle.candesk_words.specs.declared.job.NoJob.TheVariants as reasons
-use Rattle.candesk_calls.specs.Statuses.{done, usage, device, memory}
+use Rattle.candesk_runs.specs.Statuses.{done, usage, device, memory}
 
 -- The help was written, or a beginning of it and then a put failed. Else nothing was written.
 abbrev pub RefusesWith : NoJob → Written → Written → ℕ → Type 0

@@ -6,8 +6,8 @@ use Rattle.session_script.specs.declared.fault.SessionFault.{SessionFault}
 use Rattle.session_script.specs.declared.fault.SessionFault.TheVariants as faults
 use Rattle.can_session.specs.declared.options.Options.{Options}
 use Rattle.session_script.specs.Running.{RunsScript}
-use Rattle.candesk_calls.specs.Printing.{status_of_cause}
-use Rattle.candesk_calls.specs.Statuses.{done, device, memory}
+use Rattle.candesk_runs.specs.Printing.{status_of_cause}
+use Rattle.candesk_runs.specs.Statuses.{done, device, memory}
 
 -- the exit status of an outcome
 abbrev pub session_status_of : Result ℕ SessionFault → ℕ

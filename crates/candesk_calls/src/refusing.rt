@@ -1,9 +1,9 @@
 //! Words that are no job.
 ghost use Rattle.std.specs.Prelude.{◌≡◌};
 ghost use Rattle.candesk_calls.specs.Refusals.{RefusesWith};
-ghost use Rattle.candesk_calls.specs.Statuses.{device};
+ghost use Rattle.candesk_runs.specs.Statuses.{device};
 
-use crate::running::{report, status};
+use candesk_runs::{report, status};
 use candesk_words::NoJob;
 use dbc_model::{Memory, Sink, put_all};
 

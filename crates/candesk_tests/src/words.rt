@@ -16,6 +16,8 @@ fn words(rt: HostRuntime) -> Result<(), Fail> {
     let job = job_of(rt.alloc(), ["session", "f", "--keep", "7"].as_slice());
     assert!(rt; matches!(&job, Ok(Job { keep: Keep::Last(count), .. }) if count.get() == 7));
     let version = job_of(rt.alloc(), ["--version"].as_slice());
-    assert!(rt; matches!(&version, Err(NoJob::Help(text)) if text.as_str() == "candesk 0.1.0\n"));
+    assert!(rt;
+        matches!(&version, Err(NoJob::Help(text)) if text.as_str().starts_with("candesk 1.0.0 ("))
+    );
     Ok(())
 }

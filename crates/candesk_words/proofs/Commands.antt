@@ -19,9 +19,9 @@ use Rattle.clap.specs.Values.{Accepts}
 use Rattle.clap.specs.ValueTests.{is_unsigned_in}
 use Rattle.clap.specs.declared.builder.value_parser.ValueParser.TheVariants.{Unsigned}
 use Rattle.clap.proofs.ValueTestLemmas.{accepts-Accepts, Accepts-accepts}
-use Rattle.can_session.specs.Counts.{most_lines, is_count, count_of}
-use Rattle.can_session.specs.declared.keep.Keep.{Keep}
-use Rattle.can_session.specs.declared.keep.Keep.TheVariants.{All, Last}
+use Rattle.kept_lines.specs.Counts.{most_lines, is_count, count_of}
+use Rattle.kept_lines.specs.declared.keep.Keep.{Keep}
+use Rattle.kept_lines.specs.declared.keep.Keep.TheVariants.{All, Last}
 use Rattle.clap.proofs.WalkLemmas.{both, first_value-rows, one_text-rows}
 use Rattle.clap.proofs.OnLiterals.{clap_on_literals}
 use Rattle.candesk_words.proofs.OnLiterals.{words_on_literals}

@@ -6,7 +6,7 @@ use Rattle.clap.specs.declared.error.kind.ErrorKind.TheVariants.{UnknownArgument
 use Rattle.clap.proofs.OnLiterals.{clap_on_literals}
 use Rattle.candesk_words.proofs.OnLiterals.{words_on_literals}
 use Rattle.candesk_words.specs.declared.job.Command.TheVariants.{Check, Decode, Dump, Explain, Print, Session}
-use Rattle.can_session.specs.declared.keep.Keep.TheVariants.{All, Last}
+use Rattle.kept_lines.specs.declared.keep.Keep.TheVariants.{All, Last}
 use Rattle.candesk_words.specs.Words.{command_line, job_named}
 
 check-job : job_named (codes "check" ∷ codes "a" ∷ []) ≡ Some (Check, codes "a", false, All)

@@ -10,9 +10,9 @@ use Rattle.clap.specs.Words.{fault_of, IsAmong}
 use Rattle.clap.specs.declared.builder.action.ArgAction.TheVariants.{Set, SetTrue}
 use Rattle.clap.specs.declared.builder.value_parser.ValueParser.TheVariants.{Unsigned}
 use Rattle.clap.specs.ValueTests.{is_unsigned_in}
-use Rattle.can_session.specs.Counts.{most_lines}
-use Rattle.can_session.specs.declared.keep.Keep.{Keep}
-use Rattle.can_session.specs.declared.keep.Keep.TheVariants.{All, Last}
+use Rattle.kept_lines.specs.Counts.{most_lines}
+use Rattle.kept_lines.specs.declared.keep.Keep.{Keep}
+use Rattle.kept_lines.specs.declared.keep.Keep.TheVariants.{All, Last}
 use Rattle.clap.specs.declared.error.kind.ErrorKind.{ErrorKind}
 use Rattle.clap.specs.declared.error.kind.ErrorKind.TheVariants as kinds
 use Rattle.candesk_words.specs.declared.job.Command.{Command}

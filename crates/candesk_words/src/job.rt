@@ -4,9 +4,9 @@ ghost use Rattle.clap.specs.Words.{kind_of, found_of, rows_of, subcommand_rows_o
 ghost use Rattle.candesk_words.specs.Words.{command_named, has_flag, keep_found, job_found, job_as_found, SaysOf, IsJobOf};
 
 use crate::line::command_line;
-use can_session::{Keep, LineCount};
 use clap::ArgMatches;
 use clap::error::ErrorKind;
+use kept_lines::{Keep, LineCount};
 use std::alloc::{AllocError, Global};
 
 /// What the program can do with a database.

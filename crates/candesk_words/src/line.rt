@@ -6,9 +6,9 @@ ghost use Rattle.candesk_words.specs.Words.{before_command, on_file, on_frames, 
 
 use crate::notes;
 use crate::version::VERSION;
-use can_session::LineCount;
 use clap::builder::ValueParser;
 use clap::{Arg, ArgAction, Command};
+use kept_lines::LineCount;
 use std::alloc::{AllocError, Global};
 
 // The words before a command.

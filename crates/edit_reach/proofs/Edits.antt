@@ -22,7 +22,8 @@ use Rattle.dbc_edits.specs.Edits.{with_message, message_changed, message_renumbe
 use Rattle.dbc_edits.specs.Edits.{signal_removed, signal_changed, signal_renamed, mux_set, values_set, mux_dropped, values_dropped}
 use Rattle.dbc_edits.specs.Edits.{table_set, table_dropped, attribute_set, attribute_dropped, edited}
 use Rattle.can_rows.specs.Rows.{rows_of}
-use Rattle.can_rows.specs.Groups.{is_for_message, gives_format, format_row}
+use Rattle.dbc_records.specs.Comments.{is_for_message}
+use Rattle.can_rows.specs.Groups.{gives_format, format_row}
 use Rattle.edit_reach.specs.Touched.{is_among, number_at, edit_numbers}
 use Rattle.edit_reach.specs.Elsewhere.{is_elsewhere, SameElsewhere}
 use Rattle.edit_reach.proofs.ListFacts.{find-by_filter, filter-without, filter-with_item, filter-insert, filter-remove, filter-set}

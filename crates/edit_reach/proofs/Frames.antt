@@ -15,7 +15,7 @@ use Rattle.can_layout.specs.Pictures.{picture_of}
 use Rattle.log_frames.specs.Frames.{Frame, body_of, frame_of, is_data, is_data_kind, number_of}
 use Rattle.log_frames.specs.declared.frame.Kind.{Kind}
 use Rattle.log_frames.specs.declared.frame.Kind.TheVariants as kinds
-use Rattle.can_decode.specs.Choices.{has_number, is_group, in_group, exact_place, group_place, place_of_number, chosen_place}
+use Rattle.can_choice.specs.Choices.{has_number, is_group, in_group, exact_place, group_place, place_of_number, chosen_place}
 use Rattle.can_decode.specs.declared.short.Short.{Short}
 use Rattle.can_decode.specs.DecodedLines.{target_of, text_of_kind, chosen_target, frame_text, body_and_frame, decoded_line}
 use Rattle.edit_reach.specs.Touched.{is_among, may_have_group, concerns, is_touched, line_touched}

@@ -11,7 +11,8 @@ use Rattle.dbc_edits.specs.Edits.{edited, at_message, refused_if, message_added,
 use Rattle.dbc_edits.specs.Edits.{message_renumbered, signal_added, signal_removed, signal_changed, signal_renamed, mux_set}
 use Rattle.dbc_edits.specs.Edits.{values_set, mux_dropped, values_dropped, table_set, table_dropped, attribute_set}
 use Rattle.dbc_edits.specs.Edits.{attribute_dropped}
-use Rattle.can_session.specs.States.{State, longest_line, is_full, with_line}
+use Rattle.can_session.specs.States.{State, longest_line, with_line}
+use Rattle.kept_lines.specs.Keeping.{is_full}
 use Rattle.session_laws.specs.Runs.{Change, Retain, with_database, with_lines, unless_stopped, answer_of, OnlyStopped}
 
 -- where it is refused, then for a cause

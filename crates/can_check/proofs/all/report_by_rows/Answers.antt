@@ -1,6 +1,6 @@
 use Rattle.std.proofs.Common.{rules, ◌≡◌, List, subst}
-use Rattle.can_layout.specs.Switches.{walks_of}
-use Rattle.can_layout.specs.declared.walk.Walk.{Walk}
+use Rattle.can_mux.specs.Switches.{walks_of}
+use Rattle.can_mux.specs.declared.walk.Walk.{Walk}
 use Rattle.can_check.specs.MessageFaults.{faults_by}
 use Rattle.can_check.specs.Reports.{Takes}
 use Rattle.can_check.proofs.all.report_by_rows.Goals as goal

@@ -1,6 +1,6 @@
 use Rattle.std.proofs.Common.{◌≡◌, ℕ, List, length, sym, arith}
 use Rattle.dbc_records.specs.Records.{Signal}
-use Rattle.can_layout.specs.Walks.{walk_of}
+use Rattle.can_mux.specs.Walks.{walk_of}
 use Rattle.can_layout.specs.Plans.{cause_of}
 use Rattle.can_layout.specs.Pictures.{legend_line}
 use Rattle.can_layout.proofs.Placed.{more_text, all_text}

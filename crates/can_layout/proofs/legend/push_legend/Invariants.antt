@@ -2,7 +2,7 @@ use Rattle.std.proofs.Common.{◌≡◌, ◌++◌, take}
 use Rattle.std.specs.List.{flat_map, enumerate_from}
 use Rattle.can_layout.specs.Plans.{cause_of}
 use Rattle.can_layout.specs.Pictures.{legend_line}
-use Rattle.can_layout.specs.Walks.{walk_of}
+use Rattle.can_mux.specs.Walks.{walk_of}
 use Rattle.can_layout.proofs.legend.push_legend.Given as goal
 
 -- a line for each signal so far

@@ -1,9 +1,9 @@
 use Rattle.std.proofs.Common.{◌≡◌, ◌+◌, ◌-◌, length, sym, ap, ◌∙◌, arith}
 use Rattle.std.specs.Option.{option_map}
-use Rattle.can_layout.specs.Links.{Link}
+use Rattle.can_mux.specs.Links.{Link}
 use Rattle.can_layout.specs.Plans.{chain_of, is_met, are_met}
-use Rattle.can_layout.specs.Walks.{above_or_missing, above_at}
-use Rattle.can_layout.specs.declared.above.Above.TheVariants.{Switch}
+use Rattle.can_mux.specs.Walks.{above_or_missing, above_at}
+use Rattle.can_mux.specs.declared.above.Above.TheVariants.{Switch}
 use Rattle.can_layout.proofs.Chains.{asks_met, at_met}
 use Rattle.can_layout.proofs.plan.are_met.Goals as goal
 

@@ -3,8 +3,8 @@ use Rattle.std.proofs.lemmas.List.{length-map}
 use Rattle.dbc_records.specs.Records.{Signal}
 use Rattle.can_layout.specs.Plans.{label_of}
 use Rattle.can_layout.specs.Presence.{AreChained, ArePlain}
-use Rattle.can_layout.specs.Switches.{above_of, aboves_of}
-use Rattle.can_layout.specs.declared.above.Above.{Above}
+use Rattle.can_mux.specs.Switches.{above_of, aboves_of}
+use Rattle.can_mux.specs.declared.above.Above.{Above}
 use Rattle.can_layout.specs.declared.row.Row.{Row}
 use Rattle.can_layout.proofs.Chains.{are_chained}
 use Rattle.can_layout.proofs.plan.plan_in.Goals as goal

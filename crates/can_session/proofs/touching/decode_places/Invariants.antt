@@ -1,6 +1,6 @@
 use Rattle.std.proofs.Common.{take}
-use Rattle.can_session.specs.Compiled.{Raised}
-use Rattle.can_session.specs.Logs.{TextsAt}
+use Rattle.compiled_database.specs.Compiled.{Raised}
+use Rattle.session_log.specs.Logs.{TextsAt}
 use Rattle.can_session.proofs.touching.decode_places.Given as goal
 
 -- the texts of the places so far are made

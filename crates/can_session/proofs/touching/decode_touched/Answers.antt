@@ -1,8 +1,8 @@
 use Rattle.std.proofs.Common.{length, ap, arith}
 use Rattle.std.proofs.lemmas.List.{length-map}
-use Rattle.can_session.specs.Acceptance.{numbers_of}
-use Rattle.can_session.specs.Logs.{bytes_of}
-use Rattle.can_session.proofs.Places.{all_done}
+use Rattle.compiled_database.specs.Acceptance.{numbers_of}
+use Rattle.session_log.specs.Logs.{bytes_of}
+use Rattle.session_log.proofs.Places.{all_done}
 use Rattle.can_session.proofs.Raising.{fewer_decoded}
 use Rattle.can_session.proofs.touching.decode_touched.Goals as goal
 

@@ -1,5 +1,5 @@
 use Rattle.std.proofs.Common.{◌≡◌, Some, None, sym, ◌∙◌}
-use Rattle.can_session.specs.Counts.{count_of}
+use Rattle.kept_lines.specs.Counts.{count_of}
 use Rattle.candesk_words.proofs.Commands.{keep-read}
 use Rattle.candesk_words.proofs.job.keep_in.Goals as goal
 

@@ -1,11 +1,11 @@
 use Rattle.std.proofs.Common.{◌≡◌, ℕ, true, ◌&&◌, List, slice_get, subst, sym, ap, ◌∙◌}
 use Rattle.std.specs.Option.{option_map}
-use Rattle.can_layout.specs.Links.{Link}
+use Rattle.can_mux.specs.Links.{Link}
 use Rattle.can_layout.specs.Plans.{Plan, is_met, is_present}
 use Rattle.can_layout.specs.Presence.{AreChained}
-use Rattle.can_layout.specs.Walks.{above_or_missing, above_at}
-use Rattle.can_layout.specs.declared.above.Above.{Above}
-use Rattle.can_layout.specs.declared.above.Above.TheVariants.{Switch}
+use Rattle.can_mux.specs.Walks.{above_or_missing, above_at}
+use Rattle.can_mux.specs.declared.above.Above.{Above}
+use Rattle.can_mux.specs.declared.above.Above.TheVariants.{Switch}
 use Rattle.can_layout.specs.declared.row.Row.{Row}
 use Rattle.can_layout.proofs.Chains.{present_under}
 use Rattle.can_layout.proofs.plan.Plan.present_by.Goals as goal

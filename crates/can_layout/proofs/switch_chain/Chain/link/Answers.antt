@@ -1,9 +1,9 @@
 use Rattle.std.proofs.Common.{◌≡◌, ℕ, suc, ◌+◌, List, slice_get, sym, ap, ◌∙◌, arith}
 use Rattle.std.specs.Option.{option_map}
-use Rattle.can_layout.specs.Links.{Link}
-use Rattle.can_layout.specs.Walks.{walk_of, above_at, links_in}
-use Rattle.can_layout.specs.declared.above.Above.{Above}
-use Rattle.can_layout.specs.declared.above.Above.TheVariants.{Switch}
+use Rattle.can_mux.specs.Links.{Link}
+use Rattle.can_mux.specs.Walks.{walk_of, above_at, links_in}
+use Rattle.can_mux.specs.declared.above.Above.{Above}
+use Rattle.can_mux.specs.declared.above.Above.TheVariants.{Switch}
 use Rattle.can_layout.proofs.Chains.{first_link, next_chain, next_links, above_of_link}
 use Rattle.can_layout.proofs.switch_chain.Chain.link.Goals as goal
 

@@ -3,9 +3,9 @@ use Rattle.std.proofs.Common.{◌∙◌, arith}
 use Rattle.std.proofs.lemmas.List.{map_push, length-map, length-drop, drop-map}
 use Rattle.std.proofs.lemmas.List.Elements.{All-push, All-drop}
 use Rattle.can_decode.specs.DecodedLines.{Bus}
-use Rattle.can_session.specs.declared.line.Line.{Line}
-use Rattle.can_session.specs.Logs.{bytes_of, IsDecoded}
-use Rattle.can_session.specs.States.{most_kept, is_full}
+use Rattle.session_log.specs.declared.line.Line.{Line}
+use Rattle.session_log.specs.Logs.{bytes_of, IsDecoded}
+use Rattle.kept_lines.specs.Keeping.{most_kept, is_full}
 use Rattle.can_session.proofs.Keeping.{one_goes, open_with_line}
 use Rattle.can_session.proofs.session.Session.add_line.Goals as goal
 

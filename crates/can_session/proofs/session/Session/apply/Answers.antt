@@ -1,6 +1,6 @@
 use Rattle.std.proofs.Common.{length, ap, arith}
 use Rattle.std.proofs.lemmas.List.{length-map}
-use Rattle.can_session.specs.Logs.{bytes_of}
+use Rattle.session_log.specs.Logs.{bytes_of}
 use Rattle.can_session.proofs.session.Session.apply.Goals as goal
 
 pub returns-in_err-shown-clause-meter : goal.returns-in_err-shown-clause-meter

@@ -1,0 +1,7 @@
+use Rattle.std.proofs.Common.{◌≡◌, map, take}
+use Rattle.can_bits.specs.Bits.{field_of}
+use Rattle.can_bits.proofs.field.fields_of.Given as goal
+
+-- where the signals so far lie
+abbrev pub invariant-loop-signal : goal.invariant-loop-signal
+invariant-loop-signal l = l.fields.items ≡ map field_of (take l.signal-index l.signals)

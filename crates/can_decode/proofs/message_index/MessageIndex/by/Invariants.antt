@@ -1,7 +1,0 @@
-use Rattle.std.proofs.Common.{take}
-use Rattle.can_decode.specs.Remembering.{AreChoices}
-use Rattle.can_decode.proofs.message_index.MessageIndex.by.Given as goal
-
--- the first of the messages so far
-abbrev pub invariant-loop-place : goal.invariant-loop-place
-invariant-loop-place g l = AreChoices (g.L.Lookup.whole l.lookup) (take l.place l.message-items) l.exact l.grouped

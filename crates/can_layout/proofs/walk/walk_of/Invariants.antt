@@ -1,8 +1,0 @@
-use Rattle.std.proofs.Common.{◌≡◌, ◌-◌}
-use Rattle.can_layout.specs.Walks.{walk_of, walk_up}
-use Rattle.can_layout.proofs.Walks.{links_then}
-use Rattle.can_layout.proofs.walk.walk_of.Given as goal
-
--- the links so far, and then the way on
-abbrev pub invariant-loop-passed : goal.invariant-loop-passed
-invariant-loop-passed l = walk_of l.aboves l.place ≡ links_then l.links (walk_up (l._passed-end - l._passed) l.aboves l.current)

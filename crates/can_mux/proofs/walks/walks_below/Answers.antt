@@ -1,0 +1,9 @@
+use Rattle.std.proofs.Common.{sym, arith}
+use Rattle.std.proofs.lemmas.List.FromFn.{map-range_with_len_more}
+use Rattle.can_mux.specs.Walks.{walk_of}
+use Rattle.can_mux.proofs.walks.walks_below.Goals as goal
+
+pub loop-place-preserved : goal.loop-place-preserved
+loop-place-preserved c =
+    rw (c.in_ok-push.ensures.items, c.in_ok-walk_of.ensures, c.loop-place.invariant)
+    (sym (map-range_with_len_more (walk_of c.args.aboves.now) 0 c.loop-place.place c.loop-place.place (omega arith)))

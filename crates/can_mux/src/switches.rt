@@ -1,0 +1,122 @@
+//! What stands right above each signal of a message.
+ghost use Rattle.std.specs.Prelude.{◌≡◌, IfOk, count_by, position};
+ghost use Rattle.can_mux.specs.Switches.{place_named, only_switch, is_switch, above_of, aboves_of, under, just, by_tag};
+
+use crate::above::Above;
+use crate::link::Link;
+use crate::rows::MessageRows;
+use can_rows::Lookup;
+use dbc_records::{Range, Signal, Tag};
+use dbc_values::{Copied, List, Memory, same};
+use std::alloc::Global;
+
+// The place of the signal of a name.
+fn place_named(name: &[u8], signals: &[Signal]) -> Option<usize>
+    ensures { result ≡ place_named name.now signals.now }
+{
+    signals
+        .iter()
+        .position(|signal| same(signal.name.as_bytes(), name))
+}
+
+fn is_switch(tag: Tag) -> bool
+    ensures { result ≡ is_switch tag }
+{
+    match tag {
+        Tag::Switch => true,
+        _ => false,
+    }
+}
+
+fn switches(signals: &[Signal]) -> usize
+    ensures { result ≡ count_by (λ signal. is_switch signal.tag) signals.now }
+{
+    signals
+        .iter()
+        .filter(|signal| is_switch(signal.tag))
+        .count()
+}
+
+fn first_switch(signals: &[Signal]) -> Option<usize>
+    ensures { result ≡ position (λ signal. is_switch signal.tag) signals.now }
+{
+    signals.iter().position(|signal| is_switch(signal.tag))
+}
+
+// The place of the only signal with the tag `M`.
+#[tactic(auto, unfolding(crate::specs::Switches::only_switch))]
+fn only_switch(signals: &[Signal]) -> Option<usize>
+    ensures { result ≡ only_switch signals.now }
+{
+    if switches(signals) == 1 {
+        first_switch(signals)
+    } else {
+        None
+    }
+}
+
+fn under(alloc: Global, switch: Option<usize>, ranges: List<Range>) -> Result<Above, Memory>
+    ensures { IfOk result (λ above. above ≡ under switch ranges) }
+{
+    match switch {
+        Some(switch) => Ok(Above::Switch(Link::new(alloc, switch, ranges)?)),
+        None => Ok(Above::Missing),
+    }
+}
+
+fn just(alloc: Global, number: u64) -> Result<List<Range>, Memory>
+    ensures { IfOk result (λ ranges. ranges ≡ just number) }
+{
+    let mut ranges = List::new(alloc);
+    ranges.push(Range {
+        first: number,
+        last: number,
+    })?;
+    Ok(ranges)
+}
+
+fn by_tag(alloc: Global, only: Option<usize>, tag: Tag) -> Result<Above, Memory>
+    ensures { IfOk result (λ above. above ≡ by_tag only tag) }
+{
+    match tag {
+        Tag::Plain | Tag::Switch => Ok(Above::Nothing),
+        Tag::Muxed(number) | Tag::Both(number) => under(alloc, only, just(alloc, number)?),
+    }
+}
+
+// What stands above a signal, where `only` is the only switch of its message.
+#[tactic(auto, unfolding(crate::specs::Switches::above_of))]
+fn above_of<L: Lookup>(
+    alloc: Global,
+    rows: &MessageRows<'_, L>,
+    signals: &[Signal],
+    only: Option<usize>,
+    signal: &Signal,
+) -> Result<Above, Memory>
+    requires { only ≡ only_switch signals.now }
+    ensures { IfOk result (λ above. above ≡ above_of rows.now signals.now signal.now) }
+{
+    match rows.mux(&signal.name) {
+        Some(row) => {
+            let ranges = row.ranges.copy()?;
+            under(alloc, place_named(row.switch.as_bytes(), signals), ranges)
+        }
+        None => by_tag(alloc, only, signal.tag),
+    }
+}
+
+/// What stands above each signal of a message, in order.
+pub fn aboves_of<L: Lookup>(
+    alloc: Global,
+    rows: &MessageRows<'_, L>,
+    signals: &[Signal],
+) -> Result<List<Above>, Memory>
+    ensures { IfOk result (λ aboves. aboves ≡ aboves_of rows.now signals.now) }
+{
+    let only = only_switch(signals);
+    let mut aboves = List::with_capacity(alloc, signals.len())?;
+    for signal in signals {
+        aboves.push(above_of(alloc, rows, signals, only, signal)?)?;
+    }
+    Ok(aboves)
+}

@@ -1,8 +1,0 @@
-use Rattle.std.proofs.Common.{map, take}
-use Rattle.can_session.specs.Logs.{bytes_of}
-use Rattle.can_session.specs.Indexes.{Covers}
-use Rattle.can_session.proofs.log.Log.touched.Given as goal
-
--- those of the lines that the numbers so far touch are there
-abbrev pub invariant-loop-at : goal.invariant-loop-at
-invariant-loop-at l = Covers (take l.at l.numbers) (map bytes_of l.self) l.places.items

@@ -1,0 +1,101 @@
+-- From what is done with a database to what is done with the text that has it.
+use Rattle.std.proofs.Common.{◌≡◌, ℕ, List, Option, Some, None, Result, Ok, Err, refl, sym, ap, subst, ◌∙◌, inl, inr}
+use Rattle.std.specs.Option.{option_map, IfSome}
+use Rattle.byte_devices.specs.Device.{Unread, Written}
+use Rattle.dbc_records.specs.Databases.{Database}
+use Rattle.dbc_tokens.specs.declared.fault.Cause.TheVariants as causes
+use Rattle.dbc_tokens.specs.declared.fault.ReadFault.{ReadFault}
+use Rattle.dbc_reader.specs.Grammar as grammar
+use Rattle.dbc_tokens.proofs.CutLaws.{cut_unique}
+use Rattle.dbc_reader.specs.Pattern.{first_fault, nothing_seen}
+use Rattle.dbc_reader.specs.Texts.{HasDatabase, HasFirstFault, IsRead}
+use Rattle.fault_places.specs.Places.{Found, IsPlace}
+use Rattle.fault_places.specs.Walks.{found_of}
+use Rattle.fault_reports.specs.Headlines.{BeginsSo}
+use Rattle.fault_reports.specs.declared.report.Report.{Report}
+use Rattle.can_decode.specs.declared.short.Short.{Short}
+use Rattle.candesk_runs.specs.declared.fault.RunFault.{RunFault}
+use Rattle.candesk_runs.specs.declared.fault.RunFault.TheVariants as run
+use Rattle.candesk_runs.specs.declared.fault.PrintFault.{PrintFault}
+use Rattle.candesk_runs.specs.declared.fault.PrintFault.TheVariants as print
+use Rattle.candesk_runs.specs.declared.checking.Verdict.{Verdict}
+use Rattle.candesk_runs.specs.declared.fault.CheckFault.{CheckFault}
+use Rattle.candesk_runs.specs.declared.fault.CheckFault.TheVariants as check
+use Rattle.candesk_runs.specs.Explaining.{Explains, ExplainsFault, ExplainsText}
+use Rattle.candesk_runs.specs.Decoding.{Decodes, Runs}
+use Rattle.candesk_runs.specs.Printing.{Prints, PrintsText}
+
+module _ (text : List ℕ) (database : Database) (read : HasDatabase text database) where
+  pub decoded : (short : Short) (before after : Unread) (old new : Written) (result : Result ℕ RunFault)
+      → Decodes (record { database = database; short = short }) before after old new result
+      → Runs text short before after old new result
+  decoded short before after old new (Ok count) done = (database, read, done)
+  decoded short before after old new (Err (run.Stream fault)) done = (database, read, done)
+  decoded short before after old new (Err (run.Read fault)) done = absurd done
+  decoded short before after old new (Err run.Memory) done = done
+
+  pub explained : (old new : Written) (result : Result Verdict CheckFault) → Explains text database old new result
+      → ExplainsText text old new result
+  explained old new (Ok verdict) done = (database, read, done)
+  explained old new (Err (check.Read fault)) done = absurd done
+  explained old new (Err check.Write) done = inl (database, read, done)
+  explained old new (Err check.Memory) done = done
+
+  pub printed : (old new : Written) (result : Result (Unit {0}) PrintFault) → Prints database old new result
+      → PrintsText text old new result
+  printed old new (Ok u) done = (database, read, done)
+  printed old new (Err (print.Read fault)) done = absurd done
+  printed old new (Err print.Write) done = (database, read, done)
+
+-- a refusal for another cause than want of memory is for the first fault
+pub first_fault_of : (text : List ℕ) (fault : ReadFault) → IsRead text (Err fault) → (fault.cause ≡ causes.Memory → ⊥)
+    → HasFirstFault grammar.text text fault
+first_fault_of text fault (inl e) other = absurd (other (ap (λ (f : ReadFault). f.cause) e))
+first_fault_of text fault (inr first) other = first
+
+pub fault_explained : (text : List ℕ) (fault : ReadFault) (old new : Written) (result : Result Verdict CheckFault)
+    → HasFirstFault grammar.text text fault → ExplainsFault fault old new result → ExplainsText text old new result
+fault_explained text fault old new (Ok verdict) first done = absurd done
+fault_explained text fault old new (Err (check.Read same)) first (is, words, begins, wrote) =
+    (subst (HasFirstFault grammar.text text) (sym is) first, (refl, words, subst (λ f. BeginsSo f words) (sym is) begins, wrote))
+fault_explained text fault old new (Err check.Write) first done = inr (fault, first, done)
+fault_explained text fault old new (Err check.Memory) first done = done
+
+-- ---- one first fault
+
+-- a text has no other first fault
+pub one_first_fault : (text : List ℕ) (fault other : ReadFault) → HasFirstFault grammar.text text fault
+    → HasFirstFault grammar.text text other → other ≡ fault
+one_first_fault text fault other (cut, has, first) (again, too, second) =
+    let same : again ≡ cut = cut_unique 1 text again too ∙ sym (cut_unique 1 text cut has) in
+    let both : Some other ≡ Some fault = sym second ∙ ap (first_fault grammar.text nothing_seen) same ∙ first in
+    cc
+
+-- a text with a first fault has a place of it
+pub has_place : (text : List ℕ) (fault : ReadFault) → HasFirstFault grammar.text text fault → IsPlace grammar.text text None → ⊥
+has_place text fault (cut, has, first) (again, too, none) =
+    let same : again ≡ cut = cut_unique 1 text again too ∙ sym (cut_unique 1 text cut has) in
+    let both : None ≡ Some fault = sym none ∙ ap (first_fault grammar.text nothing_seen) same ∙ first in
+    cc
+
+-- words on its place begin so
+pub words_begin : (text : List ℕ) (fault : ReadFault) (found : Found) (words : List ℕ) → HasFirstFault grammar.text text fault
+    → IsPlace grammar.text text (Some found) → BeginsSo found.fault words → BeginsSo fault words
+words_begin text fault found words first (other, at) begins =
+    subst (λ f. BeginsSo f words) (one_first_fault text fault found.fault first other) begins
+
+-- what is reported begins so
+pub report_begins : (text : List ℕ) (fault : ReadFault) (told : Option Report) (report : Report) → told ≡ Some report
+    → HasFirstFault grammar.text text fault → IsPlace grammar.text text (option_map (λ (r : Report). found_of r.place) told)
+    → IfSome told (λ (r : Report). BeginsSo r.place.fault r.words.items) → BeginsSo fault report.words.items
+report_begins text fault None report is first place begins = absurd cc
+report_begins text fault (Some r) report is first place begins =
+    let same : r ≡ report = cc in
+    subst (λ (x : Report). BeginsSo fault x.words.items) same
+    (words_begin text fault (found_of r.place) r.words.items first place begins)
+
+-- something is reported
+pub no_report : (text : List ℕ) (fault : ReadFault) (told : Option Report) → told ≡ None → HasFirstFault grammar.text text fault
+    → IsPlace grammar.text text (option_map (λ (r : Report). found_of r.place) told) → ⊥
+no_report text fault None is first place = has_place text fault first place
+no_report text fault (Some r) is first place = absurd cc

@@ -1,0 +1,47 @@
+-- What a run of `dump` has written when it ends, and its status.
+use Rattle.std.specs.Prelude.{◌≡◌, ℕ, List, take, Result, Ok, Err}
+use Rattle.std.specs.List.{flat_map}
+use Rattle.dbc_records.specs.Records.{Message}
+use Rattle.dbc_records.specs.Databases.{Database}
+use Rattle.byte_devices.specs.Device.{Written, Wrote, Broke}
+use Rattle.dbc_reader.specs.Texts.{HasDatabase, IsRead}
+use Rattle.can_layout.specs.Pictures.{picture_of}
+use Rattle.candesk_runs.specs.declared.fault.DumpFault.{DumpFault}
+use Rattle.candesk_runs.specs.declared.fault.DumpFault.TheVariants as faults
+use Rattle.candesk_runs.specs.Printing.{status_of_cause}
+use Rattle.candesk_runs.specs.Statuses.{done, device, memory}
+
+-- the pictures of messages, one after another
+abbrev pub pictures_text : Database → List Message → List ℕ
+pictures_text database messages = flat_map (picture_of database) messages
+
+-- All pictures were written, or a beginning of them and then a put failed. Or those of some first messages were, each
+-- whole, and then memory ran out. It ends so after the database was read.
+abbrev pub Draws : Database → List Message → Written → Written → Result (Unit {0}) DumpFault → Type 0
+Draws database messages old new (Ok u) = Wrote old new (pictures_text database messages)
+Draws database messages old new (Err (faults.Read fault)) = ⊥
+Draws database messages old new (Err faults.Write) = Broke old new (pictures_text database messages)
+Draws database messages old new (Err faults.Memory) = (count : ℕ) × Wrote old new (pictures_text database (take count messages))
+
+-- The text has a database whose pictures were so written. Or nothing was written, and the fault is the first of the text, or says
+-- that memory ran out.
+abbrev pub DumpsPictures : List ℕ → Written → Written → Result (Unit {0}) DumpFault → Type 0
+DumpsPictures text old new (Ok u) = (database : Database) × HasDatabase text database × Draws database database.messages old new
+    (Ok u)
+DumpsPictures text old new (Err (faults.Read fault)) = (new ≡ old) × IsRead text (Err fault)
+DumpsPictures text old new (Err faults.Write) = (database : Database) × HasDatabase text database
+    × Draws database database.messages old new (Err faults.Write)
+DumpsPictures text old new (Err faults.Memory) = (database : Database) × HasDatabase text database
+    × Draws database database.messages old new (Err faults.Memory)
+
+-- the exit status of an outcome
+abbrev pub dump_status_of : Result (Unit {0}) DumpFault → ℕ
+dump_status_of (Ok u) = done
+dump_status_of (Err (faults.Read fault)) = status_of_cause fault.cause
+dump_status_of (Err faults.Write) = device
+dump_status_of (Err faults.Memory) = memory
+
+-- the status is that of an outcome with which the pictures were so written
+abbrev pub DumpingEndsWith : List ℕ → Written → Written → ℕ → Type 0
+DumpingEndsWith text old new status = (outcome : Result (Unit {0}) DumpFault) × DumpsPictures text old new outcome
+    × (status ≡ dump_status_of outcome)

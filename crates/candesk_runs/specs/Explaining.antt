@@ -1,0 +1,66 @@
+-- What a run of `explain` has written when it ends, and its status.
+use Rattle.std.specs.Prelude.{◌≡◌, ℕ, List, Result, Ok, Err, ◌⊎◌}
+use Rattle.std.specs.List.{flat_map}
+use Rattle.dbc_records.specs.Databases.{Database}
+use Rattle.byte_devices.specs.Device.{Written, Wrote, Broke}
+use Rattle.dbc_tokens.specs.declared.fault.ReadFault.{ReadFault}
+use Rattle.dbc_reader.specs.Grammar as grammar
+use Rattle.dbc_reader.specs.Texts.{HasDatabase, HasFirstFault}
+use Rattle.can_remedies.specs.declared.placed.Placed.{Placed}
+use Rattle.can_remedies.specs.Remedies.{explained_text}
+use Rattle.fault_reports.specs.Headlines.{BeginsSo}
+use Rattle.statement_lines.specs.declared.lines.Lines.{Lines}
+use Rattle.statement_lines.specs.Lines.{HasLines}
+use Rattle.placed_faults.specs.PlacedFaults.{placed_faults}
+use Rattle.candesk_runs.specs.declared.checking.Verdict.{Verdict}
+use Rattle.candesk_runs.specs.declared.fault.CheckFault.{CheckFault}
+use Rattle.candesk_runs.specs.declared.fault.CheckFault.TheVariants as faults
+use Rattle.candesk_runs.specs.Checking.{verdict_of, check_status_of}
+
+-- The lines of all with their remedies were written, or a beginning of them and then a put failed.
+abbrev pub ExplainsAll : List Placed → Written → Written → Result Verdict CheckFault → Type 0
+ExplainsAll found old new (Ok verdict) = Wrote old new (flat_map explained_text found) × (verdict ≡ verdict_of found)
+ExplainsAll found old new (Err (faults.Read fault)) = ⊥
+ExplainsAll found old new (Err faults.Write) = Broke old new (flat_map explained_text found)
+ExplainsAll found old new (Err faults.Memory) = ⊥
+
+-- So it ended, or nothing was written, and memory ran out.
+abbrev pub ExplainsPlaced : List Placed → Written → Written → Result Verdict CheckFault → Type 0
+ExplainsPlaced found old new (Ok verdict) = ExplainsAll found old new (Ok verdict)
+ExplainsPlaced found old new (Err (faults.Read fault)) = ⊥
+ExplainsPlaced found old new (Err faults.Write) = ExplainsAll found old new (Err faults.Write)
+ExplainsPlaced found old new (Err faults.Memory) = new ≡ old
+
+-- The same of all that is doubtful in the database, placed by the lines in which the statements of the text begin.
+abbrev pub Explains : List ℕ → Database → Written → Written → Result Verdict CheckFault → Type 0
+Explains text database old new (Ok verdict) = (lines : Lines) × HasLines text lines
+    × ExplainsAll (placed_faults database lines) old new (Ok verdict)
+Explains text database old new (Err (faults.Read fault)) = ⊥
+Explains text database old new (Err faults.Write) = (lines : Lines) × HasLines text lines
+    × ExplainsAll (placed_faults database lines) old new (Err faults.Write)
+Explains text database old new (Err faults.Memory) = new ≡ old
+
+-- Words on a text with this first fault were written, which begin with its line and its cause, or a beginning of such words, and
+-- then a put failed. Or nothing was written, and memory ran out.
+abbrev pub ExplainsFault : ReadFault → Written → Written → Result Verdict CheckFault → Type 0
+ExplainsFault first old new (Ok verdict) = ⊥
+ExplainsFault first old new (Err (faults.Read fault)) = (fault ≡ first) × (words : List ℕ) × BeginsSo first words
+    × Wrote old new words
+ExplainsFault first old new (Err faults.Write) = (words : List ℕ) × BeginsSo first words × Broke old new words
+ExplainsFault first old new (Err faults.Memory) = new ≡ old
+
+-- The text has a database, and what is doubtful in it was so explained; or it has this first fault, and words on it were written.
+abbrev pub ExplainsText : List ℕ → Written → Written → Result Verdict CheckFault → Type 0
+ExplainsText text old new (Ok verdict) = (database : Database) × HasDatabase text database
+    × Explains text database old new (Ok verdict)
+ExplainsText text old new (Err (faults.Read fault)) = HasFirstFault grammar.text text fault
+    × ExplainsFault fault old new (Err (faults.Read fault))
+ExplainsText text old new (Err faults.Write) =
+    ((database : Database) × HasDatabase text database × Explains text database old new (Err faults.Write))
+    ⊎ ((fault : ReadFault) × HasFirstFault grammar.text text fault × ExplainsFault fault old new (Err faults.Write))
+ExplainsText text old new (Err faults.Memory) = new ≡ old
+
+-- the status is that of an outcome with which the text was so explained
+abbrev pub ExplainingEndsWith : List ℕ → Written → Written → ℕ → Type 0
+ExplainingEndsWith text old new status = (outcome : Result Verdict CheckFault) × ExplainsText text old new outcome
+    × (status ≡ check_status_of outcome)

@@ -1,0 +1,91 @@
+//! A database text in, what is wrong with it in words out.
+ghost use Rattle.dbc_reader.specs.Grammar as grammar;
+ghost use Rattle.dbc_reader.specs.Texts.{HasFirstFault};
+ghost use Rattle.placed_faults.specs.PlacedFaults.{placed_faults};
+ghost use Rattle.candesk_runs.specs.Explaining.{ExplainsAll, ExplainsPlaced, Explains, ExplainsFault, ExplainsText};
+
+use crate::checking::{Verdict, verdict_of};
+use crate::fault::CheckFault;
+use can_remedies::{Placed, write_explained};
+use dbc_model::{Memory, Sink, WriteFault, put_all};
+use dbc_reader::read;
+use dbc_records::Database;
+use dbc_tokens::{Cause, ReadFault};
+use fault_reports::fault_report;
+use placed_faults::placed_faults;
+use statement_lines::{Lines, statement_lines};
+use std::alloc::Global;
+
+// Writes diagnostics behind their lines, with their remedies.
+fn explain_all<W: Sink>(found: &[Placed], sink: &mut W) -> Result<Verdict, CheckFault>
+    ensures { ExplainsAll found.now (W.written sink.old) (W.written sink.new) result }
+{
+    match write_explained(found, sink) {
+        Ok(()) => Ok(verdict_of(found)),
+        Err(WriteFault) => Err(CheckFault::Write),
+    }
+}
+
+// Writes the diagnostics of a database whose statements begin in these lines.
+fn explain_placed<W: Sink>(
+    alloc: Global,
+    database: &Database,
+    lines: &Lines,
+    sink: &mut W,
+) -> Result<Verdict, CheckFault>
+    ensures { ExplainsPlaced (placed_faults database.now lines.now) (W.written sink.old) (W.written sink.new) result }
+{
+    match placed_faults(alloc, database, lines) {
+        Ok(found) => explain_all(found.as_slice(), sink),
+        Err(Memory) => Err(CheckFault::Memory),
+    }
+}
+
+// Writes the diagnostics of the database that a text has.
+fn explain_database<W: Sink>(
+    alloc: Global,
+    text: &[u8],
+    database: &Database,
+    sink: &mut W,
+) -> Result<Verdict, CheckFault>
+    ensures { Explains text.now database.now (W.written sink.old) (W.written sink.new) result }
+{
+    match statement_lines(alloc, text) {
+        Ok(lines) => explain_placed(alloc, database, &lines, sink),
+        Err(Memory) => Err(CheckFault::Memory),
+    }
+}
+
+// Writes what is said of the faults of a text, of which this is the first.
+fn explain_fault<W: Sink>(
+    alloc: Global,
+    text: &[u8],
+    fault: ReadFault,
+    sink: &mut W,
+) -> Result<Verdict, CheckFault>
+    requires { HasFirstFault grammar.text text.now fault }
+    ensures { ExplainsFault fault (W.written sink.old) (W.written sink.new) result }
+{
+    match fault_report(alloc, text) {
+        Ok(Some(report)) => match put_all(sink, report.words.as_slice()) {
+            Ok(()) => Err(CheckFault::Read(fault)),
+            Err(WriteFault) => Err(CheckFault::Write),
+        },
+        Ok(None) => unreachable!(),
+        Err(Memory) => Err(CheckFault::Memory),
+    }
+}
+
+/// Reads the database text, and writes in words why it is refused: its first fault, and, as guesses, those behind it. Of a text
+/// that isn't refused it writes what is doubtful in the database, as `check` does, each behind the lines of the text in which what
+/// it speaks of begins, and with its remedy.
+#[inline(never)]
+pub fn explain_run<W: Sink>(alloc: Global, text: &[u8], sink: &mut W) -> Result<Verdict, CheckFault>
+    ensures { ExplainsText text.now (W.written sink.old) (W.written sink.new) result }
+{
+    match read(alloc, text) {
+        Ok(database) => explain_database(alloc, text, &database, sink),
+        Err(fault) if fault.cause == Cause::Memory => Err(CheckFault::Memory),
+        Err(fault) => explain_fault(alloc, text, fault, sink),
+    }
+}

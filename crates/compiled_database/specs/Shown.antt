@@ -1,0 +1,15 @@
+-- What is shown of a database: what making it anew defines.
+use Rattle.std.specs.Prelude.{◌≡◌, List, map}
+use Rattle.dbc_records.specs.Databases.{Database}
+use Rattle.can_diagnostics.specs.declared.diagnostic.Diagnostic.{Diagnostic}
+use Rattle.can_check.specs.AllFaults.{all_faults}
+use Rattle.can_choice.specs.declared.message_index.MessageIndex.{MessageIndex}
+use Rattle.can_choice.specs.Remembering.{IsIndexOf}
+use Rattle.compiled_database.specs.Compiled.{Compiled, compiled_of}
+
+-- these are the diagnostics of the database, and the plans and pictures of its messages with an index of these
+pub record IsShown (database : Database) (diagnostics : List Diagnostic) (compiled : List Compiled) (messages : MessageIndex) : Type
+    0 where
+  pub diagnosed : diagnostics ≡ all_faults database
+  pub planned : compiled ≡ map (compiled_of database) database.messages
+  pub found : IsIndexOf database messages

@@ -1,0 +1,61 @@
+//! What a session shows of its messages.
+ghost use Rattle.std.specs.Prelude.{◌≡◌, IfOk, map, length};
+ghost use Rattle.compiled_database.specs.Compiled.{compiled_of, Raised};
+
+use can_layout::{Lookup, Meter, Plan, picture_with, plan_with};
+use dbc_records::Message;
+use dbc_values::Memory;
+use std::alloc::Global;
+use std::marker::Model;
+use std::rc::Rc;
+
+/// The plan and the picture of a message.
+#[derive(Drop)]
+pub(crate) struct Compiled {
+    /// Its decode plan.
+    pub plan: Plan,
+    /// Its picture.
+    pub picture: Vec<u8>,
+}
+
+impl Model for Compiled {
+    ghost use Rattle.compiled_database.specs.Compiled as compiled;
+
+    ghost Value = { compiled.Compiled };
+
+    ghost view = { λ a. record { plan = a.plan; picture = a.picture.items } };
+}
+
+/// Those of a message, by the rows of a database.
+pub(crate) fn compiled_with<L: Lookup>(
+    alloc: Global,
+    lookup: &L,
+    message: &Message,
+    meter: &mut Meter,
+) -> Result<Rc<Compiled>, Memory>
+    ensures compiled { IfOk result (λ compiled. compiled.value ≡ compiled_of (L.whole lookup.now) message.now) }
+    ensures made { Raised 1 0 meter.old meter.new }
+{
+    let plan = plan_with(alloc, lookup, message, meter)?;
+    let mut picture = picture_with(alloc, lookup, message, meter)?;
+    picture.shrink_to_fit();
+    let compiled = Rc::new(alloc, Compiled { plan, picture })?;
+    Ok(compiled)
+}
+
+/// Those of all messages, in order.
+pub(crate) fn compiled_all<L: Lookup>(
+    alloc: Global,
+    lookup: &L,
+    messages: &[Message],
+    meter: &mut Meter,
+) -> Result<Vec<Rc<Compiled>>, Memory>
+    ensures compiled { IfOk result (λ all. map (λ one. one.value) all.items ≡ map (compiled_of (L.whole lookup.now)) messages.now) }
+    ensures made { Raised (length messages.now) 0 meter.old meter.new }
+{
+    let mut all = Vec::new(alloc);
+    for message in messages {
+        all.push(compiled_with(alloc, lookup, message, meter)?)?;
+    }
+    Ok(all)
+}

@@ -1,0 +1,106 @@
+//! What is compiled of the messages of an edited database. What the edit doesn't touch is kept.
+ghost use Rattle.std.specs.Prelude.{◌≡◌, IfOk, map, filter, count_by};
+ghost use Rattle.edit_reach.specs.Elsewhere.{is_elsewhere};
+ghost use Rattle.compiled_database.specs.Acceptance.{numbers_of};
+ghost use Rattle.compiled_database.specs.Compiled.{compiled_of, count_here, is_here, Raised};
+ghost use Rattle.compiled_database.specs.Shown.{IsShown};
+
+use crate::accepted::Accepted;
+use crate::compiled::{Compiled, compiled_with};
+use crate::shown::{Parts, Shown, messages_of};
+use can_check::all_faults_with;
+use can_decode::MessageIndex;
+use can_layout::{Indexed, Lookup, Meter};
+use dbc_records::Message;
+use dbc_values::Memory;
+use edit_reach::is_among;
+use edit_reach::laws::{others_stay, untouched_messages_stay};
+use std::alloc::Global;
+use std::rc::Rc;
+
+// Whether a message has one of the numbers.
+fn is_here(numbers: &[u32], message: &Message) -> bool
+    ensures { result ≡ is_here numbers.now message.now }
+{
+    is_among(numbers, message.head.number)
+}
+
+// What was compiled of the messages that have none of the numbers, in order.
+fn kept(alloc: Global, numbers: &[u32], before: &Shown) -> Result<Vec<Rc<Compiled>>, Memory>
+    ensures { IfOk result (λ kept. map (λ one. one.value) kept.items ≡ map (compiled_of before.now)
+        (filter (is_elsewhere numbers.now) before.now.messages)) }
+{
+    let mut kept = Vec::new(alloc);
+    let mut rest = before.compiled();
+    for message in before.database().messages.as_slice() {
+        if let [first, others @ ..] = rest {
+            if !is_here(numbers, message) {
+                kept.push(first.clone()?)?;
+            }
+            rest = others;
+        }
+    }
+    Ok(kept)
+}
+
+// What was compiled of messages that an edit doesn't touch: of the edited database, too, it is what is compiled of them.
+fn kept_after(alloc: Global, accepted: &Accepted<'_>) -> Result<Vec<Rc<Compiled>>, Memory>
+    ensures { IfOk result (λ kept. map (λ one. one.value) kept.items ≡ map (compiled_of accepted.now.after)
+        (filter (is_elsewhere (numbers_of accepted.now)) accepted.now.after.messages)) }
+{
+    others_stay();
+    untouched_messages_stay();
+    let kept = kept(alloc, accepted.numbers(), accepted.shown_before())?;
+    Ok(kept)
+}
+
+// Those of messages, in order: of a message that has none of the numbers the next of the kept ones, of another a new one.
+fn merged<L: Lookup>(
+    numbers: &[u32],
+    kept: &Vec<Rc<Compiled>>,
+    lookup: &L,
+    messages: &[Message],
+    meter: &mut Meter,
+) -> Result<Vec<Rc<Compiled>>, Memory>
+    requires { map (λ one. one.value) kept.now.items ≡ map (compiled_of (L.whole lookup.now)) (filter (is_elsewhere numbers.now)
+        messages.now) }
+    ensures compiled { IfOk result (λ all. map (λ one. one.value) all.items ≡ map (compiled_of (L.whole lookup.now)) messages.now) }
+    ensures made { Raised (count_by (is_here numbers.now) messages.now) 0 meter.old meter.new }
+{
+    let alloc = *kept.allocator();
+    let mut all = Vec::new(alloc);
+    let mut rest = kept.as_slice();
+    for message in messages {
+        if is_here(numbers, message) {
+            all.push(compiled_with(alloc, lookup, message, meter)?)?;
+        } else if let [first, others @ ..] = rest {
+            all.push(first.clone()?)?;
+            rest = others;
+        }
+    }
+    Ok(all)
+}
+
+/// What is made of the database that an accepted edit gives, by one index of its rows. Only of messages that have one of the
+/// edit's numbers are plans and pictures made.
+pub(crate) fn parts_after(
+    alloc: Global,
+    accepted: &Accepted<'_>,
+    meter: &mut Meter,
+) -> Result<Parts, Memory>
+    ensures parts { IfOk result (λ parts. IsShown accepted.now.after parts.diagnostics.items
+        (map (λ one. one.value) parts.compiled.items) parts.messages) }
+    ensures made { Raised (count_here (numbers_of accepted.now) accepted.now.after) 0 meter.old meter.new }
+{
+    let indexed = Indexed::of(alloc, accepted.after())?;
+    let diagnostics = all_faults_with(alloc, &indexed)?;
+    let kept = kept_after(alloc, accepted)?;
+    let messages = messages_of(accepted.after());
+    let compiled = merged(accepted.numbers(), &kept, &indexed, messages, meter)?;
+    let index = MessageIndex::by(alloc, &indexed)?;
+    Ok(Parts {
+        diagnostics,
+        compiled,
+        messages: index,
+    })
+}

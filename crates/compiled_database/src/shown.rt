@@ -1,0 +1,158 @@
+//! What is shown of a database.
+ghost use Rattle.std.specs.Prelude.{◌≡◌, ◌<◌, IfOk, IfSome, Some, length, map, slice_get};
+ghost use Rattle.std.specs.Option.{option_map};
+ghost use Rattle.can_layout.specs.Plans.{plan_of};
+ghost use Rattle.can_layout.specs.Pictures.{picture_of};
+ghost use Rattle.can_check.specs.AllFaults.{all_faults};
+ghost use Rattle.can_choice.specs.Choices.{line_place};
+ghost use Rattle.compiled_database.specs.Compiled.{compiled_of, Raised};
+ghost use Rattle.compiled_database.specs.Shown.{IsShown};
+
+use crate::compiled::{Compiled, compiled_all};
+use can_check::{Diagnostic, all_faults_with};
+use can_decode::{Choices, MessageIndex, ReadLine};
+use can_layout::{Indexed, Meter, Plan};
+use dbc_records::{Database, Message};
+use dbc_values::Memory;
+use std::alloc::Global;
+use std::marker::Model;
+use std::rc::Rc;
+
+/// What is made of a database: its diagnostics, and the plans and pictures of its messages with an index of these.
+#[derive(Drop)]
+pub(crate) struct Parts {
+    /// The diagnostics.
+    pub diagnostics: Vec<Diagnostic>,
+    /// The plan and the picture of each message, in order.
+    pub compiled: Vec<Rc<Compiled>>,
+    /// The index of the messages.
+    pub messages: MessageIndex,
+}
+
+/// A database with all that is shown of it. Contracts see the database.
+#[derive(Drop)]
+pub struct Shown {
+    database: Database,
+    parts: Parts,
+}
+
+impl Model for Shown {
+    ghost use Rattle.std.specs.Prelude.{map};
+    ghost use Rattle.dbc_records.specs.Databases.{Database as Whole};
+    ghost use Rattle.compiled_database.specs.Shown.{IsShown};
+
+    ghost Value = { Whole };
+
+    ghost view = { λ a. a.database };
+
+    ghost invariant = { λ a. IsShown a.database a.parts.diagnostics.items (map (λ one. one.value) a.parts.compiled.items)
+        a.parts.messages };
+}
+
+/// The messages of a database.
+pub(crate) fn messages_of(database: &Database) -> &[Message]
+    ensures { result.now ≡ database.now.messages }
+{
+    database.messages.as_slice()
+}
+
+// What is made of a database, by one index of its rows.
+fn parts_of(alloc: Global, database: &Database, meter: &mut Meter) -> Result<Parts, Memory>
+    ensures parts { IfOk result (λ parts. IsShown database.now parts.diagnostics.items (map (λ one. one.value) parts.compiled.items)
+        parts.messages) }
+    ensures made { Raised (length database.now.messages) 0 meter.old meter.new }
+{
+    let indexed = Indexed::of(alloc, database)?;
+    let diagnostics = all_faults_with(alloc, &indexed)?;
+    let compiled = compiled_all(alloc, &indexed, messages_of(database), meter)?;
+    let messages = MessageIndex::by(alloc, &indexed)?;
+    Ok(Parts {
+        diagnostics,
+        compiled,
+        messages,
+    })
+}
+
+impl Shown {
+    /// That of a database.
+    pub fn of(alloc: Global, database: Database, meter: &mut Meter) -> Result<Shown, Memory>
+        ensures database { IfOk result (λ shown. shown ≡ database) }
+        ensures made { Raised (length database.messages) 0 meter.old meter.new }
+    {
+        let parts = parts_of(alloc, &database, meter)?;
+        Ok(Shown { database, parts })
+    }
+
+    /// That of a database and what was made of it.
+    pub(crate) fn by(database: Database, parts: Parts) -> Shown
+        requires { IsShown database parts.diagnostics.items (map (λ one. one.value) parts.compiled.items) parts.messages }
+        ensures { result ≡ database }
+    {
+        Shown { database, parts }
+    }
+
+    /// The database.
+    pub fn database(&self) -> &Database
+        ensures { result.now ≡ self.now }
+    {
+        &self.database
+    }
+
+    /// Its diagnostics.
+    pub fn diagnostics(&self) -> &[Diagnostic]
+        ensures { result.now ≡ all_faults self.now }
+    {
+        self.parts.diagnostics.as_slice()
+    }
+
+    /// What is compiled of its messages, in order.
+    pub(crate) fn compiled(&self) -> &[Rc<Compiled>]
+        ensures { map (λ one. one.value) result.now ≡ map (compiled_of self.now) self.now.messages }
+    {
+        self.parts.compiled.as_slice()
+    }
+
+    // What is compiled of the message at a place.
+    fn compiled_at(&self, place: usize) -> &Compiled
+        requires { place < length self.now.messages }
+        ensures { Some result.now ≡ option_map (compiled_of self.now) (slice_get self.now.messages place) }
+    {
+        let compiled = self.compiled();
+        &compiled[place]
+    }
+
+    /// The decode plan of the message at a place.
+    #[tactic(auto, using(crate::proofs::Kept::plan_there))]
+    pub fn plan(&self, place: usize) -> &Plan
+        requires { place < length self.now.messages }
+        ensures { Some result.now ≡ option_map (plan_of self.now) (slice_get self.now.messages place) }
+    {
+        &self.compiled_at(place).plan
+    }
+
+    /// The picture of the message at a place.
+    #[tactic(auto, using(crate::proofs::Kept::picture_there))]
+    pub fn picture(&self, place: usize) -> &[u8]
+        requires { place < length self.now.messages }
+        ensures { Some result.now ≡ option_map (picture_of self.now) (slice_get self.now.messages place) }
+    {
+        self.compiled_at(place).picture.as_slice()
+    }
+
+    // The place of the message that the frame of a line goes to.
+    fn place_of(&self, line: &ReadLine<'_>) -> Option<usize>
+        ensures { result ≡ line_place self.now line.now }
+    {
+        let frame = line.frame()?;
+        Choices::by(&self.database, &self.parts.messages).choose(frame)
+    }
+
+    /// The place of the message that the frame of a line goes to, with the plan of that message.
+    pub fn chosen(&self, line: &ReadLine<'_>) -> Option<(usize, &Plan)>
+        ensures place { option_map (λ one. one.0) result ≡ line_place self.now line.now }
+        ensures plan { IfSome result (λ one. Some one.1.now ≡ option_map (plan_of self.now) (slice_get self.now.messages one.0)) }
+    {
+        let place = self.place_of(line)?;
+        Some((place, self.plan(place)))
+    }
+}

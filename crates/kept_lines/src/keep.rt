@@ -1,0 +1,80 @@
+//! How many lines are retained.
+ghost use Rattle.std.specs.Prelude.{◌≡◌};
+ghost use Rattle.kept_lines.specs.Counts.{count_of};
+ghost use Rattle.kept_lines.specs.Keeping.{most_kept, is_full};
+
+use std::marker::Model;
+
+/// A number of lines, from 1 to [`LineCount::MOST`].
+#[derive(Clone, Copy, Debug, PartialEq, Eq)]
+pub struct LineCount {
+    count: u32,
+}
+
+impl Model for LineCount {
+    ghost use Rattle.kept_lines.specs.Counts as counts;
+    ghost use Rattle.std.specs.Prelude.{ℕ};
+
+    ghost Value = { ℕ };
+
+    ghost view = { λ a. a.count };
+
+    ghost invariant = { λ a. counts.IsCount a.count };
+
+    ghost inverse = { λ count. record { count = count } };
+}
+
+impl LineCount {
+    /// The most lines: so many are retained where all are.
+    pub const MOST: u64 = 1_048_576;
+
+    /// That of a number; none where it is 0 or over the most.
+    pub fn new(count: u64) -> Option<LineCount>
+        ensures { result ≡ count_of count }
+    {
+        if count == 0 || count > LineCount::MOST {
+            return None;
+        }
+        Some(LineCount {
+            count: count as u32,
+        })
+    }
+
+    /// The number.
+    pub fn get(self) -> usize
+        ensures { result ≡ self }
+    {
+        self.count as usize
+    }
+}
+
+/// Which of the lines that were added are retained.
+#[derive(Clone, Copy, Debug, PartialEq, Eq)]
+pub enum Keep {
+    /// All of them. There is room for [`LineCount::MOST`], and a line more is refused.
+    All,
+    /// The last so many: where there are more, the oldest goes.
+    Last(LineCount),
+}
+
+impl Keep {
+    /// Whether a line more behind so many is refused. Of the last lines none is, since the oldest goes for it.
+    pub fn is_full(self, lines: usize) -> bool
+        ensures { result ≡ is_full self lines }
+    {
+        match self {
+            Keep::All => lines >= self.most(),
+            Keep::Last(_) => false,
+        }
+    }
+
+    /// How many lines are retained at most.
+    pub fn most(self) -> usize
+        ensures { result ≡ most_kept self }
+    {
+        match self {
+            Keep::All => LineCount::MOST as usize,
+            Keep::Last(count) => count.get(),
+        }
+    }
+}

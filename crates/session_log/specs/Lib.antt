@@ -1,0 +1,4 @@
+pub mod Places
+pub mod Indexes
+pub mod Logs
+pub mod Kept
