@@ -4,8 +4,12 @@ Nothing here knows what a database means. A text of a database is cut into its q
 canonical text, which `candesk print` writes, the lines of messages and signals are found, for their names.
 """
 
+from __future__ import annotations
+
+import tool_start
+from tool_start import BAD_FILES, BAD_WORDS, INTERRUPTED, NO_MEMORY, REFUSED, TOOL, Fault, lacks_memory, tell
+
 import argparse
-import collections
 import contextlib
 import importlib.util
 import os
@@ -16,12 +20,18 @@ import stat
 import subprocess
 import sys
 import tempfile
+import threading
+from collections.abc import Callable, Iterable, Iterator
+from typing import BinaryIO, NamedTuple, NoReturn
 
-# the exit statuses: what was given was refused; the words are none of the tool's; files can't be read or written
-REFUSED, BAD_WORDS, BAD_FILES = 1, 2, 3
+__all__ = ["BAD_FILES", "BAD_WORDS", "INTERRUPTED", "NO_MEMORY", "REFUSED", "TOOL", "Fault", "lacks_memory", "tell"]
 
 HERE = os.path.dirname(os.path.realpath(__file__))
-TOOL = os.path.basename(sys.argv[0])
+# the largest exit status that a program may have of its own (a checkout without a program has 70)
+LARGEST_STATUS = 99
+
+# what the program says of a line of a log that is over 4,096 bytes
+LONG_LINE = "40 LongLine"
 
 # A quoted text: its closing quote is the first that doesn't stand directly behind a backslash.
 QUOTED = rb'"[^"]*(?:(?<=\\)"[^"]*)*(?<!\\)"'
@@ -32,90 +42,95 @@ CANONICAL = re.compile(rb'%s|\n|[^"\n]+' % QUOTED)
 MESSAGE = re.compile(rb"BO_ (\d+) (\w+)(?=: )")
 SIGNAL = re.compile(rb" SG_ (\w+) ")
 
-Message = collections.namedtuple("Message", "place number name signals")
 
+class Message(NamedTuple):
+    """A message of a canonical text: its place, number and name, and the names of its signals."""
 
-class Fault(Exception):
-    """What ends a tool: the line for standard error, and the exit status."""
-
-    def __init__(self, text, status):
-        super().__init__(text)
-        self.status = status
+    place: int
+    number: int | None
+    name: str
+    signals: list[str]
 
 
 class Words(argparse.ArgumentParser):
     """A parser whose faults are one line."""
 
-    def error(self, message):
+    def error(self, message: str) -> NoReturn:
         raise Fault(f"{message}; see {self.prog} --help", BAD_WORDS)
 
 
-def words_parser(described):
+def words_parser(described: str | None) -> Words:
     """A parser that shows a tool's own text as its help."""
     shape = argparse.RawDescriptionHelpFormatter
     return Words(prog=TOOL, usage=argparse.SUPPRESS, description=described, formatter_class=shape, allow_abbrev=False)
 
 
-def run_tool(main):
-    """Runs a tool and ends with its status. A fault is one line; a reader that went away is no fault to tell of."""
-    signal.signal(signal.SIGTERM, lambda *_: sys.exit(128 + signal.SIGTERM))
+def stop(*_: object) -> NoReturn:
+    sys.exit(128 + signal.SIGTERM)
+
+
+def run_tool(main: Callable[[list[str]], int]) -> None:
+    """Runs a tool and ends with its status. Anything else that ends it is one line; if the reader of its output is gone, none."""
+    signal.signal(signal.SIGTERM, stop)
+    threading.excepthook = thread_failed
     try:
         try:
             status = main(sys.argv[1:])
         except SystemExit as end:
-            status = end.code
-        sys.stdout.flush()
-    except Fault as fault:
-        print(f"{TOOL}: {fault}", file=sys.stderr)
-        status = fault.status
-    except BrokenPipeError:
-        let_output_go()
-        status = BAD_FILES
-    except KeyboardInterrupt:
-        status = 128 + signal.SIGINT
-    except OSError as error:
-        print(f"{TOOL}: {error.filename or 'standard output'}: {error.strerror}", file=sys.stderr)
-        if not error.filename:
-            let_output_go()
-        status = BAD_FILES
-    sys.exit(status)
+            status = end.code if isinstance(end.code, int) else 0
+        tool_start.end(status)
+    except BaseException as error:  # noqa: BLE001
+        tool_start.end_by(failures[0] if failures and isinstance(error, KeyboardInterrupt) else error)
 
 
-def let_output_go():
-    """Lets go what still waits for a standard output that can't be written, so that nothing more is said of it."""
-    os.dup2(os.open(os.devnull, os.O_WRONLY), sys.stdout.fileno())
+# the exceptions that ended threads
+failures: list[BaseException] = []
 
 
-def counted(count, word):
+def thread_failed(raised: threading.ExceptHookArgs) -> None:
+    """Ends the tool by interrupting its main thread: without one of its threads its output would be incomplete."""
+    failures.append(raised.exc_value or MemoryError())
+    main = threading.main_thread().ident
+    if main is not None:
+        signal.pthread_kill(main, signal.SIGINT)
+
+
+def counted(count: int, word: str) -> str:
     return f"{count} {word}" + ("" if count == 1 else "s")
 
 
 # ---- the program
 
 
-def program():
+def program() -> str:
     """The program: $CANDESK; or candesk beside the tools, or in the checkout that they stand in; or on the PATH."""
     named = os.environ.get("CANDESK")
     beside = [os.path.join(HERE, "candesk"), os.path.join(os.path.dirname(os.path.realpath(sys.argv[0])), "candesk")]
-    for path in [named] if named else [*beside, os.path.join(os.path.dirname(HERE), "candesk"), shutil.which("candesk")]:
+    checkout = os.path.join(os.path.dirname(HERE), "candesk")
+    for path in (named,) if named else (*beside, checkout, shutil.which("candesk")):
         if path and os.path.isfile(path) and os.access(path, os.X_OK):
             return os.path.abspath(path)
     raise Fault(f"there is no candesk at {named}, which CANDESK names" if named else "there is no candesk on the PATH", BAD_FILES)
 
 
-def said_by(errors):
+def said_by(errors: bytes) -> str:
     """What the program said on standard error, without its own name."""
     lines = errors.decode(errors="replace").splitlines() or ["it said nothing"]
     return lines[-1].removeprefix("candesk: ")
 
 
-def printed(path):
+def status_of(returned: int) -> int:
+    """A tool's exit status for that of a program. A program that a signal ended, or that never started, has none of its own."""
+    return returned if 0 <= returned <= LARGEST_STATUS else BAD_FILES
+
+
+def printed(path: str) -> bytes:
     """The canonical text of a database. A database that is refused is a fault with the program's own words."""
     if not os.path.exists(path):
         raise Fault(f"{path}: no such file", BAD_FILES)
     done = subprocess.run([program(), "print", "--", path], stdin=subprocess.DEVNULL, capture_output=True, check=False)
     if done.returncode:
-        raise Fault(f"{path}: {said_by(done.stderr)}", done.returncode if done.returncode > 0 else BAD_FILES)
+        raise Fault(f"{path}: {said_by(done.stderr)}", status_of(done.returncode))
     return done.stdout
 
 
@@ -124,7 +139,7 @@ def printed(path):
 DEBIAN_PYTHON = "/usr/bin/python3"
 
 
-def has_package(name):
+def has_package(name: str) -> bool:
     """Whether a package is at hand. Debian puts its packages beside its own Python, so where another runs, that one is tried."""
     if importlib.util.find_spec(name):
         return True
@@ -135,11 +150,11 @@ def has_package(name):
     if subprocess.run([DEBIAN_PYTHON, "-c", asked], stdin=subprocess.DEVNULL, capture_output=True, check=False).returncode:
         return False
     sys.stdout.flush()
+    signal.pthread_sigmask(signal.SIG_BLOCK, {signal.SIGINT})
     os.execve(DEBIAN_PYTHON, [DEBIAN_PYTHON, *sys.argv], dict(os.environ, CANDESK_PYTHON=DEBIAN_PYTHON))
-    return True
 
 
-def need_package(name, debian):
+def need_package(name: str, debian: str) -> None:
     if not has_package(name):
         raise Fault(f"this tool needs the Python package {name} (Debian's {debian})", BAD_FILES)
 
@@ -147,24 +162,24 @@ def need_package(name, debian):
 # ---- texts of databases
 
 
-def pieces(text):
+def pieces(text: bytes) -> Iterator[tuple[str | None, int, bytes]]:
     """The pieces of any database, each with its kind: quoted, comment, plain, or open where a quote is never closed."""
     return ((found.lastgroup, found.start(), found.group()) for found in PIECES.finditer(text))
 
 
-def line_of(text, at):
+def line_of(text: bytes, at: int) -> int:
     """The number of the line in which a byte stands, from 1."""
     return text.count(b"\n", 0, at) + 1
 
 
-def comment_line(text):
+def comment_line(text: bytes) -> int | None:
     """The line of the first `//` comment, or nothing."""
     return next((line_of(text, at) for kind, at, _ in pieces(text) if kind == "comment"), None)
 
 
-def canonical_lines(canonical):
+def canonical_lines(canonical: bytes) -> Iterator[list[bytes]]:
     """The lines of a canonical text, each in its pieces. A line feed within quotes ends none."""
-    line = []
+    line: list[bytes] = []
     for found in CANONICAL.finditer(canonical):
         if found.group() == b"\n":
             yield line
@@ -173,9 +188,9 @@ def canonical_lines(canonical):
             line.append(found.group())
 
 
-def messages_of(canonical):
+def messages_of(canonical: bytes) -> list[Message]:
     """The messages of a canonical text, each with the names of its signals, in order."""
-    found = []
+    found: list[Message] = []
     for line in canonical_lines(canonical):
         message = MESSAGE.match(line[0]) if line else None
         signal_line = SIGNAL.match(line[0]) if line else None
@@ -190,7 +205,50 @@ def messages_of(canonical):
 
 
 @contextlib.contextmanager
-def replacing(path):
+def uninterrupted() -> Iterator[None]:
+    """Holds back interrupts."""
+    before = signal.pthread_sigmask(signal.SIG_BLOCK, {signal.SIGINT})
+    try:
+        yield
+    finally:
+        signal.pthread_sigmask(signal.SIG_SETMASK, before)
+
+
+class Folder(tempfile.TemporaryDirectory[str]):
+    """A temporary folder that no interrupt keeps from being removed."""
+
+    def cleanup(self) -> None:
+        with uninterrupted():
+            super().cleanup()
+
+
+@contextlib.contextmanager
+def naming(name: str) -> Iterator[None]:
+    """Gives an error of a stream or an open file, which has no name of its own, this one."""
+    try:
+        yield
+    except OSError as error:
+        if error.filename is None:
+            error.filename = name
+        raise
+
+
+def lines_of(stream: Iterable[bytes], name: str) -> Iterator[bytes]:
+    """The lines of a stream; an error while they are read has the stream's name."""
+    lines = iter(stream)
+    while True:
+        try:
+            line = next(lines)
+        except StopIteration:
+            return
+        except OSError as error:
+            error.filename = error.filename or name
+            raise
+        yield line
+
+
+@contextlib.contextmanager
+def replacing(path: str) -> Iterator[BinaryIO]:
     """A new file in place of another: written beside it, and renamed once it is whole. Mode and owner stay."""
     path = os.path.realpath(path)
     try:
@@ -198,7 +256,7 @@ def replacing(path):
     except OSError as error:
         raise Fault(f"{path}: {error.strerror}", BAD_FILES) from error
     try:
-        with os.fdopen(number, "wb") as file:
+        with naming(path), os.fdopen(number, "wb") as file:
             yield file
             file.flush()
             keep_rights(path, file.fileno())
@@ -214,7 +272,7 @@ def replacing(path):
     os.close(folder)
 
 
-def keep_rights(path, number):
+def keep_rights(path: str, number: int) -> None:
     """Gives an open file the mode and owner of another, or the mode of any new file where there is none."""
     if os.path.exists(path):
         there = os.stat(path)

@@ -13,27 +13,48 @@ Only texts that are shown and names of messages differ from the database, so whi
 same.
 """
 
-import collections
+from __future__ import annotations
+
 import contextlib
+import itertools
 import os
 import queue
 import re
 import subprocess
-import tempfile
 import threading
+from collections.abc import Iterator
+from typing import IO, NamedTuple
 
 import candesk_tools as tools
 
-# a frame that showed a message: the message's place, and for each signal its name, value, unit and named value
-Row = collections.namedtuple("Row", "time interface identifier place readings")
-Reading = collections.namedtuple("Reading", "signal value unit name")
+
+class Reading(NamedTuple):
+    """A signal that is shown: its name, value, unit and named value."""
+
+    signal: bytes
+    value: bytes
+    unit: bytes
+    name: bytes | None
+
+
+class Row(NamedTuple):
+    """A frame that showed a message: the message's place, and its signals."""
+
+    time: bytes
+    interface: bytes
+    identifier: bytes
+    place: int
+    readings: list[Reading]
+
+
 
 NUMBERS, NAMES = b"N", b"V"
 BEHIND = b" :: "
 SHOWN = re.compile(rb"[NV](\d+)(?:\[[^\]]*\])?\((.*)\)")
 BLANKS = re.compile(rb"[ \t]+")
 FRAME = re.compile(rb"\(([^)]*)\)[ \t]+([^ \t]+)[ \t]+([^ \t#]+)#")
-PLAIN = re.compile(rb"(\(\d+\.\d{1,9}\)[ \t]+[^ \t]+[ \t]+[^ \t#]+#\S*) :: (\w+)(?:\[[^\]]*\])?\((.*)\)")
+# (a blank and anything may follow a frame's data, such as the R or T that some loggers write)
+PLAIN = re.compile(rb"(\(\d+\.\d{1,9}\)[ \t]+[^ \t]+[ \t]+[^ \t#]+#\S*(?:[ \t].*?)?) :: (\w+)(?:\[[^\]]*\])?\((.*)\)")
 PLAIN_PIECE = re.compile(rb"(\w+): (.*)")
 DECIMAL = re.compile(rb"(-?\d+(?:\.\d+)?)(?: (.*))?")
 CHUNK = 65536
@@ -41,19 +62,20 @@ CHUNK = 65536
 WAITING = 16
 
 
-def on_one_line(text):
+def on_one_line(text: bytes) -> bytes:
     """A text as the program shows it: CR and LF as blanks."""
     return text.replace(b"\r", b" ").replace(b"\n", b" ")
 
 
-def spelled(piece, sign=b""):
+def spelled(piece: bytes, sign: bytes = b"") -> bytes:
     """A quoted text in hexadecimal digits, behind a sign; the empty one stays empty where there is no sign."""
     return b'"%s%s"' % (sign, on_one_line(piece[1:-1]).hex().encode())
 
 
-def copy_of(canonical, kind):
+def copy_of(canonical: bytes, kind: bytes) -> bytes:
     """A canonical text in which units, named values and names of messages are spelled so that they can't be taken for others."""
-    made, count = [], 0
+    made: list[bytes] = []
+    count = 0
     for line in tools.canonical_lines(canonical):
         head = line[0] if line else b""
         if tools.MESSAGE.match(head):
@@ -69,10 +91,10 @@ def copy_of(canonical, kind):
     return b"".join(made)
 
 
-class Texts(dict):
+class Texts(dict[bytes, bytes]):
     """Texts by their hexadecimal digits, each found once."""
 
-    def __missing__(self, digits):
+    def __missing__(self, digits: bytes) -> bytes:
         self[digits] = bytes.fromhex(digits.decode())
         return self[digits]
 
@@ -81,16 +103,17 @@ class Fork:
     """Hands a stream to two programs, each through a thread and a queue of its own. It waits only where both have enough to do, so
     neither can keep the other from its share."""
 
-    def __init__(self, source, sinks):
-        self.queues = [queue.SimpleQueue() for _ in sinks]
+    def __init__(self, source: IO[bytes], name: str, sinks: list[IO[bytes]]) -> None:
+        self.name = name
+        self.queues: list[queue.SimpleQueue[bytes]] = [queue.SimpleQueue() for _ in sinks]
         self.room = threading.Condition()
-        self.fault = None
+        self.fault: OSError | None = None
         for sink, waiting in zip(sinks, self.queues):
             threading.Thread(target=self.hand_on, args=(waiting, sink), daemon=True).start()
         # (a descriptor of its own, since whoever has the source may close it)
         threading.Thread(target=self.read, args=(os.dup(source.fileno()),), daemon=True).start()
 
-    def read(self, number):
+    def read(self, number: int) -> None:
         try:
             for chunk in iter(lambda: os.read(number, CHUNK), b""):
                 with self.room:
@@ -98,11 +121,12 @@ class Fork:
                 for waiting in self.queues:
                     waiting.put(chunk)
         except OSError as error:
+            error.filename = self.name
             self.fault = error
         for waiting in self.queues:
             waiting.put(b"")
 
-    def hand_on(self, waiting, sink):
+    def hand_on(self, waiting: queue.SimpleQueue[bytes], sink: IO[bytes]) -> None:
         """What comes for a program that ended is taken and let go, so that the other isn't kept waiting."""
         is_open = True
         for chunk in iter(waiting.get, b""):
@@ -123,57 +147,63 @@ class Exact:
 
     names_and_numbers = True
 
-    def __init__(self, database, short, log):
+    def __init__(self, database: str, short: bool, log: IO[bytes], name: str) -> None:
         canonical = tools.printed(database)
         self.messages = tools.messages_of(canonical)
         self.units = units_of(canonical)
-        self.database = database
-        self.only = None
+        self.database, self.name = database, name
+        self.only: int | None = None
         self.is_live = not os.path.isfile(f"/proc/self/fd/{log.fileno()}")
-        self.folder = tempfile.TemporaryDirectory(prefix="candesk-")
-        self.programs = []
+        self.folder = tools.Folder(prefix="candesk-")
+        self.programs: list[subprocess.Popen[bytes]] = []
         self.texts = Texts()
         try:
             for kind in (NUMBERS, NAMES):
                 self.programs.append(self.start(kind, copy_of(canonical, kind), short))
-            self.fork = Fork(log, [it.stdin for it in self.programs])
+            self.fork = Fork(log, name, [it.stdin for it in self.programs if it.stdin])
         except BaseException:
             self.close()
             raise
 
-    def start(self, kind, text, short):
+    def start(self, kind: bytes, text: bytes, short: bool) -> subprocess.Popen[bytes]:
         path = os.path.join(self.folder.name, kind.decode() + ".dbc")
         with open(path, "wb") as file:
             file.write(text)
         words = [tools.program(), "decode", *(["--short"] if short else []), path]
         return subprocess.Popen(words, stdin=subprocess.PIPE, stdout=subprocess.PIPE, stderr=subprocess.PIPE, bufsize=-1)
 
-    def __enter__(self):
+    def __enter__(self) -> Exact:
         return self
 
-    def __exit__(self, *_):
+    def __exit__(self, *_: object) -> None:
         self.close()
 
-    def close(self):
-        for it in self.programs:
-            it.kill()
-            it.wait()
-        self.folder.cleanup()
+    def close(self) -> None:
+        with tools.uninterrupted():
+            for it in self.programs:
+                it.kill()
+                it.wait()
+            self.folder.cleanup()
 
-    def __iter__(self):
-        numbers, names = self.programs
+    def __iter__(self) -> Iterator[Row]:
+        numbers, names = (it.stdout for it in self.programs)
+        assert numbers and names
         # (what is looked for may stand in the log's own line too, so whoever wants one message looks at the row's place as well)
         wanted = BEHIND if self.only is None else b"%s%s%d" % (BEHIND, NUMBERS, self.only)
-        for first, second in zip(numbers.stdout, names.stdout):
+        read, both = itertools.count(), 0
+        for first, _, second in zip(numbers, read, names):
+            both += 1
             if first != second and wanted in first:
                 yield self.row(first.rstrip(b"\n"), second.rstrip(b"\n"))
-        self.judge_end()
+        self.judge_end((next(read), both))
 
-    def row(self, first, second):
+    def row(self, first: bytes, second: bytes) -> Row:
         body, _, shown = first.rpartition(BEHIND)
         named = second.rpartition(BEHIND)[2]
-        place, signals = SHOWN.fullmatch(shown).groups()
-        named_signals = SHOWN.fullmatch(named)[2]
+        one_shown, other_shown, frame = SHOWN.fullmatch(shown), SHOWN.fullmatch(named), FRAME.match(body)
+        assert one_shown and other_shown and frame
+        place, signals = one_shown.groups()
+        named_signals = other_shown[2]
         readings = []
         if signals:
             for one, other in zip(signals.split(b", "), named_signals.split(b", ")):
@@ -181,23 +211,28 @@ class Exact:
                 value, _, unit = reading.partition(b" ")
                 text = other.partition(b": ")[2]
                 readings.append(Reading(name, value, self.texts[unit], self.texts[text[1:]] if text.startswith(b"n") else None))
-        return Row(*FRAME.match(body).groups(), int(place), readings)
+        return Row(frame[1], frame[2], frame[3], int(place), readings)
 
-    def judge_end(self):
-        """The log is at its end, or a program ended before: then its own words say why."""
-        for it in self.programs:
-            for _ in it.stdout:
-                pass
+    def judge_end(self, read: tuple[int, int]) -> None:
+        """The log is at its end, or a program ended early: then its own words say why. Before a line that is too long it writes all
+        lines, so their count gives that line's number. `read` has how many were read from each program so far."""
+        for it, count in zip(self.programs, read):
+            assert it.stdout and it.stderr
+            count += sum(1 for _ in it.stdout)
             status, errors = it.wait(), it.stderr.read()
+            said = tools.said_by(errors) if status else ""
+            if said == tools.LONG_LINE:
+                raise tools.Fault(f"{self.name}: line {count + 1}: {said}", tools.status_of(status))
             if status:
-                raise tools.Fault(f"{self.database}: {tools.said_by(errors)}", status if status > 0 else tools.BAD_FILES)
+                raise tools.Fault(f"{self.database}: {said}", tools.status_of(status))
         if self.fork.fault:
             raise self.fork.fault
 
 
-def units_of(canonical):
+def units_of(canonical: bytes) -> dict[tuple[int, bytes], bytes]:
     """The unit of each signal of each message, by place and name, as the program shows it."""
-    units, place = {}, -1
+    units: dict[tuple[int, bytes], bytes] = {}
+    place = -1
     for line in tools.canonical_lines(canonical):
         head = line[0] if line else b""
         place += 1 if tools.MESSAGE.match(head) else 0
@@ -212,21 +247,22 @@ class Plain:
 
     names_and_numbers = False
 
-    def __init__(self, log):
-        self.log = log
+    def __init__(self, log: IO[bytes], name: str) -> None:
+        self.log, self.name = log, name
+        self.only: int | None = None
         self.is_live = not os.path.isfile(f"/proc/self/fd/{log.fileno()}")
-        self.messages = []
-        self.units = {}
-        self.places = {}
+        self.messages: list[tools.Message] = []
+        self.units: dict[tuple[int, bytes], bytes] = {}
+        self.places: dict[bytes, int] = {}
 
-    def __enter__(self):
+    def __enter__(self) -> Plain:
         return self
 
-    def __exit__(self, *_):
+    def __exit__(self, *_: object) -> None:
         pass
 
-    def __iter__(self):
-        for at, line in enumerate(self.log, 1):
+    def __iter__(self) -> Iterator[Row]:
+        for at, line in enumerate(tools.lines_of(self.log, self.name), 1):
             found = PLAIN.fullmatch(line.rstrip(b"\r\n"))
             if found:
                 readings = [self.reading(it, at) for it in found[3].split(b", ")] if found[3] else []
@@ -234,9 +270,11 @@ class Plain:
                 if place == len(self.messages):
                     self.messages.append(tools.Message(place, None, found[2].decode(), []))
                 self.know(self.messages[place], [it.signal.decode() for it in readings], at)
-                yield Row(*FRAME.match(found[1]).groups(), place, readings)
+                frame = FRAME.match(found[1])
+                assert frame
+                yield Row(frame[1], frame[2], frame[3], place, readings)
 
-    def reading(self, piece, at):
+    def reading(self, piece: bytes, at: int) -> Reading:
         found = PLAIN_PIECE.fullmatch(piece)
         if not found or b": " in found[2]:
             raise tools.Fault(f"line {at}: a name or unit has a comma or a colon in it: give --database FILE", tools.REFUSED)
@@ -247,7 +285,7 @@ class Plain:
             return Reading(found[1], found[2], b"", None)
         return Reading(found[1], b"", b"", found[2])
 
-    def know(self, message, names, at):
+    def know(self, message: tools.Message, names: list[str], at: int) -> None:
         if len(set(names)) < len(names):
             raise tools.Fault(f"line {at}: a signal stands twice: give --database FILE", tools.REFUSED)
         message.signals.extend(it for it in names if it not in message.signals)

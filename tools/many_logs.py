@@ -4,16 +4,49 @@ Each line of a log is decoded by itself. So what is written of a log whose last 
 written of the two as one; and blocks that end at line ends, decoded apart, give the bytes of the whole when they are put together.
 """
 
+from __future__ import annotations
+
+import contextlib
 import os
 import shutil
 import subprocess
+from collections.abc import Iterable, Iterator
 
 import candesk_tools as tools
 
 LOG, DECODED = ".log", ".decoded"
 
 
-def logs_of(path):
+class Failures:
+    """The logs that failed while the others went on, each with its fault."""
+
+    def __init__(self) -> None:
+        self.faults: dict[str, tools.Fault] = {}
+
+    @contextlib.contextmanager
+    def of(self, log: str) -> Iterator[None]:
+        """Records why a log failed, and goes on."""
+        try:
+            yield
+        except (tools.Fault, OSError) as error:
+            self.add(log, error)
+
+    def add(self, log: str, error: tools.Fault | OSError) -> None:
+        """Records the first fault of a log. If the tool itself is out of memory, no log can go on."""
+        if tools.lacks_memory(error):
+            raise error
+        if isinstance(error, OSError):
+            error = tools.Fault(f"{error.filename or log}: {error.strerror}", tools.BAD_FILES)
+        self.faults.setdefault(log, error)
+
+    def tell(self) -> int:
+        """Reports each log that failed, in order, and returns the highest status, or 0 if none failed."""
+        for _, fault in sorted(self.faults.items()):
+            tools.tell(str(fault))
+        return max((it.status for it in self.faults.values()), default=0)
+
+
+def logs_of(path: str) -> list[str]:
     """The logs that a path names: the file, or those of the folder, by name."""
     if os.path.isdir(path):
         logs = [os.path.join(path, it) for it in sorted(os.listdir(path)) if it.endswith(LOG)]
@@ -26,7 +59,7 @@ def logs_of(path):
     return [os.path.abspath(it) for it in logs]
 
 
-def outputs_of(logs, folder):
+def outputs_of(logs: list[str], folder: str | None) -> list[str]:
     """Where the decoded lines of each log go."""
     if folder is not None:
         os.makedirs(folder, exist_ok=True)
@@ -37,20 +70,43 @@ def outputs_of(logs, folder):
     return outputs
 
 
-def decode_words(database, is_short):
+def decode_words(database: str, is_short: bool) -> list[str]:
     """The command that decodes a log; a database that is refused is told before anything is begun."""
     tools.printed(database)
     return [tools.program(), "decode", *(["--short"] if is_short else []), os.path.abspath(database)]
 
 
-def decode_whole(decode, log, output):
+def fault_of(log: str, returned: int, errors: bytes) -> tools.Fault:
+    """Why a log could not be decoded, in the program's own words."""
+    return tools.Fault(f"{log}: {tools.said_by(errors)}", tools.status_of(returned))
+
+
+def fault_with_line(log: str, begin: int, made: str, returned: int, errors: bytes) -> tools.Fault:
+    """The same, with the number of a line that is too long. `made` has the lines before it, from byte `begin` of the log on."""
+    said = tools.said_by(errors)
+    if said == tools.LONG_LINE:
+        said = f"line {line_feeds(log, begin) + line_feeds(made) + 1}: {said}"
+    return tools.Fault(f"{log}: {said}", tools.status_of(returned))
+
+
+def line_feeds(path: str, end: int | None = None) -> int:
+    """The number of line feeds in a file, or in its first `end` bytes."""
+    count, left = 0, os.path.getsize(path) if end is None else end
+    with open(path, "rb") as file:
+        while left and (chunk := file.read(min(left, 1 << 20))):
+            count += chunk.count(b"\n")
+            left -= len(chunk)
+    return count
+
+
+def decode_whole(decode: list[str], log: str, output: str) -> None:
     with open(log, "rb") as source, tools.replacing(output) as file:
         done = subprocess.run(decode, stdin=source, stdout=file, stderr=subprocess.PIPE, check=False)
         if done.returncode:
-            raise tools.Fault(f"{log}: {tools.said_by(done.stderr)}", done.returncode if done.returncode > 0 else tools.BAD_FILES)
+            raise fault_of(log, done.returncode, done.stderr)
 
 
-def put_in_place(made, output):
+def put_in_place(made: str, output: str) -> None:
     """Puts a file that was made on the same file system in its place, once it is on the disk."""
     with open(made, "rb") as file:
         tools.keep_rights(output, file.fileno())
@@ -58,7 +114,7 @@ def put_in_place(made, output):
     os.replace(made, output)
 
 
-def put_together(parts, output):
+def put_together(parts: Iterable[str], output: str) -> None:
     """Puts files together, in their order, and takes each away."""
     with tools.replacing(output) as file:
         for part in parts:
@@ -67,7 +123,7 @@ def put_together(parts, output):
             os.unlink(part)
 
 
-def blocks_of(log, size):
+def blocks_of(log: str, size: int) -> list[tuple[int, int]]:
     """The blocks of a log: where each begins and ends. Each but the last ends behind a line feed."""
     blocks, begin = [], 0
     end_of_log = os.path.getsize(log)

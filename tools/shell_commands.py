@@ -1,13 +1,18 @@
 """The commands of candesk-shell: those of a session, with messages by name or number, and a few of its own."""
 
+from __future__ import annotations
+
 import collections
 import contextlib
 import itertools
 import os
+import re
 import signal
 import subprocess
 import tempfile
 import threading
+from collections.abc import Callable
+from typing import Union
 
 import candesk_tools as tools
 import shell_session
@@ -43,6 +48,9 @@ ON_NUMBER = ("drop-mux", "drop-values", "drop-attribute")
 EDITS = (*SETTING, *ON_MESSAGE, *ON_NUMBER, "add-message", "add-signal", "renumber")
 OWN = ("list", "show", "print", "log", "undo", "save", "help", "quit")
 BIT_31 = 1 << 31
+# the statements kept verbatim that may name signals: groups, and others in which the signal follows its message's number
+GROUPS, NAMING = b"SIG_GROUP_", (b"SIG_TYPE_REF_", b"BA_REL_")
+Say = Callable[[Union[str, bytes]], None]
 # how many databases of before are kept for undo, and how many diagnostics that came or went are shown
 UNDONE = 100
 TOLD = 10
@@ -50,31 +58,32 @@ TOLD = 10
 AT_ONCE = 20000
 
 
-def refused(text):
+def refused(text: str) -> tools.Fault:
     return tools.Fault(text, tools.REFUSED)
 
 
-def whole_number(word):
+def whole_number(word: str) -> int | None:
     try:
         return int(word, 0)
     except ValueError:
         return None
 
 
-def raw(text):
+def raw(text: str) -> bytes:
     return text.encode("utf-8", "surrogateescape")
 
 
 class Shell:
     """A database that is open, with what was before, and what is written for each command."""
 
-    def __init__(self, path, is_short, keep, say):
+    def __init__(self, path: str, is_short: bool, keep: int | None, say: Say) -> None:
         with open(path, "rb") as file:
             self.read_text = file.read()
         self.path, self.say = path, say
         self.session = shell_session.Session(path, is_short, keep)
-        self.before = collections.deque(maxlen=UNDONE)
-        self.listening = None
+        self.before: collections.deque[bytes] = collections.deque(maxlen=UNDONE)
+        self.listening: subprocess.Popen[bytes] | None = None
+        self.lost = ""
         self.is_interrupted = False
         # (a session is changed for another, and lines come, one after another)
         self.changing = threading.RLock()
@@ -82,22 +91,24 @@ class Shell:
         self.saved = self.text
         self.found = self.session.diagnostics()
 
-    def close(self):
-        self.stop_listening()
-        self.session.close()
+    def close(self) -> None:
+        try:
+            self.stop_listening()
+        finally:
+            self.session.close()
 
     @property
-    def is_edited(self):
+    def is_edited(self) -> bool:
         return self.text != self.saved
 
-    def look(self):
+    def look(self) -> None:
         """What the session prints, and the messages in it."""
         self.text = self.session.text()
         self.messages = tools.messages_of(self.text)
 
     # ---- messages and signals by name
 
-    def message(self, word):
+    def message(self, word: str) -> tools.Message:
         number = whole_number(word)
         if word.startswith("@"):
             place = whole_number(word[1:])
@@ -113,18 +124,23 @@ class Shell:
             raise refused(f"{word} is more than one message: give " + " or ".join(f"@{it.place}" for it in found))
         return found[0]
 
-    def number(self, word):
+    def number(self, word: str) -> int | None:
         """The number of a message, or a number that no message has."""
         number = whole_number(word)
         return self.message(word).number if number is None or any(it.number == number | BIT_31 for it in self.messages) else number
 
     # ---- commands
 
-    def do(self, line):
+    def do(self, line: str) -> bool:
         """Does what a line asks for. False where it asks to end."""
         word, _, rest = line.strip().partition(" ")
         rest = rest.strip()
-        if word in EDITS:
+        if self.lost:
+            lost, self.lost = self.lost, ""
+            tools.tell(f"log |COMMAND has ended: {lost}")
+        if word == "rename-signal":
+            self.rename(rest)
+        elif word in EDITS:
             self.edit(self.command_of(word, rest))
         elif word == "quit":
             return False
@@ -134,7 +150,7 @@ class Shell:
             raise refused(f"there is no command {word}; help lists them")
         return True
 
-    def command_of(self, word, rest):
+    def command_of(self, word: str, rest: str) -> str:
         """The session's own command of an edit: with places and numbers for messages."""
         first, _, others = rest.partition(" ")
         others = others.strip()
@@ -156,7 +172,7 @@ class Shell:
         words = others.split() if word != "change-signal" else [others]
         return " ".join([word, str(message.place), *words])
 
-    def added_signal(self, message, rest):
+    def added_signal(self, message: tools.Message, rest: str) -> str:
         before, _, statement = rest.partition(" ")
         if before == "SG_":
             return f"add-signal {message.place} {len(message.signals)} {rest}"
@@ -165,7 +181,18 @@ class Shell:
             raise refused(f"{message.name} has no signal {before}")
         return f"add-signal {message.place} {message.signals.index(before) if place is None else place} {statement.strip()}"
 
-    def edit(self, command):
+    def rename(self, rest: str) -> None:
+        """Renames a signal, and reports the lines of the printed database in which statements kept verbatim still use the old name;
+        no edit changes those."""
+        command = self.command_of("rename-signal", rest)
+        self.edit(command)
+        message, old = self.messages[int(command.split()[1])], command.split()[2]
+        assert message.number is not None
+        if lines := lines_naming(self.text, message.number, old):
+            kind = "line" if len(lines) == 1 else "lines"
+            self.say(f"statements kept verbatim still name {old}: {kind} {', '.join(map(str, lines))} of print")
+
+    def edit(self, command: str) -> None:
         with self.changing:
             reply = self.session.ask(raw(command))[0]
             if reply != b"ok":
@@ -175,25 +202,27 @@ class Shell:
             self.look()
         self.tell_change("ok")
 
-    def tell_change(self, done):
+    def tell_change(self, done: str) -> None:
         """How many diagnostics there are, and which came and went."""
         old, self.found = self.found, self.session.diagnostics()
         gone = list((collections.Counter(old) - collections.Counter(self.found)).elements())
         came = list((collections.Counter(self.found) - collections.Counter(old)).elements())
         change = f"{len(gone)} went, {len(came)} came" if gone or came else "as before"
         self.say(f"{done}; {tools.counted(len(self.found), 'diagnostic')}, {change}")
+        lines: list[bytes]
         for sign, lines in ((b"- ", gone), (b"+ ", came)):
             for line in lines[:TOLD]:
                 self.say(sign + line)
             if len(lines) > TOLD:
                 self.say(sign.decode() + f"and {len(lines) - TOLD} more")
 
-    def do_list(self, _):
+    def do_list(self, _: str) -> None:
         for it in self.messages:
-            hexadecimal = f"0x{it.number & ~BIT_31:X}" + (" (29 bits)" if it.number & BIT_31 else "")
+            number = it.number or 0
+            hexadecimal = f"0x{number & ~BIT_31:X}" + (" (29 bits)" if number & BIT_31 else "")
             self.say(f"@{it.place} {it.name} {it.number} {hexadecimal}: {' '.join(it.signals)}")
 
-    def do_show(self, rest):
+    def do_show(self, rest: str) -> None:
         what, _, word = rest.partition(" ")
         if what == "diagnostics" and not word:
             lines = self.session.diagnostics()
@@ -207,13 +236,13 @@ class Shell:
         for line in lines:
             self.say(line)
 
-    def do_print(self, _):
+    def do_print(self, _: str) -> None:
         self.say(self.text.removesuffix(b"\n"))
 
-    def do_help(self, _):
+    def do_help(self, _: str) -> None:
         self.say(HELP.rstrip("\n"))
 
-    def do_undo(self, _):
+    def do_undo(self, _: str) -> None:
         """A session of its own on the database of before, with the lines that are retained."""
         if not self.before:
             raise refused("there is nothing to undo")
@@ -229,7 +258,7 @@ class Shell:
         self.look()
         self.tell_change("undone")
 
-    def do_save(self, rest):
+    def do_save(self, rest: str) -> None:
         words = rest.split()
         drops = "--drop-comments" in words
         words = [it for it in words if it != "--drop-comments"]
@@ -255,7 +284,7 @@ class Shell:
 
     # ---- logs
 
-    def do_log(self, rest):
+    def do_log(self, rest: str) -> None:
         if rest.startswith("("):
             self.tell_log(*self.session.log([raw(rest)]))
         elif rest == "stop":
@@ -269,11 +298,11 @@ class Shell:
         else:
             raise refused("log takes a FILE, a line of a log, |COMMAND, or stop")
 
-    def log_file(self, path):
+    def log_file(self, path: str) -> None:
         """The lines of a file, up to where it is interrupted."""
         all_taken, first_refusal = 0, b""
         self.is_interrupted = False
-        with open(path, "rb") as file:
+        with tools.naming(path), open(path, "rb") as file:
             while lines := [it.removesuffix(b"\n") for it in itertools.islice(file, AT_ONCE)]:
                 with self.changing:
                     taken, refusal = self.session.log(lines)
@@ -284,24 +313,28 @@ class Shell:
                     break
         self.tell_log(all_taken, first_refusal)
 
-    def tell_log(self, taken, refusal):
+    def tell_log(self, taken: int, refusal: bytes) -> None:
         text = f"{tools.counted(taken, 'line')}; {len(self.session.retained)} retained"
         self.say(text + (f"; others: {refusal.decode()}" if refusal else ""))
 
-    def listen(self, command):
+    def listen(self, command: str) -> None:
         """Starts a command, each line of which is retained as it comes."""
         if self.listening:
             raise refused("log stop ends what is listened to; then another can be")
-        streams = {"stdin": subprocess.DEVNULL, "stdout": subprocess.PIPE}
-        self.listening = subprocess.Popen(["sh", "-c", command], start_new_session=True, **streams)
+        self.listening = subprocess.Popen(["sh", "-c", command], start_new_session=True,
+                                          stdin=subprocess.DEVNULL, stdout=subprocess.PIPE)
         threading.Thread(target=self.take_lines, args=(self.listening,), daemon=True).start()
 
-    def take_lines(self, source):
-        for line in source.stdout:
-            with contextlib.suppress(tools.Fault), self.changing:
-                self.session.log([line.rstrip(b"\n")])
+    def take_lines(self, source: subprocess.Popen[bytes]) -> None:
+        """Retains lines as they come. If that fails, the next command reports it."""
+        try:
+            for line in source.stdout or ():
+                with contextlib.suppress(tools.Fault), self.changing:
+                    self.session.log([line.rstrip(b"\n")])
+        except (OSError, MemoryError) as error:
+            self.lost = "out of memory" if tools.lacks_memory(error) else str(error)
 
-    def stop_listening(self):
+    def stop_listening(self) -> None:
         if self.listening:
             # (the command's own group of processes, as a shell may have started several)
             with contextlib.suppress(ProcessLookupError):
@@ -311,12 +344,31 @@ class Shell:
             self.say(f"{len(self.session.retained)} retained")
 
 
+# ---- statements kept verbatim
+
+
+def lines_naming(canonical: bytes, number: int, signal_name: str) -> list[int]:
+    """The lines of a canonical text in which statements kept verbatim name a signal of a message: after the message's number, or
+    among the signals of one of its groups. Quoted text names none."""
+    found, at = [], 1
+    named = re.compile(rb"\b%d %s(?!\w)" % (number, signal_name.encode()))
+    grouped = re.compile(rb"%s %d \w+ [^:]*:(?:.*[ ,])?%s(?!\w)" % (GROUPS, number, signal_name.encode()))
+    for line in tools.canonical_lines(canonical):
+        bare = b"".join(b'""' if it.startswith(b'"') else it for it in line)
+        is_named = bare.startswith(NAMING) and named.search(bare)
+        if is_named or grouped.match(bare):
+            found.append(at)
+        at += 1 + sum(it.count(b"\n") for it in line)
+    return found
+
+
 # ---- completion
 
 
-def statements_of(shell, message):
+def statements_of(shell: Shell, message: tools.Message) -> list[str]:
     """The statements of a message's signals as they are printed, to be changed."""
-    place, found = -1, []
+    place = -1
+    found: list[str] = []
     for line in tools.canonical_lines(shell.text):
         head = line[0] if line else b""
         place += 1 if tools.MESSAGE.match(head) else 0
@@ -325,7 +377,7 @@ def statements_of(shell, message):
     return found
 
 
-def files_at(word):
+def files_at(word: str) -> list[str]:
     folder, _, begun = word.rpartition("/")
     before = folder + "/" if "/" in word else ""
     with contextlib.suppress(OSError):
@@ -334,12 +386,12 @@ def files_at(word):
     return []
 
 
-def candidates(shell, line):
+def candidates(shell: Shell, line: str) -> tuple[str, list[str]]:
     """The beginning of the word that stands last in a line, and what it may come to be."""
     words = line.split(" ")
     word, begun, count = words[0], words[-1], len(words)
     names = [it.name for it in shell.messages]
-    found = []
+    found: list[str] = []
     if count == 1:
         found = sorted((*EDITS, *OWN))
     elif word == "show":
@@ -356,7 +408,7 @@ def candidates(shell, line):
     return begun, [it for it in found if it.startswith(begun)]
 
 
-def of_message(shell, word, find):
+def of_message(shell: Shell, word: str, find: Callable[[Shell, tools.Message], list[str]]) -> list[str]:
     try:
         return find(shell, shell.message(word))
     except tools.Fault:

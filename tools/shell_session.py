@@ -5,10 +5,13 @@ same: a printed database ends outside of its quotes, decoded lines are as many a
 picture reads so.
 """
 
+from __future__ import annotations
+
 import collections
 import contextlib
 import subprocess
 import threading
+from typing import NoReturn
 
 import candesk_tools as tools
 
@@ -20,52 +23,58 @@ LONGEST_COMMAND = 65536
 BATCH = 500
 
 
-def is_end(line):
+def is_end(line: bytes) -> bool:
     return line in (b"ok", b"bad command") or line.startswith(b"refused ")
 
 
 class Session:
     """A session on a file, with the lines that it retains."""
 
-    def __init__(self, path, is_short=False, keep=None):
+    def __init__(self, path: str, is_short: bool = False, keep: int | None = None) -> None:
         self.path, self.is_short, self.keep = path, is_short, keep
-        self.retained = collections.deque(maxlen=keep or MOST_LINES)
+        self.retained: collections.deque[bytes] = collections.deque(maxlen=keep or MOST_LINES)
         self.talk = threading.RLock()
         words = [tools.program(), "session"]
         words += ["--short"] if is_short else []
         words += ["--keep", str(keep)] if keep else []
-        streams = {"stdin": subprocess.PIPE, "stdout": subprocess.PIPE, "stderr": subprocess.PIPE}
-        self.running = subprocess.Popen([*words, "--", path], start_new_session=True, **streams)
-        self.diagnostics()
+        self.running = subprocess.Popen([*words, "--", path], start_new_session=True,
+                                        stdin=subprocess.PIPE, stdout=subprocess.PIPE, stderr=subprocess.PIPE)
+        assert self.running.stdin and self.running.stdout and self.running.stderr
+        self.commands, self.replies, self.errors = self.running.stdin, self.running.stdout, self.running.stderr
+        try:
+            self.diagnostics()
+        except BaseException:
+            self.close()
+            raise
 
-    def close(self):
+    def close(self) -> None:
         with contextlib.suppress(OSError):
-            self.running.stdin.close()
+            self.commands.close()
         self.running.kill()
         self.running.wait()
 
-    def send(self, command):
+    def send(self, command: bytes) -> None:
         if len(command) >= LONGEST_COMMAND or b"\n" in command:
             raise tools.Fault("a command is one line of less than 65,536 bytes", tools.REFUSED)
         try:
-            self.running.stdin.write(command + b"\n")
-            self.running.stdin.flush()
+            self.commands.write(command + b"\n")
+            self.commands.flush()
         except OSError:
             self.tell_end()
 
-    def line(self):
-        line = self.running.stdout.readline()
+    def line(self) -> bytes:
+        line = self.replies.readline()
         if not line.endswith(b"\n"):
             self.tell_end()
         return line[:-1]
 
-    def tell_end(self):
+    def tell_end(self) -> NoReturn:
         with contextlib.suppress(OSError):
-            self.running.stdin.close()
-        status, errors = self.running.wait(), self.running.stderr.read()
-        raise tools.Fault(f"{self.path}: {tools.said_by(errors)}", status if status > 0 else tools.BAD_FILES)
+            self.commands.close()
+        status, errors = self.running.wait(), self.errors.read()
+        raise tools.Fault(f"{self.path}: {tools.said_by(errors)}", tools.status_of(status) or tools.BAD_FILES)
 
-    def ask(self, command):
+    def ask(self, command: bytes) -> tuple[bytes, list[bytes]]:
         """The last line of a reply, and those before it; none of these may read as an end."""
         with self.talk:
             self.send(command)
@@ -74,14 +83,15 @@ class Session:
                 lines.append(self.line())
             return lines[-1], lines[:-1]
 
-    def diagnostics(self):
+    def diagnostics(self) -> list[bytes]:
         return self.ask(b"show diagnostics")[1]
 
-    def text(self):
+    def text(self) -> bytes:
         """The canonical text, up to the first `ok` that isn't within quotes."""
         with self.talk:
             self.send(b"print")
-            lines, is_open = [], False
+            lines: list[bytes] = []
+            is_open = False
             while True:
                 line = self.line()
                 if not is_open and is_end(line):
@@ -91,14 +101,14 @@ class Session:
                         is_open = not is_open or line[at - 1 : at] == b"\\"
                 lines.append(line)
 
-    def shown_lines(self):
+    def shown_lines(self) -> list[bytes]:
         """The decoded text of each retained line."""
         with self.talk:
             self.send(b"show lines")
             lines = [self.line() for _ in self.retained]
             return lines if is_end(self.line()) else self.tell_end()
 
-    def log(self, lines):
+    def log(self, lines: list[bytes]) -> tuple[int, bytes]:
         """Retains lines. How many were, and why the first that wasn't was refused."""
         taken, refusal = 0, b""
         with self.talk:
@@ -115,9 +125,9 @@ class Session:
                     refusal = refusal or (reply if reply != b"ok" else b"")
         return taken, refusal
 
-    def hand_in(self, lines):
+    def hand_in(self, lines: list[bytes]) -> None:
         try:
-            self.running.stdin.write(b"".join(b"log " + it + b"\n" for it in lines))
-            self.running.stdin.flush()
+            self.commands.write(b"".join(b"log " + it + b"\n" for it in lines))
+            self.commands.flush()
         except OSError:
             self.tell_end()
