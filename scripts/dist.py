@@ -21,7 +21,7 @@ PROGRAM = f"{proving.ROOT}/{FOLDER}/{NAME}"
 SUMS = f"{proving.ROOT}/{FOLDER}/SHA256SUMS"
 BUILD = f"{proving.ROOT}/{FOLDER}/BUILD"
 # what a complete proof of the program costs
-PROOF_COST = "about 25 minutes on four processors"
+PROOF_COST = "about 40 minutes on four processors"
 PROVE = "scripts/prove candesk"
 MAKE = "scripts/release --dist"
 NOTICE = (
