@@ -11,3 +11,4 @@ pub mod Signs
 pub mod Scaling
 pub mod Kept
 pub mod PlainDigits
+pub mod Keywords

@@ -3,7 +3,8 @@
 -- Source: the DBC file format, "General Definitions" (C_identifier, char_string, unsigned_integer, double) and the
 -- keywords that its later sections begin with. That strings are bytes without an encoding, that `//` begins a comment
 -- and that a text may not end in a backslash is the profile of candesk.
-use Rattle.std.specs.Prelude.{ℕ, Bool, true, false, not, ◌||◌, ◌&&◌, ◌==◌, nat_le, List, [], ◌∷◌, ◌++◌, codes, if◌then◌else◌}
+use Rattle.std.specs.Prelude.{ℕ, ◌-◌, Bool, true, false, not, ◌||◌, ◌&&◌, ◌==◌, nat_le, List, [], ◌∷◌, ◌++◌, length, slice_index}
+use Rattle.std.specs.Prelude.{codes, if◌then◌else◌}
 use Rattle.std.specs.List.{list_any, list_all, before_first, after_first}
 use Rattle.std.specs.Str.{bytes_eq}
 
@@ -161,6 +162,10 @@ relation_words = codes "BU_SG_REL_" ∷ codes "BU_EV_REL_" ∷ codes "BU_BO_REL_
 -- `VERSION` is no keyword here: it is one as the first token of a text alone
 unfoldable pub is_keyword : List ℕ → Bool
 is_keyword word = list_any (bytes_eq word) (statement_words ++ (kept_words ++ relation_words))
+
+-- the last byte is an underscore
+abbrev pub ends_in_underscore : List ℕ → Bool
+ends_in_underscore word = slice_index word (length word - 1) == underscore
 
 -- a C identifier that is no keyword
 unfoldable pub is_name : List ℕ → Bool

@@ -20,7 +20,9 @@ mod text;
 pub use decimal::Decimal;
 pub use list::{Checked, Copied, List, Rewrite};
 pub use memory::Memory;
-pub use name::{Name, is_kept_word, is_letter, is_name, is_word, is_word_byte, same};
+pub use name::{
+    Name, ends_in_underscore, is_kept_word, is_letter, is_name, is_word, is_word_byte, same,
+};
 pub use number::{Whole, are_digits, digits_len, is_number, whole_of};
 pub use piece::{Pieces, is_piece, is_string};
 pub use scale::Scale;

@@ -1,9 +1,9 @@
 //! Names of messages, signals, nodes and tables.
-ghost use Rattle.std.specs.Prelude.{◌≡◌, IfOk, OnErr, IsTrue, Some, None, if◌then◌else◌};
+ghost use Rattle.std.specs.Prelude.{◌≡◌, false, IfOk, OnErr, IsTrue, Some, None, if◌then◌else◌};
 ghost use Rattle.std.specs.List.{list_any, list_all};
 ghost use Rattle.std.specs.Str.{bytes_eq};
 ghost use Rattle.dbc_values.specs.Lexical.{is_name, is_word, is_keyword, is_letter, is_word_byte, is_kept_word, statement_words};
-ghost use Rattle.dbc_values.specs.Lexical.{relation_words};
+ghost use Rattle.dbc_values.specs.Lexical.{relation_words, ends_in_underscore};
 
 use crate::list::{Checked, Copied};
 use crate::memory::Memory;
@@ -119,12 +119,21 @@ pub fn is_keyword(word: &[u8]) -> bool
     is_statement_word(word) || is_kept_word(word) || is_relation_word(word)
 }
 
+/// Whether the last byte is an underscore. Every keyword of the format ends in one, and few other words do.
+#[inline(always)]
+pub fn ends_in_underscore(word: &[u8]) -> bool
+    ensures value { result ≡ ends_in_underscore word.now }
+    ensures keyword { result ≡ false → is_keyword word.now ≡ false }
+{
+    !word.is_empty() && word[word.len() - 1] == b'_'
+}
+
 /// Whether the bytes are a name.
 #[tactic(auto, unfolding(crate::specs::Lexical::is_name))]
 pub fn is_name(bytes: &[u8]) -> bool
     ensures { result ≡ is_name bytes.now }
 {
-    is_word(bytes) && !is_keyword(bytes)
+    is_word(bytes) && !(ends_in_underscore(bytes) && is_keyword(bytes))
 }
 
 impl Name {
