@@ -14,7 +14,7 @@ pub value_append : (m : ℕ) (xs ys : List ℕ) → digits_value_after 10 m (xs 
 value_append m [] ys = refl
 value_append m (x ∷ xs) ys = value_append (m * 10 + digit_value x) xs ys
 
-digit_is : (c : ℕ) → is_digit c ≡ true → digit_value c ≡ c - 48
+pub digit_is : (c : ℕ) → is_digit c ≡ true → digit_value c ≡ c - 48
 digit_is c h = grind (arith, nat_tests)
 
 -- the digit at a place, read behind those before it

@@ -12,3 +12,4 @@ pub mod Scaling
 pub mod Kept
 pub mod PlainDigits
 pub mod Keywords
+pub mod PlainDecimals

@@ -1,11 +1,10 @@
 -- What digits alone spell.
-use Rattle.std.proofs.Common.{◌≡◌, ℕ, ◌<◌, ◌≤◌, ◌^◌, ◌==◌, Bool, true, false, IsTrue, List, [], ◌∷◌, pos}
-use Rattle.std.proofs.Common.{length, get_or, refl, sym, arith, inl, inr, ◌∙◌}
+use Rattle.std.proofs.Common.{◌≡◌, ℕ, ◌<◌, ◌≤◌, ◌^◌, Bool, true, false, IsTrue, List, [], ◌∷◌, pos}
+use Rattle.std.proofs.Common.{length, get_or, refl, arith, inl, inr}
 use Rattle.std.specs.List.{list_all, list_any, before_first, after_first, position_or_len}
 use Rattle.std.specs.Str.Parse.{digits_value}
 use Rattle.std.proofs.lemmas.Bool.{and_parts, cases_lt, both_ways}
 use Rattle.std.proofs.lemmas.Bool.Decides.{nat_tests}
-use Rattle.std.specs.Prelude.{IfSome, Some, None, Option}
 use Rattle.std.proofs.lemmas.List.{get_or_default, append-nil, take_all}
 use Rattle.std.proofs.lemmas.List.Folds.{list_any-from_Any}
 use Rattle.std.proofs.lemmas.List.Sums.{passes_at_first}
@@ -30,25 +29,25 @@ absent p xs none =
       | inr more ↦ omega arith
     ]
 
-all_before : (p : ℕ → Bool) (xs : List ℕ) → list_any p xs ≡ false → before_first p xs ≡ xs
+pub all_before : (p : ℕ → Bool) (xs : List ℕ) → list_any p xs ≡ false → before_first p xs ≡ xs
 all_before p xs none = take_all (position_or_len p xs) xs (absent p xs none)
 
-none_after : (p : ℕ → Bool) (xs : List ℕ) → list_any p xs ≡ false → after_first p xs ≡ []
+pub none_after : (p : ℕ → Bool) (xs : List ℕ) → list_any p xs ≡ false → after_first p xs ≡ []
 none_after p xs none = let far = absent p xs none in drop_of_length-le xs (omega arith)
 
-none_among : (p : ℕ → Bool) (xs : List ℕ) → ((b : ℕ) → is_digit b ≡ true → p b ≡ false) → IsTrue (list_all is_digit xs)
+pub none_among : (p : ℕ → Bool) (xs : List ℕ) → ((b : ℕ) → is_digit b ≡ true → p b ≡ false) → IsTrue (list_all is_digit xs)
     → list_any p xs ≡ false
 none_among p [] other digits = refl
 none_among p (x ∷ xs) other digits =
     let parts = and_parts _ _ digits in rw (other x parts.0) (none_among p xs other parts.1)
 
-no_mark : (b : ℕ) → is_digit b ≡ true → is_exponent_mark b ≡ false
+pub no_mark : (b : ℕ) → is_digit b ≡ true → is_exponent_mark b ≡ false
 no_mark b digit = grind (arith, nat_tests)
 
-no_point : (b : ℕ) → is_digit b ≡ true → is_point b ≡ false
+pub no_point : (b : ℕ) → is_digit b ≡ true → is_point b ≡ false
 no_point b digit = grind (arith, nat_tests)
 
-some_digit : (xs : List ℕ) → 0 < length xs → IsTrue (list_all is_digit xs) → list_any is_digit xs ≡ true
+pub some_digit : (xs : List ℕ) → 0 < length xs → IsTrue (list_all is_digit xs) → list_any is_digit xs ≡ true
 some_digit [] more digits = absurd (omega arith)
 some_digit (x ∷ xs) more digits = let first : is_digit x ≡ true = (and_parts _ _ digits).0 in rw first refl
 
@@ -89,23 +88,3 @@ plain_spells number n more digits is fits = record {
   form = plain_number number more digits;
   is = rw (plain_mantissa number digits, plain_exponent number digits) (fits, omega (arith, is));
 }
-
-some : (number : List ℕ) → false ≡ (length number == 0) → 0 < length number
-some [] not_empty = absurd (both_ways true (sym not_empty) refl)
-some (x ∷ xs) not_empty = omega arith
-
-pub plain_made : (number : List ℕ) (made : Option ℕ) → false ≡ (length number == 0) → IsTrue (list_all is_digit number)
-    → IfSome made (λ n. n ≡ digits_value 10 number) → IfSome made (λ n. n < 2 ^ 64)
-    → IfSome made (λ n. SpellsWhole number (Value n))
-plain_made number None not_empty digits value fits = value
-plain_made number (Some n) not_empty digits value fits = plain_spells number n (some number not_empty) digits value fits
-
-pub plain_value : (number : List ℕ) (made : Option ℕ) → IsTrue (list_all is_digit number)
-    → IfSome made (λ n. n ≡ digits_value 10 number) → IfSome made (λ n. mantissa_of number ≡ n)
-plain_value number None digits value = value
-plain_value number (Some n) digits value = plain_mantissa number digits ∙ sym value
-
-pub plain_power : (number : List ℕ) (made : Option ℕ) → IsTrue (list_all is_digit number) → IfSome made (λ n. n < 2 ^ 64)
-    → IfSome made (λ n. exponent_of number ≡ pos 0)
-plain_power number None digits fits = fits
-plain_power number (Some n) digits fits = plain_exponent number digits

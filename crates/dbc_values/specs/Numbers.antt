@@ -3,9 +3,9 @@
 -- Source: the DBC file format, "General Definitions" (unsigned_integer, double).
 use Rattle.std.specs.Prelude.{◌≡◌, ℕ, ℤ, pos, negsuc, ◌+◌, ◌*◌, ◌+ℤ◌, ◌-ℤ◌, ◌≤ℤ◌, ◌⊎◌, ◌^◌, ◌/◌, ◌%◌, ◌==◌, ◌<◌, ◌≤◌, nat_lt, List}
 use Rattle.std.specs.Prelude.{◌++◌, length, Option, Some, None, IsTrue, if◌then◌else◌}
-use Rattle.std.specs.List.{before_first, after_first}
-use Rattle.std.specs.Str.Parse.{digits_value, signed_digits_value}
-use Rattle.dbc_values.specs.Lexical.{is_point, is_exponent_mark, is_number}
+use Rattle.std.specs.List.{list_all, before_first, after_first}
+use Rattle.std.specs.Str.Parse.{digits_value, digits_value_after, signed_digits_value}
+use Rattle.dbc_values.specs.Lexical.{is_digit, is_point, is_exponent_mark, is_number}
 use Rattle.dbc_values.specs.declared.number.Whole.{Whole}
 use Rattle.dbc_values.specs.declared.number.Whole.TheVariants.{Fraction, TooLarge, Value}
 
@@ -86,3 +86,11 @@ pub record IsReduced (m : ℕ) (e : ℤ) (digits : Option ℕ) (exponent : ℤ) 
   pub zeros : ℕ
   pub front : HasDigits m digits zeros
   pub power : StandsFor 1000 (e +ℤ pos zeros) exponent
+
+-- digits behind those of a number, with which they write the value, and then the rest
+pub record IsDigitsThen (start : ℕ) (bytes : List ℕ) (value : ℕ) (rest : List ℕ) : Type 0 where
+  pub front : List ℕ
+  pub parts : bytes ≡ front ++ rest
+  pub digits : IsTrue (list_all is_digit front)
+  pub value_of : value ≡ digits_value_after 10 start front
+  pub fits : value < 2 ^ 64

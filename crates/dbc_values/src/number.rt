@@ -6,7 +6,7 @@ ghost use Rattle.std.specs.Str.Parse.{digits_value, digits_value_after, signed_d
 ghost use Rattle.dbc_values.specs.Lexical.{is_digit, is_sign, is_point, is_exponent_mark, is_mantissa, is_digits, is_signed_digits};
 ghost use Rattle.dbc_values.specs.Lexical.{is_number};
 ghost use Rattle.dbc_values.specs.Numbers.{mantissa_of, exponent_of, IsWhole, SpellsWhole, whole_of_number, at_most_36_digits};
-ghost use Rattle.dbc_values.specs.Numbers.{HasDigits, StandsFor, IsReduced};
+ghost use Rattle.dbc_values.specs.Numbers.{HasDigits, StandsFor, IsReduced, IsDigitsThen};
 
 /// What a number is as a whole number.
 #[derive(Clone, Copy, Debug, PartialEq, Eq)]
@@ -222,6 +222,49 @@ impl Digits {
     }
 }
 
+/// The number that the digits at the front write behind those of another one, and what stands behind them; `None` where the
+/// number isn't one of a word.
+#[inline(always)]
+fn leading_digits(start: u64, bytes: &[u8]) -> Option<(u64, &[u8])>
+    ensures { IfSome result (λ r. IsDigitsThen start bytes.now r.0 r.1.now) }
+{
+    let mut value = start;
+    let mut rest = bytes;
+    'digits: while let [first, others @ ..] = rest {
+        if !first.is_ascii_digit() {
+            break;
+        }
+        if value >= WORD_LIMIT as u64 {
+            return None;
+        }
+        value = value * 10 + u64::from(*first - b'0');
+        rest = others;
+    }
+    Some((value, rest))
+}
+
+/// The number that digits with at most one point among them write without it, and how many stand behind the point; `None` for
+/// other bytes, and where the number isn't one of a word.
+fn plain_decimal(number: &[u8]) -> Option<(u64, usize)>
+    ensures form { IfSome result (λ _. IsTrue (is_number number.now)) }
+    ensures digits { IfSome result (λ r. mantissa_of number.now ≡ r.0) }
+    ensures power { IfSome result (λ r. exponent_of number.now ≡ pos 0 -ℤ pos r.1) }
+{
+    let (whole, rest) = leading_digits(0, number)?;
+    match rest {
+        [] if !number.is_empty() => Some((whole, 0)),
+        [first, fraction @ ..] if *first == b'.' && number.len() > 1 => {
+            let (value, rest) = leading_digits(whole, fraction)?;
+            if rest.is_empty() {
+                Some((value, fraction.len()))
+            } else {
+                None
+            }
+        }
+        _ => None,
+    }
+}
+
 /// The number that digits behind those of another one write, where it is one of a word.
 fn word_behind(start: u64, digits: &[u8]) -> Option<u64>
     requires { IsTrue (list_all is_digit digits.now) }
@@ -315,14 +358,14 @@ fn reduced_exponent(written: i128, behind_point: usize, zeros: u128) -> i128
 }
 
 impl Reduced {
-    /// A whole number of a word.
-    fn of_word(value: u64) -> Reduced
-        ensures { IsReduced value (pos 0) result.digits result.exponent }
+    /// A number of a word, of which so many digits stand behind the point.
+    fn of_word(value: u64, behind_point: usize) -> Reduced
+        ensures { IsReduced value (pos 0 -ℤ pos behind_point) result.digits result.exponent }
     {
         let digits = word_digits(value);
         Reduced {
             digits: digits.front,
-            exponent: digits.zeros as i128,
+            exponent: reduced_exponent(0, behind_point, digits.zeros),
         }
     }
 
@@ -331,8 +374,8 @@ impl Reduced {
         ensures { MatchOption result (is_number number.now ≡ false) (λ r. IsTrue (is_number number.now)
             × IsReduced (mantissa_of number.now) (exponent_of number.now) r.digits r.exponent) }
     {
-        if let Some(value) = plain_whole(number) {
-            return Some(Reduced::of_word(value));
+        if let Some((value, behind_point)) = plain_decimal(number) {
+            return Some(Reduced::of_word(value, behind_point));
         }
         if !is_number(number) {
             return None;
@@ -373,10 +416,11 @@ fn plain_whole(number: &[u8]) -> Option<u64>
     ensures digits { IfSome result (λ value. mantissa_of number.now ≡ value) }
     ensures power { IfSome result (λ value. exponent_of number.now ≡ pos 0) }
 {
-    if number.is_empty() || !are_digits(number) {
+    let (value, rest) = leading_digits(0, number)?;
+    if number.is_empty() || !rest.is_empty() {
         return None;
     }
-    word_behind(0, number)
+    Some(value)
 }
 
 /// The whole number that a number without a sign is, by its value, or `None` where the bytes are no number.
