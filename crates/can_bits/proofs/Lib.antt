@@ -8,3 +8,4 @@ pub mod Signs
 pub mod Tables
 pub mod Words
 pub mod Stepping
+pub mod Columns

@@ -6,8 +6,7 @@ use Rattle.std.proofs.lemmas.Nat.{shr-shr, and_mask, le_bytes_8, be_bytes_8}
 use Rattle.std.proofs.lemmas.Bool.{cases_lt}
 use Rattle.std.proofs.lemmas.List.{get_or-take, get_or_past}
 use Rattle.can_bits.specs.declared.field.Field.{Field}
-use Rattle.can_bits.specs.declared.window.Window.{Window}
-use Rattle.can_bits.specs.Bits.{mirrored, bit_of, bit_at, bits_from, bits_of, counted, unsigned_raw}
+use Rattle.can_bits.specs.Bits.{mirrored, bit_of, bit_at, bits_of, counted, unsigned_raw}
 use Rattle.can_bits.specs.Windows.{word_of, bits_in}
 use Rattle.can_bits.proofs.Runs.{rising, falling}
 

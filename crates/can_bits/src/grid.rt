@@ -1,5 +1,5 @@
 //! The bits of a message, drawn as a grid of bytes and bits.
-ghost use Rattle.std.specs.Prelude.{◌≡◌, ◌++◌, OnOk};
+ghost use Rattle.std.specs.Prelude.{◌≡◌, ◌++◌, OnOk, decimal};
 ghost use Rattle.can_bits.specs.Grids.{right, grid_text};
 ghost use Rattle.can_bits.specs.Cells.{shown, cells_text, cells_line};
 
@@ -26,16 +26,35 @@ pub fn push_right(text: &mut Vec<u8>, word: &[u8]) -> Result<(), Memory>
     Ok(())
 }
 
+// Appends four bytes, which are a whole column.
+#[inline(always)]
+fn push_column(text: &mut Vec<u8>, column: [u8; 4]) -> Result<(), Memory>
+    ensures { OnOk result (text.new.items ≡ text.old.items ++ column) }
+{
+    text.extend_from_slice(&column)?;
+    Ok(())
+}
+
+// A cell with the place of any field.
+fn push_place(text: &mut Vec<u8>, place: usize) -> Result<(), Memory>
+    ensures { OnOk result (text.new.items ≡ text.old.items ++ right (decimal place)) }
+{
+    let mut number = Buffer::new();
+    push_right(text, number.format(place).as_bytes())
+}
+
+// Most cells are free or have one of the first ten fields, and are a column that needs no counting of blanks.
+#[tactic(auto, using(crate::proofs::Columns::digit_column), unfolding(crate::specs::Grids::right))]
 fn push_cell(text: &mut Vec<u8>, cell: Cell) -> Result<(), Memory>
     ensures { OnOk result (text.new.items ≡ text.old.items ++ right (shown cell)) }
 {
     match cell {
-        Cell::Free => push_right(text, b"."),
-        Cell::One(place) => {
-            let mut number = Buffer::new();
-            push_right(text, number.format(place).as_bytes())
+        Cell::Free => push_column(text, *b"   ."),
+        Cell::One(place) if place < 10 => {
+            push_column(text, [b' ', b' ', b' ', b'0' + place as u8])
         }
-        Cell::Several => push_right(text, b"*"),
+        Cell::One(place) => push_place(text, place),
+        Cell::Several => push_column(text, *b"   *"),
     }
 }
 

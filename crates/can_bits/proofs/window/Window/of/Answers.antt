@@ -1,6 +1,5 @@
-use Rattle.std.proofs.Common.{◌≡◌, ℕ, inl, inr, ◌+◌, ◌-◌, ◌<◌, ◌≤◌, arith}
+use Rattle.std.proofs.Common.{◌≡◌, inl, inr, ◌+◌, ◌-◌, ◌≤◌, arith}
 use Rattle.can_bits.specs.Bits.{mirrored}
-use Rattle.can_bits.specs.Windows.{IsWindow}
 use Rattle.can_bits.specs.declared.field.Field.{Field}
 use Rattle.can_bits.proofs.Words.{in_window}
 use Rattle.can_bits.proofs.window.Window.of.Goals as goal
