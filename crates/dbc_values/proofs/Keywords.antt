@@ -6,7 +6,8 @@ use Rattle.std.proofs.lemmas.Bool.{and_parts, both_ways, cases_Bool, eqb-true}
 use Rattle.std.proofs.lemmas.Slice.Eq.{bytes_eq-Decides}
 use Rattle.dbc_values.specs.Lexical.{ends_in_underscore, is_keyword, statement_words, kept_words, relation_words}
 
-differs : (word other : List ℕ) → ends_in_underscore word ≡ false → ends_in_underscore other ≡ true → bytes_eq word other ≡ false
+pub differs : (word other : List ℕ) → ends_in_underscore word ≡ false → ends_in_underscore other ≡ true
+    → bytes_eq word other ≡ false
 differs word other without with =
     elim (cases_Bool (bytes_eq word other)) [
       | inl same ↦

@@ -2,7 +2,7 @@
 ghost use Rattle.std.specs.Prelude.{◌≡◌};
 ghost use Rattle.statement_lines.specs.Kinds.{kind_of};
 
-use dbc_values::{is_kept_word, same};
+use dbc_values::{ends_in_underscore, is_kept_word, same};
 
 /// What a word begins, for all but the bit timing and the list of nodes, which no line is told of.
 #[derive(Clone, Copy, Debug, PartialEq, Eq)]
@@ -34,10 +34,14 @@ pub enum Kind {
 }
 
 /// What the word begins, if it begins anything.
-#[tactic(auto, unfolding(crate::specs::Kinds::kind_of))]
+#[tactic(auto, using(crate::proofs::Keywords::no_kind), unfolding(crate::specs::Kinds::kind_of))]
 pub(crate) fn kind_of(word: &[u8]) -> Option<Kind>
     ensures { result ≡ kind_of word.now }
 {
+    // (few words of a text end so, and no other word is looked for)
+    if !ends_in_underscore(word) {
+        return None;
+    }
     if same(word, b"SG_") {
         Some(Kind::Signal)
     } else if same(word, b"BO_") {
