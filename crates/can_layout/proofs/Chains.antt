@@ -78,7 +78,7 @@ module _ (asked : Walk → Bool) (met : Link → Bool) (asks : IsAsked asked met
 -- ---- whole ways
 
 -- the way from a signal, by what stands above it
-way : (aboves : List Above) (place : ℕ) (above : Above) → above_at aboves place ≡ above
+pub way : (aboves : List Above) (place : ℕ) (above : Above) → above_at aboves place ≡ above
     → walk_of aboves place ≡ walk_above above (walk_up (length aboves) aboves)
 way aboves place above is =
     let less : length aboves + 1 - 1 ≡ length aboves = omega arith in

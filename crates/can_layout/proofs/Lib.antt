@@ -5,3 +5,5 @@ pub mod Meters
 pub mod Names
 pub mod Placed
 pub mod Pushing
+pub mod RunLaws
+pub mod SwitchBits

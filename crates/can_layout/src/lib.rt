@@ -4,6 +4,7 @@
 //! rows of its number.
 #![tactic(auto)]
 
+mod asked;
 mod asking;
 mod decoder;
 mod drawing;
@@ -18,6 +19,7 @@ mod plan;
 mod presence;
 mod refusal;
 mod row;
+mod runs;
 mod switch_chain;
 mod text;
 

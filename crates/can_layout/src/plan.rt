@@ -1,19 +1,21 @@
 //! Decode plans.
-ghost use Rattle.std.specs.Prelude.{◌≡◌, ℕ, List, [], ◌<◌, IfOk, Some, true, is_some, length, map, slice_get};
+ghost use Rattle.std.specs.Prelude.{◌≡◌, ℕ, List, [], ◌<◌, ◌≤◌, IfOk, Some, true, is_some, length, map, slice_get};
 ghost use Rattle.can_rows.specs.Rows.{entries_of};
 ghost use Rattle.can_layout.specs.Plans.{reading_of, chain_of, row_of, plan_rows, label_of, plan_in, raw_at};
 ghost use Rattle.can_layout.specs.Plans.{raw_value_at, has_number, is_met, are_met, is_present};
-ghost use Rattle.can_layout.specs.Presence.{AreKnown, ArePlain, chain_at};
-ghost use Rattle.can_mux.specs.Walks.{walk_of};
+ghost use Rattle.can_layout.specs.Presence.{AreKnown, ArePlain, AreRunEnds, IsRun, IsAsked, chain_at, raw_of, switch_raw, is_among};
+ghost use Rattle.can_mux.specs.Walks.{walk_of, above_at};
 ghost use Rattle.can_mux.specs.declared.above.Above.{Above as PlainAbove};
 ghost use Rattle.can_rows.specs.Rows.{first_values};
 ghost use Rattle.can_mux.specs.Switches.{aboves_of};
 
+use crate::asked::Asked;
 use crate::decoder::Decoder;
 use crate::order::order_of;
 use crate::presence::known_at;
 use crate::refusal::cause_of;
 use crate::row::{Reading, Row};
+use crate::runs::run_ends;
 use crate::switch_chain::Chain;
 use can_bits::Field;
 use can_mux::{Above, Link, MessageRows, above_at, aboves_of};
@@ -38,19 +40,21 @@ pub struct Plan {
     order: Vec<usize>,
     // Whether no signal has a switch above it, as in most messages.
     plain: bool,
+    // Where some have one: for each signal the end of the signals from it on that have the same above them.
+    ends: Vec<usize>,
 }
 
 impl Model for Plan {
     ghost use Rattle.std.specs.Prelude.{◌≡◌, map, true};
     ghost use Rattle.can_layout.specs.Plans as plans;
-    ghost use Rattle.can_layout.specs.Presence.{AreChained, ArePlain};
+    ghost use Rattle.can_layout.specs.Presence.{AreChained, ArePlain, AreRunEnds, chain_at};
 
     ghost Value = { plans.Plan };
 
     ghost view = { λ a. record { size = a.size; rows = a.rows } };
 
     ghost invariant = { λ a. (a.labels.items ≡ map plans.label_of a.rows) × AreChained a.rows a.aboves.value
-        × (a.plain ≡ true → ArePlain a.rows) };
+        × (a.plain ≡ true → ArePlain a.rows) × AreRunEnds (chain_at a.rows) a.ends.items };
 }
 
 fn entries_of<L: Lookup>(
@@ -165,6 +169,17 @@ fn are_plain(rows: &[Row]) -> bool
     true
 }
 
+// The ends of runs, where some signal has a switch above it.
+fn ends_of(alloc: Global, plain: bool, aboves: &[Above]) -> Result<Vec<usize>, Memory>
+    ensures { IfOk result (λ ends. AreRunEnds (above_at aboves.now) ends.items) }
+{
+    if plain {
+        Ok(Vec::new(alloc))
+    } else {
+        run_ends(alloc, aboves)
+    }
+}
+
 /// The plan of a message, by the rows of its number.
 #[tactic(auto, unfolding(crate::specs::Plans::plan_in))]
 pub(crate) fn plan_in<L: Lookup>(
@@ -182,6 +197,7 @@ pub(crate) fn plan_in<L: Lookup>(
     let made = plan_rows(alloc, rows, &aboves, size, signals)?;
     let labels = labels_of(alloc, made.as_slice())?;
     let plain = are_plain(made.as_slice());
+    let ends = ends_of(alloc, plain, aboves.as_ref().as_slice())?;
     Ok(Plan {
         size,
         rows: made,
@@ -189,6 +205,7 @@ pub(crate) fn plan_in<L: Lookup>(
         aboves,
         order,
         plain,
+        ends,
     })
 }
 
@@ -208,6 +225,26 @@ fn is_met(rows: &[Row], link: &Link, bytes: &[u8]) -> bool
 {
     match rows.get(link.switch) {
         Some(row) => row.is_whole(bytes) && has_number(&row.reading, link, bytes),
+        None => false,
+    }
+}
+
+// The raw bits of a switch, where it isn't refused.
+fn raw_of(reading: &Reading, bytes: &[u8]) -> Option<u64>
+    ensures { result ≡ raw_of bytes.now reading.now }
+{
+    match reading {
+        Reading::Read(decoder) => Some(decoder.bits.raw(bytes)),
+        Reading::Refused(_) => None,
+    }
+}
+
+// Whether the raw bits of a switch are one of the numbers.
+fn is_among(link: &Link, raw: Option<u64>) -> bool
+    ensures { result ≡ is_among link.now.ranges raw }
+{
+    match raw {
+        Some(raw) => link.has(raw),
         None => false,
     }
 }
@@ -287,6 +324,26 @@ impl Plan {
         )
     }
 
+    /// Whether no signal has a switch above it.
+    pub(crate) fn is_plain(&self) -> bool
+        ensures { result ≡ true → ArePlain self.now.rows }
+    {
+        self.plain
+    }
+
+    /// Up to where the signals from a place on have the chain of the one at that place, as far as that was looked for.
+    pub(crate) fn run_end(&self, signal: usize) -> usize
+        requires { signal < length self.now.rows }
+        ensures run { IsRun (chain_at self.now.rows) signal result }
+        ensures within { result ≤ length self.now.rows }
+    {
+        if signal < self.ends.len() {
+            self.ends[signal].min(self.rows.len())
+        } else {
+            signal + 1
+        }
+    }
+
     /// Where switches stand under switches: the places of the signals, each behind that of its switch. Else it is empty.
     pub(crate) fn order(&self) -> &[usize] {
         self.order.as_slice()
@@ -319,6 +376,74 @@ impl Plan {
             return there;
         }
         place < self.rows.len() && self.present(place, bytes)
+    }
+
+    // The raw bits of the switch at a place, where it is there in data with all its bits.
+    fn switch_raw(&self, known: &[Option<bool>], place: usize, bytes: &[u8]) -> Option<u64>
+        requires { AreKnown bytes.now self.now.rows known.now }
+        ensures { result ≡ switch_raw bytes.now self.now.rows (slice_get self.now.rows place) }
+    {
+        let row = self.rows.as_slice().get(place)?;
+        if row.is_whole(bytes) && self.known_or_found(known, place, bytes) {
+            raw_of(&row.reading, bytes)
+        } else {
+            None
+        }
+    }
+
+    // The same, which is looked for only if another switch was asked last.
+    fn asked_raw(
+        &self,
+        known: &[Option<bool>],
+        asked: &mut Asked,
+        place: usize,
+        bytes: &[u8],
+    ) -> Option<u64>
+        requires known { AreKnown bytes.now self.now.rows known.now }
+        requires asked { IsAsked bytes.now self.now.rows asked.old.switch asked.old.raw }
+        ensures raw { result ≡ switch_raw bytes.now self.now.rows (slice_get self.now.rows place) }
+        ensures asked { IsAsked bytes.now self.now.rows asked.new.switch asked.new.raw }
+    {
+        if asked.switch != place {
+            *asked = Asked {
+                switch: place,
+                raw: self.switch_raw(known, place, bytes),
+            };
+        }
+        asked.raw
+    }
+
+    /// Whether the signal at a place is there in data, by what is known of others and what was found of the switch asked last.
+    pub(crate) fn present_asking(
+        &self,
+        known: &[Option<bool>],
+        asked: &mut Asked,
+        place: usize,
+        bytes: &[u8],
+    ) -> bool
+        requires known { AreKnown bytes.now self.now.rows known.now }
+        requires asked { IsAsked bytes.now self.now.rows asked.old.switch asked.old.raw }
+        ensures there { result ≡ is_present bytes.now self.now.rows (slice_get self.now.rows place) }
+        ensures asked { IsAsked bytes.now self.now.rows asked.new.switch asked.new.raw }
+    {
+        match above_at(self.aboves.as_ref().as_slice(), place) {
+            Some(Above::Nothing) => true,
+            Some(Above::Switch(link)) => {
+                let raw = self.asked_raw(known, asked, link.switch, bytes);
+                is_among(link, raw)
+            }
+            _ => false,
+        }
+    }
+
+    /// Nothing was asked of a switch yet.
+    pub(crate) fn nothing_asked(&self) -> Asked
+        ensures { (bytes : List ℕ) → IsAsked bytes self.now.rows result.switch result.raw }
+    {
+        Asked {
+            switch: self.rows.len(),
+            raw: None,
+        }
     }
 
     /// The raw bits of the signal at a place, without sign, and 0 where it is refused. Bits behind the end of the data

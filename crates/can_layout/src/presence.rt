@@ -1,8 +1,9 @@
 //! Which signals of a message are there in data.
-ghost use Rattle.std.specs.Prelude.{◌≡◌, ℕ, ◌<◌, None, IfOk, length, slice_get};
+ghost use Rattle.std.specs.Prelude.{◌≡◌, ℕ, ◌<◌, ◌≤◌, None, IfOk, length, slice_get};
 ghost use Rattle.can_layout.specs.Plans.{is_present};
 ghost use Rattle.can_layout.specs.Presence.{AreKnown, known_at};
 
+use crate::asked::Asked;
 use crate::plan::Plan;
 use dbc_values::Memory;
 use std::alloc::Global;
@@ -16,6 +17,8 @@ pub struct Presence<'a> {
     bytes: &'a [u8],
     // Of the signals that were looked for.
     known: Vec<Option<bool>>,
+    // What was found of the switch that was asked last.
+    asked: Asked,
 }
 
 impl<'a> Model for Presence<'a> {
@@ -25,7 +28,8 @@ impl<'a> Model for Presence<'a> {
 
     ghost view = { λ a. record { bytes = a.bytes.now; rows = a.plan.now.rows } };
 
-    ghost invariant = { λ a. plain.AreKnown a.bytes.now a.plan.now.rows a.known.items };
+    ghost invariant = { λ a. plain.AreKnown a.bytes.now a.plan.now.rows a.known.items
+        × plain.IsAsked a.bytes.now a.plan.now.rows a.asked.switch a.asked.raw };
 }
 
 /// What is known of the signal at a place.
@@ -66,7 +70,13 @@ impl<'a> Presence<'a> {
         for place in plan.order() {
             look_for(&mut known, plan, *place, bytes);
         }
-        Ok(Presence { plan, bytes, known })
+        let asked = plan.nothing_asked();
+        Ok(Presence {
+            plan,
+            bytes,
+            known,
+            asked,
+        })
     }
 
     /// Whether the signal at a place is there, as [`Plan::present`] says.
@@ -78,5 +88,22 @@ impl<'a> Presence<'a> {
             Some(there) => there,
             None => self.plan.present(signal, self.bytes),
         }
+    }
+
+    /// Whether the signal at a place is there, as [`Plan::present`] says, and up to where the same goes for those from it on.
+    pub fn run_from(&mut self, signal: usize) -> (bool, usize)
+        requires { signal < length self.old.rows }
+        ensures some { signal < result.1 }
+        ensures within { result.1 ≤ length self.old.rows }
+        ensures there { (place : ℕ) → signal ≤ place → place < result.1
+            → result.0 ≡ is_present self.old.bytes self.old.rows (slice_get self.old.rows place) }
+        ensures same { self.new ≡ self.old }
+    {
+        let plan = self.plan;
+        if plan.is_plain() {
+            return (true, plan.signals());
+        }
+        let there = plan.present_asking(self.known.as_slice(), &mut self.asked, signal, self.bytes);
+        (there, plan.run_end(signal))
     }
 }

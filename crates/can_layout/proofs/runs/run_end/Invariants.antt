@@ -1,0 +1,7 @@
+use Rattle.can_layout.specs.Presence.{IsRun}
+use Rattle.can_mux.specs.Walks.{above_at}
+use Rattle.can_layout.proofs.runs.run_end.Given as goal
+
+-- so far the same stands above
+abbrev pub invariant-loop-end : goal.invariant-loop-end
+invariant-loop-end l = IsRun (above_at l.aboves) l.place l.end
