@@ -36,7 +36,7 @@ pub struct Plan {
     labels: Vec<ReadyText>,
     // What stands above the signals.
     aboves: Rc<List<Above>>,
-    // Where switches stand under switches: the places, each behind that of its switch.
+    // Where many links lead up from a signal: the places of the switches under switches, each behind that of its own switch.
     order: Vec<usize>,
     // Whether no signal has a switch above it, as in most messages.
     plain: bool,
@@ -344,9 +344,19 @@ impl Plan {
         }
     }
 
-    /// Where switches stand under switches: the places of the signals, each behind that of its switch. Else it is empty.
+    /// Where many links lead up from a signal: the places of the switches under switches, each behind that of its own switch.
+    /// Else it is empty.
     pub(crate) fn order(&self) -> &[usize] {
         self.order.as_slice()
+    }
+
+    /// For how many places something can be known of the signals there.
+    pub(crate) fn places_known(&self) -> usize {
+        if self.order.is_empty() {
+            0
+        } else {
+            self.rows.len()
+        }
     }
 
     // Whether the signal at a place is there in data, by what is known of others.

@@ -9,13 +9,13 @@ use dbc_values::Memory;
 use std::alloc::Global;
 use std::marker::Model;
 
-/// Which signals of a message are there in data. Where switches stand under switches, each is looked for once, so the work is that
-/// of one link a signal.
+/// Which signals of a message are there in data. Where many switches stand under one another, each is looked for once, so the work
+/// is that of a few links a signal.
 #[derive(Drop)]
 pub struct Presence<'a> {
     plan: &'a Plan,
     bytes: &'a [u8],
-    // Of the signals that were looked for.
+    // Of the switches that were looked for.
     known: Vec<Option<bool>>,
     // What was found of the switch that was asked last.
     asked: Asked,
@@ -62,11 +62,11 @@ fn look_for(known: &mut [Option<bool>], plan: &Plan, place: usize, bytes: &[u8])
 }
 
 impl<'a> Presence<'a> {
-    /// Which signals of a plan are there in data. It takes memory where switches stand under switches.
+    /// Which signals of a plan are there in data. It takes memory where many switches stand under one another.
     pub fn of(alloc: Global, plan: &'a Plan, bytes: &'a [u8]) -> Result<Presence<'a>, Memory>
         ensures { IfOk result (λ presence. presence ≡ record { bytes = bytes.now; rows = plan.now.rows }) }
     {
-        let mut known = none_known(alloc, plan.order().len())?;
+        let mut known = none_known(alloc, plan.places_known())?;
         for place in plan.order() {
             look_for(&mut known, plan, *place, bytes);
         }
@@ -86,7 +86,9 @@ impl<'a> Presence<'a> {
     {
         match known_at(self.known.as_slice(), signal) {
             Some(there) => there,
-            None => self.plan.present(signal, self.bytes),
+            None => self
+                .plan
+                .present_by(self.known.as_slice(), signal, self.bytes),
         }
     }
 
