@@ -1,3 +1,4 @@
+pub mod Absent
 pub mod Pushing
 pub mod Signals
 pub mod Targets

@@ -2,7 +2,7 @@
 -- Source: cantools, the single-line form of `decode`; SAE J1939-21, "Protocol Data Unit Fields", for what stands in
 -- brackets. What is said of frames without values is the profile of candesk.
 use Rattle.std.specs.Prelude.{ℕ, nat_le, nat_lt, Bool, false, ◌&&◌, ◌||◌, List, [], ◌∷◌, ◌++◌, length, filter, Option, Some, None}
-use Rattle.std.specs.Prelude.{slice_get, option_map, option_and_then, codes, decimal, if◌then◌else◌}
+use Rattle.std.specs.Prelude.{◌≡◌, ◌==◌, not, take, slice_get, option_map, option_and_then, codes, decimal, if◌then◌else◌}
 use Rattle.std.specs.List.{flat_map}
 use Rattle.std.specs.Fmt.{digits}
 use Rattle.dbc_records.specs.Records.{Message}
@@ -42,6 +42,11 @@ further_signal bytes row = codes ", " ++ signal_text bytes row
 abbrev pub signals_text : List ℕ → List Row → List ℕ
 signals_text bytes [] = []
 signals_text bytes (row ∷ rows) = signal_text bytes row ++ flat_map (further_signal bytes) rows
+
+-- behind `before` the text has the signals that are shown of those up to a place, and `some` says whether there are any
+pub record IsShownTo (before bytes : List ℕ) (plan : Plan) (place : ℕ) (text : List ℕ) (some : Bool) : Type 0 where
+  pub written : text ≡ before ++ signals_text bytes (shown_rows bytes plan (take place plan.rows))
+  pub any : some ≡ not (length (shown_rows bytes plan (take place plan.rows)) == 0)
 
 -- ---- messages
 

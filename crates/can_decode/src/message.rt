@@ -1,9 +1,10 @@
 //! What a frame says by its message, as text.
-ghost use Rattle.std.specs.Prelude.{◌≡◌, ◌<◌, ◌++◌, false, length, slice_get, OnOk, codes, decimal, if◌then◌else◌};
+ghost use Rattle.std.specs.Prelude.{◌≡◌, ℕ, List, ◌<◌, ◌≤◌, ◌++◌, true, false, length, slice_get, IfOk, OnOk, codes, decimal};
+ghost use Rattle.std.specs.Prelude.{if◌then◌else◌};
 ghost use Rattle.std.specs.Option.{option_map_or};
 ghost use Rattle.can_layout.specs.Plans.{is_present, label_of};
 ghost use Rattle.can_decode.specs.DecodedLines.{signal_text, further_signal, is_shown, shown_rows, signals_text, destination_text};
-ghost use Rattle.can_decode.specs.DecodedLines.{group_text, bracket_text, message_text};
+ghost use Rattle.can_decode.specs.DecodedLines.{IsShownTo, group_text, bracket_text, message_text};
 
 use crate::j1939::J1939;
 use crate::target::Target;
@@ -12,6 +13,7 @@ use can_layout::{Plan, Presence, Row};
 use dbc_values::Memory;
 use log_frames::Frame;
 use ready_texts::{Digits, Draft, ReadyText, push_bytes};
+use std::ops::Range;
 
 /// A whole number.
 pub(crate) fn push_number(text: &mut Draft, number: u64) -> Result<(), Memory>
@@ -60,21 +62,49 @@ fn is_shown(plan: &Plan, there: bool, signal: usize, bytes: &[u8]) -> bool
     there && (bytes.len() >= usize::from(plan.size()) || row.is_whole(bytes))
 }
 
-// The signals that are shown, a comma and a blank between them. It is faster as a function of its own, which has the registers
-// for itself.
+// The signals of a run that are shown, behind others where `some` says so. All of the run are in the data. It answers whether
+// some signal was shown.
+fn push_run(
+    text: &mut Draft,
+    plan: &Plan,
+    run: Range<usize>,
+    some: bool,
+    bytes: &[u8],
+) -> Result<bool, Memory>
+    requires order { run.start ≤ run.end }
+    requires within { run.end ≤ length plan.now.rows }
+    requires there { (place : ℕ) → run.start ≤ place → place < run.end
+        → true ≡ is_present bytes.now plan.now.rows (slice_get plan.now.rows place) }
+    ensures { IfOk result (λ any. (before : List ℕ) → IsShownTo before bytes.now plan.now run.start text.old.items some
+        → IsShownTo before bytes.now plan.now run.end text.new.items any) }
+{
+    let mut any = some;
+    for signal in run.start..run.end {
+        if is_shown(plan, true, signal, bytes) {
+            let (label, row) = plan.labelled(signal);
+            push_next(text, any, label, row, bytes)?;
+            any = true;
+        }
+    }
+    Ok(any)
+}
+
+// The signals that are shown, a comma and a blank between them. Runs of signals that are not in the data are passed over. It is
+// faster as a function of its own, which has the registers for itself.
 #[inline(never)]
 fn push_signals(text: &mut Draft, plan: &Plan, bytes: &[u8]) -> Result<(), Memory>
     ensures { OnOk result (text.new.items ≡ text.old.items ++ signals_text bytes.now
         (shown_rows bytes.now plan.now plan.now.rows)) }
 {
-    let presence = Presence::of(text.allocator(), plan, bytes)?;
+    let mut presence = Presence::of(text.allocator(), plan, bytes)?;
     let mut some = false;
-    for signal in 0..plan.signals() {
-        if is_shown(plan, presence.has(signal), signal, bytes) {
-            let (label, row) = plan.labelled(signal);
-            push_next(text, some, label, row, bytes)?;
-            some = true;
+    let mut signal = 0;
+    while signal < plan.signals() {
+        let (there, end) = presence.run_from(signal);
+        if there {
+            some = push_run(text, plan, signal..end, some, bytes)?;
         }
+        signal = end;
     }
     Ok(())
 }
