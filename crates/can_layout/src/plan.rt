@@ -350,15 +350,6 @@ impl Plan {
         self.order.as_slice()
     }
 
-    /// For how many places something can be known of the signals there.
-    pub(crate) fn places_known(&self) -> usize {
-        if self.order.is_empty() {
-            0
-        } else {
-            self.rows.len()
-        }
-    }
-
     // Whether the signal at a place is there in data, by what is known of others.
     pub(crate) fn present_by(&self, known: &[Option<bool>], place: usize, bytes: &[u8]) -> bool
         requires { AreKnown bytes.now self.now.rows known.now }
@@ -388,7 +379,9 @@ impl Plan {
         place < self.rows.len() && self.present(place, bytes)
     }
 
-    // The raw bits of the switch at a place, where it is there in data with all its bits.
+    // The raw bits of the switch at a place, where it is there in data with all its bits. It stands apart, so that what is done
+    // for each run of signals has the registers for itself.
+    #[inline(never)]
     fn switch_raw(&self, known: &[Option<bool>], place: usize, bytes: &[u8]) -> Option<u64>
         requires { AreKnown bytes.now self.now.rows known.now }
         ensures { result ≡ switch_raw bytes.now self.now.rows (slice_get self.now.rows place) }

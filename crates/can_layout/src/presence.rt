@@ -61,15 +61,29 @@ fn look_for(known: &mut [Option<bool>], plan: &Plan, place: usize, bytes: &[u8])
     }
 }
 
+// Looks for the switches of a plan in its order. It stands apart, since few plans have such an order.
+#[cold]
+#[inline(never)]
+fn known_of(alloc: Global, plan: &Plan, bytes: &[u8]) -> Result<Vec<Option<bool>>, Memory>
+    ensures { IfOk result (λ known. AreKnown bytes.now plan.now.rows known.items) }
+{
+    let mut known = none_known(alloc, plan.signals())?;
+    for place in plan.order() {
+        look_for(&mut known, plan, *place, bytes);
+    }
+    Ok(known)
+}
+
 impl<'a> Presence<'a> {
     /// Which signals of a plan are there in data. It takes memory where many switches stand under one another.
     pub fn of(alloc: Global, plan: &'a Plan, bytes: &'a [u8]) -> Result<Presence<'a>, Memory>
         ensures { IfOk result (λ presence. presence ≡ record { bytes = bytes.now; rows = plan.now.rows }) }
     {
-        let mut known = none_known(alloc, plan.places_known())?;
-        for place in plan.order() {
-            look_for(&mut known, plan, *place, bytes);
-        }
+        let known = if plan.order().is_empty() {
+            Vec::new(alloc)
+        } else {
+            known_of(alloc, plan, bytes)?
+        };
         let asked = plan.nothing_asked();
         Ok(Presence {
             plan,
