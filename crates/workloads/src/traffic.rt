@@ -146,7 +146,7 @@ impl<'a> Lines<'a> {
         block.extend_from_slice(b"\n")
     }
 
-    // Makes the next lines, and behind the last one the text.
+    // Makes the next lines, and after the last one the text.
     fn fill(&mut self, block: &mut Vec<u8>) -> Result<(), AllocError> {
         for _ in 0..LINES_IN_BLOCK {
             if self.left == 0 {
