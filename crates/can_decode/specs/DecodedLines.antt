@@ -43,7 +43,7 @@ abbrev pub signals_text : List ℕ → List Row → List ℕ
 signals_text bytes [] = []
 signals_text bytes (row ∷ rows) = signal_text bytes row ++ flat_map (further_signal bytes) rows
 
--- behind `before` the text has the signals that are shown of those up to a place, and `some` says whether there are any
+-- after `before` the text has the signals that are shown of those up to an index, and `some` says whether there are any
 pub record IsShownTo (before bytes : List ℕ) (plan : Plan) (place : ℕ) (text : List ℕ) (some : Bool) : Type 0 where
   pub written : text ≡ before ++ signals_text bytes (shown_rows bytes plan (take place plan.rows))
   pub any : some ≡ not (length (shown_rows bytes plan (take place plan.rows)) == 0)

@@ -62,8 +62,8 @@ fn is_shown(plan: &Plan, there: bool, signal: usize, bytes: &[u8]) -> bool
     there && (bytes.len() >= usize::from(plan.size()) || row.is_whole(bytes))
 }
 
-// The signals of a run that are shown, behind others where `some` says so. All of the run are in the data. It answers whether
-// some signal was shown.
+// The signals of a run that are shown, after others if `some` says so. All of the run are in the data. It returns whether some
+// signal was shown.
 fn push_run(
     text: &mut Draft,
     plan: &Plan,
@@ -90,7 +90,7 @@ fn push_run(
 }
 
 // The signals that are shown, a comma and a blank between them. Runs of signals that are not in the data are passed over. It is
-// faster as a function of its own, which has the registers for itself.
+// faster as a function of its own, with all registers for its loop.
 #[inline(never)]
 fn push_signals(text: &mut Draft, plan: &Plan, bytes: &[u8]) -> Result<(), Memory>
     ensures { OnOk result (text.new.items ≡ text.old.items ++ signals_text bytes.now

@@ -46,7 +46,7 @@ run_of_other told other from agree place end run = record {
   same = λ k behind before. agree k ∙ ap from (run.same k behind before) ∙ sym (agree place);
 }
 
--- signals with the same above them have the same chain
+-- signals with the same parent multiplexor have the same chain
 pub chained_ends : (rows : List Row) (aboves : List Above) → AreChained rows aboves → (ends : List ℕ)
     → AreRunEnds (above_at aboves) ends → AreRunEnds (chain_at rows) ends
 chained_ends rows aboves chained ends are place within =

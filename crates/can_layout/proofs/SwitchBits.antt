@@ -46,11 +46,11 @@ pub present_by_raw : (bytes : List ℕ) (rows : List Row) (aboves : List Above) 
 present_by_raw bytes rows aboves chained place link is =
     present_under bytes rows aboves chained place link is ∙ by_row bytes link.ranges rows (slice_get rows link.switch)
 
--- no switch stands behind the last signal
+-- there is no switch after the last signal
 pub none_asked : (bytes : List ℕ) (rows : List Row) (place : ℕ) → length rows ≤ place → IsAsked bytes rows place None
 none_asked bytes rows place past = ap (switch_raw bytes rows) (sym (slice_get_past rows place past))
 
--- where no signal has a switch above it all are there
+-- if no signal has a parent multiplexor all are there
 pub plain_there : (bytes : List ℕ) (rows : List Row) → ArePlain rows → (place : ℕ) (row : Row) → place < length rows
     → true ≡ is_present bytes rows (slice_get rows place)
 plain_there bytes rows plain place row within =

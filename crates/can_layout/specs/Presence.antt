@@ -65,7 +65,7 @@ abbrev pub is_among : List Range → Option ℕ → Bool
 is_among ranges None = false
 is_among ranges (Some raw) = list_any (in_range raw) ranges
 
--- what was found of a switch is so
+-- what is kept of a switch is so
 abbrev pub IsAsked : List ℕ → List Row → ℕ → Option ℕ → Type 0
 IsAsked bytes rows switch raw = raw ≡ switch_raw bytes rows (slice_get rows switch)
 

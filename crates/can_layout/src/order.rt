@@ -4,10 +4,10 @@ use can_mux::Above;
 use dbc_values::Memory;
 use std::alloc::Global;
 
-// A way up of at most so many links is gone anew for each run of signals.
+// A multiplexing chain of at most so many links is followed anew for each run of signals.
 const FEW: usize = 4;
 
-// Whether more links than a few lead up from a place.
+// Whether the chain of a signal has more links than a few.
 fn is_deep(aboves: &[Above], place: usize) -> bool {
     let mut current = place;
     for _passed in 0..FEW + 1 {
@@ -19,7 +19,7 @@ fn is_deep(aboves: &[Above], place: usize) -> bool {
     true
 }
 
-// Puts the places on the way up from a switch that stand under a switch themselves, as far as they weren't seen before.
+// Adds the switches on the chain from a switch that have a parent multiplexor themselves, as far as they weren't seen before.
 fn push_way(
     path: &mut Vec<usize>,
     seen: &mut [bool],
@@ -43,8 +43,8 @@ fn push_way(
     Ok(())
 }
 
-/// Where many links lead up from a signal, the places of the switches that stand under switches, each behind that of its own
-/// switch; else none. It doesn't change what is found, but how often the same way is gone.
+/// If some chain has many links, the indexes of the switches that have a parent multiplexor, each after that of its parent; else
+/// none. It doesn't change what is found, but how often the same chain is followed.
 pub(crate) fn order_of(alloc: Global, aboves: &[Above]) -> Result<Vec<usize>, Memory> {
     let mut order = Vec::new(alloc);
     if !(0..aboves.len()).any(|place| is_deep(aboves, place)) {

@@ -36,11 +36,11 @@ pub struct Plan {
     labels: Vec<ReadyText>,
     // What stands above the signals.
     aboves: Rc<List<Above>>,
-    // Where many links lead up from a signal: the places of the switches under switches, each behind that of its own switch.
+    // If some chain has many links: the indexes of the switches that have a parent multiplexor, each after that of its parent.
     order: Vec<usize>,
     // Whether no signal has a switch above it, as in most messages.
     plain: bool,
-    // Where some have one: for each signal the end of the signals from it on that have the same above them.
+    // If some have one: for each signal the end of the signals from it on that have the same parent multiplexor and numbers.
     ends: Vec<usize>,
 }
 
@@ -169,7 +169,7 @@ fn are_plain(rows: &[Row]) -> bool
     true
 }
 
-// The ends of runs, where some signal has a switch above it.
+// The ends of runs, if some signal has a parent multiplexor.
 fn ends_of(alloc: Global, plain: bool, aboves: &[Above]) -> Result<Vec<usize>, Memory>
     ensures { IfOk result (λ ends. AreRunEnds (above_at aboves.now) ends.items) }
 {
@@ -344,7 +344,7 @@ impl Plan {
         }
     }
 
-    /// Where many links lead up from a signal: the places of the switches under switches, each behind that of its own switch.
+    /// If some chain has many links: the indexes of the switches that have a parent multiplexor, each after that of its parent.
     /// Else it is empty.
     pub(crate) fn order(&self) -> &[usize] {
         self.order.as_slice()
@@ -379,8 +379,8 @@ impl Plan {
         place < self.rows.len() && self.present(place, bytes)
     }
 
-    // The raw bits of the switch at a place, where it is there in data with all its bits. It stands apart, so that what is done
-    // for each run of signals has the registers for itself.
+    // The raw bits of the switch at an index, if it is there in data with all its bits. It isn't inlined, so that the loop over
+    // runs of signals keeps its registers.
     #[inline(never)]
     fn switch_raw(&self, known: &[Option<bool>], place: usize, bytes: &[u8]) -> Option<u64>
         requires { AreKnown bytes.now self.now.rows known.now }

@@ -16,7 +16,7 @@ fn are_same(ones: &[Range], others: &[Range]) -> bool
     ones == others
 }
 
-// Whether this link stands above a signal.
+// Whether a signal has this link to its parent multiplexor.
 fn is_switch_of(above: &Above, link: &Link) -> bool
     ensures { result ≡ true → above.now ≡ Switch link.now }
 {
@@ -28,7 +28,7 @@ fn is_switch_of(above: &Above, link: &Link) -> bool
     }
 }
 
-// Whether the same stands above two signals.
+// Whether two signals have the same parent multiplexor and numbers, or both none.
 fn are_alike(one: &Above, other: &Above) -> bool
     ensures { result ≡ true → one.now ≡ other.now }
 {
@@ -39,7 +39,7 @@ fn are_alike(one: &Above, other: &Above) -> bool
     }
 }
 
-// Up to where the signals from a place on have the same above them.
+// Up to where the signals from an index on have the same parent multiplexor and numbers.
 fn run_end(aboves: &[Above], place: usize) -> usize
     requires { place < length aboves.now }
     ensures { IsRun (above_at aboves.now) place result }
@@ -52,7 +52,7 @@ fn run_end(aboves: &[Above], place: usize) -> usize
     aboves.len()
 }
 
-// The end of the run in which a place stands, where the one before it ends at `end`.
+// The end of the run that an index is in, if the one before it ends at `end`.
 fn next_end(aboves: &[Above], place: usize, end: usize) -> usize
     requires place { place < length aboves.now }
     requires end { place < end → IsRun (above_at aboves.now) place end }
@@ -65,7 +65,7 @@ fn next_end(aboves: &[Above], place: usize, end: usize) -> usize
     }
 }
 
-/// For each signal the end of the run of signals from it on that have the same above them.
+/// For each signal the end of the run of signals from it on that have the same parent multiplexor and numbers.
 pub(crate) fn run_ends(alloc: Global, aboves: &[Above]) -> Result<Vec<usize>, Memory>
     ensures { IfOk result (λ ends. AreRunEnds (above_at aboves.now) ends.items) }
 {

@@ -83,7 +83,7 @@ any_digit (b ∷ front) fraction before behind some =
     let first : is_digit b ≡ true = (and_parts _ _ before).0 in
     rw first refl
 
--- what digits with at most one point among them spell: so many stand behind it
+-- what digits with at most one point among them spell: so many are after it
 pub record Plain (number : List ℕ) (value behind : ℕ) : Type 0 where
   pub form : IsTrue (is_number number)
   pub digits : mantissa_of number ≡ value

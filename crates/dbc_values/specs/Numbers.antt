@@ -87,7 +87,7 @@ pub record IsReduced (m : ℕ) (e : ℤ) (digits : Option ℕ) (exponent : ℤ) 
   pub front : HasDigits m digits zeros
   pub power : StandsFor 1000 (e +ℤ pos zeros) exponent
 
--- digits behind those of a number, with which they write the value, and then the rest
+-- digits after those of a number, with which they write the value, and then the rest
 pub record IsDigitsThen (start : ℕ) (bytes : List ℕ) (value : ℕ) (rest : List ℕ) : Type 0 where
   pub front : List ℕ
   pub parts : bytes ≡ front ++ rest

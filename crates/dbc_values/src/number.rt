@@ -222,8 +222,8 @@ impl Digits {
     }
 }
 
-/// The number that the digits at the front write behind those of another one, and what stands behind them; `None` where the
-/// number isn't one of a word.
+/// The number that the digits at the front write after those of another one, and what comes after them; `None` if the number
+/// isn't one of a word.
 #[inline(always)]
 fn leading_digits(start: u64, bytes: &[u8]) -> Option<(u64, &[u8])>
     ensures { IfSome result (λ r. IsDigitsThen start bytes.now r.0 r.1.now) }
@@ -243,8 +243,8 @@ fn leading_digits(start: u64, bytes: &[u8]) -> Option<(u64, &[u8])>
     Some((value, rest))
 }
 
-/// The number that digits with at most one point among them write without it, and how many stand behind the point; `None` for
-/// other bytes, and where the number isn't one of a word.
+/// The number that digits with at most one point among them write without it, and how many are after the point; `None` for
+/// other bytes, and if the number isn't one of a word.
 fn plain_decimal(number: &[u8]) -> Option<(u64, usize)>
     ensures form { IfSome result (λ _. IsTrue (is_number number.now)) }
     ensures digits { IfSome result (λ r. mantissa_of number.now ≡ r.0) }
@@ -358,7 +358,7 @@ fn reduced_exponent(written: i128, behind_point: usize, zeros: u128) -> i128
 }
 
 impl Reduced {
-    /// A number of a word, of which so many digits stand behind the point.
+    /// A number of a word, of which so many digits are after the point.
     fn of_word(value: u64, behind_point: usize) -> Reduced
         ensures { IsReduced value (pos 0 -ℤ pos behind_point) result.digits result.exponent }
     {

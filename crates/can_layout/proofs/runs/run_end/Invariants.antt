@@ -2,6 +2,6 @@ use Rattle.can_layout.specs.Presence.{IsRun}
 use Rattle.can_mux.specs.Walks.{above_at}
 use Rattle.can_layout.proofs.runs.run_end.Given as goal
 
--- so far the same stands above
+-- so far the parent multiplexor is the same
 abbrev pub invariant-loop-end : goal.invariant-loop-end
 invariant-loop-end l = IsRun (above_at l.aboves) l.place l.end
