@@ -1,3 +1,4 @@
 pub mod Counts
+pub mod OwnFaults
 pub mod Parts
 pub mod Placed

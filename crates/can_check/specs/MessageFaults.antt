@@ -132,3 +132,20 @@ faults_with database rows m = faults_by database rows m (walks_of rows m.signals
 
 unfoldable pub message_faults : Database → Message → List Diagnostic
 message_faults database m = faults_with database (rows_of m.head.number database) m
+
+-- ---- its own diagnostics: those of its signals, and of what they name
+
+-- codes 5 to 15, by the multiplexing chains of its signals
+abbrev pub own_by : Database → SignalRows → Message → List Walk → List Diagnostic
+own_by database rows m walks = outside m ++ (overlaps m walks ++ other_faults database rows m walks)
+
+abbrev pub own_with : Database → SignalRows → Message → List Diagnostic
+own_with database rows m = own_by database rows m (walks_of rows m.signals)
+
+-- codes 5 to 15: of all the database these read only the message, the rows of its number and the nodes
+unfoldable pub own_faults : Database → Message → List Diagnostic
+own_faults database m = own_with database (rows_of m.head.number database) m
+
+-- codes 1 to 4, which compare its head with all others, and then its own
+abbrev pub head_then_own : Database → Message → List Diagnostic
+head_then_own database m = head_faults database m ++ own_faults database m

@@ -62,9 +62,9 @@ fn push_place_faults<'a, L: Lookup>(
     push_outside(found, message)
 }
 
-// Adds what stands behind the overlaps of a message.
+/// Adds the diagnostics of a message after its overlaps: codes 7 to 15.
 #[tactic(auto, using(can_references::proofs::Pushing::pushed_then), unfolding(crate::specs::MessageFaults::other_faults))]
-fn push_other_faults<'a, L: Lookup>(
+pub(crate) fn push_other_faults<'a, L: Lookup>(
     found: &mut Vec<Diagnostic>,
     known: &Known<'a, L>,
     rows: &MessageRows<'_, L>,

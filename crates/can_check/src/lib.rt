@@ -2,12 +2,15 @@
 //!
 //! [`all_faults`] looks at the whole of a database, [`message_faults`] at one message, and [`all_faults_with`] finds rows by an
 //! index that is there already. [`report_all`] hands on what it finds as it goes, so that no list of all is kept, and
-//! [`report_message`] what it finds of one message. Nothing that is found keeps a database from being used.
+//! [`report_message`] what it finds of one message. [`push_own_faults`] adds only a message's own diagnostics, which no other
+//! message can change. Nothing that is found keeps a database from being used.
 #![tactic(auto)]
 
 mod all;
+pub mod laws;
 mod layout_rules;
 mod overlap_rules;
+mod own;
 mod report;
 mod signal_rules;
 mod value_rules;
@@ -18,4 +21,5 @@ pub use can_diagnostics::{
     Code, Diagnostic, RowKey, Subject, hold_diagnostic, hold_lines, write_diagnostic, write_lines,
 };
 pub use can_overlap::Occupancy;
+pub use own::push_own_faults;
 pub use report::{Report, Stop};

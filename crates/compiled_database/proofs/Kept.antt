@@ -1,4 +1,4 @@
--- What was compiled of messages that an edit doesn't touch is what the edited database gives.
+-- What was compiled and found of messages that an edit doesn't touch is what the edited database gives.
 use Rattle.std.proofs.Common.{◌≡◌, ℕ, Bool, true, false, List, [], ◌∷◌, map, filter, refl, sym, ap, ◌∙◌, inl, inr}
 use Rattle.std.specs.Prelude.{not, Option, Some, None, slice_get}
 use Rattle.std.proofs.lemmas.Option.{slice_get-map}
@@ -10,6 +10,7 @@ use Rattle.can_layout.specs.Plans.{plan_of}
 use Rattle.can_layout.specs.Pictures.{picture_of}
 use Rattle.edit_reach.specs.Touched.{is_among}
 use Rattle.edit_reach.specs.Elsewhere.{is_elsewhere, SameElsewhere}
+use Rattle.can_check.specs.MessageFaults.{own_faults}
 use Rattle.compiled_database.specs.Compiled.{Compiled, compiled_of}
 
 map_of-filter : {X Y : Type 0} (p : X → Bool) (f g : X → Y) → ((x : X) → p x ≡ true → f x ≡ g x) → (xs : List X)
@@ -34,6 +35,14 @@ kept_after numbers before after same plans pictures =
     map_of-filter (is_elsewhere numbers) (compiled_of before) (compiled_of after) (λ m t. let out = out_of _ t in
     rw (plans m out, pictures m out) refl) before.messages
     ∙ ap (map (compiled_of after)) (sym same.messages)
+
+pub own_after : (numbers : List ℕ) (before after : Database) → SameElsewhere numbers before after
+    → ((m : Message) → is_among numbers m.head.number ≡ false → own_faults after m ≡ own_faults before m)
+    → map (own_faults before) (filter (is_elsewhere numbers) before.messages) ≡ map (own_faults after)
+    (filter (is_elsewhere numbers) after.messages)
+own_after numbers before after same own =
+    map_of-filter (is_elsewhere numbers) (own_faults before) (own_faults after) (λ m t. sym (own m (out_of _ t))) before.messages
+    ∙ ap (map (own_faults after)) (sym same.messages)
 
 -- ---- one message's
 

@@ -1,3 +1,4 @@
 pub mod Acceptance
 pub mod Compiled
+pub mod Diagnosed
 pub mod Shown

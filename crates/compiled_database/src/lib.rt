@@ -1,13 +1,16 @@
 //! A database with all that is shown of it: its diagnostics, and the plan and the picture of each message.
 //!
-//! [`Shown::of`] makes all of it. An edit is first [`Accepted`], and then [`Accepted::remade`] makes anew only what the edit can
-//! change.
+//! [`Shown::of`] makes all of it. An edit is first [`Accepted`], and then [`Accepted::remade`] makes anew what the edit can change.
+//! The plans, the pictures and the own diagnostics of all other messages are kept.
 #![tactic(auto)]
 
 mod accepted;
 mod compiled;
+mod diagnosing;
 mod recompiling;
+mod rediagnosing;
 mod shown;
+mod splitting;
 
 pub use accepted::{Accepted, Remade};
 pub use shown::Shown;

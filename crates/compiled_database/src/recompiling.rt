@@ -7,8 +7,8 @@ ghost use Rattle.compiled_database.specs.Shown.{IsShown};
 
 use crate::accepted::Accepted;
 use crate::compiled::{Compiled, compiled_with};
+use crate::rediagnosing::diagnose_after;
 use crate::shown::{Parts, Shown, messages_of};
-use can_check::all_faults_with;
 use can_decode::MessageIndex;
 use can_layout::{Indexed, Lookup, Meter};
 use dbc_records::Message;
@@ -18,8 +18,8 @@ use edit_reach::laws::{others_stay, untouched_messages_stay};
 use std::alloc::Global;
 use std::rc::Rc;
 
-// Whether a message has one of the numbers.
-fn is_here(numbers: &[u32], message: &Message) -> bool
+/// Whether a message has one of the numbers.
+pub(crate) fn is_here(numbers: &[u32], message: &Message) -> bool
     ensures { result ≡ is_here numbers.now message.now }
 {
     is_among(numbers, message.head.number)
@@ -82,24 +82,24 @@ fn merged<L: Lookup>(
 }
 
 /// What is made of the database that an accepted edit gives, by one index of its rows. Only of messages that have one of the
-/// edit's numbers are plans and pictures made.
+/// edit's numbers are plans, pictures and own diagnostics made.
 pub(crate) fn parts_after(
     alloc: Global,
     accepted: &Accepted<'_>,
     meter: &mut Meter,
 ) -> Result<Parts, Memory>
-    ensures parts { IfOk result (λ parts. IsShown accepted.now.after parts.diagnostics.items
-        (map (λ one. one.value) parts.compiled.items) parts.messages) }
+    ensures parts { IfOk result (λ parts. IsShown accepted.now.after parts.diagnosed.diagnostics.items
+        parts.diagnosed.counts.items (map (λ one. one.value) parts.compiled.items) parts.messages) }
     ensures made { Raised (count_here (numbers_of accepted.now) accepted.now.after) 0 meter.old meter.new }
 {
     let indexed = Indexed::of(alloc, accepted.after())?;
-    let diagnostics = all_faults_with(alloc, &indexed)?;
+    let diagnosed = diagnose_after(alloc, accepted, &indexed)?;
     let kept = kept_after(alloc, accepted)?;
     let messages = messages_of(accepted.after());
     let compiled = merged(accepted.numbers(), &kept, &indexed, messages, meter)?;
     let index = MessageIndex::by(alloc, &indexed)?;
     Ok(Parts {
-        diagnostics,
+        diagnosed,
         compiled,
         messages: index,
     })

@@ -4,12 +4,16 @@ ghost use Rattle.std.specs.Option.{option_map};
 ghost use Rattle.can_layout.specs.Plans.{plan_of};
 ghost use Rattle.can_layout.specs.Pictures.{picture_of};
 ghost use Rattle.can_check.specs.AllFaults.{all_faults};
+ghost use Rattle.can_check.specs.MessageFaults.{own_faults};
 ghost use Rattle.can_choice.specs.Choices.{line_place};
 ghost use Rattle.compiled_database.specs.Compiled.{compiled_of, Raised};
 ghost use Rattle.compiled_database.specs.Shown.{IsShown};
 
 use crate::compiled::{Compiled, compiled_all};
-use can_check::{Diagnostic, all_faults_with};
+use crate::diagnosing::{Diagnosed, diagnose};
+use crate::splitting::OwnParts;
+use can_check::Diagnostic;
+use can_check::laws::faults_in_order;
 use can_decode::{Choices, MessageIndex, ReadLine};
 use can_layout::{Indexed, Meter, Plan};
 use dbc_records::{Database, Message};
@@ -21,8 +25,8 @@ use std::rc::Rc;
 /// What is made of a database: its diagnostics, and the plans and pictures of its messages with an index of these.
 #[derive(Drop)]
 pub(crate) struct Parts {
-    /// The diagnostics.
-    pub diagnostics: Vec<Diagnostic>,
+    /// The diagnostics, and how many are of each message.
+    pub diagnosed: Diagnosed,
     /// The plan and the picture of each message, in order.
     pub compiled: Vec<Rc<Compiled>>,
     /// The index of the messages.
@@ -45,8 +49,8 @@ impl Model for Shown {
 
     ghost view = { λ a. a.database };
 
-    ghost invariant = { λ a. IsShown a.database a.parts.diagnostics.items (map (λ one. one.value) a.parts.compiled.items)
-        a.parts.messages };
+    ghost invariant = { λ a. IsShown a.database a.parts.diagnosed.diagnostics.items a.parts.diagnosed.counts.items
+        (map (λ one. one.value) a.parts.compiled.items) a.parts.messages };
 }
 
 /// The messages of a database.
@@ -58,16 +62,16 @@ pub(crate) fn messages_of(database: &Database) -> &[Message]
 
 // What is made of a database, by one index of its rows.
 fn parts_of(alloc: Global, database: &Database, meter: &mut Meter) -> Result<Parts, Memory>
-    ensures parts { IfOk result (λ parts. IsShown database.now parts.diagnostics.items (map (λ one. one.value) parts.compiled.items)
-        parts.messages) }
+    ensures parts { IfOk result (λ parts. IsShown database.now parts.diagnosed.diagnostics.items parts.diagnosed.counts.items
+        (map (λ one. one.value) parts.compiled.items) parts.messages) }
     ensures made { Raised (length database.now.messages) 0 meter.old meter.new }
 {
     let indexed = Indexed::of(alloc, database)?;
-    let diagnostics = all_faults_with(alloc, &indexed)?;
+    let diagnosed = diagnose(alloc, &indexed)?;
     let compiled = compiled_all(alloc, &indexed, messages_of(database), meter)?;
     let messages = MessageIndex::by(alloc, &indexed)?;
     Ok(Parts {
-        diagnostics,
+        diagnosed,
         compiled,
         messages,
     })
@@ -85,7 +89,8 @@ impl Shown {
 
     /// That of a database and what was made of it.
     pub(crate) fn by(database: Database, parts: Parts) -> Shown
-        requires { IsShown database parts.diagnostics.items (map (λ one. one.value) parts.compiled.items) parts.messages }
+        requires { IsShown database parts.diagnosed.diagnostics.items parts.diagnosed.counts.items
+            (map (λ one. one.value) parts.compiled.items) parts.messages }
         ensures { result ≡ database }
     {
         Shown { database, parts }
@@ -102,7 +107,19 @@ impl Shown {
     pub fn diagnostics(&self) -> &[Diagnostic]
         ensures { result.now ≡ all_faults self.now }
     {
-        self.parts.diagnostics.as_slice()
+        self.parts.diagnosed.diagnostics.as_slice()
+    }
+
+    /// The own diagnostics of its messages, in order.
+    pub(crate) fn own_parts(&self) -> OwnParts<'_>
+        ensures { result ≡ map (own_faults self.now) self.now.messages }
+    {
+        faults_in_order();
+        let diagnosed = &self.parts.diagnosed;
+        OwnParts::of(
+            diagnosed.diagnostics.as_slice(),
+            diagnosed.counts.as_slice(),
+        )
     }
 
     /// What is compiled of its messages, in order.

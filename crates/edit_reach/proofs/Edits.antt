@@ -109,23 +109,25 @@ of_message k (targets.Signal m signal) is = absurd (cc)
 same_rows : (numbers : List ℕ) (d e : Database) → filter (is_elsewhere numbers) e.messages ≡ filter (is_elsewhere numbers)
     d.messages
     → e.values ≡ d.values → e.floats ≡ d.floats → e.muxes ≡ d.muxes → e.attributes ≡ d.attributes → e.defaults ≡ d.defaults
-    → e.definitions ≡ d.definitions
+    → e.definitions ≡ d.definitions → e.nodes ≡ d.nodes
     → SameElsewhere numbers d e
-same_rows numbers d e messages values floats muxes attributes defaults definitions = record {
+same_rows numbers d e messages values floats muxes attributes defaults definitions nodes = record {
   messages = messages;
   rows = λ n out. rows-same d e n (rw values refl) (rw floats refl) (rw muxes refl);
   formats = λ n out. formats-same d e n (rw attributes refl);
   defaults = defaults;
   definitions = definitions;
+  nodes = nodes;
 }
 
 with_messages : (numbers : List ℕ) (d : Database) (messages : List Message) → filter (is_elsewhere numbers) messages
     ≡ filter (is_elsewhere numbers) d.messages
     → SameElsewhere numbers d (record d { messages = messages })
-with_messages numbers d messages same = same_rows numbers d (record d { messages = messages }) same refl refl refl refl refl refl
+with_messages numbers d messages same =
+    same_rows numbers d (record d { messages = messages }) same refl refl refl refl refl refl refl
 
 unchanged : (numbers : List ℕ) (d : Database) → SameElsewhere numbers d d
-unchanged numbers d = same_rows numbers d d refl refl refl refl refl refl refl
+unchanged numbers d = same_rows numbers d d refl refl refl refl refl refl refl refl
 
 one_then : (numbers : List ℕ) (d e f : Database) → SameElsewhere numbers d e → SameElsewhere numbers e f → SameElsewhere numbers d f
 one_then numbers d e f s t = record {
@@ -134,6 +136,7 @@ one_then numbers d e f s t = record {
   formats = λ n out. t.formats n out ∙ s.formats n out;
   defaults = t.defaults ∙ s.defaults;
   definitions = t.definitions ∙ s.definitions;
+  nodes = t.nodes ∙ s.nodes;
 }
 
 -- a message in the place of another of the same number
@@ -190,6 +193,7 @@ rows_gone k test d own = record {
       d.attributes);
   defaults = refl;
   definitions = refl;
+  nodes = refl;
 }
 
 cleared_number : (k : ℕ) (d : Database) → SameElsewhere (k ∷ []) d (cleared_of_number k d)
@@ -277,6 +281,7 @@ rows_moved old new d = record {
       (λ row isnt. target_stays old new n row.target out isnt) d.attributes);
   defaults = refl;
   definitions = refl;
+  nodes = refl;
 }
 
 renumbered_at : (place new : ℕ) (d e : Database) → message_renumbered place new d ≡ Ok e
@@ -332,6 +337,7 @@ rows_named r d = record {
       (λ row isnt. message_stays r n row.target isnt) d.attributes);
   defaults = refl;
   definitions = refl;
+  nodes = refl;
 }
 
 signal_renamed_at : (place : ℕ) (old new : List ℕ) (d e : Database) → signal_renamed place old new d ≡ Ok e
@@ -358,6 +364,7 @@ values_put row d = record {
   formats = λ n out. formats-same d _ n refl;
   defaults = refl;
   definitions = refl;
+  nodes = refl;
 }
 
 mux_put : (row : MuxRow) (d : Database)
@@ -369,6 +376,7 @@ mux_put row d = record {
   formats = λ n out. formats-same d _ n refl;
   defaults = refl;
   definitions = refl;
+  nodes = refl;
 }
 
 values_gone : (k : ℕ) (name : List ℕ) (d : Database)
@@ -379,6 +387,7 @@ values_gone k name d = record {
   formats = λ n out. formats-same d _ n refl;
   defaults = refl;
   definitions = refl;
+  nodes = refl;
 }
 
 mux_gone : (k : ℕ) (name : List ℕ) (d : Database)
@@ -389,6 +398,7 @@ mux_gone k name d = record {
   formats = λ n out. formats-same d _ n refl;
   defaults = refl;
   definitions = refl;
+  nodes = refl;
 }
 
 attribute_put : (name : List ℕ) (k : ℕ) (row : AttrRow) (d : Database) → row.target ≡ targets.Message k
@@ -400,6 +410,7 @@ attribute_put name k row d target = record {
       (of_message k old.target (and_parts _ _ is).0)) (rw target (or_parts _ false out).0) d.attributes);
   defaults = refl;
   definitions = refl;
+  nodes = refl;
 }
 
 attribute_gone : (name : List ℕ) (k : ℕ) (d : Database)
@@ -412,6 +423,7 @@ attribute_gone name k d = record {
       (of_message k old.target (and_parts _ _ is).0)) d.attributes);
   defaults = refl;
   definitions = refl;
+  nodes = refl;
 }
 
 module _ (d e : Database) where
@@ -434,12 +446,13 @@ module _ (d e : Database) where
 
   table_set_at : (row : TableRow) → table_set row d ≡ Ok e → SameElsewhere [] d e
   unfolding table_set
-  table_set_at row ok = subst (SameElsewhere [] d) (Ok-same _ e ok) (same_rows [] d _ refl refl refl refl refl refl refl)
+  table_set_at row ok = subst (SameElsewhere [] d) (Ok-same _ e ok) (same_rows [] d _ refl refl refl refl refl refl refl
+      refl)
 
   table_dropped_at : (name : List ℕ) → table_dropped name d ≡ Ok e → SameElsewhere [] d e
   unfolding table_dropped
   table_dropped_at name ok = subst (SameElsewhere [] d) (Ok-same _ e (passed _ _ _ e ok)) (same_rows [] d _ refl refl refl refl refl
-      refl refl)
+      refl refl refl)
 
   attribute_set_at : (name : List ℕ) (k : ℕ) (value : AttrValue) → attribute_set name k value d ≡ Ok e → SameElsewhere (k ∷ []) d e
   unfolding attribute_set

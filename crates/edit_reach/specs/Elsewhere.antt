@@ -11,10 +11,11 @@ abbrev pub is_elsewhere : List ℕ → Message → Bool
 is_elsewhere numbers message = not (is_among numbers message.head.number)
 
 -- The two databases have the same messages of other numbers, in the same order, and of each other number the same rows and the
--- same row of the frame format; the defaults and the definitions of attributes are the same.
+-- same row of the frame format; the defaults and the definitions of attributes are the same, and so are the nodes.
 pub record SameElsewhere (numbers : List ℕ) (before after : Database) : Type 0 where
   pub messages : filter (is_elsewhere numbers) after.messages ≡ filter (is_elsewhere numbers) before.messages
   pub rows : (number : ℕ) → is_among numbers number ≡ false → rows_of number after ≡ rows_of number before
   pub formats : (number : ℕ) → is_among numbers number ≡ false → format_row number after ≡ format_row number before
   pub defaults : after.defaults ≡ before.defaults
   pub definitions : after.definitions ≡ before.definitions
+  pub nodes : after.nodes ≡ before.nodes

@@ -1,0 +1,64 @@
+//! A message's own diagnostics.
+ghost use Rattle.std.specs.Prelude.{◌≡◌, ◌++◌, OnOk, length};
+ghost use Rattle.can_check.specs.MessageFaults.{overlaps, own_with, own_faults};
+
+use crate::all::push_other_faults;
+use crate::layout_rules::push_outside;
+use crate::overlap_rules::report_overlaps;
+use can_diagnostics::Diagnostic;
+use can_mux::{MessageRows, Walk, message_walks};
+use can_overlap::Occupancy;
+use can_references::Known;
+use can_rows::Lookup;
+use dbc_records::Message;
+use dbc_values::Memory;
+
+// Adds the signals that overlap. The table for overlaps is empty before and after.
+fn push_overlaps(
+    found: &mut Vec<Diagnostic>,
+    occupancy: Occupancy,
+    message: &Message,
+    walks: &[Walk],
+) -> Result<Occupancy, Memory>
+    requires { length walks.now ≡ length message.now.signals }
+    ensures { OnOk result (found.new.items ≡ found.old.items ++ overlaps message.now walks.now) }
+{
+    match report_overlaps(found, occupancy, message, walks) {
+        Ok(occupancy) => Ok(occupancy),
+        Err(_) => Err(Memory),
+    }
+}
+
+// Adds a message's own diagnostics, by the rows of its number. The table for overlaps is empty before and after.
+#[tactic(auto, using(crate::proofs::Counts::as_many, crate::proofs::OwnFaults::pushed_thrice))]
+fn push_by_rows<'a, L: Lookup>(
+    found: &mut Vec<Diagnostic>,
+    known: &Known<'a, L>,
+    occupancy: Occupancy,
+    rows: &MessageRows<'_, L>,
+    message: &'a Message,
+) -> Result<Occupancy, Memory>
+    ensures { OnOk result (found.new.items ≡ found.old.items ++ own_with known.now rows.now message.now) }
+{
+    let alloc = occupancy.allocator();
+    let walks = message_walks(alloc, rows, message.signals.as_slice())?;
+    push_outside(found, message)?;
+    let occupancy = push_overlaps(found, occupancy, message, walks.as_slice())?;
+    push_other_faults(found, known, rows, message, walks.as_slice())?;
+    Ok(occupancy)
+}
+
+/// Adds a message's own diagnostics: codes 5 to 15. Other messages can't change them. The table for overlaps is empty before and
+/// after.
+#[tactic(auto, unfolding(crate::specs::MessageFaults::own_faults))]
+pub fn push_own_faults<'a, L: Lookup>(
+    found: &mut Vec<Diagnostic>,
+    known: &Known<'a, L>,
+    occupancy: Occupancy,
+    message: &'a Message,
+) -> Result<Occupancy, Memory>
+    ensures { OnOk result (found.new.items ≡ found.old.items ++ own_faults known.now message.now) }
+{
+    let rows = MessageRows::of(known.lookup(), message.head.number);
+    push_by_rows(found, known, occupancy, &rows, message)
+}
