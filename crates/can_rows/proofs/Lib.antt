@@ -1,3 +1,4 @@
 pub mod FirstRows
 pub mod SortedRows
 pub mod IndexedRows
+pub mod InOrder

@@ -2,3 +2,4 @@ pub mod Rows
 pub mod Groups
 pub mod Mixes
 pub mod Indexes
+pub mod Orders
