@@ -10,7 +10,7 @@ ghost use Rattle.can_check.specs.MessageFaults.{repeated_in, repeated_values, va
 use can_diagnostics::{Code, Diagnostic};
 use can_keys::Integers;
 use can_mux::MessageRows;
-use can_rows::Lookup;
+use can_rows::{Lookup, entry_order};
 use dbc_records::{Entry, Head, Message, Signal, ValueRow};
 use dbc_values::Memory;
 
@@ -120,8 +120,8 @@ fn push_entry(
     Ok(())
 }
 
-// Adds the entries whose number stood earlier.
-fn push_repeated(
+// Adds the entries whose number stood earlier, of entries in any order.
+fn push_repeated_unordered(
     found: &mut Vec<Diagnostic>,
     head: &Head,
     signal: &Signal,
@@ -134,6 +134,21 @@ fn push_repeated(
         push_entry(found, &mut seen, head, signal, entry)?;
     }
     Ok(())
+}
+
+// Adds the entries whose number stood earlier. There are none where the numbers rise or fall, as they mostly do.
+fn push_repeated(
+    found: &mut Vec<Diagnostic>,
+    head: &Head,
+    signal: &Signal,
+    entries: &[Entry],
+) -> Result<(), Memory>
+    ensures { OnOk result (found.new.items ≡ found.old.items ++ repeated_among head.now signal.now entries.now) }
+{
+    match entry_order(entries) {
+        Some(_) => Ok(()),
+        None => push_repeated_unordered(found, head, signal, entries),
+    }
 }
 
 fn push_all_repeated<L: Lookup>(

@@ -1,12 +1,10 @@
-use Rattle.std.proofs.Common.{[]}
-use Rattle.dbc_records.specs.Records.{Entry}
-use Rattle.can_check.specs.MessageFaults.{repeated_value}
-use Rattle.can_references.proofs.Rows.{more_after}
+use Rattle.std.proofs.Common.{List, ◌++◌, ap, sym, ◌∙◌, append-nil}
+use Rattle.can_diagnostics.specs.declared.diagnostic.Diagnostic.{Diagnostic}
+use Rattle.can_check.proofs.InOrder.{none_repeated}
 use Rattle.can_check.proofs.value_rules.push_repeated.Goals as goal
 
-pub loop-entry-preserved : goal.loop-entry-preserved
-loop-entry-preserved c =
-    let more = more_after (repeated_value c.args.head.now c.args.signal.now) (λ (entry : Entry). entry.number) c.args.entries.now
-    c.loop-entry.entry-index c.entry-item.result c.loop-entry-test.true c.entry-item.is [] _ _ _ _ _
-    c.loop-entry.invariant.found c.loop-entry.invariant.seen c.in_ok-push_entry.ensures.found c.in_ok-push_entry.ensures.seen in
-    record { found = more.0; seen = more.1 }
+pub returns-in-Some : goal.returns-in-Some
+returns-in-Some c =
+    sym (ap (λ (more : List Diagnostic). c.args.found.now.items ++ more)
+    (none_repeated c.in-Some.field-0 c.args.head.now c.args.signal.now c.args.entries.now c.in-Some.ensures.in_order)
+    ∙ append-nil c.args.found.now.items)

@@ -1,6 +1,6 @@
 use Rattle.std.proofs.Common.{◌≡◌, ◌++◌, map, take}
 use Rattle.can_check.specs.MessageFaults.{repeated_among}
-use Rattle.can_check.proofs.value_rules.push_repeated.Given as goal
+use Rattle.can_check.proofs.value_rules.push_repeated_unordered.Given as goal
 
 -- the entries so far
 abbrev pub invariant-loop-entry : goal.invariant-loop-entry
