@@ -1,5 +1,6 @@
 pub mod Chains
 pub mod Decoders
+pub mod EntryOrders
 pub mod EntryPlaces
 pub mod Meters
 pub mod Names

@@ -3,7 +3,7 @@ ghost use Rattle.std.specs.Prelude.{◌≡◌, ◌≤◌, ◌^◌, ◌+ℤ◌, �
 ghost use Rattle.can_bits.specs.Bits.{bits_of, field_of, raw_value};
 ghost use Rattle.can_layout.specs.Decoders.{unit_text, first_entry, name_of};
 
-use crate::entries::{Places, entry_of, places_of_many};
+use crate::entries::{EntrySearch, entry_of, search_of_many};
 use crate::naming::{ready_names, ready_unit};
 use can_bits::{Field, Steps};
 use dbc_records::{Entry, Signal};
@@ -29,13 +29,14 @@ pub struct Decoder {
     pub unit: Text,
     /// The named values, by their raw value.
     pub entries: List<Entry>,
-    // Where the entries are many, their places by their numbers.
-    places: Option<Places>,
+    // Where the entries are many, how they are found by their numbers.
+    search: Option<EntrySearch>,
 }
 
 impl Model for Decoder {
     ghost use Rattle.std.specs.Prelude.{◌≡◌, [], IfSome};
     ghost use Rattle.can_layout.specs.Decoders as decoders;
+    ghost use Rattle.can_layout.specs.Searches.{IsEntrySearch};
 
     ghost Value = { decoders.Decoder };
 
@@ -50,7 +51,7 @@ impl Model for Decoder {
     })
         × (a.unit_text ≡ decoders.unit_text a.unit) × decoders.AreNames a.entries a.names.items
         × (a.names.items ≡ [] → a.entries ≡ [])
-        × IfSome a.places (λ places. decoders.IsEntryIndex places a.entries) };
+        × IfSome a.search (λ search. IsEntrySearch search a.entries) };
 }
 
 impl Decoder {
@@ -73,8 +74,8 @@ impl Decoder {
         let bits = Steps::of(alloc, Field::of(signal));
         let unit = signal.unit.copy()?;
         let unit_text = ready_unit(alloc, unit.as_bytes())?;
-        let names = ready_names(alloc, entries.as_slice())?;
-        let places = places_of_many(alloc, entries.as_slice())?;
+        let search = search_of_many(alloc, entries.as_slice())?;
+        let names = ready_names(alloc, &search, entries.as_slice())?;
         Ok(Decoder {
             bits,
             signed: signal.signed,
@@ -83,7 +84,7 @@ impl Decoder {
             entries,
             unit_text,
             names,
-            places,
+            search,
         })
     }
 
@@ -112,7 +113,7 @@ impl Decoder {
     pub fn entry(&self, raw: i128) -> Option<&Entry>
         ensures { option_map (λ entry. entry.now) result ≡ first_entry raw self.now.entries }
     {
-        entry_of(&self.places, self.entries.as_slice(), raw)
+        entry_of(&self.search, self.entries.as_slice(), raw)
     }
 
     /// The raw value in data: in two's complement where the signal is signed. Bits behind the end of the data are 0.

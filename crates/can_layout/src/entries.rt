@@ -1,11 +1,16 @@
 //! Entries found by their numbers.
-ghost use Rattle.std.specs.Prelude.{◌≡◌, ℤ, OnOk, IfOk, IfSome, Some, None, option_map, slice_get, if◌then◌else◌};
+ghost use Rattle.std.specs.Prelude.{◌≡◌, ◌≤◌, ℤ, true, false, IsTrue, OnOk, IfOk, IfSome, Some, None, length, option_map};
+ghost use Rattle.std.specs.Prelude.{slice_get, if◌then◌else◌};
 ghost use Rattle.std.specs.BTreeMap.{get};
+ghost use Rattle.std.specs.List.Sorted.{IsPartitionPoint};
 ghost use Rattle.std.specs.Option.{option_or};
 ghost use Rattle.std.specs.Ordering.{int_eq, int_cmp};
+ghost use Rattle.can_rows.specs.Orders.{precedes, are_in_order};
 ghost use Rattle.can_layout.specs.Decoders.{first_entry, IsEntryIndex};
+ghost use Rattle.can_layout.specs.Searches.{IsEntrySearch};
 
 use crate::naming::first_entry;
+use can_rows::{EntryOrder, entry_order};
 use dbc_records::Entry;
 use dbc_values::Memory;
 use std::alloc::Global;
@@ -14,8 +19,17 @@ use std::collections::BTreeMap;
 // At most so many entries are gone through.
 const FEW: usize = 16;
 
-/// For each number the place of the first entry that has it.
-pub(crate) type Places = BTreeMap<i128, usize>;
+// For each number the place of the first entry that has it.
+type Places = BTreeMap<i128, usize>;
+
+/// How entries are found by their numbers, where there are many.
+#[derive(Drop)]
+pub(crate) enum EntrySearch {
+    /// By halves: the numbers are in an order.
+    Ordered(EntryOrder),
+    /// By their places.
+    Indexed(Places),
+}
 
 // Puts the place of an entry at its number, unless one is there.
 fn keep_first(places: &mut Places, entry: &Entry, place: usize) -> Result<(), Memory>
@@ -36,15 +50,53 @@ fn places_of(alloc: Global, entries: &[Entry]) -> Result<Places, Memory>
     Ok(places)
 }
 
-/// The places of entries by their numbers, where there are many.
-pub(crate) fn places_of_many(alloc: Global, entries: &[Entry]) -> Result<Option<Places>, Memory>
-    ensures { IfOk result (λ places. IfSome places (λ places. IsEntryIndex places entries.now)) }
+/// How entries are found by their numbers, where there are many.
+pub(crate) fn search_of_many(
+    alloc: Global,
+    entries: &[Entry],
+) -> Result<Option<EntrySearch>, Memory>
+    ensures { IfOk result (λ search. IfSome search (λ search. IsEntrySearch search entries.now)) }
 {
     if entries.len() <= FEW {
         return Ok(None);
     }
+    if let Some(order) = entry_order(entries) {
+        return Ok(Some(EntrySearch::Ordered(order)));
+    }
     let places = places_of(alloc, entries)?;
-    Ok(Some(places))
+    Ok(Some(EntrySearch::Indexed(places)))
+}
+
+// How many entries precede a raw value in their order.
+fn place_of(order: EntryOrder, entries: &[Entry], raw: i128) -> usize
+    requires { IsTrue (are_in_order order entries.now) }
+    ensures bound { result ≤ length entries.now }
+    ensures parted { IsPartitionPoint (λ entry. precedes order entry.number raw ≡ true)
+        (λ entry. precedes order entry.number raw ≡ false) entries.now result }
+{
+    entries.partition_point(|entry| order.precedes(entry.number, raw))
+}
+
+fn has_number(entry: &Entry, raw: i128) -> bool
+    ensures { result ≡ int_eq entry.now.number raw }
+{
+    entry.number == raw
+}
+
+// The entry for a raw value, by the order of the entries.
+fn ordered_entry(order: EntryOrder, entries: &[Entry], raw: i128) -> Option<&Entry>
+    requires { IsTrue (are_in_order order entries.now) }
+    ensures { option_map (λ entry. entry.now) result ≡ first_entry raw entries.now }
+{
+    let place = place_of(order, entries, raw);
+    let Some(entry) = entries.get(place) else {
+        return None;
+    };
+    if has_number(entry, raw) {
+        Some(entry)
+    } else {
+        None
+    }
 }
 
 fn place_at(places: &Places, raw: i128) -> Option<usize>
@@ -70,17 +122,28 @@ fn indexed_entry<'a>(places: &Places, entries: &'a [Entry], raw: i128) -> Option
     }
 }
 
-/// The first entry for a raw value, by the places where there are some.
+// The first entry for a raw value, where there are many.
+fn searched_entry<'a>(search: &EntrySearch, entries: &'a [Entry], raw: i128) -> Option<&'a Entry>
+    requires { IsEntrySearch search.now entries.now }
+    ensures { option_map (λ entry. entry.now) result ≡ first_entry raw entries.now }
+{
+    match search {
+        EntrySearch::Ordered(order) => ordered_entry(*order, entries, raw),
+        EntrySearch::Indexed(places) => indexed_entry(places, entries, raw),
+    }
+}
+
+/// The first entry for a raw value. Of many, it is found in time with the logarithm of how many there are.
 pub(crate) fn entry_of<'a>(
-    places: &Option<Places>,
+    search: &Option<EntrySearch>,
     entries: &'a [Entry],
     raw: i128,
 ) -> Option<&'a Entry>
-    requires { IfSome places.now (λ places. IsEntryIndex places entries.now) }
+    requires { IfSome search.now (λ search. IsEntrySearch search entries.now) }
     ensures { option_map (λ entry. entry.now) result ≡ first_entry raw entries.now }
 {
-    match places {
-        Some(places) => indexed_entry(places, entries, raw),
+    match search {
+        Some(search) => searched_entry(search, entries, raw),
         None => first_entry(entries, raw),
     }
 }

@@ -1,7 +1,9 @@
 //! What is written beside numbers, or in their place: units and the names of raw values.
-ghost use Rattle.std.specs.Prelude.{◌≡◌, [], ◌++◌, OnOk, IfOk, option_map};
+ghost use Rattle.std.specs.Prelude.{◌≡◌, [], ◌++◌, OnOk, IfOk, IfSome, option_map};
 ghost use Rattle.can_layout.specs.Decoders.{unit_text, first_entry, name_of, AreNames};
+ghost use Rattle.can_layout.specs.Searches.{IsEntrySearch};
 
+use crate::entries::{EntrySearch, entry_of};
 use dbc_records::Entry;
 use dbc_values::Memory;
 use ready_texts::{Draft, ReadyText, push_bytes, push_shown};
@@ -46,10 +48,16 @@ pub fn first_entry(entries: &[Entry], raw: i128) -> Option<&Entry>
 }
 
 // The name of a raw value, kept ready.
-fn ready_name(alloc: Global, entries: &[Entry], raw: i128) -> Result<Option<ReadyText>, Memory>
+fn ready_name(
+    alloc: Global,
+    search: &Option<EntrySearch>,
+    entries: &[Entry],
+    raw: i128,
+) -> Result<Option<ReadyText>, Memory>
+    requires { IfSome search.now (λ search. IsEntrySearch search entries.now) }
     ensures { IfOk result (λ name. name ≡ name_of raw entries.now) }
 {
-    let Some(entry) = first_entry(entries, raw) else {
+    let Some(entry) = entry_of(search, entries, raw) else {
         return Ok(None);
     };
     let mut text = Draft::new(alloc);
@@ -61,15 +69,17 @@ fn ready_name(alloc: Global, entries: &[Entry], raw: i128) -> Result<Option<Read
 /// The names of the first raw values, kept ready. There are as many of them as entries, but not more than a few.
 pub(crate) fn ready_names(
     alloc: Global,
+    search: &Option<EntrySearch>,
     entries: &[Entry],
 ) -> Result<Vec<Option<ReadyText>>, Memory>
+    requires { IfSome search.now (λ search. IsEntrySearch search entries.now) }
     ensures names { IfOk result (λ names. AreNames entries.now names.items) }
     ensures none { IfOk result (λ names. names.items ≡ [] → entries.now ≡ []) }
 {
     let count = entries.len().min(MOST);
     let mut names = Vec::with_capacity(alloc, count)?;
     for raw in 0..count as u8 {
-        names.push(ready_name(alloc, entries, i128::from(raw))?)?;
+        names.push(ready_name(alloc, search, entries, i128::from(raw))?)?;
     }
     Ok(names)
 }
