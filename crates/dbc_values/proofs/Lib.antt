@@ -13,3 +13,4 @@ pub mod Kept
 pub mod PlainDigits
 pub mod Keywords
 pub mod PlainDecimals
+mod Classes

@@ -5,6 +5,7 @@
 //! So whoever holds one need not test it again.
 #![tactic(auto)]
 
+mod class;
 mod decimal;
 pub mod laws;
 mod list;
@@ -17,12 +18,11 @@ mod stored;
 mod symbol;
 mod text;
 
+pub use class::{is_digit, is_letter, is_mark, is_word_byte};
 pub use decimal::Decimal;
 pub use list::{Checked, Copied, List, Rewrite};
 pub use memory::Memory;
-pub use name::{
-    Name, ends_in_underscore, is_kept_word, is_letter, is_name, is_word, is_word_byte, same,
-};
+pub use name::{Name, ends_in_underscore, is_kept_word, is_name, is_word, same};
 pub use number::{Whole, are_digits, digits_len, is_number, whole_of};
 pub use piece::{Pieces, is_piece, is_string};
 pub use scale::Scale;

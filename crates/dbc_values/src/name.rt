@@ -2,9 +2,10 @@
 ghost use Rattle.std.specs.Prelude.{◌≡◌, false, IfOk, OnErr, IsTrue, Some, None, if◌then◌else◌};
 ghost use Rattle.std.specs.List.{list_any, list_all};
 ghost use Rattle.std.specs.Str.{bytes_eq};
-ghost use Rattle.dbc_values.specs.Lexical.{is_name, is_word, is_keyword, is_letter, is_word_byte, is_kept_word, statement_words};
+ghost use Rattle.dbc_values.specs.Lexical.{is_name, is_word, is_keyword, is_word_byte, is_kept_word, statement_words};
 ghost use Rattle.dbc_values.specs.Lexical.{relation_words, ends_in_underscore};
 
+use crate::class::{is_letter, is_word_byte};
 use crate::list::{Checked, Copied};
 use crate::memory::Memory;
 use crate::stored::Stored;
@@ -26,20 +27,6 @@ impl Model for Name {
     ghost view = { λ name. name.bytes };
 
     ghost invariant = { λ name. IsTrue (is_name name.bytes) };
-}
-
-/// Whether the byte is an ASCII letter or an underscore.
-pub fn is_letter(b: u8) -> bool
-    ensures { result ≡ is_letter b }
-{
-    b.is_ascii_alphabetic() || b == b'_'
-}
-
-/// Whether the byte is an ASCII letter, a digit or an underscore.
-pub fn is_word_byte(b: u8) -> bool
-    ensures { result ≡ is_word_byte b }
-{
-    is_letter(b) || b.is_ascii_digit()
 }
 
 fn are_word_bytes(bytes: &[u8]) -> bool

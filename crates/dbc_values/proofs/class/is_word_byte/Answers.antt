@@ -1,0 +1,9 @@
+use Rattle.std.proofs.Common.{nat_le, get_or, refl, arith}
+use Rattle.dbc_values.specs.declared.class.TheConstants.{CLASSES}
+use Rattle.dbc_values.specs.Lexical.{is_word_byte}
+use Rattle.dbc_values.proofs.Classes.{agree_below, agree_at}
+use Rattle.dbc_values.proofs.class.is_word_byte.Goals as goal
+
+pub returns : goal.returns
+unfolding agree_below
+returns c = agree_at (λ k. nat_le (get_or CLASSES k 0) 100) is_word_byte 256 refl c.args.b (omega arith)
