@@ -7,6 +7,7 @@ pub mod Longest
 pub mod Gaps
 pub mod CutStep
 pub mod LineFeeds
+mod PlainTokens
 pub mod CutLaws
 pub mod Spots
 pub mod Places

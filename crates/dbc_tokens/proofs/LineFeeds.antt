@@ -1,10 +1,11 @@
 -- Only strings hold line feeds.
-use Rattle.std.proofs.Common.{◌≡◌, ℕ, Bool, true, false, not, ◌||◌, List, [], ◌∷◌, ◌++◌, refl, append-nil, arith}
+use Rattle.std.proofs.Common.{◌≡◌, ◌≢◌, ℕ, zero, suc, ◌<◌, ◌≤◌, Bool, true, false, not, ◌||◌, List, [], ◌∷◌, ◌++◌, length, get_or, drop}
+use Rattle.std.proofs.Common.{refl, append-nil, arith}
 use Rattle.std.specs.Prelude.{codes}
 use Rattle.std.specs.List.{list_all}
-use Rattle.std.proofs.lemmas.Bool.{and_parts, and_from, or_left, or_right, not-true}
+use Rattle.std.proofs.lemmas.Bool.{and_parts, and_from, or_left, or_right, not-true, ne_eqb}
 use Rattle.std.proofs.lemmas.Bool.Decides.{nat_tests}
-use Rattle.dbc_values.specs.Lexical.{is_line_feed, is_digit, is_letter, is_word_byte, is_sign, is_exponent_mark, is_mark}
+use Rattle.dbc_values.specs.Lexical.{line_feed, is_line_feed, is_digit, is_letter, is_word_byte, is_sign, is_exponent_mark, is_mark}
 use Rattle.dbc_tokens.specs.declared.token.Kind.{Kind}
 use Rattle.dbc_tokens.specs.declared.token.Kind.TheVariants.{Text, Word, Number, Mark}
 use Rattle.dbc_tokens.specs.Tokens.{IsToken, line_feeds}
@@ -57,3 +58,20 @@ token_feeds Word (b ∷ s) h other = let both = and_parts (is_letter b) (list_al
     none_in is_word_byte (b ∷ s) word_byte (and_from _ _ (or_left _ _ both.0) both.1)
 token_feeds Number s h other = none_in is_number_byte s number_byte (number_bytes s (number_parts s h))
 token_feeds Mark s (mark, bytes, is) other = rw (bytes, mark_byte mark is) (omega arith)
+
+-- ---- a search for line feeds
+
+pub no_feeds : (s : List ℕ) → ((k : ℕ) → k < length s → get_or s k 0 ≢ line_feed) → line_feeds s ≡ 0
+no_feeds [] none = refl
+no_feeds (b ∷ s) none = rw (ne_eqb b line_feed (none 0 (omega arith)), no_feeds s (λ k l. none (suc k) (omega arith))) (omega arith)
+
+-- bytes without line feeds at the front don't count
+pub feeds_from : (s : List ℕ) (n : ℕ) → n ≤ length s → ((k : ℕ) → k < n → get_or s k 0 ≢ line_feed)
+    → line_feeds (drop n s) ≡ line_feeds s
+feeds_from s zero le none = refl
+feeds_from [] (suc n) le none = absurd (omega arith)
+feeds_from (b ∷ s) (suc n) le none = rw (ne_eqb b line_feed (none 0 (omega arith))) (omega (
+  arith,
+  feeds_from s n (omega arith) (λ k l.
+      none (suc k) (omega arith)),
+))

@@ -1,5 +1,7 @@
 -- What contracts see of tokens, of the step from one to the next, and of what is left of a text.
-use Rattle.std.specs.Prelude.{◌≡◌, ℕ, List, [], ◌∷◌, Result, Ok, Err}
+use Rattle.std.specs.Prelude.{◌≡◌, ℕ, Bool, List, [], ◌∷◌, drop, Result, Ok, Err, is_some}
+use Rattle.std.specs.List.{prefix_len}
+use Rattle.dbc_values.specs.Lexical.{is_blank}
 use Rattle.dbc_tokens.specs.declared.fault.Cause.TheVariants as causes
 use Rattle.dbc_tokens.specs.declared.fault.ReadFault.{ReadFault}
 use Rattle.dbc_tokens.specs.declared.token.Next.{Next}
@@ -7,7 +9,7 @@ use Rattle.dbc_tokens.specs.declared.token.Next.TheVariants as nexts
 use Rattle.dbc_tokens.specs.declared.token.Token as tokens
 use Rattle.dbc_tokens.specs.declared.stream.Tokens.{Tokens}
 use Rattle.dbc_tokens.specs.Tokens.{Token, Cut, End, Fault, ◌▸◌}
-use Rattle.dbc_tokens.specs.Reading.Scanner.{cut_of}
+use Rattle.dbc_tokens.specs.Reading.Scanner.{plain_token_at, cut_of}
 
 -- a token without where it lies in memory
 abbrev pub token_of : tokens.Token → Token
@@ -16,6 +18,10 @@ token_of t = record { kind = t.kind; bytes = t.bytes.now; line = t.line }
 -- the tokens that are left
 abbrev pub left : Tokens → Cut
 left t = cut_of t.line t.rest.now
+
+-- only blanks are before what comes next, and that is a word, a mark, or a number that begins with a digit and has no exponent
+abbrev pub plain_comes : Tokens → Bool
+plain_comes t = is_some (plain_token_at (drop (prefix_len is_blank t.rest.now) t.rest.now))
 
 -- what comes next, and then these
 abbrev pub cut_from : Next → Cut → Cut

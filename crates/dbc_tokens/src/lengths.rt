@@ -1,26 +1,19 @@
 //! How long the gap or the token at the front of a text is.
-ghost use Rattle.std.specs.Prelude.{◌≡◌, ◌-◌, ◌<◌, ◌≤◌, false, not, ◌||◌, ◌==◌, length, slice_index, IfSome};
+ghost use Rattle.std.specs.Prelude.{◌≡◌, ◌-◌, ◌<◌, ◌≤◌, false, not, ◌||◌, ◌==◌, length, slice_index, take, IfSome};
 ghost use Rattle.std.specs.List.{prefix_len};
-ghost use Rattle.dbc_values.specs.Lexical.{backslash, is_blank, is_letter, is_word_byte, is_mark};
+ghost use Rattle.dbc_values.specs.Lexical.{backslash, is_blank, is_letter, is_word_byte, is_mark, is_digit};
 ghost use Rattle.dbc_tokens.specs.Reading.Scanner.{gap_len, text_len, mantissa_len, sign_len, exponent_len, number_len, token_at};
+ghost use Rattle.dbc_tokens.specs.Reading.Scanner.{plain_number_len, plain_token_at};
+ghost use Rattle.dbc_tokens.specs.Tokens.{line_feeds};
 
 use crate::token::Kind;
-use dbc_values::{digits_len, is_letter, is_word_byte};
+use dbc_values::{digits_len, is_digit, is_letter, is_mark, is_word_byte};
 use memchr::memchr;
 
 fn is_blank(b: u8) -> bool
     ensures { result ≡ is_blank b }
 {
-    matches!(b, b' ' | b'\t' | b'\r' | b'\n')
-}
-
-fn is_mark(b: u8) -> bool
-    ensures { result ≡ is_mark b }
-{
-    matches!(
-        b,
-        b':' | b';' | b'|' | b'@' | b'(' | b')' | b'[' | b']' | b',' | b'+' | b'-'
-    )
+    b <= b' ' && matches!(b, b' ' | b'\t' | b'\r' | b'\n')
 }
 
 fn word_len(bytes: &[u8]) -> usize
@@ -81,6 +74,18 @@ fn number_len(bytes: &[u8]) -> usize
     }
 }
 
+// How many bytes the number at the front has, or 0 where none begins or it may have an exponent.
+fn plain_number_len(bytes: &[u8]) -> usize
+    ensures value { result ≡ plain_number_len bytes.now }
+    ensures in_range { result ≤ length bytes.now }
+{
+    let mantissa = mantissa_len(bytes);
+    match &bytes[mantissa..] {
+        [b'E' | b'e', ..] => 0,
+        _ => mantissa,
+    }
+}
+
 // Whether a quote at this place behind the opening one closes: no backslash stands directly before it.
 fn closes(bytes: &[u8], end: usize) -> bool
     requires { end ≤ length bytes.now }
@@ -103,6 +108,24 @@ fn text_len(bytes: &[u8]) -> Option<usize>
         at = end + 1;
     }
     None
+}
+
+/// How many blanks are at the front, and how many LF are among them.
+#[inline(always)]
+pub fn leading_blanks(bytes: &[u8]) -> (usize, usize)
+    ensures count { result.0 ≡ prefix_len is_blank bytes.now }
+    ensures line_feeds { result.1 ≡ line_feeds (take result.0 bytes.now) }
+    ensures in_range { (result.1 ≤ result.0) × (result.0 ≤ length bytes.now) }
+{
+    let mut count = 0;
+    let mut feeds = 0;
+    while count < bytes.len() && is_blank(bytes[count]) {
+        if bytes[count] == b'\n' {
+            feeds += 1;
+        }
+        count += 1;
+    }
+    (count, feeds)
 }
 
 /// How many bytes of blanks and comments stand at the front.
@@ -145,5 +168,24 @@ pub fn token_at(bytes: &[u8]) -> Option<(Kind, usize)>
             0 => None,
             n => Some((Kind::Number, n)),
         },
+    }
+}
+
+/// The kind of the token at the front and how many bytes it has, if it is a word, a mark, or a number that begins with a digit and
+/// has no exponent.
+#[tactic(auto, unfolding(crate::specs::Reading::Scanner::plain_token_at))]
+#[inline(always)]
+pub fn plain_token_at(bytes: &[u8]) -> Option<(Kind, usize)>
+    ensures value { result ≡ plain_token_at bytes.now }
+    ensures in_range { IfSome result (λ t. t.1 ≤ length bytes.now) }
+{
+    match bytes {
+        [mark, ..] if is_mark(*mark) => Some((Kind::Mark, 1)),
+        [digit, ..] if is_digit(*digit) => match plain_number_len(bytes) {
+            0 => None,
+            n => Some((Kind::Number, n)),
+        },
+        [letter, rest @ ..] if is_letter(*letter) => Some((Kind::Word, 1 + word_len(rest))),
+        _ => None,
     }
 }

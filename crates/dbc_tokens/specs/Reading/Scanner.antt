@@ -67,6 +67,24 @@ token_at (b ∷ bytes) =
     else (if is_mark b then Some (Mark, 1)
     else (let n = number_len (b ∷ bytes) in if n == 0 then None else Some (Number, n))))
 
+-- an `E` begins here, of whatever is an exponent or only looks like one
+abbrev pub begins_exponent : List ℕ → Bool
+begins_exponent [] = false
+begins_exponent (b ∷ bytes) = is_exponent_mark b
+
+-- how many bytes a number at the front has, or 0 where none begins or an `E` may begin its exponent
+abbrev pub plain_number_len : List ℕ → ℕ
+plain_number_len bytes = let mantissa = mantissa_len bytes in if begins_exponent (drop mantissa bytes) then 0 else mantissa
+
+-- the token at the front, if it is a word, a mark, or a number that begins with a digit and has no exponent
+unfoldable pub plain_token_at : List ℕ → Option (Kind × ℕ)
+plain_token_at [] = None
+plain_token_at (b ∷ bytes) =
+    if is_mark b then Some (Mark, 1)
+    else (if is_digit b then (let n = plain_number_len (b ∷ bytes) in if n == 0 then None else Some (Number, n))
+    else (if is_letter b then Some (Word, 1 + prefix_len is_word_byte bytes)
+    else None))
+
 -- ---- the text
 
 -- the token that was found at the front, and then what `go` finds behind it

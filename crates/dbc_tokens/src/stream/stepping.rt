@@ -1,31 +1,34 @@
 //! The steps from one token to the next.
-ghost use Rattle.std.specs.Prelude.{◌≡◌, ◌≤◌, length};
+ghost use Rattle.std.specs.Prelude.{◌≡◌, ◌≤◌, length, is_some, MatchOption};
 ghost use Rattle.std.specs.Iterator.{YieldsFirstBy, item_count};
-ghost use Rattle.dbc_tokens.specs.Tokens.{IsToken, line_feeds};
+ghost use Rattle.dbc_tokens.specs.Tokens.{◌▸◌, IsToken, line_feeds};
 ghost use Rattle.dbc_tokens.specs.Reading.Scanner.{cut_of};
-ghost use Rattle.dbc_tokens.specs.Views.{left, cut_from, item, items, NothingAfter};
+ghost use Rattle.dbc_tokens.specs.Views.{left, token_of, cut_from, plain_comes, item, items, NothingAfter};
 
 use crate::fault::{Cause, ReadFault};
-use crate::lengths::{gap_len, token_at};
+use crate::lengths::{gap_len, leading_blanks, plain_token_at, token_at};
 use crate::stream::Tokens;
 use crate::token::{Kind, Next, Token};
+use memchr::memchr;
 
-fn line_feeds(bytes: &[u8]) -> usize
+fn count_line_feeds(bytes: &[u8]) -> usize
     ensures value { result ≡ line_feeds bytes.now }
     ensures in_range { result ≤ length bytes.now }
 {
     bytes.iter().filter(|b| **b == b'\n').count()
 }
 
-// How many LF a gap holds. Most gaps are nothing or a blank, and aren't looked through.
-#[inline(always)]
-fn gap_line_feeds(gap: &[u8]) -> usize
-    ensures value { result ≡ line_feeds gap.now }
-    ensures in_range { result ≤ length gap.now }
+// How many LF these bytes hold. Most gaps and strings hold none, which a search finds out faster than counting.
+fn line_feeds(bytes: &[u8]) -> usize
+    ensures value { result ≡ line_feeds bytes.now }
+    ensures in_range { result ≤ length bytes.now }
 {
-    match gap {
-        [] | [b' '] => 0,
-        _ => line_feeds(gap),
+    match memchr(b'\n', bytes) {
+        Some(first) => {
+            let (_, rest) = bytes.split_at(first);
+            count_line_feeds(rest)
+        }
+        None => 0,
     }
 }
 
@@ -51,30 +54,60 @@ impl<'a> Tokens<'a> {
         }
     }
 
-    /// What comes next, and the tokens that are left behind it: for a reader that looks at one token at a time.
+    /// What comes next, and the tokens that are left after it: for a reader that looks at one token at a time.
     #[inline(always)]
     pub fn advance(self) -> (Next<'a>, Tokens<'a>)
         ensures next { left self.entry ≡ cut_from result.0 (left result.1) }
         ensures last { NothingAfter result.0 (left result.1) }
     {
+        let mut after = self;
+        match after.take_plain() {
+            Some(token) => (Next::Token(token), after),
+            None => {
+                let next = after.take_next();
+                (next, after)
+            }
+        }
+    }
+
+    /// Takes the token that comes next, if only blanks are before it and it is a word, a mark, or a number that begins with a digit
+    /// and has no exponent; takes nothing otherwise. It is a short [`Tokens::take_next`] for most tokens.
+    #[inline(always)]
+    pub fn take_plain(&mut self) -> Option<Token<'a>>
+        ensures token { MatchOption result (self.new ≡ self.old) (λ t. left self.old ≡ token_of t ▸ left self.new) }
+        ensures exact { is_some result ≡ plain_comes self.old }
+    {
+        let (blanks, feeds) = leading_blanks(self.rest);
+        let (_, rest) = self.rest.split_at(blanks);
+        let (kind, len) = plain_token_at(rest)?;
+        let line = self.line + feeds as u64;
+        let (bytes, rest) = rest.split_at(len);
+        *self = Tokens { rest, line };
+        Some(Token { kind, bytes, line })
+    }
+
+    /// Takes what comes next: for a reader that looks at one token at a time.
+    #[inline(never)]
+    pub fn take_next(&mut self) -> Next<'a>
+        ensures next { left self.old ≡ cut_from result (left self.new) }
+        ensures last { NothingAfter result (left self.new) }
+    {
         let (gap, rest) = self.rest.split_at(gap_len(self.rest));
-        let line = self.line + gap_line_feeds(gap) as u64;
+        let line = self.line + line_feeds(gap) as u64;
         match token_at(rest) {
             Some((kind, len)) => {
                 let (bytes, rest) = rest.split_at(len);
                 let after = line + token_line_feeds(kind, bytes) as u64;
-                (
-                    Next::Token(Token { kind, bytes, line }),
-                    Tokens { rest, line: after },
-                )
+                *self = Tokens { rest, line: after };
+                Next::Token(Token { kind, bytes, line })
             }
             None => {
-                let next = if rest.is_empty() {
+                *self = Tokens { rest: &[], line };
+                if rest.is_empty() {
                     Next::End(line)
                 } else {
                     Next::Fault(line)
-                };
-                (next, Tokens { rest: &[], line })
+                }
             }
         }
     }
@@ -88,9 +121,10 @@ impl<'a> Iterator for Tokens<'a> {
     ghost remaining = { item_count (λ tokens. items (left tokens)) };
 
     fn next(&mut self) -> Option<Result<Token<'a>, ReadFault>> {
-        let (next, left) = self.advance();
-        *self = left;
-        match next {
+        if let Some(token) = self.take_plain() {
+            return Some(Ok(token));
+        }
+        match self.take_next() {
             Next::Token(token) => Some(Ok(token)),
             Next::End(_) => None,
             Next::Fault(line) => Some(Err(ReadFault {
