@@ -1,6 +1,7 @@
 //! A place in a text: the token that stands there, and the tokens behind it.
 ghost use Rattle.std.specs.Prelude.{◌≡◌, false};
 ghost use Rattle.dbc_tokens.specs.Reading.Scanner.{cut_of};
+ghost use Rattle.dbc_tokens.specs.Views.{left};
 ghost use Rattle.dbc_reader.specs.Classes.{has_word, has_mark, has_name, has_symbol, has_string, has_piece, has_number};
 ghost use Rattle.dbc_reader.specs.Reading.Cursors.{left_at, behind};
 ghost use Rattle.dbc_reader.specs.Reading.Keywords.{keyword_at};
@@ -49,13 +50,27 @@ impl<'t> Cursor<'t> {
         Ok(token)
     }
 
-    /// Goes behind the token that stands here, and stays where none does. Callers don't take it in: so the next token is made where
-    /// it stays, and isn't handed over by memory.
+    /// Moves past the token here, or stays if there is none. It isn't inlined, and makes most tokens in place, without a call.
+    #[tactic(auto, unfolding(crate::specs::Reading::Cursors::left_at))]
     #[inline(never)]
     pub fn step(&mut self)
         ensures { left_at self.new ≡ behind (left_at self.old) }
     {
-        *self = self.behind();
+        if let Next::Token(_) = self.next {
+            match self.after.take_plain() {
+                Some(token) => self.next = Next::Token(token),
+                None => self.take_up(),
+            }
+        }
+    }
+
+    // Moves to what comes next, whatever that is. It isn't inlined, so that `step` saves no registers for it.
+    #[tactic(auto, unfolding(crate::specs::Reading::Cursors::left_at))]
+    #[inline(never)]
+    fn take_up(&mut self)
+        ensures { left_at self.new ≡ left self.old.after }
+    {
+        self.next = self.after.take_next();
     }
 
     /// The place behind the token that stands here; this place where none does.

@@ -1,6 +1,6 @@
 -- A token after blanks alone, which begins with a letter, a digit or a mark.
-use Rattle.std.proofs.Common.{◌≡◌, ℕ, suc, ◌+◌, Bool, true, false, not, ◌&&◌, cond, eqb, List, [], ◌∷◌, take, drop, Option, Some, None}
-use Rattle.std.proofs.Common.{refl, sym, ap, ◌∙◌, arith, inl, inr}
+use Rattle.std.proofs.Common.{◌≡◌, ℕ, suc, ◌+◌, Bool, true, false, not, ◌&&◌, cond, eqb, List, [], ◌∷◌, take, drop}
+use Rattle.std.proofs.Common.{Option, Some, None, refl, sym, ap, ◌∙◌, arith, inl, inr}
 use Rattle.std.specs.Prelude.{codes}
 use Rattle.std.specs.List.{prefix_len}
 use Rattle.std.proofs.lemmas.Bool.{cases_Bool, cond-true, cond-false, and_parts, not-true, ne_eqb, eqb-false}
@@ -98,8 +98,8 @@ unfolding token_at
 marked b s t is m = plain b s t (mark_plain b m) (rw (no_quote b (mark_plain b m), mark_no_letter b m, m) (sym is)) (λ text.
     let same : Mark ≡ Text = sym (ap kind_of is) ∙ text in cc)
 
-number : (b : ℕ) (s : List ℕ) (t : Kind × ℕ) (n : ℕ) → n ≡ plain_number_len (b ∷ s) → Some t ≡ cond (eqb n 0) None (Some (Number, n))
-    → is_mark b ≡ false → is_digit b ≡ true → Plain (b ∷ s) t
+number : (b : ℕ) (s : List ℕ) (t : Kind × ℕ) (n : ℕ) → n ≡ plain_number_len (b ∷ s)
+    → Some t ≡ cond (eqb n 0) None (Some (Number, n)) → is_mark b ≡ false → is_digit b ≡ true → Plain (b ∷ s) t
 unfolding token_at
 number b s t n n_is is m d =
     elim (cases_Bool (eqb n 0)) [
