@@ -11,6 +11,8 @@ mod decoding;
 #[cfg(test)]
 mod diagnostics;
 #[cfg(test)]
+mod entries;
+#[cfg(test)]
 mod frames;
 #[cfg(test)]
 mod keys;
