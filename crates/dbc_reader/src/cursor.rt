@@ -59,15 +59,27 @@ impl<'t> Cursor<'t> {
         if let Next::Token(_) = self.next {
             match self.after.take_plain() {
                 Some(token) => self.next = Next::Token(token),
-                None => self.take_up(),
+                None => self.step_to_text(),
             }
         }
     }
 
-    // Moves to what comes next, whatever that is. It isn't inlined, so that `step` saves no registers for it.
+    // Moves to what comes next, a string in most cases. It isn't inlined, so that `step` saves no registers for it.
     #[tactic(auto, unfolding(crate::specs::Reading::Cursors::left_at))]
     #[inline(never)]
-    fn take_up(&mut self)
+    fn step_to_text(&mut self)
+        ensures { left_at self.new ≡ left self.old.after }
+    {
+        match self.after.take_line_text() {
+            Some(token) => self.next = Next::Token(token),
+            None => self.step_to_any(),
+        }
+    }
+
+    // Moves to what comes next, whatever that is.
+    #[tactic(auto, unfolding(crate::specs::Reading::Cursors::left_at))]
+    #[inline(never)]
+    fn step_to_any(&mut self)
         ensures { left_at self.new ≡ left self.old.after }
     {
         self.next = self.after.take_next();

@@ -8,6 +8,7 @@ pub mod Gaps
 pub mod CutStep
 pub mod LineFeeds
 mod PlainTokens
+mod LineTexts
 pub mod CutLaws
 pub mod Spots
 pub mod Places

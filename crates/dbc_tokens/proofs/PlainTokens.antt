@@ -77,10 +77,10 @@ plain_number s n is some =
 -- ---- the token at the front
 
 -- the token here is this one, with no gap before it and no line feed in it
-record Plain (s : List ℕ) (t : Kind × ℕ) : Type 0 where
-  token : token_at s ≡ Some t
-  gap : gap_len false s ≡ 0
-  feeds : line_feeds (take t.1 s) ≡ 0
+pub record Plain (s : List ℕ) (t : Kind × ℕ) : Type 0 where
+  pub token : token_at s ≡ Some t
+  pub gap : gap_len false s ≡ 0
+  pub feeds : line_feeds (take t.1 s) ≡ 0
 
 plain : (b : ℕ) (s : List ℕ) (t : Kind × ℕ) → is_plain b ≡ true → token_at (b ∷ s) ≡ Some t → (t.0 ≡ Text → ⊥) → Plain (b ∷ s) t
 plain b s t is token other = record {
@@ -117,7 +117,7 @@ unfolding token_at
 word b s t is l = plain b s t (letter_plain b l) (rw (no_quote b (letter_plain b l), l) (sym is)) (λ text. let same : Word ≡ Text =
     sym (ap kind_of is) ∙ text in cc)
 
-plain_there : (s : List ℕ) (t : Kind × ℕ) → Some t ≡ plain_token_at s → Plain s t
+pub plain_there : (s : List ℕ) (t : Kind × ℕ) → Some t ≡ plain_token_at s → Plain s t
 unfolding plain_token_at
 plain_there [] t e = absurd cc
 plain_there (b ∷ s) t e =
@@ -136,14 +136,13 @@ plain_there (b ∷ s) t e =
           ]
     ]
 
--- ---- the step over a plain token
+-- ---- the step over such a token
 
-pub cut_plain : (line : ℕ) (text : List ℕ) (n feeds : ℕ) (rest bytes others : List ℕ) (t : Kind × ℕ)
-    → n ≡ prefix_len is_blank text → feeds ≡ line_feeds (take n text) → rest ≡ drop n text → Some t ≡ plain_token_at rest
+pub cut_at : (line : ℕ) (text : List ℕ) (n feeds : ℕ) (rest bytes others : List ℕ) (t : Kind × ℕ) → Plain rest t
+    → n ≡ prefix_len is_blank text → feeds ≡ line_feeds (take n text) → rest ≡ drop n text
     → bytes ≡ take t.1 rest → others ≡ drop t.1 rest
     → cut_of line text ≡ record { kind = t.0; bytes = bytes; line = line + feeds } ▸ cut_of (line + feeds) others
-cut_plain line text n feeds rest bytes others t n_is feeds_is rest_is t_is bytes_is others_is =
-    let p = plain_there rest t t_is in
+cut_at line text n feeds rest bytes others t p n_is feeds_is rest_is bytes_is others_is =
     let none : gap_len false (drop (prefix_len is_blank text) text) ≡ 0 = rw (← n_is, ← rest_is) p.gap in
     let gap : n ≡ gap_len false text = omega (arith, n_is, none, gap_len-blanks text) in
     let no_feeds : 0 ≡ line_feeds bytes = rw bytes_is (sym p.feeds) in

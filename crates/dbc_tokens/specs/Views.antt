@@ -9,7 +9,7 @@ use Rattle.dbc_tokens.specs.declared.token.Next.TheVariants as nexts
 use Rattle.dbc_tokens.specs.declared.token.Token as tokens
 use Rattle.dbc_tokens.specs.declared.stream.Tokens.{Tokens}
 use Rattle.dbc_tokens.specs.Tokens.{Token, Cut, End, Fault, ◌▸◌}
-use Rattle.dbc_tokens.specs.Reading.Scanner.{plain_token_at, cut_of}
+use Rattle.dbc_tokens.specs.Reading.Scanner.{line_text_at, plain_token_at, cut_of}
 
 -- a token without where it lies in memory
 abbrev pub token_of : tokens.Token → Token
@@ -22,6 +22,10 @@ left t = cut_of t.line t.rest.now
 -- only blanks are before what comes next, and that is a word, a mark, or a number that begins with a digit and has no exponent
 abbrev pub plain_comes : Tokens → Bool
 plain_comes t = is_some (plain_token_at (drop (prefix_len is_blank t.rest.now) t.rest.now))
+
+-- only blanks are before what comes next, and that is a string that ends at its first quote and in the line in which it begins
+abbrev pub line_text_comes : Tokens → Bool
+line_text_comes t = is_some (line_text_at (drop (prefix_len is_blank t.rest.now) t.rest.now))
 
 -- what comes next, and then these
 abbrev pub cut_from : Next → Cut → Cut

@@ -3,12 +3,12 @@ ghost use Rattle.std.specs.Prelude.{◌≡◌, ◌-◌, ◌<◌, ◌≤◌, fals
 ghost use Rattle.std.specs.List.{prefix_len};
 ghost use Rattle.dbc_values.specs.Lexical.{backslash, is_blank, is_letter, is_word_byte, is_mark, is_digit};
 ghost use Rattle.dbc_tokens.specs.Reading.Scanner.{gap_len, text_len, mantissa_len, sign_len, exponent_len, number_len, token_at};
-ghost use Rattle.dbc_tokens.specs.Reading.Scanner.{plain_number_len, plain_token_at};
+ghost use Rattle.dbc_tokens.specs.Reading.Scanner.{line_text_len, line_text_at, plain_number_len, plain_token_at};
 ghost use Rattle.dbc_tokens.specs.Tokens.{line_feeds};
 
 use crate::token::Kind;
 use dbc_values::{digits_len, is_digit, is_letter, is_mark, is_word_byte};
-use memchr::memchr;
+use memchr::{memchr, memchr2};
 
 fn is_blank(b: u8) -> bool
     ensures { result ≡ is_blank b }
@@ -110,6 +110,20 @@ fn text_len(bytes: &[u8]) -> Option<usize>
     None
 }
 
+// How many bytes are before the first quote, if that closes and no LF is before it.
+#[inline(never)]
+fn line_text_len(bytes: &[u8]) -> Option<usize>
+    ensures value { result ≡ line_text_len bytes.now }
+    ensures in_range { IfSome result (λ n. n < length bytes.now) }
+{
+    let end = memchr2(b'"', b'\n', bytes)?;
+    if bytes[end] == b'"' && closes(bytes, end) {
+        Some(end)
+    } else {
+        None
+    }
+}
+
 /// How many blanks are at the front, and how many LF are among them.
 #[inline(always)]
 pub fn leading_blanks(bytes: &[u8]) -> (usize, usize)
@@ -186,6 +200,22 @@ pub fn plain_token_at(bytes: &[u8]) -> Option<(Kind, usize)>
             n => Some((Kind::Number, n)),
         },
         [letter, rest @ ..] if is_letter(*letter) => Some((Kind::Word, 1 + word_len(rest))),
+        _ => None,
+    }
+}
+
+/// The kind of the string at the front and how many bytes it has, if it ends at its first quote and in the line in which it begins.
+#[tactic(auto, unfolding(crate::specs::Reading::Scanner::line_text_at))]
+#[inline(always)]
+pub fn line_text_at(bytes: &[u8]) -> Option<(Kind, usize)>
+    ensures value { result ≡ line_text_at bytes.now }
+    ensures in_range { IfSome result (λ t. t.1 ≤ length bytes.now) }
+{
+    match bytes {
+        [b'"', text @ ..] => match line_text_len(text) {
+            Some(n) => Some((Kind::Text, 2 + n)),
+            None => None,
+        },
         _ => None,
     }
 }

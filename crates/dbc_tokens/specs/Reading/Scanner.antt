@@ -1,7 +1,7 @@
 -- The tokens of a text as a function of it, from left to right: how long the gap at the front is, how long the token
 -- behind it is, and so on with the rest. What these tokens are is told apart from it, in `Tokens`.
-use Rattle.std.specs.Prelude.{ℕ, zero, suc, ◌+◌, Bool, true, false, ◌&&◌, not, ◌==◌, if◌then◌else◌, List, [], ◌∷◌, length, take}
-use Rattle.std.specs.Prelude.{drop, Option, Some, None}
+use Rattle.std.specs.Prelude.{ℕ, zero, suc, ◌+◌, ◌-◌, Bool, true, false, ◌&&◌, ◌||◌, not, ◌==◌, if◌then◌else◌, List, [], ◌∷◌}
+use Rattle.std.specs.Prelude.{length, take, drop, slice_index, Option, Some, None}
 use Rattle.std.specs.List.{prefix_len}
 use Rattle.std.specs.Option.{option_map}
 use Rattle.dbc_values.specs.Lexical.{quote, point, slash, backslash, is_blank, is_line_feed, is_digit, is_letter, is_word_byte}
@@ -84,6 +84,17 @@ plain_token_at (b ∷ bytes) =
     else (if is_digit b then (let n = plain_number_len (b ∷ bytes) in if n == 0 then None else Some (Number, n))
     else (if is_letter b then Some (Word, 1 + prefix_len is_word_byte bytes)
     else None))
+
+-- how many bytes stand before the first quote, if that closes and stands in the same line
+abbrev pub line_text_len : List ℕ → Option ℕ
+line_text_len bytes =
+    let n = prefix_len (λ b. not (b == quote || is_line_feed b)) bytes in
+    if slice_index bytes n == quote && (n == 0 || not (slice_index bytes (n - 1) == backslash)) then Some n else None
+
+-- the string at the front, if it ends at its first quote and in the line in which it begins
+unfoldable pub line_text_at : List ℕ → Option (Kind × ℕ)
+line_text_at [] = None
+line_text_at (b ∷ bytes) = if b == quote then option_map (λ n. (Text, 2 + n)) (line_text_len bytes) else None
 
 -- ---- the text
 

@@ -3,10 +3,10 @@ ghost use Rattle.std.specs.Prelude.{◌≡◌, ◌≤◌, length, is_some, Match
 ghost use Rattle.std.specs.Iterator.{YieldsFirstBy, item_count};
 ghost use Rattle.dbc_tokens.specs.Tokens.{◌▸◌, IsToken, line_feeds};
 ghost use Rattle.dbc_tokens.specs.Reading.Scanner.{cut_of};
-ghost use Rattle.dbc_tokens.specs.Views.{left, token_of, cut_from, plain_comes, item, items, NothingAfter};
+ghost use Rattle.dbc_tokens.specs.Views.{left, token_of, cut_from, plain_comes, line_text_comes, item, items, NothingAfter};
 
 use crate::fault::{Cause, ReadFault};
-use crate::lengths::{gap_len, leading_blanks, plain_token_at, token_at};
+use crate::lengths::{gap_len, leading_blanks, line_text_at, plain_token_at, token_at};
 use crate::stream::Tokens;
 use crate::token::{Kind, Next, Token};
 use memchr::memchr;
@@ -81,6 +81,22 @@ impl<'a> Tokens<'a> {
         let (_, rest) = self.rest.split_at(blanks);
         let (kind, len) = plain_token_at(rest)?;
         let line = self.line + feeds as u64;
+        let (bytes, rest) = rest.split_at(len);
+        *self = Tokens { rest, line };
+        Some(Token { kind, bytes, line })
+    }
+
+    /// Takes the string that comes next, if only blanks are before it and it ends at its first quote and in the line in which it
+    /// begins; takes nothing otherwise. It is a short [`Tokens::take_next`] for most strings.
+    #[inline(always)]
+    pub fn take_line_text(&mut self) -> Option<Token<'a>>
+        ensures token { MatchOption result (self.new ≡ self.old) (λ t. left self.old ≡ token_of t ▸ left self.new) }
+        ensures exact { is_some result ≡ line_text_comes self.old }
+    {
+        let (blanks, lines) = leading_blanks(self.rest);
+        let (_, rest) = self.rest.split_at(blanks);
+        let (kind, len) = line_text_at(rest)?;
+        let line = self.line + lines as u64;
         let (bytes, rest) = rest.split_at(len);
         *self = Tokens { rest, line };
         Some(Token { kind, bytes, line })
