@@ -74,7 +74,10 @@ fn place_of(order: EntryOrder, entries: &[Entry], raw: i128) -> usize
     ensures parted { IsPartitionPoint (λ entry. precedes order entry.number raw ≡ true)
         (λ entry. precedes order entry.number raw ≡ false) entries.now result }
 {
-    entries.partition_point(|entry| order.precedes(entry.number, raw))
+    match order {
+        EntryOrder::Rising => entries.partition_point(|entry| entry.number < raw),
+        EntryOrder::Falling => entries.partition_point(|entry| entry.number > raw),
+    }
 }
 
 fn has_number(entry: &Entry, raw: i128) -> bool
