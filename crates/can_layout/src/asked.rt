@@ -1,6 +1,6 @@
 //! What was asked last of a switch.
 
-/// What was found of the switch that was asked last, so that the signals under one switch take its bits from data once.
+/// What was found of the switch that was asked last, so that signals in a row under one switch take its bits from data once.
 #[derive(Clone, Copy, Debug, PartialEq, Eq)]
 pub(crate) struct Asked {
     /// The place of the switch.

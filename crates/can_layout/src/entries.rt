@@ -25,7 +25,7 @@ type Places = BTreeMap<i128, usize>;
 /// How entries are found by their numbers, where there are many.
 #[derive(Drop)]
 pub(crate) enum EntrySearch {
-    /// By halves: the numbers are in an order.
+    /// By binary search: the numbers are in an order.
     Ordered(EntryOrder),
     /// By their places.
     Indexed(Places),

@@ -4,13 +4,13 @@ use can_mux::Above;
 use dbc_values::Memory;
 use std::alloc::Global;
 
-// A multiplexing chain of at most so many links is followed anew for each run of signals.
-const FEW: usize = 4;
+// A multiplexing chain of at most so many links is followed anew each time.
+const MAX_LINKS_FOLLOWED: usize = 1;
 
-// Whether the chain of a signal has more links than a few.
+// Whether the chain of a signal has more links.
 fn is_deep(aboves: &[Above], place: usize) -> bool {
     let mut current = place;
-    for _passed in 0..FEW + 1 {
+    for _passed in 0..MAX_LINKS_FOLLOWED + 1 {
         match aboves.get(current) {
             Some(Above::Switch(link)) => current = link.switch,
             _ => return false,
@@ -43,8 +43,8 @@ fn push_way(
     Ok(())
 }
 
-/// If some chain has many links, the indexes of the switches that have a parent multiplexor, each after that of its parent; else
-/// none. It doesn't change what is found, but how often the same chain is followed.
+/// If some chain has more links than one, the indexes of the switches that have a parent multiplexor, each after that of its
+/// parent; else none. It doesn't change what is found, but how often the same chain is followed.
 pub(crate) fn order_of(alloc: Global, aboves: &[Above]) -> Result<Vec<usize>, Memory> {
     let mut order = Vec::new(alloc);
     if !(0..aboves.len()).any(|place| is_deep(aboves, place)) {

@@ -36,7 +36,7 @@ pub struct Plan {
     labels: Vec<ReadyText>,
     // What stands above the signals.
     aboves: Rc<List<Above>>,
-    // If some chain has many links: the indexes of the switches that have a parent multiplexor, each after that of its parent.
+    // If some chain has more links than one: the indexes of the switches that have a parent multiplexor, each after its parent's.
     order: Vec<usize>,
     // Whether no signal has a switch above it, as in most messages.
     plain: bool,
@@ -344,8 +344,8 @@ impl Plan {
         }
     }
 
-    /// If some chain has many links: the indexes of the switches that have a parent multiplexor, each after that of its parent.
-    /// Else it is empty.
+    /// If some chain has more links than one: the indexes of the switches that have a parent multiplexor, each after that of its
+    /// parent. Else it is empty.
     pub(crate) fn order(&self) -> &[usize] {
         self.order.as_slice()
     }

@@ -9,8 +9,8 @@ use dbc_values::Memory;
 use std::alloc::Global;
 use std::marker::Model;
 
-/// Which signals of a message are there in data. If chains are long, each switch is looked for once, so the work is that of a few
-/// links a signal.
+/// Which signals of a message are there in data. Where multiplexors have parents, each of these switches is looked for once, so the
+/// work is that of one link a signal.
 #[derive(Drop)]
 pub struct Presence<'a> {
     plan: &'a Plan,
@@ -61,7 +61,7 @@ fn look_for(known: &mut [Option<bool>], plan: &Plan, place: usize, bytes: &[u8])
     }
 }
 
-// Looks for the switches of a plan in its order. It isn't inlined, since few plans have such an order.
+// Looks for the switches of a plan in its order. It isn't inlined, since few plans have an order.
 #[cold]
 #[inline(never)]
 fn known_of(alloc: Global, plan: &Plan, bytes: &[u8]) -> Result<Vec<Option<bool>>, Memory>
@@ -75,7 +75,7 @@ fn known_of(alloc: Global, plan: &Plan, bytes: &[u8]) -> Result<Vec<Option<bool>
 }
 
 impl<'a> Presence<'a> {
-    /// Which signals of a plan are there in data. It takes memory if chains are long.
+    /// Which signals of a plan are there in data. It takes memory if a multiplexor has a parent.
     pub fn of(alloc: Global, plan: &'a Plan, bytes: &'a [u8]) -> Result<Presence<'a>, Memory>
         ensures { IfOk result (λ presence. presence ≡ record { bytes = bytes.now; rows = plan.now.rows }) }
     {
