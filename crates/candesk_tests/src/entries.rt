@@ -10,8 +10,8 @@ use dbc_values::Memory;
 use std::alloc::Global;
 use std::test::Fail;
 
-// Signals whose numbers rise, fall, are in no order, rise but for one that is repeated, and, signed, fall: seventeen of each. Then
-// sixteen that rise, and sixteen that fall but for one that is repeated.
+// Signals whose numbers rise, fall, are in no order, rise except for one that is repeated, and, signed, fall: seventeen of each.
+// Then sixteen that rise, and sixteen that fall except for one that is repeated.
 const SEVEN: &[u8] = b"\
 BU_: N
 BO_ 5 A: 7 N
