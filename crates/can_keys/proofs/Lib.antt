@@ -1,3 +1,4 @@
 pub mod MixedKeys
 pub mod SameKeys
 pub mod Ranks
+pub mod Runs

@@ -142,13 +142,13 @@ module _ {X : Type 0} (number : X → ℕ) where
         (λ i j d le within. up (suc i) (suc j) d (omega arith) (omega arith)),
   )
 
-  pub rises_from : (first : ℕ) (xs : List X) → IsNonDecreasingBy number xs
-      → AllWithin (λ x. ltb (number x) 1 ≡ false) xs first (length xs) → RisesFrom number 1 (drop first xs)
-  rises_from first xs up high =
-      rises 1 (drop first xs) (λ k d within.
+  pub rises_from : (low first : ℕ) (xs : List X) → IsNonDecreasingBy number xs
+      → AllWithin (λ x. ltb (number x) low ≡ false) xs first (length xs) → RisesFrom number low (drop first xs)
+  rises_from low first xs up high =
+      rises low (drop first xs) (λ k d within.
       let long = length-drop first xs in
       let here = get_or-drop first xs k d in
-      let one = ltb-false _ 1 (high (first + k) d (omega arith) (omega arith)) in
+      let one = ltb-false _ low (high (first + k) d (omega arith) (omega arith)) in
       omega (arith, ap number here)) (IsNonDecreasingBy-drop number first xs up)
 
 -- ---- ranks

@@ -5,14 +5,17 @@
 #![tactic(auto)]
 
 mod apart;
+mod hashed_signals;
 mod integers;
 mod key;
 mod keys;
 mod mix;
 mod names;
+mod numbered_signals;
 mod numbers;
 mod row_keys;
 mod signal_names;
+mod signal_search;
 mod sorted;
 
 pub use apart::all_differ;

@@ -1,12 +1,12 @@
 //! Signals by the numbers of their messages and their names.
-ghost use Rattle.std.specs.Prelude.{◌≡◌, All, map, IfOk};
+ghost use Rattle.std.specs.Prelude.{◌≡◌, map, IfOk};
 ghost use Rattle.std.specs.List.{list_any};
 ghost use Rattle.std.specs.List.Sorted.{IsPermutation};
-ghost use Rattle.can_keys.specs.Mixes.{mixed_bytes};
 ghost use Rattle.can_keys.specs.SignalNames.{same_signal, named_signal};
 
-use crate::mix::{Mixed, mixed_bytes};
-use crate::sorted::Sorted;
+use crate::hashed_signals::HashedSignals;
+use crate::numbered_signals::NumberedSignals;
+use crate::signal_search::SignalSearch;
 use dbc_values::Memory;
 use std::alloc::Global;
 use std::marker::Model;
@@ -14,46 +14,16 @@ use std::marker::Model;
 /// Signals, in any order: the number of the message, and the signal's name.
 #[derive(Drop)]
 pub struct SignalNames<'a> {
-    keys: Sorted<Mixed<(u32, &'a [u8])>>,
+    search: SignalSearch<'a>,
 }
 
 impl<'a> Model for SignalNames<'a> {
-    ghost use Rattle.std.specs.Prelude.{◌≡◌, ℕ, List, All, map};
-    ghost use Rattle.can_keys.specs.Mixes.{mixed_bytes};
-    ghost use Rattle.can_keys.specs.SignalNames.{named_signal};
+    ghost use Rattle.std.specs.Prelude.{ℕ, List};
+    ghost use Rattle.can_keys.specs.SignalSearches.{searched_signals};
 
     ghost Value = { List (ℕ × List ℕ) };
 
-    ghost view = { λ names. map (λ mixed. named_signal mixed.key) names.keys };
-
-    ghost invariant = { λ names. All (λ mixed. mixed.mix ≡ mixed_bytes mixed.key.0 mixed.key.1.now) names.keys };
-}
-
-// The signal behind its number.
-fn mixed<'a>(key: (u32, &'a [u8])) -> Mixed<(u32, &'a [u8])>
-    ensures number { result.key.0 ≡ key.entry.0 }
-    ensures name { result.key.1.now ≡ key.entry.1.now }
-    ensures mix { result.mix ≡ mixed_bytes key.entry.0 key.entry.1.now }
-{
-    Mixed {
-        mix: mixed_bytes(u64::from(key.0), key.1),
-        key,
-    }
-}
-
-// The signals behind their numbers.
-fn mixed_all<'a>(
-    alloc: Global,
-    signals: &[(u32, &'a [u8])],
-) -> Result<Vec<Mixed<(u32, &'a [u8])>>, Memory>
-    ensures keys { IfOk result (λ keys. map (λ mixed. named_signal mixed.key) keys.items ≡ map named_signal signals.now) }
-    ensures mixes { IfOk result (λ keys. All (λ mixed. mixed.mix ≡ mixed_bytes mixed.key.0 mixed.key.1.now) keys.items) }
-{
-    let mut keys = Vec::with_capacity(alloc, signals.len())?;
-    for signal in signals {
-        keys.push(mixed(*signal))?;
-    }
-    Ok(keys)
+    ghost view = { λ names. searched_signals names.search };
 }
 
 impl<'a> SignalNames<'a> {
@@ -61,8 +31,13 @@ impl<'a> SignalNames<'a> {
     pub fn of(alloc: Global, signals: &[(u32, &'a [u8])]) -> Result<SignalNames<'a>, Memory>
         ensures { IfOk result (λ made. IsPermutation (map named_signal signals.now) made) }
     {
+        if let Some(numbered) = NumberedSignals::of(alloc, signals)? {
+            return Ok(SignalNames {
+                search: SignalSearch::ByNumber(numbered),
+            });
+        }
         Ok(SignalNames {
-            keys: Sorted::of(mixed_all(alloc, signals)?),
+            search: SignalSearch::ByHash(HashedSignals::of(alloc, signals)?),
         })
     }
 
@@ -70,6 +45,9 @@ impl<'a> SignalNames<'a> {
     pub fn has(&self, key: (u32, &'a [u8])) -> bool
         ensures { result ≡ list_any (same_signal (key.entry.0, key.entry.1.now)) self.now }
     {
-        self.keys.has(mixed(key))
+        match &self.search {
+            SignalSearch::ByNumber(signals) => signals.has(key),
+            SignalSearch::ByHash(signals) => signals.has(key),
+        }
     }
 }

@@ -20,7 +20,7 @@ returns g c =
     let rest : take (length keys - first) (drop first keys) ≡ drop first keys
     = take_all (length keys - first) (drop first keys) (omega arith) in
     record {
-      rises = subst (RisesFrom number 1) (sym rest) (rises_from number first keys up point.1);
+      rises = subst (RisesFrom number 1) (sym rest) (rises_from number 1 first keys up point.1);
       all = ap (count_by same) rest
           ∙ all_from same number (same_rank g.met.K.Ord.total g.met.K.Ord.matches_eq c.args.key) first keys
           c.partition_point-first.ensures.bound point.0

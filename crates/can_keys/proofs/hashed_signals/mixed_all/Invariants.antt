@@ -2,7 +2,7 @@ use Rattle.std.proofs.Common.{◌≡◌, map, take}
 use Rattle.std.specs.List.{All}
 use Rattle.can_keys.specs.Mixes.{mixed_bytes}
 use Rattle.can_keys.specs.SignalNames.{named_signal}
-use Rattle.can_keys.proofs.signal_names.mixed_all.Given as goal
+use Rattle.can_keys.proofs.hashed_signals.mixed_all.Given as goal
 
 -- the signals so far
 abbrev pub invariant-loop-signal : goal.invariant-loop-signal

@@ -2,7 +2,7 @@ use Rattle.std.proofs.Common.{ap, ◌∙◌}
 use Rattle.std.specs.List.{list_any}
 use Rattle.can_keys.specs.SignalNames.{same_signal, named_signal}
 use Rattle.can_keys.proofs.MixedKeys.{any_alike, signals_alike}
-use Rattle.can_keys.proofs.signal_names.SignalNames.has.Goals as goal
+use Rattle.can_keys.proofs.hashed_signals.HashedSignals.has.Goals as goal
 
 pub returns : goal.returns
 returns c =
