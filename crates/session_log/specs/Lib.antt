@@ -1,4 +1,5 @@
 pub mod Places
+pub mod Keyed
 pub mod Indexes
 pub mod Logs
 pub mod Kept

@@ -4,6 +4,7 @@
 //! new texts without memory.
 #![tactic(auto)]
 
+mod keyed;
 mod keyed_serials;
 mod line;
 mod log;

@@ -1,15 +1,14 @@
 //! The retained lines by the numbers and by the parameter groups of their data frames.
-ghost use Rattle.std.specs.Prelude.{◌≡◌, ◌<◌, ◌^◌, [], OnOk, OnErr, option_map};
+ghost use Rattle.std.specs.Prelude.{◌≡◌, [], OnOk, OnErr};
 ghost use Rattle.std.specs.Option.{option_map_or};
 ghost use Rattle.can_rows.specs.Groups.{is_extended, group_number_of};
 ghost use Rattle.edit_reach.specs.Touched.{may_have_group};
-ghost use Rattle.session_log.specs.Indexes.{numbers_in, HasRoomFor, SameSerials, Puts, Drops, serials_of, IsIndexed};
+ghost use Rattle.session_log.specs.Indexes.{numbers_in, SameSerials, Puts, Drops, serials_of, IsIndexed};
 
-use crate::keyed_serials::{KeyedSerials, Serials, drop_first, make_room, put};
+use crate::keyed::{KeyedSerials, Serials};
 use can_decode::group_number;
 use dbc_values::Memory;
 use edit_reach::{is_extended, may_have_group};
-use indexmap::IndexMap;
 use std::alloc::Global;
 
 /// The serial numbers of lines by the numbers of their data frames, and of those with identifiers of 29 bits by their groups. A
@@ -26,31 +25,8 @@ impl LogIndex {
         ensures { IsIndexed 0 [] result }
     {
         LogIndex {
-            numbers: IndexMap::new(alloc),
-            groups: IndexMap::new(alloc),
-        }
-    }
-
-    // Makes room for one more line with a data frame of the number. Nothing changes, whether there is memory or not.
-    fn make_room(&mut self, number: u32) -> Result<(), Memory>
-        ensures same { SameSerials self.old self.new }
-        ensures room { OnOk result (HasRoomFor number self.new) }
-    {
-        make_room(&mut self.numbers, number)?;
-        if is_extended(number) {
-            make_room(&mut self.groups, group_number(number))?;
-        }
-        Ok(())
-    }
-
-    // Puts the serial number of a line with a data frame of the number behind the others. It takes no memory.
-    fn put(&mut self, alloc: Global, number: u32, serial: usize)
-        requires { HasRoomFor number self.old }
-        ensures { Puts number serial self.old self.new }
-    {
-        put(alloc, &mut self.numbers, number, serial);
-        if is_extended(number) {
-            put(alloc, &mut self.groups, group_number(number), serial);
+            numbers: KeyedSerials::new(alloc),
+            groups: KeyedSerials::new(alloc),
         }
     }
 
@@ -59,8 +35,14 @@ impl LogIndex {
         ensures ok { OnOk result (Puts number serial self.old self.new) }
         ensures err { OnErr result (SameSerials self.old self.new) }
     {
-        self.make_room(number)?;
-        self.put(alloc, number, serial);
+        self.numbers.add(alloc, number, serial)?;
+        if is_extended(number) {
+            let grouped = self.groups.add(alloc, group_number(number), serial);
+            if grouped.is_err() {
+                self.numbers.drop_last(number);
+            }
+            return grouped;
+        }
         Ok(())
     }
 
@@ -68,9 +50,9 @@ impl LogIndex {
     pub(crate) fn drop_first(&mut self, number: u32)
         ensures { Drops number self.old self.new }
     {
-        drop_first(&mut self.numbers, number);
+        self.numbers.drop_first(number);
         if is_extended(number) {
-            drop_first(&mut self.groups, group_number(number));
+            self.groups.drop_first(group_number(number));
         }
     }
 
@@ -79,9 +61,9 @@ impl LogIndex {
         ensures { option_map_or (λ serials. numbers_in serials.now) result [] ≡ serials_of number self.now }
     {
         if may_have_group(number) {
-            self.groups.get(&group_number(number))
+            self.groups.get(group_number(number))
         } else {
-            self.numbers.get(&number)
+            self.numbers.get(number)
         }
     }
 }
