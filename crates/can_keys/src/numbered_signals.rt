@@ -2,6 +2,7 @@
 ghost use Rattle.std.specs.Prelude.{◌≡◌, ◌↔◌, IsTrue, IfOk, IfSome, map};
 ghost use Rattle.std.specs.List.{list_any};
 ghost use Rattle.std.specs.List.Sorted.{IsPermutation, IsNonDecreasingBy};
+ghost use Rattle.std.specs.Str.{bytes_eq};
 ghost use Rattle.can_keys.specs.KeySets.{RisesFrom};
 ghost use Rattle.can_keys.specs.SignalNames.{same_signal, named_signal};
 ghost use Rattle.can_keys.specs.SignalRuns.{message_number, is_signal, StartsAt, DifferAfter};
@@ -11,7 +12,7 @@ use std::alloc::Global;
 use std::marker::Model;
 
 // The names of at most so many signals are compared one after another. For more of them a hash costs less.
-const LINEAR_SEARCH_LIMIT: usize = 16;
+const LINEAR_SEARCH_LIMIT: usize = 32;
 
 /// Signals in the order of their message numbers, at most [`LINEAR_SEARCH_LIMIT`] of each number.
 #[derive(Drop)]
@@ -66,6 +67,22 @@ fn from_number<'s, 'a>(signals: &'s [(u32, &'a [u8])], number: u32) -> &'s [(u32
     &signals[first..]
 }
 
+// Whether both are the same bytes. Names of one message mostly differ in their lengths or their last bytes, so these are
+// compared first.
+#[inline(always)]
+fn same_name(name: &[u8], other: &[u8]) -> bool
+    ensures { result ≡ bytes_eq name.now other.now }
+{
+    let length = name.len();
+    if length != other.len() {
+        return false;
+    }
+    if length > 0 && name[length - 1] != other[length - 1] {
+        return false;
+    }
+    same(name, other)
+}
+
 // Whether the first signals, which are those of the number, have one of the name.
 fn starts_with_signal(signals: &[(u32, &[u8])], number: u32, name: &[u8]) -> bool
     requires { RisesFrom message_number number signals.now }
@@ -75,7 +92,7 @@ fn starts_with_signal(signals: &[(u32, &[u8])], number: u32, name: &[u8]) -> boo
         if signal.0 != number {
             return false;
         }
-        if same(name, signal.1) {
+        if same_name(name, signal.1) {
             return true;
         }
     }
