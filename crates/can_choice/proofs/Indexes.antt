@@ -4,8 +4,6 @@ use Rattle.std.proofs.Common.{Option, Some, None, cond, nat_lt, position, slice_
 use Rattle.std.proofs.Common.{◌∙◌, arith}
 use Rattle.std.specs.Option.{option_map, option_or, is_some}
 use Rattle.std.specs.List.{position_or_len}
-use Rattle.std.specs.Ordering.{nat_cmp}
-use Rattle.std.specs.BTreeMap.{BTreeMap, get}
 use Rattle.std.proofs.lemmas.List.{take_more, length-take-le}
 use Rattle.std.proofs.lemmas.Option.{slice_get_read}
 use Rattle.std.proofs.lemmas.List.Folds.{position_or_len_push}
@@ -14,6 +12,7 @@ use Rattle.dbc_records.specs.Databases.{Database}
 use Rattle.can_rows.specs.Groups.{group_of}
 use Rattle.can_choice.proofs.Groups.{has_group}
 use Rattle.can_choice.specs.Choices.{has_number, in_group, is_group, choice_at, choice_of, place_of_number}
+use Rattle.can_choice.specs.FirstChoices.{first_choice}
 use Rattle.can_choice.specs.Remembering.{AreChoices}
 use Rattle.can_choice.specs.declared.choosing.Choice.{Choice}
 use Rattle.std.proofs.lemmas.List.Sums.{prefix_len-le-length}
@@ -80,10 +79,10 @@ module _ (database : Database) (place : ℕ) (message : Message) (within : place
   -- one more message
   pub more : (messages : List Message) → messages ≡ database.messages → (group : Option ℕ)
       → group ≡ group_of message.head.number database
-      → (exact grouped exact_now grouped_now : BTreeMap ℕ Choice) → AreChoices database (take place messages) exact grouped
-      → ((other : ℕ) → get nat_cmp exact_now other ≡ option_or (get nat_cmp exact other) (if message.head.number == other then Some
-      (record { place = place; group = is_some group }) else None))
-      → ((other : ℕ) → get nat_cmp grouped_now other ≡ option_or (get nat_cmp grouped other) (if is_group other group then Some
+      → (exact grouped exact_now grouped_now : List (ℕ × Choice)) → AreChoices database (take place messages) exact grouped
+      → ((other : ℕ) → first_choice other exact_now ≡ option_or (first_choice other exact) (if message.head.number == other then
+      Some (record { place = place; group = is_some group }) else None))
+      → ((other : ℕ) → first_choice other grouped_now ≡ option_or (first_choice other grouped) (if is_group other group then Some
       (record { place = place; group = is_some group }) else None))
       → AreChoices database (take (place + 1) messages) exact_now grouped_now
   more messages all group is exact grouped exact_now grouped_now before by_number by_group =

@@ -1,11 +1,10 @@
 -- What is remembered of choices, and what an index of the messages has at each number and at each group.
 use Rattle.std.specs.Prelude.{◌≡◌, ℕ, List, Option, position}
 use Rattle.std.specs.Option.{option_map}
-use Rattle.std.specs.Ordering.{nat_cmp}
-use Rattle.std.specs.BTreeMap.{BTreeMap, get}
 use Rattle.dbc_records.specs.Records.{Message}
 use Rattle.dbc_records.specs.Databases.{Database}
 use Rattle.can_choice.specs.Choices.{has_number, in_group, choice_at, choice_of}
+use Rattle.can_choice.specs.FirstChoices.{first_choice}
 use Rattle.can_choice.specs.declared.choosing.Choice.{Choice}
 use Rattle.can_choice.specs.declared.message_index.MessageIndex.{MessageIndex}
 use Rattle.can_choice.specs.declared.remembered.Entry.{Entry}
@@ -23,9 +22,9 @@ abbrev pub first_of_group : Database → List Message → ℕ → Option Choice
 first_of_group database messages group = option_map (choice_at database) (position (in_group database group) messages)
 
 -- the index has the first of these messages at each number, and at each group
-pub record AreChoices (database : Database) (messages : List Message) (exact grouped : BTreeMap ℕ Choice) : Type 0 where
-  pub of_numbers : (number : ℕ) → get nat_cmp exact number ≡ first_numbered database messages number
-  pub of_groups : (group : ℕ) → get nat_cmp grouped group ≡ first_of_group database messages group
+pub record AreChoices (database : Database) (messages : List Message) (exact grouped : List (ℕ × Choice)) : Type 0 where
+  pub of_numbers : (number : ℕ) → first_choice number exact ≡ first_numbered database messages number
+  pub of_groups : (group : ℕ) → first_choice group grouped ≡ first_of_group database messages group
 
 -- the index has the first message of each number, and of each group
 abbrev pub IsIndexOf : Database → MessageIndex → Type 0

@@ -51,7 +51,7 @@ impl<'a> Choices<'a> {
             None) }
     {
         if number >> 31 & 1 == 1 {
-            self.index.grouped.get(&group_number(number)).copied()
+            self.index.grouped.get(group_number(number))
         } else {
             None
         }
@@ -62,8 +62,8 @@ impl<'a> Choices<'a> {
     fn find(&self, number: u32) -> Option<Choice>
         ensures { result ≡ choice_of self.now number }
     {
-        match self.index.exact.get(&number) {
-            Some(choice) => Some(*choice),
+        match self.index.exact.get(number) {
+            Some(choice) => Some(choice),
             None => self.of_group(number),
         }
     }

@@ -7,6 +7,7 @@
 mod choice;
 mod choices;
 mod choosing;
+mod first_choices;
 mod message_index;
 mod remembered;
 

@@ -1,3 +1,4 @@
+use Rattle.std.proofs.Common.{◌≡◌, sym, ◌∙◌}
 use Rattle.compiled_database.proofs.recompiling.parts_after.Goals as goal
 
 pub merged-requires : goal.merged-requires
@@ -8,3 +9,10 @@ merged-requires c = rw (
   c.after.ensures,
   c.after-2.ensures,
 ) c.in_ok-kept.ensures
+
+pub returns-clause-made : goal.returns-clause-made
+returns-clause-made c = rw (
+  ← c.numbers.ensures,
+  ← c.after-2.ensures,
+  ← c.messages_of-messages.ensures,
+) c.merged.ensures.made

@@ -4,4 +4,4 @@ use Rattle.can_choice.proofs.message_index.MessageIndex.by.Given as goal
 
 -- the first of the messages so far
 abbrev pub invariant-loop-place : goal.invariant-loop-place
-invariant-loop-place g l = AreChoices (g.L.Lookup.whole l.lookup) (take l.place l.message-items) l.exact l.grouped
+invariant-loop-place g l = AreChoices (g.L.Lookup.whole l.lookup) (take l.place l.messages) l.by_number.items l.by_group.items
