@@ -1,5 +1,7 @@
 mod Words
 pub mod Digits
+mod Lanes
+mod DigitLanes
 mod Runs
 mod LineWords
 mod Stamps

@@ -1,6 +1,6 @@
 -- Lines as most are.
 use Rattle.std.proofs.Common.{◌≡◌, ℕ, ◌+◌, ◌<◌, ◌||◌, Bool, true, false, true≢false, not, List, [], ◌∷◌, ◌++◌, length, take}
-use Rattle.std.proofs.Common.{drop, length-append, take-append-drop, Some, Ok, inl, refl, sym, ap, subst, ◌∙◌, arith}
+use Rattle.std.proofs.Common.{drop, length-append, take-append-drop, Some, inl, refl, sym, ap, subst, ◌∙◌, arith}
 use Rattle.std.specs.List.{list_any, AllByRecursion}
 use Rattle.std.specs.Result.{result_ok}
 use Rattle.std.proofs.lemmas.List.{append-nil, append_assoc}
@@ -100,10 +100,10 @@ usual_stamp body seconds point_on fraction closing_on blank_on behind first seco
 -- ---- the word of the frame
 
 usual_frame_text : (rest digits pairs bytes : List ℕ) (identifier : Identifier) → rest ≡ digits ++ number_sign ∷ pairs
-    → length pairs ≡ 16 → identifier_of digits ≡ Some identifier → decode_of pairs ≡ Ok bytes
+    → length pairs ≡ 16 → identifier_of digits ≡ Some identifier → result_ok (decode_of pairs) ≡ Some bytes
     → IsFrameText rest (frame_with identifier (record { kind = Classic; digits = pairs }) bytes)
 usual_frame_text rest digits pairs bytes identifier parts sixteen is_identifier decodes =
-    let spelled = bytes_found pairs bytes (ap result_ok decodes) in
+    let spelled = bytes_found pairs bytes decodes in
     record {
       identifier = identifier;
       kind = Classic;
@@ -133,7 +133,7 @@ word_told rest frame is =
 -- an identifier, `#` and eight bytes that end the line are the word of a frame
 pub usual_word : (rest front digits pairs bytes : List ℕ) (identifier : Identifier) (at : ℕ) → front ≡ take at rest
     → pairs ≡ drop at rest → length front + 16 ≡ length rest → front ≡ digits ++ number_sign ∷ []
-    → identifier_of digits ≡ Some identifier → decode_of pairs ≡ Ok bytes
+    → identifier_of digits ≡ Some identifier → result_ok (decode_of pairs) ≡ Some bytes
     → frame_of_word (first_word rest) ≡ Some (frame_with identifier (record { kind = Classic; digits = pairs }) bytes)
 usual_word rest front digits pairs bytes identifier at front_is pairs_are long marked is_identifier decodes =
     let whole : front ++ pairs ≡ rest = ap (λ front. front ++ pairs) front_is ∙ ap (λ pairs. take at rest ++ pairs) pairs_are

@@ -13,7 +13,7 @@ use crate::form::{Form, form_of};
 use crate::frame::{Frame, Kind};
 use crate::identifier::{Identifier, identifier_of};
 use crate::line::{behind_interface, body_of, first_word};
-use crate::pairs::bytes_of_pairs;
+use crate::pairs::bytes_of_sixteen;
 use arrayvec::ArrayVec;
 
 // How many bytes stand before the first `#`.
@@ -132,7 +132,7 @@ fn fill_usual(frame: &mut Frame, rest: &[u8]) -> bool
     let Some(identifier) = identifier_of(digits) else {
         return false;
     };
-    let Some(eight) = bytes_of_pairs::<16, 8>(data) else {
+    let Some(eight) = bytes_of_sixteen(data) else {
         return false;
     };
     become_classic(frame, identifier, &eight);
