@@ -9,6 +9,7 @@ use Rattle.std.proofs.lemmas.Simd.{zip2_splat, zip2_of_maps, splat_is_map, tops_
 use lib.Lanes.{zip2, pick_l, mask_l, top}
 use Rattle.hex.specs.Hex.{hex_digit_value, digit_or_error, decode_pairs, decode_of, ◌>>=◌}
 use Rattle.hex.specs.declared.error.FromHexError.{FromHexError}
+use Rattle.log_frames.proofs.Digits.{hex_small}
 use Rattle.log_frames.proofs.Lanes.{further, same_lanes, added, differs}
 
 -- what a lane is worth: nothing, if it has one of the four high bits
@@ -41,7 +42,7 @@ values_read f bytes is fits all =
     (agree_below_at (λ b. same_worth (worth (f b)) (hex_digit_value b)) (λ b. true) 256 b all within)) bytes fits
 
 -- the bytes of pairs of values, if all are there
-abbrev pair_told : Option ℕ → Option ℕ → Option (List ℕ) → Option (List ℕ)
+abbrev pub pair_told : Option ℕ → Option ℕ → Option (List ℕ) → Option (List ℕ)
 pair_told (Some high) (Some low) (Some bytes) = Some ((high * 16 + low) ∷ bytes)
 pair_told (Some high) (Some low) None = None
 pair_told (Some high) None bytes = None
@@ -114,9 +115,6 @@ none_told (high ∷ low ∷ lanes) some = go (eqb (bit_and high 240) 0) (eqb (bi
     go false u some later = refl
     go true false some later = refl
     go true true some later = rw (later (grind (arith, some))) refl
-
-hex_small : (digit value : ℕ) → hex_digit_value digit ≡ Some value → value < 16
-hex_small digit value is = grind (arith, is)
 
 lane_small : (value digit : ℕ) → worth value ≡ hex_digit_value digit → eqb (bit_and value 240) 0 ≡ true → value < 16
 lane_small value digit same none = hex_small digit value (sym same ∙ ap (λ t. cond t (Some value) None) none)

@@ -2,6 +2,7 @@ mod Words
 pub mod Digits
 mod Lanes
 mod DigitLanes
+mod Pieces
 mod Runs
 mod LineWords
 mod Stamps

@@ -18,28 +18,13 @@ pub struct Identifier {
     pub number: u32,
 }
 
-// The bytes that digits spell.
-#[inline(always)]
-fn decoded<const D: usize, const N: usize>(digits: &[u8; D]) -> Option<[u8; N]>
-    requires { D ≡ 2 * N }
-    ensures { result ≡ result_ok (decode_of digits.now) }
-{
-    let usual = bytes_of_pairs(digits);
-    if usual.is_some() {
-        return usual;
-    }
-    let mut bytes = [0u8; N];
-    hex::decode_to_slice(digits.as_slice(), &mut bytes).ok()?;
-    Some(bytes)
-}
-
 #[tactic(auto, unfolding(crate::specs::Frames::of_three_digits))]
 #[inline(always)]
 fn of_three_digits(a: u8, b: u8, c: u8) -> Option<Identifier>
     ensures value { option_map identifier_view result ≡ of_three_digits (a ∷ b ∷ c ∷ []) }
     ensures valid { IfSome result IsIdentifier }
 {
-    let bytes = decoded::<4, 2>(&[b'0', a, b, c])?;
+    let bytes = bytes_of_pairs::<4, 2>(&[b'0', a, b, c])?;
     let number = u16::from_be_bytes(bytes);
     if number > 2047 {
         return None;
@@ -57,7 +42,7 @@ fn of_eight_digits(digits: &[u8; 8]) -> Option<Identifier>
     ensures value { option_map identifier_view result ≡ of_eight_digits digits.now }
     ensures valid { IfSome result IsIdentifier }
 {
-    let bytes = decoded::<8, 4>(digits)?;
+    let bytes = bytes_of_pairs::<8, 4>(digits)?;
     let word = u32::from_be_bytes(bytes);
     Some(Identifier {
         extended: true,

@@ -26,7 +26,7 @@ static VALUES: [u8; 256] = [
 // The value of a digit.
 #[inline(always)]
 fn digit_value(digit: u8) -> Option<u8>
-    ensures value { IfSome result (λ value. hex_digit_value digit ≡ Some value) }
+    ensures value { result ≡ hex_digit_value digit }
     ensures small { IfSome result (λ value. value < 16) }
 {
     let value = VALUES[digit as usize];
@@ -36,7 +36,7 @@ fn digit_value(digit: u8) -> Option<u8>
 // The byte that two digits spell.
 #[inline(always)]
 fn pair_of(high: u8, low: u8) -> Option<u8>
-    ensures { IfSome result (λ byte. (index : ℕ) → pair_value high low index ≡ Ok byte) }
+    ensures { (index : ℕ) → result ≡ result_ok (pair_value high low index) }
 {
     let Some(above) = digit_value(high) else {
         return None;
@@ -47,11 +47,11 @@ fn pair_of(high: u8, low: u8) -> Option<u8>
     Some(above * 16 + below)
 }
 
-/// The bytes that pairs of digits spell, where each of them is a digit.
+/// The bytes that pairs of digits spell.
 #[inline(always)]
 pub fn bytes_of_pairs<const D: usize, const N: usize>(digits: &[u8; D]) -> Option<[u8; N]>
     requires { D ≡ 2 * N }
-    ensures { IfSome result (λ bytes. decode_of digits.now ≡ Ok bytes) }
+    ensures { result ≡ result_ok (decode_of digits.now) }
 {
     let mut out = [0u8; N];
     'bytes: for i in 0..N {

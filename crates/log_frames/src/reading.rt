@@ -1,5 +1,5 @@
 //! Reading of a line's frame: first where its identifier and the digits of its bytes stand, and then the bytes.
-ghost use Rattle.std.specs.Prelude.{◌≡◌, ℕ, [], ◌∷◌, ◌++◌, ◌*◌, ◌<◌, ◌≤◌, true, Some, None, Ok, length, option_map};
+ghost use Rattle.std.specs.Prelude.{◌≡◌, ℕ, [], ◌∷◌, ◌++◌, ◌+◌, ◌*◌, ◌<◌, ◌≤◌, true, Some, None, Ok, length, option_map};
 ghost use Rattle.std.specs.Prelude.{option_and_then, not, IfSome, ◌==◌, if◌then◌else◌};
 ghost use Rattle.std.specs.List.{prefix_len};
 ghost use Rattle.std.specs.Result.{result_ok};
@@ -13,7 +13,7 @@ use crate::form::{Form, form_of};
 use crate::frame::{Frame, Kind};
 use crate::identifier::{Identifier, identifier_of};
 use crate::line::{behind_interface, body_of, first_word};
-use crate::pairs::bytes_of_sixteen;
+use crate::pairs::{bytes_of_pairs, bytes_of_sixteen};
 use arrayvec::ArrayVec;
 
 // How many bytes stand before the first `#`.
@@ -24,15 +24,51 @@ fn identifier_len(word: &[u8]) -> usize
     word.iter().take_while(|b| **b != b'#').count()
 }
 
+// Appends bytes, for which there is room.
+#[inline(always)]
+fn push_bytes<const N: usize>(bytes: &mut ArrayVec<u8, 64>, more: &[u8; N])
+    requires { length bytes.old.items + N ≤ 64 }
+    ensures { bytes.new.items ≡ bytes.old.items ++ more.now }
+{
+    let _ = bytes.try_extend_from_slice(more.as_slice());
+}
+
+// Appends the bytes that digits spell, pair by pair, and answers whether all of them are pairs of digits.
+#[inline(always)]
+fn push_pairs(bytes: &mut ArrayVec<u8, 64>, digits: &[u8]) -> bool
+    requires { 2 * length bytes.old.items + length digits.now ≤ 128 }
+    ensures { (if result then Some bytes.new.items else None) ≡ option_map (λ more. bytes.old.items ++ more) (result_ok (decode_of digits.now)) }
+{
+    let mut rest = digits;
+    'pairs: while let Some((pair, behind)) = rest.split_first_chunk::<2>() {
+        let Some(one) = bytes_of_pairs::<2, 1>(pair) else {
+            return false;
+        };
+        push_bytes(bytes, &one);
+        rest = behind;
+    }
+    rest.is_empty()
+}
+
 // The bytes that at most 128 digits spell.
 fn bytes_of(digits: &[u8]) -> Option<ArrayVec<u8, 64>>
     requires { length digits.now ≤ 128 }
     ensures { option_map (λ bytes. bytes.items) result ≡ result_ok (decode_of digits.now) }
 {
-    let mut bytes = ArrayVec::from([0; 64]);
-    bytes.truncate(digits.len() / 2);
-    hex::decode_to_slice(digits, bytes.as_mut_slice()).ok()?;
-    Some(bytes)
+    let mut bytes = ArrayVec::new();
+    let mut rest = digits;
+    'sixteens: while let Some((sixteen, behind)) = rest.split_first_chunk::<16>() {
+        let Some(eight) = bytes_of_sixteen(sixteen) else {
+            return None;
+        };
+        push_bytes(&mut bytes, &eight);
+        rest = behind;
+    }
+    if push_pairs(&mut bytes, rest) {
+        Some(bytes)
+    } else {
+        None
+    }
 }
 
 // What a frame is whose form is of this kind.

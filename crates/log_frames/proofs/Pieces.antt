@@ -1,0 +1,107 @@
+-- Hexadecimal digits read piece by piece.
+use Rattle.std.proofs.Common.{◌≡◌, ℕ, ◌+◌, ◌-◌, ◌*◌, ◌/◌, ◌%◌, ◌<◌, ◌==◌, true, cond, List, [], ◌∷◌, ◌++◌, length, take, drop, map, length-append}
+use Rattle.std.proofs.Common.{Option, Some, None, take-append-drop, refl, sym, ap, ◌∙◌, arith, inl, inr, eq-eqb}
+use Rattle.std.specs.Prelude.{option_map}
+use Rattle.std.specs.Result.{result_ok}
+use Rattle.std.proofs.lemmas.Bool.{cases_eq}
+use Rattle.std.proofs.lemmas.List.{append_assoc, append-nil, length-map, map-append}
+use Rattle.hex.specs.Hex.{hex_digit_value, decode_of}
+use Rattle.log_frames.proofs.DigitLanes.{pair_told, told, decodes}
+
+none_behind : (high low : Option ℕ) → pair_told high low None ≡ None
+none_behind None low = refl
+none_behind (Some high) None = refl
+none_behind (Some high) (Some low) = refl
+
+odd_told : (half : ℕ) (values : List (Option ℕ)) → length values ≡ 2 * half + 1 → told values ≡ None
+odd_told half [] odd = absurd (omega (arith, odd))
+odd_told half (value ∷ []) odd = refl
+odd_told half (high ∷ low ∷ values) odd =
+    ap (pair_told high low) (odd_told (half - 1) values (omega (arith, odd))) ∙ none_behind high low
+
+-- digits spell what their values do; an odd one spells nothing
+pub all_decode : (digits : List ℕ) → result_ok (decode_of digits) ≡ told (map hex_digit_value digits)
+all_decode digits =
+    elim (cases_eq (length digits % 2) 1) [
+      | inl odd ↦
+          let is : (length digits % 2 == 1) ≡ true = eq-eqb (length digits % 2) 1 odd in
+          rw is (sym (odd_told (length digits / 2) (map hex_digit_value digits) (omega (arith, odd, length-map digits hex_digit_value))))
+      | inr even ↦ decodes digits (omega (arith, even))
+    ]
+
+-- bytes, and then others
+abbrev pub both : Option (List ℕ) → Option (List ℕ) → Option (List ℕ)
+both (Some front) (Some rest) = Some (front ++ rest)
+both (Some front) None = None
+both None rest = None
+
+both_nil : (rest : Option (List ℕ)) → rest ≡ both (Some []) rest
+both_nil (Some rest) = refl
+both_nil None = refl
+
+both_more : (front next : List ℕ) (rest : Option (List ℕ)) → both (Some front) (both (Some next) rest) ≡ both (Some (front ++ next)) rest
+both_more front next (Some rest) = ap Some (sym (append_assoc front next rest))
+both_more front next None = refl
+
+pair_both : (high low : Option ℕ) (front rest : Option (List ℕ)) → pair_told high low (both front rest) ≡ both (pair_told high low front) rest
+pair_both None low front rest = refl
+pair_both (Some high) None front rest = refl
+pair_both (Some high) (Some low) None rest = refl
+pair_both (Some high) (Some low) (Some front) None = refl
+pair_both (Some high) (Some low) (Some front) (Some rest) = refl
+
+told_append : (half : ℕ) (front rest : List (Option ℕ)) → length front ≡ 2 * half → told (front ++ rest) ≡ both (told front) (told rest)
+told_append half [] rest even = both_nil (told rest)
+told_append half (value ∷ []) rest even = absurd (omega (arith, even))
+told_append half (high ∷ low ∷ front) rest even =
+    ap (pair_told high low) (told_append (half - 1) front rest (omega (arith, even))) ∙ pair_both high low (told front) (told rest)
+
+-- ---- a loop over digits: the bytes that were read, and what the digits that are left spell
+
+abbrev pub so_far : List ℕ → List ℕ → Option (List ℕ)
+so_far bytes rest = both (Some bytes) (told (map hex_digit_value rest))
+
+pub starts : (digits : List ℕ) → so_far [] digits ≡ result_ok (decode_of digits)
+starts digits = sym (both_nil (told (map hex_digit_value digits))) ∙ sym (all_decode digits)
+
+piece_told : (half : ℕ) (rest piece behind : List ℕ) → piece ≡ take (2 * half) rest → behind ≡ drop (2 * half) rest
+    → length behind + 2 * half ≡ length rest
+    → told (map hex_digit_value rest) ≡ both (result_ok (decode_of piece)) (told (map hex_digit_value behind))
+piece_told half rest piece behind front back long =
+    let whole : piece ++ behind ≡ rest = ap (λ piece. piece ++ behind) front ∙ ap (λ behind. take (2 * half) rest ++ behind) back
+    ∙ take-append-drop (2 * half) rest in
+    let piece_long : length (map hex_digit_value piece) ≡ 2 * half =
+    let both_long = ap length whole in omega (arith, both_long, length-append piece behind, long, length-map piece hex_digit_value) in
+    ap (λ digits. told (map hex_digit_value digits)) (sym whole) ∙ ap told (map-append hex_digit_value piece behind)
+    ∙ told_append half (map hex_digit_value piece) (map hex_digit_value behind) piece_long
+    ∙ ap (λ front. both front (told (map hex_digit_value behind))) (sym (all_decode piece))
+
+module _ (half : ℕ) (bytes rest piece behind : List ℕ) {all : Option (List ℕ)} (is : so_far bytes rest ≡ all)
+    (front : piece ≡ take (2 * half) rest) (back : behind ≡ drop (2 * half) rest) (long : length behind + 2 * half ≡ length rest) where
+  -- one piece more is read
+  pub goes_on : (more : List ℕ) → Some more ≡ result_ok (decode_of piece) → so_far (bytes ++ more) behind ≡ all
+  goes_on more read =
+      sym (both_more bytes more (told (map hex_digit_value behind)))
+      ∙ ap (both (Some bytes)) (ap (λ front. both front (told (map hex_digit_value behind))) read
+      ∙ sym (piece_told half rest piece behind front back long)) ∙ is
+
+  -- one spells nothing, so all of them don't
+  pub fails : None ≡ result_ok (decode_of piece) → None ≡ all
+  fails none =
+      ap (both (Some bytes)) (ap (λ front. both front (told (map hex_digit_value behind))) none
+      ∙ sym (piece_told half rest piece behind front back long)) ∙ is
+
+-- less than a pair is left
+pub ends : (bytes rest : List ℕ) {all : Option (List ℕ)} → so_far bytes rest ≡ all → length rest < 2
+    → cond (length rest == 0) (Some bytes) None ≡ all
+ends bytes [] is short = ap Some (sym (append-nil bytes)) ∙ is
+ends bytes (digit ∷ []) is short = is
+ends bytes (digit ∷ other ∷ rest) is short = absurd (omega (arith, short))
+
+pub told_behind : (bytes digits : List ℕ) → so_far bytes digits ≡ option_map (λ more. bytes ++ more) (result_ok (decode_of digits))
+told_behind bytes digits = go (told (map hex_digit_value digits)) (all_decode digits)
+  where
+    go : (more : Option (List ℕ)) → result_ok (decode_of digits) ≡ more
+        → both (Some bytes) more ≡ option_map (λ more. bytes ++ more) (result_ok (decode_of digits))
+    go None is = rw is refl
+    go (Some more) is = rw is refl
