@@ -1,6 +1,8 @@
 -- Digits sixteen at a time, as lanes of a vector.
-use Rattle.std.proofs.Common.{◌≡◌, ℕ, ◌+◌, ◌-◌, ◌*◌, ◌%◌, ◌^◌, ◌<◌, bit_and, eqb, eqb-true, eq-eqb, Bool, true, false, true≢false, not}
-use Rattle.std.proofs.Common.{cond, List, [], ◌∷◌, ◌++◌, length, get_or, drop, map, replicate, Option, Some, None, Result, Ok, Err, Fits}
+use Rattle.std.proofs.Common.{◌≡◌, ℕ, ◌+◌, ◌-◌, ◌*◌, ◌%◌, ◌^◌, ◌<◌, bit_and, eqb, eqb-true, eq-eqb, Bool, true, false}
+use Rattle.std.proofs.Common.{true≢false, not}
+use Rattle.std.proofs.Common.{cond, List, [], ◌∷◌, ◌++◌, length, get_or, drop, map, replicate, Option, Some, None, Result, Ok}
+use Rattle.std.proofs.Common.{Err, Fits}
 use Rattle.std.proofs.Common.{w8, refl, sym, ap, subst, ◌∙◌, arith}
 use Rattle.std.specs.Result.{result_ok}
 use Rattle.std.proofs.lemmas.Bool.{agree_below, agree_below_at}

@@ -1,5 +1,6 @@
 -- Vectors, each of whose lanes is computed from one byte.
-use Rattle.std.proofs.Common.{◌≡◌, ℕ, ◌+◌, ◌-◌, ◌%◌, ◌^◌, ◌<◌, suc, ltb, eqb, Bool, not, cond, List, [], ◌∷◌, length, get_or, map, Fits, w8}
+use Rattle.std.proofs.Common.{◌≡◌, ℕ, ◌+◌, ◌-◌, ◌%◌, ◌^◌, ◌<◌, suc, ltb, eqb, Bool, not, cond, List, [], ◌∷◌, length, get_or}
+use Rattle.std.proofs.Common.{map, Fits, w8}
 use Rattle.std.proofs.Common.{refl, ap, ap₂, ◌∙◌, arith}
 use Rattle.std.proofs.lemmas.Simd.{map-map}
 use Rattle.std.proofs.lemmas.List.{take_all}
@@ -32,7 +33,8 @@ chosen t f g bytes marks ones others = rw (marks, ones, others) (chosen_lanes t 
 pub same_lanes : {A : Type 0} (f g : ℕ → A) → ((b : ℕ) → b < 256 → f b ≡ g b) → (bytes : List ℕ)
     → ((k : ℕ) → Fits w8 (get_or bytes k 0)) → map f bytes ≡ map g bytes
 same_lanes f g agree [] fits = refl
-same_lanes f g agree (b ∷ bytes) fits = ap₂ (λ one more. one ∷ more) (agree b (fits 0).fits) (same_lanes f g agree bytes (λ k. fits (suc k)))
+same_lanes f g agree (b ∷ bytes) fits = ap₂ (λ one more. one ∷ more) (agree b (fits 0).fits) (same_lanes f g agree bytes (λ k.
+    fits (suc k)))
 
 -- wrapping operations on bytes, and a comparison
 abbrev pub added : ℕ → ℕ → ℕ

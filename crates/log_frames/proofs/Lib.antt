@@ -10,4 +10,5 @@ mod Hexadecimals
 mod Identifiers
 mod Tails
 mod Grammar
+mod UsualStamps
 mod UsualLines

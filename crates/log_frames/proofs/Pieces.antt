@@ -1,5 +1,6 @@
 -- Hexadecimal digits read piece by piece.
-use Rattle.std.proofs.Common.{◌≡◌, ℕ, ◌+◌, ◌-◌, ◌*◌, ◌/◌, ◌%◌, ◌<◌, ◌==◌, true, cond, List, [], ◌∷◌, ◌++◌, length, take, drop, map, length-append}
+use Rattle.std.proofs.Common.{◌≡◌, ℕ, ◌+◌, ◌-◌, ◌*◌, ◌/◌, ◌%◌, ◌<◌, ◌==◌, true, cond, List, [], ◌∷◌, ◌++◌, length, take, drop}
+use Rattle.std.proofs.Common.{map, length-append}
 use Rattle.std.proofs.Common.{Option, Some, None, take-append-drop, refl, sym, ap, ◌∙◌, arith, inl, inr, eq-eqb}
 use Rattle.std.specs.Prelude.{option_map}
 use Rattle.std.specs.Result.{result_ok}
@@ -25,7 +26,12 @@ all_decode digits =
     elim (cases_eq (length digits % 2) 1) [
       | inl odd ↦
           let is : (length digits % 2 == 1) ≡ true = eq-eqb (length digits % 2) 1 odd in
-          rw is (sym (odd_told (length digits / 2) (map hex_digit_value digits) (omega (arith, odd, length-map digits hex_digit_value))))
+          rw is (sym (odd_told (length digits / 2) (map hex_digit_value digits) (omega (
+            arith,
+            odd,
+            length-map digits
+                hex_digit_value,
+          ))))
       | inr even ↦ decodes digits (omega (arith, even))
     ]
 
@@ -39,18 +45,21 @@ both_nil : (rest : Option (List ℕ)) → rest ≡ both (Some []) rest
 both_nil (Some rest) = refl
 both_nil None = refl
 
-both_more : (front next : List ℕ) (rest : Option (List ℕ)) → both (Some front) (both (Some next) rest) ≡ both (Some (front ++ next)) rest
+both_more : (front next : List ℕ) (rest : Option (List ℕ)) → both (Some front) (both (Some next) rest) ≡ both (Some (front ++
+    next)) rest
 both_more front next (Some rest) = ap Some (sym (append_assoc front next rest))
 both_more front next None = refl
 
-pair_both : (high low : Option ℕ) (front rest : Option (List ℕ)) → pair_told high low (both front rest) ≡ both (pair_told high low front) rest
+pair_both : (high low : Option ℕ) (front rest : Option (List ℕ)) → pair_told high low (both front rest) ≡ both (pair_told high
+    low front) rest
 pair_both None low front rest = refl
 pair_both (Some high) None front rest = refl
 pair_both (Some high) (Some low) None rest = refl
 pair_both (Some high) (Some low) (Some front) None = refl
 pair_both (Some high) (Some low) (Some front) (Some rest) = refl
 
-told_append : (half : ℕ) (front rest : List (Option ℕ)) → length front ≡ 2 * half → told (front ++ rest) ≡ both (told front) (told rest)
+told_append : (half : ℕ) (front rest : List (Option ℕ)) → length front ≡ 2 * half → told (front ++ rest) ≡ both (told front)
+    (told rest)
 told_append half [] rest even = both_nil (told rest)
 told_append half (value ∷ []) rest even = absurd (omega (arith, even))
 told_append half (high ∷ low ∷ front) rest even =
@@ -71,13 +80,21 @@ piece_told half rest piece behind front back long =
     let whole : piece ++ behind ≡ rest = ap (λ piece. piece ++ behind) front ∙ ap (λ behind. take (2 * half) rest ++ behind) back
     ∙ take-append-drop (2 * half) rest in
     let piece_long : length (map hex_digit_value piece) ≡ 2 * half =
-    let both_long = ap length whole in omega (arith, both_long, length-append piece behind, long, length-map piece hex_digit_value) in
+    let both_long = ap length whole in omega (
+      arith,
+      both_long,
+      length-append piece behind,
+      long,
+      length-map piece
+          hex_digit_value,
+    ) in
     ap (λ digits. told (map hex_digit_value digits)) (sym whole) ∙ ap told (map-append hex_digit_value piece behind)
     ∙ told_append half (map hex_digit_value piece) (map hex_digit_value behind) piece_long
     ∙ ap (λ front. both front (told (map hex_digit_value behind))) (sym (all_decode piece))
 
 module _ (half : ℕ) (bytes rest piece behind : List ℕ) {all : Option (List ℕ)} (is : so_far bytes rest ≡ all)
-    (front : piece ≡ take (2 * half) rest) (back : behind ≡ drop (2 * half) rest) (long : length behind + 2 * half ≡ length rest) where
+    (front : piece ≡ take (2 * half) rest) (back : behind ≡ drop (2 * half) rest) (long : length behind + 2 * half ≡ length
+    rest) where
   -- one piece more is read
   pub goes_on : (more : List ℕ) → Some more ≡ result_ok (decode_of piece) → so_far (bytes ++ more) behind ≡ all
   goes_on more read =

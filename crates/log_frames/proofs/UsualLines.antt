@@ -1,36 +1,23 @@
 -- Lines as most are.
-use Rattle.std.proofs.Common.{◌≡◌, ℕ, ◌+◌, ◌<◌, ◌||◌, Bool, true, false, true≢false, not, List, [], ◌∷◌, ◌++◌, length, take}
+use Rattle.std.proofs.Common.{◌≡◌, ℕ, ◌+◌, ◌||◌, Bool, true, false, true≢false, List, [], ◌∷◌, ◌++◌, length, take}
 use Rattle.std.proofs.Common.{drop, length-append, take-append-drop, Some, inl, refl, sym, ap, subst, ◌∙◌, arith}
-use Rattle.std.specs.List.{list_any, AllByRecursion}
+use Rattle.std.specs.List.{list_any}
 use Rattle.std.specs.Result.{result_ok}
 use Rattle.std.proofs.lemmas.List.{append-nil, append_assoc}
 use Rattle.hex.specs.Hex.{decode_of}
-use Rattle.dbc_values.specs.Lexical.{opening_parenthesis, closing_parenthesis, point, space, is_digit}
+use Rattle.dbc_values.specs.Lexical.{space}
 use Rattle.log_frames.specs.declared.frame.Kind.TheVariants.{Classic}
 use Rattle.log_frames.specs.LogLines.{is_log_blank, first_word, behind_first_word, is_stamp}
 use Rattle.log_frames.specs.Frames.{Frame, Identifier, number_sign, identifier_of, frame_with, frame_of_word}
-use Rattle.log_frames.specs.LogGrammar.{HasNoBlank, IsStampText, IsFrameText}
+use Rattle.log_frames.specs.LogGrammar.{HasNoBlank, IsFrameText}
 use Rattle.log_frames.proofs.Runs.{Stops}
 use Rattle.log_frames.proofs.LineWords.{first_word_is, behind_first_word_is}
-use Rattle.log_frames.proofs.Stamps.{stamp_there, stamp_unbroken}
+use Rattle.log_frames.proofs.Stamps.{stamp_found, stamp_unbroken}
 use Rattle.log_frames.proofs.Hexadecimals.{length-SpellsBytes, bytes_found}
 use Rattle.log_frames.proofs.Identifiers.{identifier_found}
 use Rattle.log_frames.proofs.Grammar.{frame_there, frame_unbroken}
 
 -- ---- the stamp
-
-abbrev no_digit : ℕ → Bool
-no_digit b = not (is_digit b)
-
-digits_by : (b : ℕ) (text : List ℕ) (first : Bool) → is_digit b ≡ first → not first || list_any no_digit text ≡ false
-    → (list_any no_digit text ≡ false → AllByRecursion (λ b. is_digit b ≡ true) text)
-    → AllByRecursion (λ b. is_digit b ≡ true) (b ∷ text)
-digits_by b text true is none later = (is, later none)
-digits_by b text false is none later = absurd (true≢false none)
-
-all_digits : (text : List ℕ) → list_any no_digit text ≡ false → AllByRecursion (λ b. is_digit b ≡ true) text
-all_digits [] none = tt
-all_digits (b ∷ text) none = digits_by b text (is_digit b) refl none (all_digits text)
 
 begins_by : (b : ℕ) (first : Bool) → is_log_blank b ≡ first → first || false ≡ false → is_log_blank b ≡ false
 begins_by b true is none = absurd (true≢false none)
@@ -44,58 +31,28 @@ pub record BeginsWithStamp (body behind : List ℕ) : Type 0 where
   pub stamp : is_stamp (first_word body) ≡ true
   pub rest : behind ≡ behind_first_word body
 
--- the bytes of a stamp, of a blank and of what stands behind
-abbrev stamp_of : List ℕ → List ℕ → List ℕ
-stamp_of seconds fraction = opening_parenthesis ∷ (seconds ++ point ∷ (fraction ++ closing_parenthesis ∷ []))
-
-stamp_parts : (seconds fraction behind : List ℕ)
-    → opening_parenthesis ∷ (seconds ++ point ∷ (fraction ++ closing_parenthesis ∷ space
-    ∷ behind)) ≡ stamp_of seconds fraction ++ ((space ∷ []) ++ behind)
-stamp_parts seconds fraction behind =
-    let inner : fraction ++ closing_parenthesis ∷ space ∷ behind ≡ (fraction ++ closing_parenthesis ∷ []) ++ space ∷ behind =
-    sym (append_assoc fraction (closing_parenthesis ∷ []) (space ∷ behind)) in
-    let outer : seconds ++ point ∷ ((fraction ++ closing_parenthesis ∷ []) ++ space ∷ behind)
-    ≡ (seconds ++ point ∷ (fraction ++ closing_parenthesis ∷ [])) ++ space ∷ behind =
-    sym (append_assoc seconds (point ∷ (fraction ++ closing_parenthesis ∷ [])) (space ∷ behind)) in
-    ap (λ rest. opening_parenthesis ∷ rest) (ap (λ rest. seconds ++ point ∷ rest) inner ∙ outer)
-
-begins : (seconds fraction behind : List ℕ) → 0 < length seconds → 0 < length fraction → length fraction < 10
-    → list_any no_digit seconds ≡ false → list_any no_digit fraction ≡ false → list_any is_log_blank (take 1 behind) ≡ false
-    → BeginsWithStamp (stamp_of seconds fraction ++ ((space ∷ []) ++ behind)) behind
-begins seconds fraction behind some_seconds some_fraction few seconds_are fraction_is no_blank =
-    let stamp : List ℕ = stamp_of seconds fraction in
-    let is : IsStampText stamp = record {
-      seconds = seconds;
-      fraction = fraction;
-      spelled = refl;
-      seconds_are = record { some = some_seconds; digit = all_digits seconds seconds_are };
-      fraction_is = record { some = some_fraction; digit = all_digits fraction fraction_is };
-      short = omega (arith, few);
-    } in
-    let unbroken : HasNoBlank stamp = stamp_unbroken stamp is in
+begins : (stamp behind : List ℕ) → is_stamp stamp ≡ true → list_any is_log_blank (take 1 behind) ≡ false
+    → BeginsWithStamp (stamp ++ ((space ∷ []) ++ behind)) behind
+begins stamp behind is no_blank =
+    let unbroken : HasNoBlank stamp = stamp_unbroken stamp (stamp_found stamp is) in
     let first : first_word (stamp ++ ((space ∷ []) ++ behind)) ≡ stamp =
     first_word_is stamp ((space ∷ []) ++ behind) unbroken refl in
     record {
-      stamp = ap is_stamp first ∙ stamp_there stamp is;
+      stamp = ap is_stamp first ∙ is;
       rest = sym (behind_first_word_is stamp (space ∷ []) behind unbroken (refl, tt) refl (no_blank_first behind no_blank));
     }
 
--- parts found one after another
-pub usual_stamp : (body seconds point_on fraction closing_on blank_on behind : List ℕ)
-    → body ≡ opening_parenthesis ∷ (seconds ++ point_on) → point_on ≡ point ∷ (fraction ++ closing_on)
-    → closing_on ≡ closing_parenthesis ∷ blank_on → blank_on ≡ space ∷ behind → length seconds ≡ 10 → length fraction ≡ 6
-    → list_any no_digit seconds ≡ false → list_any no_digit fraction ≡ false → list_any is_log_blank (take 1 behind) ≡ false
+-- the first twenty bytes are a stamp and a blank
+pub usual_stamp : (body twenty behind : List ℕ) → twenty ≡ take 20 body → behind ≡ drop 20 body
+    → is_stamp (take 19 twenty) ≡ true → drop 19 twenty ≡ space ∷ [] → list_any is_log_blank (take 1 behind) ≡ false
     → BeginsWithStamp body behind
-usual_stamp body seconds point_on fraction closing_on blank_on behind first second third fourth ten six seconds_are fraction_is
-    no_blank =
-    let closing : closing_on ≡ closing_parenthesis ∷ space ∷ behind = third ∙ ap (λ rest. closing_parenthesis ∷ rest) fourth in
-    let from_point : point_on ≡ point ∷ (fraction ++ closing_parenthesis ∷ space ∷ behind) = second
-    ∙ ap (λ rest. point ∷ (fraction ++ rest)) closing in
-    let whole : body ≡ stamp_of seconds fraction ++ ((space ∷ []) ++ behind) =
-    first ∙ ap (λ rest. opening_parenthesis ∷ (seconds ++ rest)) from_point ∙ stamp_parts seconds fraction behind in
-    subst (λ body. BeginsWithStamp body behind) (sym whole) (begins seconds fraction behind (omega (arith, ten))
-    (omega (arith, six))
-    (omega (arith, six)) seconds_are fraction_is no_blank)
+usual_stamp body twenty behind front back is blank no_blank =
+    let parts : twenty ≡ take 19 twenty ++ (space ∷ []) = sym (take-append-drop 19 twenty)
+    ∙ ap (λ blank. take 19 twenty ++ blank) blank in
+    let whole : body ≡ take 19 twenty ++ ((space ∷ []) ++ behind) = sym (take-append-drop 20 body)
+    ∙ ap (λ front. front ++ drop 20 body) (sym front ∙ parts) ∙ ap (λ back. (take 19 twenty ++ (space ∷ [])) ++ back) (sym back)
+    ∙ append_assoc (take 19 twenty) (space ∷ []) behind in
+    subst (λ body. BeginsWithStamp body behind) (sym whole) (begins (take 19 twenty) behind is no_blank)
 
 -- ---- the word of the frame
 

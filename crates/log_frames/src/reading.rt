@@ -37,7 +37,8 @@ fn push_bytes<const N: usize>(bytes: &mut ArrayVec<u8, 64>, more: &[u8; N])
 #[inline(always)]
 fn push_pairs(bytes: &mut ArrayVec<u8, 64>, digits: &[u8]) -> bool
     requires { 2 * length bytes.old.items + length digits.now ≤ 128 }
-    ensures { (if result then Some bytes.new.items else None) ≡ option_map (λ more. bytes.old.items ++ more) (result_ok (decode_of digits.now)) }
+    ensures { (if result then Some bytes.new.items else None)
+        ≡ option_map (λ more. bytes.old.items ++ more) (result_ok (decode_of digits.now)) }
 {
     let mut rest = digits;
     'pairs: while let Some((pair, behind)) = rest.split_first_chunk::<2>() {
