@@ -151,7 +151,7 @@ fn become_classic(frame: &mut Frame, identifier: Identifier, eight: &[u8; 8])
     frame.kind = kind_of(identifier, Kind::Classic);
     frame.extended = identifier.extended;
     frame.identifier = identifier.number;
-    frame.bytes.clear();
+    frame.bytes = ArrayVec::new();
     let _ = frame.bytes.try_extend_from_slice(eight.as_slice());
 }
 
