@@ -12,7 +12,7 @@ use lib.Lanes.{zip2, pick_l, mask_l, top}
 use Rattle.hex.specs.Hex.{hex_digit_value, digit_or_error, decode_pairs, decode_of, ◌>>=◌}
 use Rattle.hex.specs.declared.error.FromHexError.{FromHexError}
 use Rattle.log_frames.proofs.Digits.{hex_small}
-use Rattle.log_frames.proofs.Lanes.{further, same_lanes, added, differs}
+use Rattle.log_frames.proofs.Lanes.{mapped, same_lanes, added, differs}
 
 -- what a lane is worth: nothing, if it has one of the four high bits
 abbrev pub has_high : ℕ → Bool
@@ -39,7 +39,7 @@ pub values_read : (f : ℕ → ℕ) (bytes : List ℕ) {lanes : List ℕ} → la
     → agree_below (λ b. same_worth (worth (f b)) (hex_digit_value b)) (λ b. true) 256 ≡ true
     → map worth lanes ≡ map hex_digit_value bytes
 values_read f bytes is fits all =
-    further worth f bytes is
+    mapped worth f bytes is
     ∙ same_lanes (λ b. worth (f b)) hex_digit_value (λ b within. same_from_worth (worth (f b)) (hex_digit_value b)
     (agree_below_at (λ b. same_worth (worth (f b)) (hex_digit_value b)) (λ b. true) 256 b all within)) bytes fits
 

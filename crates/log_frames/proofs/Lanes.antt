@@ -15,9 +15,9 @@ pub loaded_whole : (bytes : List ℕ) (n : ℕ) → length bytes ≡ n → chunk
 loaded_whole bytes n long = take_all n bytes (omega (arith, long)) ∙ itself bytes
 
 -- one computation more
-pub further : {A B : Type 0} (step : A → B) (f : ℕ → A) (bytes : List ℕ) {lanes : List A} → lanes ≡ map f bytes
+pub mapped : {A B : Type 0} (step : A → B) (f : ℕ → A) (bytes : List ℕ) {lanes : List A} → lanes ≡ map f bytes
     → map step lanes ≡ map (λ b. step (f b)) bytes
-further step f bytes is = ap (map step) is ∙ map-map step f bytes
+mapped step f bytes is = ap (map step) is ∙ map-map step f bytes
 
 chosen_lanes : (t : ℕ → Bool) (f g : ℕ → ℕ) (bytes : List ℕ) → sel_l (map t bytes) (map f bytes) (map g bytes)
     ≡ map (λ b. cond (t b) (f b) (g b)) bytes
@@ -51,3 +51,6 @@ inverted a = 255 - a
 
 abbrev pub differs : ℕ → ℕ → ℕ
 differs a b = cond (not (eqb a b)) 255 0
+
+abbrev pub equals : ℕ → ℕ → ℕ
+equals a b = cond (eqb a b) 255 0

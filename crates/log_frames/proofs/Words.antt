@@ -1,10 +1,14 @@
 -- The end of a word, found by runs of bytes.
-use Rattle.std.proofs.Common.{◌-◌, sym, ◌≡◌, ℕ, zero, suc, ◌+◌, ◌≤◌, Bool, true, false, true≢false, not, ◌||◌, List, [], ◌∷◌}
-use Rattle.std.proofs.Common.{length, take, drop, refl, ap, ◌∙◌, arith}
+use Rattle.std.proofs.Common.{◌-◌, sym, ◌≡◌, ℕ, zero, suc, ◌+◌, ◌%◌, ◌^◌, ◌≤◌, bit_or, eqb, cond, Bool, true, false, true≢false}
+use Rattle.std.proofs.Common.{not, ◌||◌, List, [], ◌∷◌}
+use Rattle.std.proofs.Common.{length, take, drop, map, replicate, refl, ap, ap₂, ◌∙◌, arith}
 use Rattle.std.specs.List.{prefix_len, list_any}
 use Rattle.std.specs.Array.{IsFirstChunk}
-use Rattle.std.proofs.lemmas.List.{take_rest, drop-drop, length-drop}
+use Rattle.std.proofs.lemmas.List.{take_rest, drop-drop, length-drop, length-map}
+use Rattle.std.proofs.lemmas.Simd.{zip2_of_maps, splat_is_map, mask_l-mod}
+use lib.Lanes.{chunk, zip2, mask_l, top}
 use Rattle.log_frames.specs.LogLines.{is_log_blank}
+use Rattle.log_frames.proofs.Lanes.{loaded_whole, mapped, equals}
 
 goes_on : (b : ℕ) (n : ℕ) (s : List ℕ) (first : Bool) → is_log_blank b ≡ first → first || list_any is_log_blank (take n s) ≡ false
     → (list_any is_log_blank (take n s) ≡ false → prefix_len (λ b. not (is_log_blank b)) s
@@ -32,3 +36,30 @@ further at s run r chunk none le so_far =
     let behind : prefix_len (λ b. not (is_log_blank b)) (drop 16 (drop at s)) ≡ prefix_len (λ b. not (is_log_blank b))
     (drop (at + 16) s) = ap (prefix_len (λ b. not (is_log_blank b))) (drop-drop 16 at s) in
     (omega (arith, enough, length-drop at s), omega (arith, more, behind, so_far))
+
+-- ---- blanks as lanes of a vector
+
+blank_lane : (b : ℕ) → top 7 (bit_or (equals b 32) (equals b 9)) ≡ is_log_blank b
+blank_lane b = go (eqb b 32) (eqb b 9)
+  where
+    go : (t u : Bool) → top 7 (bit_or (cond t 255 0) (cond u 255 0)) ≡ t || u
+    go true true = refl
+    go true false = refl
+    go false true = refl
+    go false false = refl
+
+blank_marks : (bytes : List ℕ) → map (λ b. top 7 (bit_or (equals b 32) (equals b 9))) bytes ≡ map is_log_blank bytes
+blank_marks [] = refl
+blank_marks (b ∷ bytes) = ap₂ (λ one more. one ∷ more) (blank_lane b) (blank_marks bytes)
+
+pub blank_mask : (bytes : List ℕ) → length bytes ≡ 16
+    → mask_l (map (top 7) (zip2 bit_or (zip2 equals (chunk 0 16 bytes) (replicate 16 32)) (zip2 equals (chunk 0 16 bytes)
+    (replicate 16 9)))) % 2 ^ 64
+    ≡ mask_l (map is_log_blank bytes)
+blank_mask bytes long =
+    let loaded = loaded_whole bytes 16 long in
+    let spaces = zip2_of_maps equals _ _ bytes loaded (splat_is_map bytes 16 32 long) in
+    let tabs = zip2_of_maps equals _ _ bytes loaded (splat_is_map bytes 16 9 long) in
+    let lanes = mapped (top 7) _ bytes (zip2_of_maps bit_or _ _ bytes spaces tabs) ∙ blank_marks bytes in
+    ap (λ marks. mask_l marks % 2 ^ 64) lanes
+    ∙ mask_l-mod (map is_log_blank bytes) 64 (omega (arith, length-map bytes is_log_blank, long))

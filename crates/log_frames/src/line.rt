@@ -111,13 +111,44 @@ fn is_stamp(word: &[u8]) -> bool
     }
 }
 
+// How many of sixteen bytes stand before the first blank.
+#[inline(always)]
+fn run_len(bytes: &[u8]) -> usize
+    requires { length bytes.now ≡ 16 }
+    ensures { result ≡ prefix_len (λ b. not (is_log_blank b)) bytes.now }
+{
+    let run = u8x16::from_slice(bytes);
+    let blanks = run.simd_eq(u8x16::splat(b' ')) | run.simd_eq(u8x16::splat(b'\t'));
+    let mask = blanks.to_bitmask();
+    if mask == 0 {
+        16
+    } else {
+        mask.trailing_zeros() as usize
+    }
+}
+
+// How many bytes stand before the first blank, which is mostly among the first sixteen.
+#[inline(always)]
+fn near_word_len(bytes: &[u8]) -> usize
+    ensures value { result ≡ prefix_len (λ b. not (is_log_blank b)) bytes.now }
+    ensures in_range { result ≤ length bytes.now }
+{
+    if let Some(run) = bytes.first_chunk::<16>() {
+        let len = run_len(run);
+        if len < 16 {
+            return len;
+        }
+    }
+    short_word_len(bytes)
+}
+
 // The first word of one that is mostly short, and what stands behind it and its blanks.
 #[inline(always)]
 fn split_short_word(bytes: &[u8]) -> (&[u8], &[u8])
     ensures word { result.0.now ≡ first_word bytes.now }
     ensures behind { result.1.now ≡ behind_first_word bytes.now }
 {
-    let (word, rest) = bytes.split_at(short_word_len(bytes));
+    let (word, rest) = bytes.split_at(near_word_len(bytes));
     let (_, behind) = rest.split_at(blanks_len(rest));
     (word, behind)
 }

@@ -1,7 +1,7 @@
 use Rattle.std.proofs.Common.{ℕ, bit_and, refl}
 use Rattle.std.proofs.lemmas.Simd.{zip2_of_maps, splat_is_map}
 use lib.Lanes.{top}
-use Rattle.log_frames.proofs.Lanes.{loaded_whole, further, chosen, added, less, is_below, inverted}
+use Rattle.log_frames.proofs.Lanes.{loaded_whole, mapped, chosen, added, less, is_below, inverted}
 use Rattle.log_frames.proofs.DigitLanes.{values_read}
 use Rattle.log_frames.proofs.pairs.values_of.Goals as goal
 
@@ -11,11 +11,11 @@ returns c =
     let all = λ (n : ℕ). splat_is_map text 16 n c.requires in
     let loaded = loaded_whole text 16 c.requires in
     let moved = zip2_of_maps added _ _ text loaded (all 198) in
-    let above = chosen _ _ _ text (further (top 7) _ text (zip2_of_maps is_below _ _ text moved (all 6))) (all 6) moved in
+    let above = chosen _ _ _ text (mapped (top 7) _ text (zip2_of_maps is_below _ _ text moved (all 6))) (all 6) moved in
     let decimal = zip2_of_maps less _ _ text (zip2_of_maps less _ _ text above (all 6)) (all 240) in
     let place = zip2_of_maps less _ _ text (zip2_of_maps bit_and _ _ text loaded (all 223)) (all 65) in
-    let left = further inverted _ text place in
-    let step = chosen _ _ _ text (further (top 7) _ text (zip2_of_maps is_below _ _ text (all 10) left)) (all 10) left in
+    let left = mapped inverted _ text place in
+    let step = chosen _ _ _ text (mapped (top 7) _ text (zip2_of_maps is_below _ _ text (all 10) left)) (all 10) left in
     let letter = zip2_of_maps added _ _ text place step in
-    let value = chosen _ _ _ text (further (top 7) _ text (zip2_of_maps is_below _ _ text decimal letter)) decimal letter in
+    let value = chosen _ _ _ text (mapped (top 7) _ text (zip2_of_maps is_below _ _ text decimal letter)) decimal letter in
     values_read _ text value c.type_inv.digits refl
