@@ -6,7 +6,12 @@ use Rattle.std.specs.Prelude.{option_map}
 use Rattle.std.specs.Result.{result_ok}
 use Rattle.std.proofs.lemmas.Bool.{cases_eq}
 use Rattle.std.proofs.lemmas.List.{append_assoc, append-nil, length-map, map-append}
+use Rattle.std.specs.List.{range_with_len}
+use Rattle.std.proofs.Math.Seq.{take-append_seam}
+use Rattle.std.proofs.lemmas.Simd.{pick_l_whole, pick_l-range_with_len}
+use lib.Lanes.{pick_l}
 use Rattle.hex.specs.Hex.{hex_digit_value, decode_of}
+use Rattle.log_frames.proofs.Hexadecimals.{length-SpellsBytes, bytes_found}
 use Rattle.log_frames.proofs.DigitLanes.{pair_told, told, decodes}
 
 none_behind : (high low : Option ℕ) → pair_told high low None ≡ None
@@ -122,3 +127,52 @@ told_behind bytes digits = go (told (map hex_digit_value digits)) (all_decode di
         → both (Some bytes) more ≡ option_map (λ more. bytes ++ more) (result_ok (decode_of digits))
     go None is = rw is refl
     go (Some more) is = rw is refl
+
+-- ---- eight digits, with zeros behind them
+
+abbrev zeros : List ℕ
+zeros = 48 ∷ 48 ∷ 48 ∷ 48 ∷ 48 ∷ 48 ∷ 48 ∷ 48 ∷ []
+
+-- what the digits and the zeros spell
+padded_told : (digits : List ℕ) → length digits ≡ 8
+    → result_ok (decode_of (digits ++ zeros)) ≡ both (result_ok (decode_of digits)) (Some (0 ∷ 0 ∷ 0 ∷ 0 ∷ []))
+padded_told digits long =
+    let eight : length (map hex_digit_value digits) ≡ 2 * 4 = omega (arith, length-map digits hex_digit_value, long) in
+    all_decode (digits ++ zeros) ∙ ap told (map-append hex_digit_value digits zeros)
+    ∙ told_append 4 (map hex_digit_value digits) (map hex_digit_value zeros) eight
+    ∙ ap (λ front. both front (Some (0 ∷ 0 ∷ 0 ∷ 0 ∷ []))) (sym (all_decode digits))
+
+abbrev spelled_out : List ℕ → List ℕ
+spelled_out digits = pick_l 0 digits (range_with_len 0 8) ++ zeros
+
+padded_is : (digits : List ℕ) → length digits ≡ 8 → spelled_out digits ≡ digits ++ zeros
+padded_is digits long = ap (λ digits. digits ++ zeros) (pick_l_whole 0 digits 8 long)
+
+pub eight_fail : (digits : List ℕ) → length digits ≡ 8 → None ≡ result_ok (decode_of (spelled_out digits))
+    → None ≡ result_ok (decode_of digits)
+eight_fail digits long none =
+    go (result_ok (decode_of digits)) (none ∙ ap (λ digits. result_ok (decode_of digits)) (padded_is digits long)
+    ∙ padded_told digits long)
+  where
+    go : (o : Option (List ℕ)) → None ≡ both o (Some (0 ∷ 0 ∷ 0 ∷ 0 ∷ [])) → None ≡ o
+    go None none = refl
+    go (Some bytes) none = absurd (let no : None ≡ Some (bytes ++ (0 ∷ 0 ∷ 0 ∷ 0 ∷ [])) = none in cc)
+
+pub eight_read : (digits bytes : List ℕ) → length digits ≡ 8
+    → Some bytes ≡ result_ok (decode_of (spelled_out digits))
+    → Some (pick_l 0 bytes (range_with_len 0 4)) ≡ result_ok (decode_of digits)
+eight_read digits bytes long is =
+    let twice : 16 ≡ 2 * length bytes = length-SpellsBytes (spelled_out digits) bytes (bytes_found (spelled_out digits) bytes
+    (sym is)) in
+    go (omega (arith, twice)) (result_ok (decode_of digits))
+    (is ∙ ap (λ digits. result_ok (decode_of digits)) (padded_is digits long) ∙ padded_told digits long)
+  where
+    go : length bytes ≡ 8 → (o : Option (List ℕ)) → Some bytes ≡ both o (Some (0 ∷ 0 ∷ 0 ∷ 0 ∷ []))
+        → Some (pick_l 0 bytes (range_with_len 0 4)) ≡ o
+    go eight None is = absurd (let no : Some bytes ≡ None = is in cc)
+    go eight (Some four) is =
+        let whole : bytes ≡ four ++ (0 ∷ 0 ∷ 0 ∷ 0 ∷ []) = let same : Some bytes ≡ Some (four ++ (0 ∷ 0 ∷ 0 ∷ 0 ∷ [])) = is in cc in
+        let count : length four ≡ 4 = let both_long = ap length whole in
+        omega (arith, both_long, eight, length-append four (0 ∷ 0 ∷ 0 ∷ 0 ∷ [])) in
+        ap Some (pick_l-range_with_len 0 bytes 0 4 (omega (arith, eight)) ∙ ap (take 4) whole
+        ∙ ap (λ n. take n (four ++ (0 ∷ 0 ∷ 0 ∷ 0 ∷ []))) (sym count) ∙ take-append_seam four (0 ∷ 0 ∷ 0 ∷ 0 ∷ []))

@@ -5,7 +5,7 @@ ghost use Rattle.hex.specs.Hex.{decode_of};
 ghost use Rattle.log_frames.specs.Frames.{identifier_of, of_three_digits, of_eight_digits};
 ghost use Rattle.log_frames.specs.Seen.{identifier_view, IsIdentifier};
 
-use crate::pairs::bytes_of_pairs;
+use crate::pairs::{bytes_of_eight, bytes_of_pairs};
 
 /// An identifier as its digits tell it.
 #[derive(Clone, Copy)]
@@ -42,7 +42,7 @@ fn of_eight_digits(digits: &[u8; 8]) -> Option<Identifier>
     ensures value { option_map identifier_view result ≡ of_eight_digits digits.now }
     ensures valid { IfSome result IsIdentifier }
 {
-    let bytes = bytes_of_pairs::<8, 4>(digits)?;
+    let bytes = bytes_of_eight(digits)?;
     let word = u32::from_be_bytes(bytes);
     Some(Identifier {
         extended: true,

@@ -94,3 +94,16 @@ pub fn bytes_of_sixteen(digits: &[u8; 16]) -> Option<[u8; 8]>
     let low = values.swizzle::<8>([1, 3, 5, 7, 9, 11, 13, 15]);
     Some((high * u8x8::splat(16) + low).to_array())
 }
+
+/// The bytes that eight digits spell. Zeros behind them make sixteen.
+#[inline(always)]
+pub fn bytes_of_eight(digits: &[u8; 8]) -> Option<[u8; 4]>
+    ensures { result ≡ result_ok (decode_of digits.now) }
+{
+    let [a, b, c, d, e, f, g, h] = *digits;
+    let z = b'0';
+    let Some(eight) = bytes_of_sixteen(&[a, b, c, d, e, f, g, h, z, z, z, z, z, z, z, z]) else {
+        return None;
+    };
+    Some([eight[0], eight[1], eight[2], eight[3]])
+}
