@@ -1,5 +1,5 @@
 //! The decoded line of a frame whose message is known.
-ghost use Rattle.std.specs.Prelude.{◌≡◌, IfOk, IfSome, Some, slice_get, option_map, option_and_then};
+ghost use Rattle.std.specs.Prelude.{◌≡◌, IfOk, OnOk, IfSome, Some, slice_get, option_map, option_and_then};
 ghost use Rattle.can_layout.specs.Plans.{plan_of};
 ghost use Rattle.can_layout.specs.Meters.{with_line};
 ghost use Rattle.can_choice.specs.Choices.{line_place};
@@ -58,7 +58,6 @@ impl<'a> Bus<'a> {
     /// The decoded line, where it is known which message its frame goes to, if it has one that goes to any: `chosen` has the
     /// place of that message and its plan. Nothing is looked for, and nothing is read again. The meter counts it, also where
     /// memory is refused.
-    #[tactic(auto, using(crate::proofs::Pushing::pushed_then), unfolding(crate::specs::DecodedLines::decoded_line, crate::specs::DecodedLines::chosen_target))]
     pub fn decode_frame_at(
         &self,
         alloc: Global,
@@ -72,14 +71,35 @@ impl<'a> Bus<'a> {
         ensures text { IfOk result (λ text. text.items ≡ bus_line self.now line.now) }
         ensures counted { meter.new ≡ with_line meter.old }
     {
-        meter.count_line();
         let mut text = Draft::new(alloc);
-        push_bytes(&mut text, body_of(line.bytes()))?;
+        self.renew_frame_at(&mut text, chosen, line, meter)?;
+        text.to_vec()
+    }
+
+    /// As [`Bus::decode_frame_at`], and makes the decoded line in `text`, in place of what that held: so its room serves one line
+    /// after another. If memory is refused, what `text` holds means nothing.
+    #[tactic(auto, using(crate::proofs::Pushing::pushed_then), unfolding(crate::specs::DecodedLines::decoded_line, crate::specs::DecodedLines::chosen_target))]
+    pub fn renew_frame_at(
+        &self,
+        text: &mut Draft,
+        chosen: Option<(usize, &'a Plan)>,
+        line: &ReadLine<'_>,
+        meter: &mut Meter,
+    ) -> Result<(), Memory>
+        requires place { option_map (λ one. one.0) chosen ≡ line_place self.now.database line.now }
+        requires plan { IfSome chosen (λ one. Some one.1.now ≡ option_map (plan_of self.now.database)
+            (slice_get self.now.database.messages one.0)) }
+        ensures text { OnOk result (text.new.items ≡ bus_line self.now line.now) }
+        ensures counted { meter.new ≡ with_line meter.old }
+    {
+        meter.count_line();
+        text.clear();
+        push_bytes(text, body_of(line.bytes()))?;
         if let Some(frame) = line.frame() {
             let target = self.target_with(chosen);
-            push_known(alloc, &mut text, frame, target.as_ref())?;
+            push_known(text.allocator(), text, frame, target.as_ref())?;
         }
-        text.to_vec()
+        Ok(())
     }
 }
 

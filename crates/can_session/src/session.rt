@@ -24,12 +24,16 @@ use dbc_reader::read;
 use dbc_records::Database;
 use dbc_tokens::{Cause, ReadFault};
 use dbc_values::Memory;
+use ready_texts::Draft;
 use session_log::{Fresh, Log};
 use std::alloc::Global;
 use std::marker::Model;
 
 // The most bytes of a retained line.
 const LONGEST_LINE: usize = 4_096;
+
+// The room for longer texts isn't kept from one line to the next.
+const MAX_DRAFT_SIZE: usize = 4_096;
 
 /// A database that is edited and a log that is retained, with all that is shown of both.
 ///
@@ -42,6 +46,8 @@ pub struct Session {
     shown: Shown,
     log: Log,
     meter: Meter,
+    // In which the texts of lines are made.
+    draft: Draft,
 }
 
 impl Model for Session {
@@ -95,7 +101,15 @@ fn session_of(alloc: Global, database: Database, options: Options) -> Result<Ses
         shown,
         log: Log::new(alloc),
         meter,
+        draft: Draft::new(alloc),
     })
+}
+
+// Gives back the room of a draft in which a longer text was made.
+fn limit_draft(draft: &mut Draft) {
+    if draft.as_slice().len() > MAX_DRAFT_SIZE {
+        *draft = Draft::new(draft.allocator());
+    }
 }
 
 const NO_MEMORY: ReadFault = ReadFault {
@@ -159,7 +173,9 @@ impl Session {
             shown: &self.shown,
             short: self.options.short,
         };
-        let made = bus.line(self.alloc, line, &mut self.meter)?;
+        let made = bus.line(&mut self.draft, line, &mut self.meter);
+        limit_draft(&mut self.draft);
+        let made = made?;
         self.log.retain(self.alloc, made)?;
         if self.log.len() > self.options.keep.most() {
             self.log.drop_first();

@@ -9,8 +9,8 @@ use can_decode::{Bus, ReadLine, Short};
 use can_layout::Meter;
 use compiled_database::Shown;
 use dbc_values::Memory;
+use ready_texts::Draft;
 use session_log::Line;
-use std::alloc::Global;
 use std::marker::Model;
 
 /// A bus whose lines are decoded by what is shown of its database.
@@ -31,10 +31,10 @@ impl<'a> Model for ShownBus<'a> {
 }
 
 impl<'a> ShownBus<'a> {
-    /// The decoded text of a line. The meter counts it, also where memory is refused.
+    /// The decoded text of a line, made in `draft`. The meter counts it, also where memory is refused.
     pub(crate) fn decode(
         &self,
-        alloc: Global,
+        draft: &mut Draft,
         line: &ReadLine<'_>,
         meter: &mut Meter,
     ) -> Result<Vec<u8>, Memory>
@@ -45,11 +45,17 @@ impl<'a> ShownBus<'a> {
             database: self.shown.database(),
             short: self.short,
         };
-        bus.decode_frame_at(alloc, self.shown.chosen(line), line, meter)
+        bus.renew_frame_at(draft, self.shown.chosen(line), line, meter)?;
+        draft.to_vec()
     }
 
-    /// A line with its decoded text.
-    pub(crate) fn line(&self, alloc: Global, line: &[u8], meter: &mut Meter) -> Result<Line, Memory>
+    /// A line with its decoded text, which is made in `draft`.
+    pub(crate) fn line(
+        &self,
+        draft: &mut Draft,
+        line: &[u8],
+        meter: &mut Meter,
+    ) -> Result<Line, Memory>
         ensures bytes { IfOk result (λ made. bytes_of made ≡ line.now) }
         ensures numbered { IfOk result (λ made. IsNumbered made) }
         ensures decoded { IfOk result (λ made. IsDecoded self.now made) }
@@ -57,8 +63,8 @@ impl<'a> ShownBus<'a> {
     {
         let read = ReadLine::of(line);
         let number = read.number();
-        let bytes = line.to_vec(alloc)?;
-        let decoded = self.decode(alloc, &read, meter)?;
+        let bytes = line.to_vec(draft.allocator())?;
+        let decoded = self.decode(draft, &read, meter)?;
         Ok(Line {
             bytes,
             number,

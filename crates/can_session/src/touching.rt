@@ -11,12 +11,13 @@ use can_layout::Meter;
 use compiled_database::Remade;
 use dbc_values::Memory;
 use edit_reach::laws::untouched_lines_stay;
+use ready_texts::Draft;
 use session_log::{Fresh, Log};
 use std::alloc::Global;
 
-// The text of the line at a place.
+// The text of the line at a place, made in `draft`.
 fn fresh_at(
-    alloc: Global,
+    draft: &mut Draft,
     bus: &ShownBus<'_>,
     log: &Log,
     place: usize,
@@ -28,7 +29,7 @@ fn fresh_at(
     ensures lines { Raised 0 1 meter.old meter.new }
 {
     let line = ReadLine::of(log.line(place).bytes.as_slice());
-    let text = bus.decode(alloc, &line, meter)?;
+    let text = bus.decode(draft, &line, meter)?;
     Ok(Fresh { place, text })
 }
 
@@ -44,9 +45,10 @@ fn decode_places(
     ensures texts { IfOk result (λ fresh. TextsAt bus.now log.now places.now fresh.items) }
     ensures lines { Raised 0 (length places.now) meter.old meter.new }
 {
+    let mut draft = Draft::new(alloc);
     let mut fresh = Vec::new(alloc);
     for place in places {
-        fresh.push(fresh_at(alloc, bus, log, *place, meter)?)?;
+        fresh.push(fresh_at(&mut draft, bus, log, *place, meter)?)?;
     }
     Ok(fresh)
 }
