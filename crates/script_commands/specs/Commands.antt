@@ -1,5 +1,6 @@
 -- What a line of a script asks for.
-use Rattle.std.specs.Prelude.{◌≡◌, ℕ, ◌&&◌, Bool, true, false, List, Option, Some, None, codes, option_map, option_and_then}
+use Rattle.std.specs.Prelude.{◌≡◌, ℕ, ◌&&◌, ◌==◌, ◌∷◌, [], Bool, true, false, List, Option, Some, None, codes, option_map}
+use Rattle.std.specs.Prelude.{option_and_then}
 use Rattle.std.specs.Prelude.{if◌then◌else◌}
 use Rattle.std.specs.Str.{bytes_eq}
 use Rattle.dbc_values.specs.Lexical.{is_name}
@@ -179,6 +180,16 @@ line_sense (Some verb) None = sense_alone verb
 -- what a line asks for; a line that asks for nothing is a bad command
 unfoldable pub Means : List ℕ → Option Command → Type 0
 Means line meaning = HasSense (line_sense (verb_of (word_of (body_of line))) (rest_of (body_of line))) meaning
+
+-- what is behind a byte at the front
+abbrev pub behind_byte : ℕ → List ℕ → Option (List ℕ)
+behind_byte wanted [] = None
+behind_byte wanted (b ∷ rest) = if b == wanted then Some rest else None
+
+-- the line of a log that a line of a script gives, if it begins with `log` and a blank
+abbrev pub log_line : List ℕ → Option (List ℕ)
+log_line line = option_and_then (behind_byte 32) (option_and_then (behind_byte 103) (option_and_then (behind_byte 111)
+    (behind_byte 108 (body_of line))))
 
 -- memory may run out while such a command is read
 abbrev pub takes_memory : Option Verb → Bool

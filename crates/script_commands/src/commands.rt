@@ -1,10 +1,10 @@
 //! What lines ask for.
-ghost use Rattle.std.specs.Prelude.{◌≡◌, IfOk, OnErr, IsTrue, option_map};
+ghost use Rattle.std.specs.Prelude.{◌≡◌, IfOk, OnErr, IfSome, IsTrue, option_map};
 ghost use Rattle.std.specs.Str.{bytes_eq};
 ghost use Rattle.script_commands.specs.Words.{verb_of, word_of};
-ghost use Rattle.std.specs.Prelude.{Some};
+ghost use Rattle.std.specs.Prelude.{Some, ◌∷◌};
 ghost use Rattle.script_commands.specs.Commands.{HasSense, sense_of, line_sense, sense_alone, show_layout, show, changes, seen};
-ghost use Rattle.script_commands.specs.Commands.{Means, takes_memory};
+ghost use Rattle.script_commands.specs.Commands.{Means, takes_memory, behind_byte, log_line, Log};
 ghost use Rattle.log_frames.specs.LogLines.{body_of};
 
 use crate::command::Command;
@@ -84,6 +84,30 @@ fn by_verb<'a>(
         (Some(verb), None) => Ok(alone(verb)),
         (None, _) => Ok(None),
     }
+}
+
+// What is behind a byte at the front.
+fn behind_byte(text: &[u8], wanted: u8) -> Option<&[u8]>
+    ensures value { option_map (λ rest. rest.now) result ≡ behind_byte wanted text.now }
+    ensures shape { IfSome result (λ rest. text.now ≡ wanted ∷ rest.now) }
+{
+    match text {
+        [b, rest @ ..] if *b == wanted => Some(rest),
+        _ => None,
+    }
+}
+
+/// The line of a log that a line of a script gives, if it begins with `log` and a blank. Most lines of a script do, and this is
+/// found at once. Else [`command_of`] says what the line asks for.
+#[tactic(auto, using(crate::proofs::LogLines::means_log))]
+pub fn log_line(line: &[u8]) -> Option<&[u8]>
+    ensures value { option_map (λ text. text.now) result ≡ log_line line.now }
+    ensures means { IfSome result (λ text. Means line.now (Some (Log text.now))) }
+{
+    let after_l = behind_byte(body_of(line), b'l')?;
+    let after_o = behind_byte(after_l, b'o')?;
+    let after_g = behind_byte(after_o, b'g')?;
+    behind_byte(after_g, b' ')
 }
 
 /// What a line asks for, or `None` where it is a bad command. Only the lines of a log and of edits take memory.

@@ -11,5 +11,5 @@ mod verb;
 mod words;
 
 pub use command::Command;
-pub use commands::command_of;
+pub use commands::{command_of, log_line};
 pub use verb::Verb;

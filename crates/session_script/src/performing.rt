@@ -9,7 +9,7 @@ use crate::replies::{
 };
 use byte_devices::{Sink, WriteFault};
 use can_session::{Refusal, Session};
-use script_commands::{Command, command_of};
+use script_commands::{Command, command_of, log_line};
 use std::alloc::Global;
 
 // Does what a command asks for, and writes the reply.
@@ -32,8 +32,9 @@ fn perform<W: Sink>(
     }
 }
 
-/// Does what a line asks for, and writes the reply.
-pub(crate) fn reply<W: Sink>(
+// Does what a line asks for, and writes the reply. It isn't inlined, since commands are large, and most lines are those of a log.
+#[inline(never)]
+fn reply_to_command<W: Sink>(
     alloc: Global,
     session: &mut Session,
     line: &[u8],
@@ -45,5 +46,21 @@ pub(crate) fn reply<W: Sink>(
     match command_of(alloc, line) {
         Ok(command) => perform(session, command, sink),
         Err(_) => put_refusal(sink, Refusal::Memory),
+    }
+}
+
+/// Does what a line asks for, and writes the reply.
+pub(crate) fn reply<W: Sink>(
+    alloc: Global,
+    session: &mut Session,
+    line: &[u8],
+    sink: &mut W,
+) -> Result<(), WriteFault>
+    ensures { (text : List ℕ) × Replies session.old.state line.now session.new.state text
+        × Prints (W.written sink.old) (W.written sink.new) result text }
+{
+    match log_line(line) {
+        Some(text) => put_answer(sink, session.add_line(text)),
+        None => reply_to_command(alloc, session, line, sink),
     }
 }
