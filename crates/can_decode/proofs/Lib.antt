@@ -11,3 +11,4 @@ pub mod DigitTexts
 pub mod OneText
 pub mod ScaledTexts
 pub mod TextParts
+pub mod ShortTexts

@@ -72,7 +72,7 @@ zeros_all : (count : ℕ) → AllDigits 10 (zeros count)
 zeros_all zero = tt
 zeros_all (suc count) = (omega arith, zeros_all count)
 
-zeros_value : (count : ℕ) → digits_value 10 (zeros count) ≡ 0
+pub zeros_value : (count : ℕ) → digits_value 10 (zeros count) ≡ 0
 zeros_value zero = refl
 zeros_value (suc count) = zeros_value count
 

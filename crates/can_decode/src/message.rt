@@ -12,13 +12,16 @@ use crate::value::push_reading;
 use can_layout::{Plan, Presence, Row};
 use dbc_values::Memory;
 use log_frames::Frame;
-use ready_texts::{Digits, Draft, ReadyText, push_bytes};
+use ready_texts::{Digits, Draft, ReadyText, push_bytes, push_small_number};
 use std::ops::Range;
 
 /// A whole number.
 pub(crate) fn push_number(text: &mut Draft, number: u64) -> Result<(), Memory>
     ensures { OnOk result (text.new.items ≡ text.old.items ++ decimal number) }
 {
+    if number < 1000 {
+        return push_small_number(text, number as u16);
+    }
     let mut digits = Digits::none();
     digits.write(number);
     digits.push_first(text, digits.len())

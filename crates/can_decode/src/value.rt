@@ -6,7 +6,7 @@ ghost use Rattle.can_decode.specs.Values.{fewest_places, fixed_text, sign_of, sc
 use can_layout::{Decoder, Reading};
 use dbc_values::Memory;
 use itoa::Buffer;
-use ready_texts::{Digits, Draft, push_bytes, push_shown};
+use ready_texts::{Digits, Draft, EightDigits, push_bytes, push_shown, push_small_number};
 
 // The same number with the fewest places behind its point, where it is one of a word, as most are.
 fn fewest_places_of_word(digits: u64, places: u8) -> (u64, u8)
@@ -108,37 +108,47 @@ fn push_fixed_any(text: &mut Draft, digits: u128, places: u8) -> Result<(), Memo
 fn push_sign(text: &mut Draft, value: i128) -> Result<(), Memory>
     ensures { OnOk result (text.new.items ≡ text.old.items ++ sign_of value) }
 {
-    if value < 0 {
-        text.push_piece(b"-")
-    } else {
-        Ok(())
-    }
+    text.push_if(value < 0, b'-')
 }
 
-// A number of one digit.
-#[tactic(auto, using(crate::proofs::Pushing::pushed_digit))]
+// A number of at most eight digits over ten to the number of places, by parts of its digits.
 #[inline(always)]
-fn push_digit(text: &mut Draft, digit: u8) -> Result<(), Memory>
-    requires { digit < 10 }
-    ensures { OnOk result (text.new.items ≡ text.old.items ++ decimal digit) }
+fn push_short(text: &mut Draft, number: u32, places: u8) -> Result<(), Memory>
+    requires number { number < 10 ^ 8 }
+    requires places { places < 8 }
+    ensures { OnOk result (text.new.items ≡ text.old.items ++ fixed_text (fewest_places number places)) }
 {
-    text.push(b'0' + digit)?;
-    Ok(())
+    let digits = EightDigits::of(number);
+    let places = usize::from(places);
+    let leading = digits.leading_zeros().min(7 - places);
+    let trailing = digits.trailing_zeros().min(places);
+    digits.push_part(text, leading, 8 - places - leading)?;
+    digits.push_fraction(text, 7 - places, places - trailing)
 }
 
-// A number over ten to the number of places. Switches and states have one digit.
+// A number of one word over ten to the number of places. Switches and states are small whole numbers, and most values have at most
+// eight digits.
+#[tactic(auto, unfolding(crate::specs::Values::fixed_text))]
+fn push_shortest_word(text: &mut Draft, number: u64, places: u8) -> Result<(), Memory>
+    ensures { OnOk result (text.new.items ≡ text.old.items ++ fixed_text (fewest_places number places)) }
+{
+    if places == 0 && number < 1000 {
+        return push_small_number(text, number as u16);
+    }
+    if places < 8 && number < 100_000_000 {
+        return push_short(text, number as u32, places);
+    }
+    let (digits, behind) = fewest_places_of_word(number, places);
+    push_fixed_word(text, digits, behind)
+}
+
+// A number over ten to the number of places.
 #[tactic(auto, unfolding(crate::specs::Values::fixed_text))]
 fn push_shortest(text: &mut Draft, number: u128, places: u8) -> Result<(), Memory>
     ensures { OnOk result (text.new.items ≡ text.old.items ++ fixed_text (fewest_places number places)) }
 {
-    if places == 0 && number < 10 {
-        return push_digit(text, number as u8);
-    }
     match u64::try_from(number) {
-        Ok(word) => {
-            let (digits, behind) = fewest_places_of_word(word, places);
-            push_fixed_word(text, digits, behind)
-        }
+        Ok(word) => push_shortest_word(text, word, places),
         Err(_) => {
             let (digits, behind) = fewest_places_of_any(number, places);
             push_fixed_any(text, digits, behind)

@@ -1,5 +1,6 @@
 //! A text that is being made.
 ghost use Rattle.std.specs.Prelude.{◌≡◌, ℕ, [], ◌∷◌, ◌+◌, ◌<◌, ◌≤◌, ◌^◌, ◌++◌, true, false, IfOk, OnOk, length, take, drop};
+ghost use Rattle.std.specs.Prelude.{if◌then◌else◌};
 
 use dbc_values::Memory;
 use std::alloc::Global;
@@ -153,6 +154,14 @@ impl Draft {
         ensures { OnOk result (self.new.items ≡ self.old.items ++ byte ∷ []) }
     {
         self.push_first(&[byte], 1)
+    }
+
+    /// Appends a byte if it is there, without a branch for whether it is, which a processor can't predict.
+    #[inline(always)]
+    pub fn push_if(&mut self, is_there: bool, byte: u8) -> Result<(), Memory>
+        ensures { OnOk result (self.new.items ≡ self.old.items ++ (if is_there then byte ∷ [] else [])) }
+    {
+        self.push_first(&[byte], usize::from(is_there))
     }
 
     /// Appends a short piece of a known length.
