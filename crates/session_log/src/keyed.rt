@@ -14,8 +14,8 @@ pub(crate) struct Serials {
     pub later: VecDeque<usize>,
 }
 
-/// The serial numbers of lines under each key that has any. A key is looked for in a table first, and then among all keys in their
-/// order, so no log makes it slow.
+/// The serial numbers of lines under each key. A key is looked for in a table first, and then among all keys in their order, so no
+/// log makes it slow. Some keys stay without a line, up to a bound.
 #[derive(Drop)]
 pub(crate) struct KeyedSerials {
     /// Those of each key, in no order.

@@ -78,8 +78,8 @@ fn change(places: &mut BTreeMap<u32, usize>, key: u32, place: usize)
 // Room for so few is never given back.
 const LEAST_ROOM: usize = 64;
 
-// Gives half the room of a queue back where not even a quarter of it is used. Where there is no memory for the smaller block, all
-// of the room stays.
+// Gives half the room of a queue back where not even a quarter of it is used, and all if it is empty. Where there is no memory for
+// the smaller block, all of the room stays.
 fn give_back(queue: &mut VecDeque<usize>)
     ensures { queue.new.items ≡ queue.old.items }
 {
@@ -88,6 +88,10 @@ fn give_back(queue: &mut VecDeque<usize>)
         return;
     }
     let alloc = *queue.allocator();
+    if queue.is_empty() {
+        *queue = VecDeque::new(alloc);
+        return;
+    }
     if let Ok(mut smaller) = VecDeque::with_capacity(alloc, room / 2) {
         if smaller.append(queue).is_ok() {
             *queue = smaller;

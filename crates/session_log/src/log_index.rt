@@ -11,8 +11,7 @@ use dbc_values::Memory;
 use edit_reach::{is_extended, may_have_group};
 use std::alloc::Global;
 
-/// The serial numbers of lines by the numbers of their data frames, and of those with identifiers of 29 bits by their groups. A
-/// number or group is there as long as it has a line.
+/// The serial numbers of lines by the numbers of their data frames, and of those with identifiers of 29 bits by their groups.
 #[derive(Drop)]
 pub(crate) struct LogIndex {
     numbers: KeyedSerials,
