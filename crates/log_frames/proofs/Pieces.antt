@@ -40,6 +40,16 @@ all_decode digits =
       | inr even ↦ decodes digits (omega (arith, even))
     ]
 
+-- an odd digit spells nothing
+pub odd_fails : (digits : List ℕ) → length digits % 2 ≡ 1 → None ≡ result_ok (decode_of digits)
+odd_fails digits odd =
+    sym (all_decode digits ∙ odd_told (length digits / 2) (map hex_digit_value digits) (omega (
+      arith,
+      odd,
+      length-map digits
+          hex_digit_value,
+    )))
+
 -- bytes, and then others
 abbrev pub both : Option (List ℕ) → Option (List ℕ) → Option (List ℕ)
 both (Some front) (Some rest) = Some (front ++ rest)

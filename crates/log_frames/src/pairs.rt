@@ -1,4 +1,4 @@
-//! Hexadecimal digits by a table of their values.
+//! Hexadecimal digits: pairs by a table of their values, sixteen at once as lanes of a vector.
 ghost use Rattle.std.specs.Prelude.{◌≡◌, ℕ, ◌*◌, ◌<◌, ◌==◌, Some, None, Ok, IfSome, length, map, bit_and, if◌then◌else◌};
 ghost use Rattle.std.specs.Result.{result_ok};
 ghost use Rattle.hex.specs.Hex.{decode_of, hex_digit_value, pair_value};

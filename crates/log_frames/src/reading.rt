@@ -56,6 +56,10 @@ fn bytes_of(digits: &[u8]) -> Option<ArrayVec<u8, 64>>
     requires { length digits.now ≤ 128 }
     ensures { option_map (λ bytes. bytes.items) result ≡ result_ok (decode_of digits.now) }
 {
+    // (before any digit is read)
+    if digits.len() % 2 != 0 {
+        return None;
+    }
     let mut bytes = ArrayVec::new();
     let mut rest = digits;
     'sixteens: while let Some((sixteen, behind)) = rest.split_first_chunk::<16>() {
