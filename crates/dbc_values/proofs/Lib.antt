@@ -13,4 +13,5 @@ pub mod Kept
 pub mod PlainDigits
 pub mod Keywords
 pub mod PlainDecimals
+pub mod ExponentNumbers
 mod Classes

@@ -22,7 +22,7 @@ pub digits_behind : (number : List ℕ) → IsTrue (is_number number) → IsTrue
 unfolding is_number
 digits_behind number h = (and_parts _ _ (and_parts _ _ (and_parts _ _ h).0).0).1
 
-behind_sign : (text : List ℕ) → is_signed_digits text ≡ true → IsTrue (list_all is_digit (without_leading_sign text))
+pub behind_sign : (text : List ℕ) → is_signed_digits text ≡ true → IsTrue (list_all is_digit (without_leading_sign text))
 behind_sign [] h = refl
 behind_sign (b ∷ text) h = grind (arith, nat_tests)
 

@@ -265,33 +265,6 @@ fn plain_decimal(number: &[u8]) -> Option<(u64, usize)>
     }
 }
 
-/// The number that digits behind those of another one write, where it is one of a word.
-fn word_behind(start: u64, digits: &[u8]) -> Option<u64>
-    requires { IsTrue (list_all is_digit digits.now) }
-    ensures value { IfSome result (λ value. value ≡ digits_value_after 10 start digits.now) }
-    ensures fits { IfSome result (λ value. value < 2 ^ 64) }
-{
-    let mut value = start;
-    for digit in digits {
-        if value >= WORD_LIMIT as u64 {
-            return None;
-        }
-        value = value * 10 + u64::from(*digit - b'0');
-    }
-    Some(value)
-}
-
-/// The number that the digits around a point write, where it is one of a word.
-fn mantissa_word(before_point: &[u8], behind_point: &[u8]) -> Option<u64>
-    requires before { IsTrue (list_all is_digit before_point.now) }
-    requires behind { IsTrue (list_all is_digit behind_point.now) }
-    ensures { IfSome result (λ value. value ≡ digits_value_after 10 (digits_value_after 10 0 before_point.now)
-        behind_point.now) }
-{
-    let start = word_behind(0, before_point)?;
-    word_behind(start, behind_point)
-}
-
 /// A number of a word, and the zeros at its end.
 fn word_digits(value: u64) -> Digits
     ensures value { HasDigits value result.front result.zeros }
@@ -309,7 +282,7 @@ fn word_digits(value: u64) -> Digits
     }
 }
 
-/// The digits around a point. Most are those of a word.
+/// The digits around a point.
 fn mantissa_digits(before_point: &[u8], behind_point: &[u8]) -> Digits
     requires before { IsTrue (list_all is_digit before_point.now) }
     requires behind { IsTrue (list_all is_digit behind_point.now) }
@@ -317,10 +290,7 @@ fn mantissa_digits(before_point: &[u8], behind_point: &[u8]) -> Digits
         result.zeros }
     ensures few { result.zeros ≤ 2 ^ 65 }
 {
-    match mantissa_word(before_point, behind_point) {
-        Some(value) => word_digits(value),
-        None => Digits::NONE.then_all(before_point).then_all(behind_point),
-    }
+    Digits::NONE.then_all(before_point).then_all(behind_point)
 }
 
 /// The value of the digits, or [`FAR`] where it is greater.
@@ -369,6 +339,22 @@ impl Reduced {
         }
     }
 
+    /// A number of a word, of which so many digits are after the point, with a written exponent; `None` if that is none.
+    fn of_word_and_exponent(value: u64, behind_point: usize, exponent: &[u8]) -> Option<Reduced>
+        ensures { MatchOption result (is_signed_digits exponent.now ≡ false) (λ r. IsTrue (is_signed_digits exponent.now)
+            × IsReduced value (signed_digits_value 10 exponent.now -ℤ pos behind_point) r.digits r.exponent) }
+    {
+        if !is_signed_digits(exponent) {
+            return None;
+        }
+        let digits = word_digits(value);
+        let written = signed_up_to_far(exponent);
+        Some(Reduced {
+            digits: digits.front,
+            exponent: reduced_exponent(written, behind_point, digits.zeros),
+        })
+    }
+
     /// What the bytes spell, or `None` where they are no number.
     pub fn read(number: &[u8]) -> Option<Reduced>
         ensures { MatchOption result (is_number number.now ≡ false) (λ r. IsTrue (is_number number.now)
@@ -377,10 +363,25 @@ impl Reduced {
         if let Some((value, behind_point)) = plain_decimal(number) {
             return Some(Reduced::of_word(value, behind_point));
         }
+        Reduced::read_any(number)
+    }
+
+    /// What the bytes spell, if [`plain_decimal`] doesn't tell: most have an exponent.
+    #[inline(never)]
+    fn read_any(number: &[u8]) -> Option<Reduced>
+        ensures { MatchOption result (is_number number.now ≡ false) (λ r. IsTrue (is_number number.now)
+            × IsReduced (mantissa_of number.now) (exponent_of number.now) r.digits r.exponent) }
+    {
+        let place = exponent_place(number);
+        let (mantissa, exponent) = split_around(number, place);
+        if place < number.len() {
+            if let Some((value, behind_point)) = plain_decimal(mantissa) {
+                return Reduced::of_word_and_exponent(value, behind_point, exponent);
+            }
+        }
         if !is_number(number) {
             return None;
         }
-        let (mantissa, exponent) = split_around(number, exponent_place(number));
         let (before_point, behind_point) = split_around(mantissa, point_place(mantissa));
         let digits = mantissa_digits(before_point, behind_point);
         let written = signed_up_to_far(exponent);

@@ -7,38 +7,46 @@ use Rattle.dbc_values.specs.Lexical.{is_exponent_mark}
 use Rattle.dbc_values.specs.Numbers.{digits_before_point, digits_behind_point, written_exponent, StandsFor}
 use Rattle.dbc_values.proofs.NumberTexts.{digits_before, digits_behind, digits_of_exponent, before_is, behind_is, exponent_is}
 use Rattle.dbc_values.proofs.NumberTexts.{reduced}
-use Rattle.dbc_values.proofs.number.Reduced.read.Goals as goal
+use Rattle.dbc_values.proofs.ExponentNumbers.{whole_result}
+use Rattle.dbc_values.proofs.number.Reduced.read_any.Goals as goal
 
 pub mantissa_digits-digits-requires-clause-before : goal.mantissa_digits-digits-requires-clause-before
 mantissa_digits-digits-requires-clause-before c =
     let part : c.split_around-2.result.0.now ≡ digits_before_point c.args.number.now =
-    before_is _ _ _ _ _ c.exponent_place.ensures.value c.split_around.ensures.front c.point_place.ensures.value
+    before_is _ _ _ _ _ c.exponent_place-place.ensures.value c.split_around.ensures.front c.point_place.ensures.value
     c.split_around-2.ensures.front in
     rw part (digits_before c.args.number.now (search rules))
 
 pub mantissa_digits-digits-requires-clause-behind : goal.mantissa_digits-digits-requires-clause-behind
 mantissa_digits-digits-requires-clause-behind c =
     let part : c.split_around-2.result.1.now ≡ digits_behind_point c.args.number.now =
-    behind_is _ _ _ _ _ c.exponent_place.ensures.value c.split_around.ensures.front c.point_place.ensures.value
+    behind_is _ _ _ _ _ c.exponent_place-place.ensures.value c.split_around.ensures.front c.point_place.ensures.value
     c.split_around-2.ensures.back in
     rw part (digits_behind c.args.number.now (search rules))
 
 pub signed_up_to_far-written-requires : goal.signed_up_to_far-written-requires
 signed_up_to_far-written-requires c =
     let part : c.split_around.result.1.now ≡ after_first is_exponent_mark c.args.number.now =
-    exponent_is _ _ _ c.exponent_place.ensures.value c.split_around.ensures.back in
+    exponent_is _ _ _ c.exponent_place-place.ensures.value c.split_around.ensures.back in
     rw part (digits_of_exponent c.args.number.now (search rules))
+
+pub returns-in-Some : goal.returns-in-Some
+returns-in-Some c =
+    whole_result c.args.number.now c.split_around.result.0.now c.split_around.result.1.now c.exponent_place-place.result
+    c.in-Some.value c.in-Some.behind_point c.of_word_and_exponent.result c.exponent_place-place.ensures.value
+    c.split_around.ensures.front c.split_around.ensures.back c.if-place-number.true c.in-Some.ensures.form
+    c.in-Some.ensures.digits c.in-Some.ensures.power c.of_word_and_exponent.ensures
 
 pub returns : goal.returns
 returns c =
     let before : c.split_around-2.result.0.now ≡ digits_before_point c.args.number.now =
-    before_is _ _ _ _ _ c.exponent_place.ensures.value c.split_around.ensures.front c.point_place.ensures.value
+    before_is _ _ _ _ _ c.exponent_place-place.ensures.value c.split_around.ensures.front c.point_place.ensures.value
     c.split_around-2.ensures.front in
     let behind : c.split_around-2.result.1.now ≡ digits_behind_point c.args.number.now =
-    behind_is _ _ _ _ _ c.exponent_place.ensures.value c.split_around.ensures.front c.point_place.ensures.value
+    behind_is _ _ _ _ _ c.exponent_place-place.ensures.value c.split_around.ensures.front c.point_place.ensures.value
     c.split_around-2.ensures.back in
     let exponent : c.split_around.result.1.now ≡ after_first is_exponent_mark c.args.number.now =
-    exponent_is _ _ _ c.exponent_place.ensures.value c.split_around.ensures.back in
+    exponent_is _ _ _ c.exponent_place-place.ensures.value c.split_around.ensures.back in
     let written_fits : SFits w128 c.signed_up_to_far-written.result = search rules in
     let fits : SFits w128 c.reduced_exponent.result = search rules in
     let near : StandsFor (10 ^ 30) (written_exponent c.args.number.now) c.signed_up_to_far-written.result =
