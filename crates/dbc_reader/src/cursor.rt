@@ -57,7 +57,7 @@ impl<'t> Cursor<'t> {
         ensures { left_at self.new ≡ behind (left_at self.old) }
     {
         if let Next::Token(_) = self.next {
-            match self.after.take_plain() {
+            match self.after.take_plain_or_skip() {
                 Some(token) => self.next = Next::Token(token),
                 None => self.step_to_text(),
             }

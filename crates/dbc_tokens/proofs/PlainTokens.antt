@@ -1,19 +1,21 @@
 -- A token after blanks alone, which begins with a letter, a digit or a mark.
-use Rattle.std.proofs.Common.{◌≡◌, ℕ, suc, ◌+◌, Bool, true, false, not, ◌&&◌, cond, eqb, List, [], ◌∷◌, take, drop}
-use Rattle.std.proofs.Common.{Option, Some, None, refl, sym, ap, ◌∙◌, arith, inl, inr}
+use Rattle.std.proofs.Common.{◌≡◌, ◌≤◌, ℕ, zero, suc, ◌+◌, Bool, true, false, not, ◌&&◌, cond, eqb, List, [], ◌∷◌}
+use Rattle.std.proofs.Common.{length, take, drop, Option, Some, None, refl, sym, ap, ◌∙◌, arith, inl, inr}
 use Rattle.std.specs.Prelude.{codes}
 use Rattle.std.specs.List.{prefix_len}
 use Rattle.std.proofs.lemmas.Bool.{cases_Bool, cond-true, cond-false, and_parts, not-true, ne_eqb, eqb-false}
+use Rattle.std.proofs.lemmas.List.{drop-drop}
+use Rattle.std.proofs.lemmas.List.Sums.{sum_by-cons}
 use Rattle.std.proofs.lemmas.Bool.Decides.{nat_tests}
-use Rattle.dbc_values.specs.Lexical.{quote, slash, is_blank, is_digit, is_letter, is_word_byte, is_mark}
+use Rattle.dbc_values.specs.Lexical.{quote, slash, is_blank, is_line_feed, is_digit, is_letter, is_word_byte, is_mark}
 use Rattle.dbc_tokens.specs.declared.token.Kind.{Kind}
 use Rattle.dbc_tokens.specs.declared.token.Kind.TheVariants.{Text, Word, Number, Mark}
 use Rattle.dbc_tokens.specs.Tokens.{◌▸◌, line_feeds}
-use Rattle.dbc_tokens.specs.Reading.Scanner.{gap_len, mantissa_len, exponent_len, number_len, token_at, cut_of}
+use Rattle.dbc_tokens.specs.Reading.Scanner.{gap_len, mantissa_len, exponent_len, number_len, token_at, rest_then, cut_of}
 use Rattle.dbc_tokens.specs.Reading.Scanner.{begins_exponent, plain_number_len, plain_token_at}
 use Rattle.dbc_tokens.proofs.Longest.{any_all, token_there}
 use Rattle.dbc_tokens.proofs.LineFeeds.{token_feeds}
-use Rattle.dbc_tokens.proofs.CutStep.{cut_token}
+use Rattle.dbc_tokens.proofs.CutStep.{cut_token, cut_of-step}
 
 -- ---- the blanks at the front of a gap
 
@@ -150,3 +152,48 @@ cut_at line text n feeds rest bytes others t p n_is feeds_is rest_is bytes_is ot
     others_is no_feeds in
     let line_is : line + feeds + 0 ≡ line + feeds = omega arith in
     rw line_is at step
+
+-- ---- blanks alone
+
+feeds_split : (n m : ℕ) (text : List ℕ) → n ≤ length text
+    → line_feeds (take (n + m) text) ≡ line_feeds (take n text) + line_feeds (take m (drop n text))
+feeds_split zero m text le = let all : zero + m ≡ m = omega arith in rw all (omega arith)
+feeds_split (suc n) m [] le = absurd (omega arith)
+feeds_split (suc n) m (b ∷ text) le =
+    let both : suc n + m ≡ suc (n + m) = omega arith in
+    let first = sum_by-cons (λ y. cond (is_line_feed y) 1 0) b (take (n + m) text) in
+    let second = sum_by-cons (λ y. cond (is_line_feed y) 1 0) b (take n text) in
+    let rest = feeds_split n m text (omega arith) in
+    rw both (omega (arith, first, second, rest))
+
+-- the tokens are the same from behind the blanks at the front
+pub cut_behind : (line : ℕ) (text : List ℕ) (n feeds : ℕ) (rest : List ℕ) → n ≤ length text
+    → n ≡ prefix_len is_blank text → feeds ≡ line_feeds (take n text) → rest ≡ drop n text
+    → cut_of (line + feeds) rest ≡ cut_of line text
+cut_behind line text n feeds rest within n_is feeds_is rest_is =
+    let more : ℕ = gap_len false rest in
+    let gap : gap_len false text ≡ n + more = gap_len-blanks text ∙ ap (λ k. k + gap_len false (drop k text)) (sym n_is)
+    ∙ ap (λ l. n + gap_len false l) (sym rest_is) in
+    let lines : line + feeds + line_feeds (take more rest) ≡ line + line_feeds (take (gap_len false text) text)
+    = omega (
+      arith,
+      feeds_is,
+      feeds_split n more text within,
+      ap (λ l. line_feeds (take more l)) rest_is,
+      ap (λ k. line_feeds (take k text)) gap,
+    ) in
+    let left : drop more rest ≡ drop (gap_len false text) text
+    = ap (drop more) rest_is ∙ drop-drop more n text ∙ ap (λ k. drop k text) (sym gap) in
+    cut_of-step (line + feeds) rest ∙ ap (λ at. rest_then cut_of at (drop more rest)) lines
+    ∙ ap (rest_then cut_of (line + line_feeds (take (gap_len false text) text))) left ∙ sym (cut_of-step line text)
+
+-- no blank is behind the blanks at the front
+pub none_ahead : (text : List ℕ) → prefix_len is_blank (drop (prefix_len is_blank text) text) ≡ 0
+none_ahead [] = refl
+none_ahead (b ∷ text) =
+    elim (cases_Bool (is_blank b)) [
+      | inl y ↦
+          let whole : prefix_len is_blank (b ∷ text) ≡ suc (prefix_len is_blank text) = rw y (omega arith) in
+          rw whole (none_ahead text)
+      | inr n ↦ let whole : prefix_len is_blank (b ∷ text) ≡ 0 = rw n refl in rw (whole, n) refl
+    ]

@@ -27,6 +27,10 @@ plain_comes t = is_some (plain_token_at (drop (prefix_len is_blank t.rest.now) t
 abbrev pub line_text_comes : Tokens → Bool
 line_text_comes t = is_some (line_text_at (drop (prefix_len is_blank t.rest.now) t.rest.now))
 
+-- how many blanks are at the front
+abbrev pub blanks_ahead : Tokens → ℕ
+blanks_ahead t = prefix_len is_blank t.rest.now
+
 -- what comes next, and then these
 abbrev pub cut_from : Next → Cut → Cut
 cut_from (nexts.Token t) cut = token_of t ▸ cut

@@ -1,9 +1,10 @@
 //! The steps from one token to the next.
-ghost use Rattle.std.specs.Prelude.{◌≡◌, ◌≤◌, length, is_some, MatchOption};
+ghost use Rattle.std.specs.Prelude.{◌≡◌, ◌≤◌, false, length, is_some, MatchOption};
 ghost use Rattle.std.specs.Iterator.{YieldsFirstBy, item_count};
 ghost use Rattle.dbc_tokens.specs.Tokens.{◌▸◌, IsToken, line_feeds};
 ghost use Rattle.dbc_tokens.specs.Reading.Scanner.{cut_of};
-ghost use Rattle.dbc_tokens.specs.Views.{left, token_of, cut_from, plain_comes, line_text_comes, item, items, NothingAfter};
+ghost use Rattle.dbc_tokens.specs.Views.{left, token_of, cut_from, plain_comes, line_text_comes, blanks_ahead};
+ghost use Rattle.dbc_tokens.specs.Views.{item, items, NothingAfter};
 
 use crate::fault::{Cause, ReadFault};
 use crate::lengths::{gap_len, leading_blanks, line_text_at, plain_token_at, token_at};
@@ -18,7 +19,7 @@ fn count_line_feeds(bytes: &[u8]) -> usize
     bytes.iter().filter(|b| **b == b'\n').count()
 }
 
-// How many LF these bytes hold. Most gaps and strings hold none, which a search finds out faster than counting.
+// How many LF these bytes hold. Most strings hold none, which a search finds out faster than counting.
 fn line_feeds(bytes: &[u8]) -> usize
     ensures value { result ≡ line_feeds bytes.now }
     ensures in_range { result ≤ length bytes.now }
@@ -29,6 +30,18 @@ fn line_feeds(bytes: &[u8]) -> usize
             count_line_feeds(rest)
         }
         None => 0,
+    }
+}
+
+// How many LF a gap holds. Most gaps that get here are empty, as the blanks before them were skipped.
+#[inline(always)]
+fn gap_line_feeds(gap: &[u8]) -> usize
+    ensures value { result ≡ line_feeds gap.now }
+    ensures in_range { result ≤ length gap.now }
+{
+    match gap {
+        [] => 0,
+        _ => line_feeds(gap),
     }
 }
 
@@ -61,7 +74,7 @@ impl<'a> Tokens<'a> {
         ensures last { NothingAfter result.0 (left result.1) }
     {
         let mut after = self;
-        match after.take_plain() {
+        match after.take_plain_or_skip() {
             Some(token) => (Next::Token(token), after),
             None => {
                 let next = after.take_next();
@@ -77,13 +90,38 @@ impl<'a> Tokens<'a> {
         ensures token { MatchOption result (self.new ≡ self.old) (λ t. left self.old ≡ token_of t ▸ left self.new) }
         ensures exact { is_some result ≡ plain_comes self.old }
     {
+        let before = *self;
+        match self.take_plain_or_skip() {
+            Some(token) => Some(token),
+            None => {
+                *self = before;
+                None
+            }
+        }
+    }
+
+    /// Takes the token that comes next as [`Tokens::take_plain`] does. If it takes nothing, it skips the blanks before what comes
+    /// next, so that no later call walks them again.
+    #[inline(always)]
+    pub fn take_plain_or_skip(&mut self) -> Option<Token<'a>>
+        ensures token { MatchOption result (left self.new ≡ left self.old) (λ t. left self.old ≡ token_of t ▸ left self.new) }
+        ensures exact { is_some result ≡ plain_comes self.old }
+        ensures skipped { is_some result ≡ false → blanks_ahead self.new ≡ 0 }
+    {
         let (blanks, feeds) = leading_blanks(self.rest);
-        let (_, rest) = self.rest.split_at(blanks);
-        let (kind, len) = plain_token_at(rest)?;
+        let (_, ahead) = self.rest.split_at(blanks);
         let line = self.line + feeds as u64;
-        let (bytes, rest) = rest.split_at(len);
-        *self = Tokens { rest, line };
-        Some(Token { kind, bytes, line })
+        match plain_token_at(ahead) {
+            Some((kind, len)) => {
+                let (bytes, rest) = ahead.split_at(len);
+                *self = Tokens { rest, line };
+                Some(Token { kind, bytes, line })
+            }
+            None => {
+                *self = Tokens { rest: ahead, line };
+                None
+            }
+        }
     }
 
     /// Takes the string that comes next, if only blanks are before it and it ends at its first quote and in the line in which it
@@ -109,7 +147,7 @@ impl<'a> Tokens<'a> {
         ensures last { NothingAfter result (left self.new) }
     {
         let (gap, rest) = self.rest.split_at(gap_len(self.rest));
-        let line = self.line + line_feeds(gap) as u64;
+        let line = self.line + gap_line_feeds(gap) as u64;
         match token_at(rest) {
             Some((kind, len)) => {
                 let (bytes, rest) = rest.split_at(len);
@@ -137,7 +175,7 @@ impl<'a> Iterator for Tokens<'a> {
     ghost remaining = { item_count (λ tokens. items (left tokens)) };
 
     fn next(&mut self) -> Option<Result<Token<'a>, ReadFault>> {
-        if let Some(token) = self.take_plain() {
+        if let Some(token) = self.take_plain_or_skip() {
             return Some(Ok(token));
         }
         match self.take_next() {
