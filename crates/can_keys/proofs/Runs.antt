@@ -1,13 +1,13 @@
 -- What signals in the order of their message numbers say of one that is asked for.
 use Rattle.std.proofs.Common.{◌≡◌, ◌≢◌, ◌+◌, ◌<◌, ◌≤◌, ◌==◌, ℕ, zero, suc, Bool, true, false, ◌&&◌, ◌||◌}
 use Rattle.std.proofs.Common.{List, [], ◌∷◌, drop, map, length, get_or, refl, sym, ap, subst, ◌∙◌, arith, ltb, ltb-true}
-use Rattle.std.specs.Borrow.{Bor}
 use Rattle.std.specs.List.{list_any, AllWithin}
 use Rattle.std.specs.Str.{bytes_eq}
 use Rattle.std.proofs.lemmas.Grind.{common_steps}
 use Rattle.std.proofs.lemmas.List.{drop_more}
 use Rattle.can_keys.specs.KeySets.{RisesFrom}
 use Rattle.can_keys.specs.SignalRuns.{message_number, is_signal}
+use Rattle.can_keys.specs.declared.numbered.Numbered.{Numbered}
 
 pub any_map : {X Y : Type 0} (p : Y → Bool) (f : X → Y) (xs : List X) → list_any (λ x. p (f x)) xs ≡ list_any p (map f xs)
 any_map p f [] = refl
@@ -38,24 +38,24 @@ other_name : (m n : ℕ) (e : Bool) → e ≡ false → ((m == n) && e) ≡ fals
 other_name m n e name = grind (arith, common_steps)
 
 module _ (number : ℕ) (name : List ℕ) where
-  none_past : (n : ℕ) (signals : List (ℕ × Bor (List ℕ))) → number < n → RisesFrom message_number n signals
+  none_past : (n : ℕ) (signals : List Numbered) → number < n → RisesFrom message_number n signals
       → false ≡ list_any (is_signal number name) signals
   none_past n [] past up = refl
   none_past n (signal ∷ signals) past up =
       none_past (message_number signal) signals (omega (arith, up.0)) up.1
       ∙ failed (is_signal number name signal) (list_any (is_signal number name) signals)
-      (other_number number signal.0 (bytes_eq name signal.1.now) (omega (arith, up.0)))
+      (other_number number signal.number (bytes_eq name signal.name.now) (omega (arith, up.0)))
 
-  pub all_from : (signals : List (ℕ × Bor (List ℕ))) (first : ℕ) → first ≤ length signals
+  pub all_from : (signals : List Numbered) (first : ℕ) → first ≤ length signals
       → AllWithin (λ signal. ltb (message_number signal) number ≡ true) signals 0 first
       → list_any (is_signal number name) (drop first signals) ≡ list_any (is_signal number name) signals
   all_from signals first within low = any_from (is_signal number name) first signals within (λ k d above below.
       let less = ltb-true _ number (low k d above below) in
-      other_number number (get_or signals k d).0 (bytes_eq name (get_or signals k d).1.now) (omega (arith, less)))
+      other_number number (get_or signals k d).number (bytes_eq name (get_or signals k d).name.now) (omega (arith, less)))
 
   -- ---- the signals one after another
 
-  module _ (signals : List (ℕ × Bor (List ℕ))) (index : ℕ) (d : ℕ × Bor (List ℕ)) (within : index < length signals)
+  module _ (signals : List Numbered) (index : ℕ) (d : Numbered) (within : index < length signals)
       (up : RisesFrom message_number number (drop index signals))
       (all : list_any (is_signal number name) (drop index signals) ≡ list_any (is_signal number name) signals) where
     here : RisesFrom message_number number (get_or signals index d ∷ drop (index + 1) signals)
@@ -65,26 +65,27 @@ module _ (number : ℕ) (name : List ℕ) where
         ≡ list_any (is_signal number name) signals
     left = ap (list_any (is_signal number name)) (sym (drop_more signals index d within)) ∙ all
 
-    pub none_left : (get_or signals index d).0 ≢ number → false ≡ list_any (is_signal number name) signals
+    pub none_left : (get_or signals index d).number ≢ number → false ≡ list_any (is_signal number name) signals
     none_left other =
-        none_past (get_or signals index d).0 (drop (index + 1) signals) (omega (arith, here.0)) here.1
+        none_past (get_or signals index d).number (drop (index + 1) signals) (omega (arith, here.0)) here.1
         ∙ failed (is_signal number name (get_or signals index d)) (list_any (is_signal number name) (drop (index + 1) signals))
-        (other_number number (get_or signals index d).0 (bytes_eq name (get_or signals index d).1.now) (λ is. other (sym is)))
+        (other_number number (get_or signals index d).number (bytes_eq name (get_or signals index d).name.now)
+        (λ is. other (sym is)))
         ∙ left
 
-    pub one_here : (get_or signals index d).0 ≡ number → bytes_eq name (get_or signals index d).1.now ≡ true
+    pub one_here : (get_or signals index d).number ≡ number → bytes_eq name (get_or signals index d).name.now ≡ true
         → true ≡ list_any (is_signal number name) signals
     one_here same named =
         passed (is_signal number name (get_or signals index d)) (list_any (is_signal number name) (drop (index + 1) signals))
-        (both number (get_or signals index d).0 (bytes_eq name (get_or signals index d).1.now) (sym same) named)
+        (both number (get_or signals index d).number (bytes_eq name (get_or signals index d).name.now) (sym same) named)
         ∙ left
 
-    pub rises_on : (get_or signals index d).0 ≡ number → RisesFrom message_number number (drop (index + 1) signals)
+    pub rises_on : (get_or signals index d).number ≡ number → RisesFrom message_number number (drop (index + 1) signals)
     rises_on same = subst (λ n. RisesFrom message_number n (drop (index + 1) signals)) same here.1
 
-    pub all_on : bytes_eq name (get_or signals index d).1.now ≡ false
+    pub all_on : bytes_eq name (get_or signals index d).name.now ≡ false
         → list_any (is_signal number name) (drop (index + 1) signals) ≡ list_any (is_signal number name) signals
     all_on other =
         failed (is_signal number name (get_or signals index d)) (list_any (is_signal number name) (drop (index + 1) signals))
-        (other_name number (get_or signals index d).0 (bytes_eq name (get_or signals index d).1.now) other)
+        (other_name number (get_or signals index d).number (bytes_eq name (get_or signals index d).name.now) other)
         ∙ left

@@ -1,7 +1,8 @@
 //! Keys that are told apart: each set says of a key whether it was added, and how often, in logarithmic time.
 //!
-//! Keys are compared whole and not by a hash, so no keys, however they are chosen, make a set slow. Contracts see a set as the
-//! list of all keys that were added, in order.
+//! Most keys are told apart by a number or a mark that is made of them. Those that agree in it are compared whole, so no answer
+//! rests on it, and no keys, however they are chosen, make a set slow. Contracts see a set as the list of all keys that were
+//! added, in order.
 #![tactic(auto)]
 
 mod apart;
@@ -9,8 +10,10 @@ mod hashed_signals;
 mod integers;
 mod key;
 mod keys;
+mod marks;
 mod mix;
 mod names;
+mod numbered;
 mod numbered_signals;
 mod numbers;
 mod row_keys;

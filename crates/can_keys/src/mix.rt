@@ -5,7 +5,8 @@ ghost use Rattle.can_keys.specs.RowKeys.{target_of, row_key};
 
 use crate::key::{Key, Place};
 
-const FACTOR: u64 = 0x9E37_79B9_7F4A_7C15;
+/// What each step of a number multiplies by.
+pub(crate) const FACTOR: u64 = 0x9E37_79B9_7F4A_7C15;
 
 /// A key behind a number that is made of it. Equal keys have equal numbers, and most others have others, so most keys are told
 /// apart, and put in order, by one look.

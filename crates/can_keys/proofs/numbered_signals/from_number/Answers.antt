@@ -1,8 +1,9 @@
 use Rattle.std.proofs.Common.{◌≡◌, ◌-◌, length, take, drop, take_all, length-drop, ltb, ap, sym, subst, ◌∙◌, arith, rules}
-use Rattle.std.specs.List.{list_any}
+use Rattle.std.specs.List.{All, list_any}
 use Rattle.std.proofs.lemmas.List.Sorted.{IsPartitionPoint-from_clause, IsPartitionedBy-ltb}
+use Rattle.std.proofs.lemmas.List.Elements.{All-drop}
 use Rattle.can_keys.specs.KeySets.{RisesFrom}
-use Rattle.can_keys.specs.SignalRuns.{message_number, is_signal}
+use Rattle.can_keys.specs.SignalRuns.{message_number, is_signal, HasMark}
 use Rattle.can_keys.proofs.Ranks.{rises_from}
 use Rattle.can_keys.proofs.Runs.{all_from}
 use Rattle.can_keys.proofs.numbered_signals.from_number.Goals as goal
@@ -23,4 +24,5 @@ returns c =
           (rises_from message_number number first signals c.requires point.1);
       all = λ name. ap (list_any (is_signal number name)) rest
           ∙ all_from number name signals first c.partition_point-first.ensures.bound point.0;
+      marks = λ is_marked marks. subst (All (HasMark is_marked)) (sym rest) (All-drop (HasMark is_marked) first signals marks);
     }

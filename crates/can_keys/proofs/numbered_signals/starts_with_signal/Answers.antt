@@ -6,10 +6,10 @@ pub returns-then-signal-number : goal.returns-then-signal-number
 returns-then-signal-number c = none_left c.args.number c.args.name.now c.args.signals.now c.loop-signal.signal-index _
     c.loop-signal-test.true c.loop-signal.invariant.rises c.loop-signal.invariant.all c.if-signal-number.true
 
-pub returns-then-same_name : goal.returns-then-same_name
-returns-then-same_name c = one_here c.args.number c.args.name.now c.args.signals.now c.loop-signal.signal-index _
+pub returns-then-has_name : goal.returns-then-has_name
+returns-then-has_name c = one_here c.args.number c.args.name.now c.args.signals.now c.loop-signal.signal-index _
     c.loop-signal-test.true c.loop-signal.invariant.rises c.loop-signal.invariant.all c.if-signal-number.false
-    (sym c.same_name.ensures ∙ c.if-same_name.true)
+    (sym c.has_name.ensures ∙ c.if-has_name.true)
 
 pub loop-signal-preserved : goal.loop-signal-preserved
 loop-signal-preserved c = record {
@@ -17,5 +17,5 @@ loop-signal-preserved c = record {
       c.loop-signal-test.true c.loop-signal.invariant.rises c.loop-signal.invariant.all c.if-signal-number.false;
   all = all_on c.args.number c.args.name.now c.args.signals.now c.loop-signal.signal-index _
       c.loop-signal-test.true c.loop-signal.invariant.rises c.loop-signal.invariant.all
-      (sym c.same_name.ensures ∙ c.if-same_name.false);
+      (sym c.has_name.ensures ∙ c.if-has_name.false);
 }

@@ -1,0 +1,130 @@
+-- Marks of names: how they are made, and what they leave of signals as it was.
+use Rattle.std.proofs.Common.{◌≡◌, ◌≢◌, ℕ, ◌+◌, ◌-◌, ◌*◌, ◌%◌, ◌^◌, ◌<◌, ◌≤◌, Bool, true, false, List, [], ◌∷◌}
+use Rattle.std.proofs.Common.{length, take, drop, take_all, map, ◌++◌, All, get_or, set, refl, sym, ap, subst, ◌∙◌, arith}
+use Rattle.std.specs.List.Sorted.{IsNonDecreasingBy}
+use Rattle.std.specs.Str.{bytes_eq}
+use Rattle.std.proofs.lemmas.Bool.{le-leb, lt-leb, false_from_ne_true}
+use Rattle.std.proofs.lemmas.List.{get_or-map, get_or_default, length-map, take-append-le}
+use Rattle.std.proofs.lemmas.List.Edits.{map_over_more}
+use Rattle.std.proofs.lemmas.Slice.Eq.{bytes_eq-Decides}
+use Rattle.can_keys.specs.Mixes.{mixed_bytes}
+use Rattle.can_keys.specs.Marks.{mixed_word, mixed_words, mixed_name, name_mark, mark_of}
+use Rattle.can_keys.specs.SignalRuns.{message_number, signal_of, marked, HasMark, DifferAfter, AreSearchable}
+use Rattle.can_keys.specs.declared.numbered.Numbered.{Numbered}
+
+-- ---- numbers of names
+
+words_more : (mix : ℕ) (bytes : List ℕ) → 8 ≤ length bytes
+    → mixed_words (mixed_word mix (take 8 bytes)) (drop 8 bytes) ≡ mixed_words mix bytes
+unfolding mixed_words
+words_more mix [] long = absurd (omega arith)
+words_more mix (a ∷ []) long = absurd (omega arith)
+words_more mix (a ∷ (b ∷ [])) long = absurd (omega arith)
+words_more mix (a ∷ (b ∷ (c ∷ []))) long = absurd (omega arith)
+words_more mix (a ∷ (b ∷ (c ∷ (d ∷ [])))) long = absurd (omega arith)
+words_more mix (a ∷ (b ∷ (c ∷ (d ∷ (e ∷ []))))) long = absurd (omega arith)
+words_more mix (a ∷ (b ∷ (c ∷ (d ∷ (e ∷ (f ∷ [])))))) long = absurd (omega arith)
+words_more mix (a ∷ (b ∷ (c ∷ (d ∷ (e ∷ (f ∷ (g ∷ []))))))) long = absurd (omega arith)
+words_more mix (a ∷ (b ∷ (c ∷ (d ∷ (e ∷ (f ∷ (g ∷ (h ∷ rest)))))))) long = refl
+
+pub words_on : (mix next : ℕ) (bytes word behind : List ℕ) → word ≡ take 8 bytes → behind ≡ drop 8 bytes
+    → length behind + 8 ≡ length bytes → next ≡ mixed_word mix word → mixed_words next behind ≡ mixed_words mix bytes
+words_on mix next bytes word behind front rest long is =
+    ap (mixed_words next) rest ∙ ap (λ n. mixed_words n (drop 8 bytes)) (is ∙ ap (mixed_word mix) front)
+    ∙ words_more mix bytes (omega (arith, long))
+
+pub words_end : (mix : ℕ) (bytes : List ℕ) → length bytes < 8 → mix ≡ mixed_words mix bytes
+unfolding mixed_words
+words_end mix [] short = refl
+words_end mix (a ∷ []) short = refl
+words_end mix (a ∷ (b ∷ [])) short = refl
+words_end mix (a ∷ (b ∷ (c ∷ []))) short = refl
+words_end mix (a ∷ (b ∷ (c ∷ (d ∷ [])))) short = refl
+words_end mix (a ∷ (b ∷ (c ∷ (d ∷ (e ∷ []))))) short = refl
+words_end mix (a ∷ (b ∷ (c ∷ (d ∷ (e ∷ (f ∷ [])))))) short = refl
+words_end mix (a ∷ (b ∷ (c ∷ (d ∷ (e ∷ (f ∷ (g ∷ []))))))) short = refl
+words_end mix (a ∷ (b ∷ (c ∷ (d ∷ (e ∷ (f ∷ (g ∷ (h ∷ rest)))))))) short = absurd (omega arith)
+
+pub of_long : (name front last : List ℕ) (words : ℕ) → length front + 8 ≡ length name → last ≡ drop (length name - 8) name
+    → words ≡ mixed_words 0 name → mixed_word words last ≡ mixed_name name
+unfolding mixed_name
+of_long name front last words long behind is =
+    rw (le-leb 8 (length name) (omega (arith, long))) (ap (mixed_word words) behind
+    ∙ ap (λ n. mixed_word n (drop (length name - 8) name)) is)
+
+pub of_short : (name : List ℕ) (mix : ℕ) → length name < 8 → mix ≡ mixed_bytes 0 name
+    → (mix * 11400714819323198485) % 2 ^ 64 ≡ mixed_name name
+unfolding mixed_name
+of_short name mix short is = rw (lt-leb 8 (length name) short) (ap (λ n. (n * 11400714819323198485) % 2 ^ 64) is)
+
+-- ---- signals that have their marks
+
+pub same_signals : (signals : List Numbered) → map signal_of (map marked signals) ≡ map signal_of signals
+same_signals [] = refl
+same_signals (signal ∷ signals) = ap (λ l. signal_of signal ∷ l) (same_signals signals)
+
+marks_made : (signals : List Numbered) → All (HasMark true) (map marked signals)
+marks_made signals k d within =
+    let long = length-map signals marked in
+    subst (HasMark true) (sym (get_or-map marked signals k d d (omega (arith, long, within)))) refl
+
+-- one more signal has its mark
+pub mark_next : (signals so_far : List Numbered) (index mark : ℕ) (d : Numbered) → index < length signals
+    → index < length so_far → so_far ≡ map marked (take index signals) ++ drop index signals
+    → mark ≡ name_mark (get_or so_far index d).name.now
+    → set so_far index (record {
+      number = (get_or so_far index d).number;
+      mark = mark;
+      name = (get_or so_far index d).name;
+    }) ≡ map marked (take (index + 1) signals) ++ drop (index + 1) signals
+mark_next signals so_far index mark d within there is made =
+    ap (λ (m : ℕ). set so_far index (record {
+      number = (get_or so_far index d).number;
+      mark = m;
+      name = (get_or so_far index d).name;
+    })) made
+    ∙ map_over_more marked signals so_far index (get_or so_far index d) within is
+    (get_or_default so_far index d (get_or so_far index d) there)
+
+-- the room behind the signals stays as it is
+pub written : (items now new : List Numbered) (len : ℕ) → new ≡ map marked now → now ≡ items → length now ≡ len
+    → map marked items ≡ take len (new ++ drop (length new) items)
+written items now new len is same long =
+    let count : length new ≡ length now = ap length is ∙ length-map now marked in
+    sym (take-append-le len new (drop (length new) items) (omega (arith, count, long))
+    ∙ take_all len new (omega (arith, count, long)) ∙ is ∙ ap (map marked) same)
+
+module _ (signals : List Numbered) where
+  number_at : (k : ℕ) (d : Numbered) → k < length signals
+      → message_number (get_or (map marked signals) k d) ≡ message_number (get_or signals k d)
+  number_at k d within = ap message_number (get_or-map marked signals k d d within)
+
+  in_order_too : IsNonDecreasingBy message_number signals → IsNonDecreasingBy message_number (map marked signals)
+  in_order_too up i j d le within =
+      let long = length-map signals marked in
+      let first = number_at i d (omega (arith, long, le, within)) in
+      let second = number_at j d (omega (arith, long, within)) in
+      let below = up i j d le (omega (arith, long, within)) in
+      omega (arith, first, second, below)
+
+  differ_too : (distance : ℕ) → DifferAfter distance signals → DifferAfter distance (map marked signals)
+  differ_too distance differ k d within same =
+      let long = length-map signals marked in
+      differ k d (omega (arith, long, within)) (sym (number_at k d (omega (arith, long, within)))
+      ∙ same ∙ number_at (k + distance) d (omega (arith, long, within)))
+
+  pub marked_searchable : IsNonDecreasingBy message_number signals → DifferAfter 32 signals
+      → AreSearchable true (map marked signals)
+  marked_searchable ordered few = record {
+    ordered = in_order_too ordered;
+    few = differ_too 32 few;
+    marks = marks_made signals;
+  }
+
+-- ---- names told apart by their marks
+
+pub other_marks : (is_marked : Bool) (own asked : ℕ) (name other : List ℕ) → own ≡ mark_of is_marked other
+    → asked ≡ mark_of is_marked name → own ≢ asked → false ≡ bytes_eq name other
+other_marks is_marked own asked name other is looked differ =
+    sym (false_from_ne_true (bytes_eq name other) (λ same.
+    differ (is ∙ ap (mark_of is_marked) (sym ((bytes_eq-Decides name other).0 same)) ∙ sym looked)))
