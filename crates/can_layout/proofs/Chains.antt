@@ -1,15 +1,18 @@
 -- Going up from a signal: what is asked of a way that is a chain, and its links one by one.
 use Rattle.std.proofs.Common.{◌≡◌, ℕ, zero, suc, ◌+◌, ◌-◌, ◌<◌, ◌≤◌, Bool, true, false, ◌&&◌, List, [], ◌∷◌, Option, Some, None}
-use Rattle.std.proofs.Common.{slice_get, is_some, refl, sym, ap, ◌∙◌, arith, length, map, ⊎_elim}
+use Rattle.std.proofs.Common.{slice_get, is_some, refl, sym, ap, subst, ◌∙◌, arith, length, map, ⊎_elim}
 use Rattle.std.specs.List.{enumerate_from}
 use Rattle.std.specs.Option.{option_and_then}
 use Rattle.std.proofs.lemmas.Bool.{cases_lt}
+use Rattle.std.proofs.lemmas.List.{length-map}
+use Rattle.std.proofs.lemmas.List.Sums.{AllPass-from_list_all}
 use Rattle.std.proofs.lemmas.Option.{slice_get_past}
 use Rattle.dbc_records.specs.Records.{Signal}
 use Rattle.can_rows.specs.Rows.{SignalRows}
 use Rattle.can_mux.specs.Links.{Link}
 use Rattle.can_layout.specs.Plans.{chain_of, row_of, plan_rows, is_met, are_met, is_present}
-use Rattle.can_layout.specs.Presence.{link_of, chain_at, AreChained}
+use Rattle.can_layout.specs.Presence.{link_of, chain_at, AreChained, ArePlain, is_top, are_plain}
+use Rattle.can_mux.specs.Switches.{above_of, aboves_of}
 use Rattle.can_mux.specs.Walks.{above_or_missing, above_at, with_link, walk_above, walk_up, walk_of, links_in}
 use Rattle.can_mux.specs.declared.above.Above.{Above}
 use Rattle.can_mux.specs.declared.above.Above.TheVariants.{Nothing, Missing, Switch}
@@ -172,6 +175,14 @@ module _ (rows : SignalRows) (aboves : List Above) (size : ℕ) where
       (λ past. row_past 0 place signals past ∙ sym (no_way place (omega (arith, as_many, past))))
       (cases_lt place (length signals))
 
+-- the rows of a plan are chained by what is above the signals
+pub plan_chained : (rows : SignalRows) (size : ℕ) (signals : List Signal) (aboves : List Above) (made : List Row)
+    → aboves ≡ aboves_of rows signals → made ≡ plan_rows rows aboves size signals → AreChained made aboves
+plan_chained rows size signals aboves made above is =
+    let as_many : length aboves ≡ length signals =
+    ap (λ (aboves : List Above). length aboves) above ∙ length-map signals (above_of rows signals) in
+    subst (λ made. AreChained made aboves) (sym is) (are_chained rows aboves size signals as_many)
+
 -- whether a signal is there is whether its way is met
 pub present_by_chain : (bytes : List ℕ) (rows : List Row) (place : ℕ) → is_present bytes rows (slice_get rows place)
     ≡ are_met bytes rows (chain_at rows place)
@@ -194,7 +205,21 @@ present_under bytes rows aboves chained place link is =
     ∙ ap (λ there. is_met bytes rows link && there) (ap (are_met bytes rows) (sym (chained link.switch))
     ∙ sym (present_by_chain bytes rows link.switch))
 
--- a list without a first element
-pub none_first : {A : Type 0} (xs : List A) → None ≡ slice_get xs 0 → xs ≡ []
-none_first [] is = refl
-none_first (x ∷ xs) is = absurd (let no : None ≡ Some x = is in cc)
+-- a chain without a first link, and one with
+pub without_first : (links : List Link) → None ≡ slice_get links 0 → true ≡ is_top (Some links)
+without_first [] is = refl
+without_first (link ∷ links) is = absurd (let no : None ≡ Some link = is in cc)
+
+pub with_first : (links : List Link) (first : Link) → Some first ≡ slice_get links 0 → false ≡ is_top (Some links)
+with_first [] first is = absurd (let no : Some first ≡ None = is in cc)
+with_first (link ∷ links) first is = refl
+
+-- rows of which none has a multiplexor
+no_link : (chain : Option (List Link)) → is_top chain ≡ true → chain ≡ Some []
+no_link None is = absurd (let no : false ≡ true = is in cc)
+no_link (Some []) is = refl
+no_link (Some (link ∷ links)) is = absurd (let no : false ≡ true = is in cc)
+
+pub no_links : (rows : List Row) → are_plain rows ≡ true → ArePlain rows
+unfolding are_plain
+no_links rows is = λ place row within. no_link _ (AllPass-from_list_all (λ row. is_top row.chain) rows is place row within)

@@ -3,7 +3,7 @@
 -- Source: the DBC file format, "Signal Definitions", "Signal Extended Value Type Definitions", "Signal Value Descriptions",
 -- "Extended Multiplexing"; that a signal is read once its switches have their numbers is the decoding of cantools. Which
 -- signals are refused is the profile of candesk.
-use Rattle.std.specs.Prelude.{ℕ, ℤ, pos, nat_lt, Bool, false, not, ◌==◌, ◌&&◌, List, [], ◌++◌, length, codes, map, Option}
+use Rattle.std.specs.Prelude.{ℕ, ℤ, pos, nat_lt, Bool, false, not, ◌&&◌, List, ◌++◌, length, codes, map, Option}
 use Rattle.std.specs.Prelude.{Some, None, slice_get, if◌then◌else◌}
 use Rattle.std.specs.List.{list_any, list_all, enumerate_from}
 use Rattle.std.specs.Option.{option_map, option_and_then}

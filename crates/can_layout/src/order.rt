@@ -1,65 +1,217 @@
-//! In which order the switches of a message are looked for in data.
+//! In which order the runs of a message are looked for in data.
 
+use crate::runs::Run;
 use can_mux::Above;
 use dbc_values::Memory;
 use std::alloc::Global;
 
-// A multiplexing chain of at most so many links is followed anew each time.
-const MAX_LINKS_FOLLOWED: usize = 1;
+// No further run under a multiplexor.
+const NONE: usize = usize::MAX;
 
-// Whether the chain of a signal has more links.
-fn is_deep(aboves: &[Above], place: usize) -> bool {
-    let mut current = place;
-    for _passed in 0..MAX_LINKS_FOLLOWED + 1 {
-        match aboves.get(current) {
-            Some(Above::Switch(link)) => current = link.switch,
-            _ => return false,
-        }
-    }
-    true
+// The runs under a multiplexor, one after another.
+#[derive(Clone, Copy)]
+struct Under {
+    // The first signal of the first run under this signal.
+    first: usize,
+    // The first signal of the next run under the same multiplexor as this one.
+    next: usize,
 }
 
-// Adds the switches on the chain from a switch that have a parent multiplexor themselves, as far as they weren't seen before.
-fn push_way(
-    path: &mut Vec<usize>,
-    seen: &mut [bool],
-    aboves: &[Above],
-    switch: usize,
-) -> Result<(), Memory> {
-    let mut current = switch;
-    for _passed in 0..aboves.len() {
-        if current >= seen.len() || seen[current] {
-            return Ok(());
-        }
-        seen[current] = true;
-        match aboves.get(current) {
-            Some(Above::Switch(link)) => {
-                path.push(current)?;
-                current = link.switch;
+// Whether the parent multiplexor of a signal has one itself.
+fn is_deep(runs: &[Run], run: &Run) -> bool {
+    match &run.parent {
+        Above::Switch(link) => match runs.get(link.switch) {
+            Some(parent) => matches!(parent.parent, Above::Switch(_)),
+            None => false,
+        },
+        _ => false,
+    }
+}
+
+// Puts the run that begins at an index before those that are under the same multiplexor.
+fn put_under(under: &mut [Under], place: usize, switch: usize) {
+    if place >= under.len() || switch >= under.len() {
+        return;
+    }
+    under[place].next = under[switch].first;
+    under[switch].first = place;
+}
+
+// For each signal the runs under it.
+fn under_of(alloc: Global, runs: &[Run]) -> Result<Vec<Under>, Memory> {
+    let none = Under {
+        first: NONE,
+        next: NONE,
+    };
+    let mut under = vec![in alloc; none; runs.len()]?;
+    for passed in 0..runs.len() {
+        let place = runs.len() - 1 - passed;
+        let run = &runs[place];
+        if let Above::Switch(link) = &run.parent {
+            if run.first == place {
+                put_under(&mut under, place, link.switch);
             }
-            _ => return Ok(()),
+        }
+    }
+    Ok(under)
+}
+
+// Whether some run is under a signal of the run that begins at an index.
+fn has_under(runs: &[Run], under: &[Under], first: usize) -> bool {
+    let end = runs.get(first).map_or(first, |run| run.end);
+    for signal in first..end {
+        if let Some(of) = under.get(signal)
+            && of.first != NONE
+        {
+            return true;
+        }
+    }
+    false
+}
+
+// Adds the runs under a signal: those alone that have runs under them, or those alone that have none.
+fn push_under(
+    order: &mut Vec<usize>,
+    runs: &[Run],
+    under: &[Under],
+    signal: usize,
+    parents: bool,
+) -> Result<(), Memory> {
+    let Some(of) = under.get(signal) else {
+        return Ok(());
+    };
+    let mut place = of.first;
+    for _passed in 0..under.len() {
+        let Some(of) = under.get(place) else {
+            return Ok(());
+        };
+        if has_under(runs, under, place) == parents {
+            order.push(place)?;
+        }
+        place = of.next;
+    }
+    Ok(())
+}
+
+// Adds the runs that have runs under them, each after the run of its parent multiplexor.
+fn push_parents(order: &mut Vec<usize>, runs: &[Run], under: &[Under]) -> Result<(), Memory> {
+    for (signal, run) in runs.iter().enumerate() {
+        if matches!(run.parent, Above::Nothing) {
+            push_under(order, runs, under, signal, true)?;
+        }
+    }
+    for passed in 0..runs.len() {
+        let Some(first) = order.get(passed).copied() else {
+            return Ok(());
+        };
+        let end = runs.get(first).map_or(first, |run| run.end);
+        for signal in first..end {
+            push_under(order, runs, under, signal, true)?;
         }
     }
     Ok(())
 }
 
-/// If some chain has more links than one, the indexes of the switches that have a parent multiplexor, each after that of its
-/// parent; else none. It doesn't change what is found, but how often the same chain is followed.
-pub(crate) fn order_of(alloc: Global, aboves: &[Above]) -> Result<Vec<usize>, Memory> {
-    let mut order = Vec::new(alloc);
-    if !(0..aboves.len()).any(|place| is_deep(aboves, place)) {
-        return Ok(order);
+/// In which order runs are looked for, by their first signals. It doesn't change what is found, but how often the same multiplexor
+/// is looked for.
+#[derive(Drop)]
+pub(crate) struct Order {
+    /// If some multiplexor has a parent: the runs that have one, each after the run of that. Else none.
+    pub(crate) runs: Vec<usize>,
+    /// How many of them, at the front, have runs under them.
+    pub(crate) parents: usize,
+}
+
+/// The order of the runs of a message.
+pub(crate) fn order_of(alloc: Global, runs: &[Run]) -> Result<Order, Memory> {
+    if !runs.iter().any(|run| is_deep(runs, run)) {
+        return Ok(Order {
+            runs: Vec::new(alloc),
+            parents: 0,
+        });
     }
-    let mut seen = vec![in alloc; false; aboves.len()]?;
-    let mut path = Vec::new(alloc);
-    for above in aboves {
-        if let Above::Switch(link) = above {
-            path.clear();
-            push_way(&mut path, &mut seen, aboves, link.switch)?;
-            for passed in path.iter().rev() {
-                order.push(*passed)?;
-            }
+    let under = under_of(alloc, runs)?;
+    let mut order = Vec::with_capacity(alloc, runs.len())?;
+    push_parents(&mut order, runs, &under)?;
+    let parents = order.len();
+    for signal in 0..runs.len() {
+        push_under(&mut order, runs, &under, signal, false)?;
+    }
+    Ok(Order {
+        runs: order,
+        parents,
+    })
+}
+
+// No run under the signal was seen.
+const UNSEEN: usize = usize::MAX;
+
+// One was, or some in a row.
+const SEEN: usize = usize::MAX - 1;
+
+// The multiplexor of a run that begins at an index.
+fn switch_of(run: &Run, place: usize) -> Option<usize> {
+    match &run.parent {
+        Above::Switch(link) if run.first == place => Some(link.switch),
+        _ => None,
+    }
+}
+
+// How often a run has another multiplexor than the one before that has one.
+fn changes(runs: &[Run]) -> usize {
+    let mut last = None;
+    let mut count: usize = 0;
+    for (place, run) in runs.iter().enumerate() {
+        let switch = switch_of(run, place);
+        if switch.is_some() && switch != last {
+            last = switch;
+            count = count.saturating_add(1);
         }
     }
-    Ok(order)
+    count
+}
+
+// Gives the multiplexor a slot, the next one, if it is seen again.
+fn see(slots: &mut [usize], switch: usize, next: usize) -> usize {
+    if switch >= slots.len() {
+        return next;
+    }
+    match slots[switch] {
+        UNSEEN => {
+            slots[switch] = SEEN;
+            next
+        }
+        SEEN => {
+            slots[switch] = next;
+            next.saturating_add(1)
+        }
+        _ => next,
+    }
+}
+
+// For each multiplexor that runs have again after another one a slot, from 0 on.
+fn slots_of(alloc: Global, runs: &[Run]) -> Result<Vec<usize>, Memory> {
+    let mut slots = vec![in alloc; UNSEEN; runs.len()]?;
+    let mut last = None;
+    let mut next = 0;
+    for (place, run) in runs.iter().enumerate() {
+        let found = switch_of(run, place);
+        if let Some(switch) = found
+            && found != last
+        {
+            next = see(&mut slots, switch, next);
+            last = found;
+        }
+    }
+    Ok(slots)
+}
+
+/// If runs have some multiplexor again after another one: a slot for each such multiplexor, by its index. It doesn't change what is
+/// found, but how often the same multiplexor is looked for.
+pub(crate) fn slots_unless_in_row(alloc: Global, runs: &[Run]) -> Result<Vec<usize>, Memory> {
+    if changes(runs) > 2 {
+        slots_of(alloc, runs)
+    } else {
+        Ok(Vec::new(alloc))
+    }
 }

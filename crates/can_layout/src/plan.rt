@@ -1,26 +1,30 @@
 //! Decode plans.
-ghost use Rattle.std.specs.Prelude.{◌≡◌, ℕ, List, [], ◌<◌, ◌≤◌, IfOk, Some, true, is_some, length, map, slice_get};
+ghost use Rattle.std.specs.Prelude.{◌≡◌, ℕ, List, [], ◌<◌, ◌≤◌, IfOk, IfSome, Some, None, true, length, map, slice_get, option_map};
 ghost use Rattle.can_rows.specs.Rows.{entries_of};
 ghost use Rattle.can_layout.specs.Plans.{reading_of, chain_of, row_of, plan_rows, label_of, plan_in, raw_at};
 ghost use Rattle.can_layout.specs.Plans.{raw_value_at, has_number, is_met, are_met, is_present};
-ghost use Rattle.can_layout.specs.Presence.{AreKnown, ArePlain, AreRunEnds, IsRun, IsAsked, chain_at, raw_of, switch_raw, is_among};
-ghost use Rattle.can_mux.specs.Walks.{walk_of, above_at};
+ghost use Rattle.can_layout.specs.Presence.{AreKnown, ArePlain, AreChained, AreRuns, IsRunOf, IsLongestRun, IsAsked, chain_at};
+ghost use Rattle.can_layout.specs.Presence.{AreAsked, AreAllAsked, raw_of, switch_raw, is_among, is_top, are_plain};
+ghost use Rattle.can_layout.specs.declared.runs.Run.{Run as PlainRun};
+ghost use Rattle.std.specs.List.{list_any};
+ghost use Rattle.can_mux.specs.Ranges.{in_range};
+ghost use Rattle.can_mux.specs.Walks.{walk_of};
 ghost use Rattle.can_mux.specs.declared.above.Above.{Above as PlainAbove};
 ghost use Rattle.can_rows.specs.Rows.{first_values};
 ghost use Rattle.can_mux.specs.Switches.{aboves_of};
 
-use crate::asked::Asked;
+use crate::asked::{Asked, MAX_KEPT, Switches};
 use crate::decoder::Decoder;
-use crate::order::order_of;
+use crate::order::{Order, order_of, slots_unless_in_row};
 use crate::presence::known_at;
 use crate::refusal::cause_of;
 use crate::row::{Reading, Row};
-use crate::runs::run_ends;
+use crate::runs::{Run, runs_of};
 use crate::switch_chain::Chain;
 use can_bits::Field;
 use can_mux::{Above, Link, MessageRows, above_at, aboves_of};
 use can_rows::Lookup;
-use dbc_records::{Entry, Message, Signal};
+use dbc_records::{Entry, Message, Range, Signal};
 use dbc_values::{Copied, List, Memory, Scale};
 use ready_texts::{Draft, ReadyText, push_bytes};
 use std::alloc::Global;
@@ -36,25 +40,28 @@ pub struct Plan {
     labels: Vec<ReadyText>,
     // What stands above the signals.
     aboves: Rc<List<Above>>,
-    // If some chain has more links than one: the indexes of the switches that have a parent multiplexor, each after its parent's.
-    order: Vec<usize>,
+    // In which order runs are looked for, if some chain has more links than one.
+    order: Order,
+    // If signals have multiplexors in turn: for each such multiplexor where what was found of it is kept.
+    slots: Vec<usize>,
     // Whether no signal has a switch above it, as in most messages.
     plain: bool,
-    // If some have one: for each signal the end of the signals from it on that have the same parent multiplexor and numbers.
-    ends: Vec<usize>,
+    // If some have one: for each signal the run that it is in.
+    runs: Vec<Run>,
 }
 
 impl Model for Plan {
-    ghost use Rattle.std.specs.Prelude.{◌≡◌, map, true};
+    ghost use Rattle.std.specs.Prelude.{◌≡◌, ◌<◌, length, map, true};
     ghost use Rattle.can_layout.specs.Plans as plans;
-    ghost use Rattle.can_layout.specs.Presence.{AreChained, ArePlain, AreRunEnds, chain_at};
+    ghost use Rattle.can_layout.specs.Presence.{AreChained, ArePlain, AreRuns, are_plain};
 
     ghost Value = { plans.Plan };
 
     ghost view = { λ a. record { size = a.size; rows = a.rows } };
 
     ghost invariant = { λ a. (a.labels.items ≡ map plans.label_of a.rows) × AreChained a.rows a.aboves.value
-        × (a.plain ≡ true → ArePlain a.rows) × AreRunEnds (chain_at a.rows) a.ends.items };
+        × (a.plain ≡ true → ArePlain a.rows) × AreRuns a.rows a.runs.items
+        × (length a.runs.items < length a.rows → ArePlain a.rows) × (a.plain ≡ are_plain a.rows) };
 }
 
 fn entries_of<L: Lookup>(
@@ -149,7 +156,7 @@ fn labels_of(alloc: Global, rows: &[Row]) -> Result<Vec<ReadyText>, Memory>
 
 // Whether a signal has no switch above it.
 fn is_plain(row: &Row) -> bool
-    ensures { result ≡ true → row.now.chain ≡ Some [] }
+    ensures { result ≡ is_top row.now.chain }
 {
     match &row.chain {
         Some(chain) => chain.is_empty(),
@@ -158,25 +165,29 @@ fn is_plain(row: &Row) -> bool
 }
 
 // Whether no signal has a switch above it.
+#[tactic(auto, unfolding(crate::specs::Presence::are_plain))]
 fn are_plain(rows: &[Row]) -> bool
-    ensures { result ≡ true → ArePlain rows.now }
+    ensures { result ≡ are_plain rows.now }
 {
-    for row in rows {
-        if !is_plain(row) {
-            return false;
-        }
-    }
-    true
+    rows.iter().all(|row| is_plain(row))
 }
 
-// The ends of runs, if some signal has a parent multiplexor.
-fn ends_of(alloc: Global, plain: bool, aboves: &[Above]) -> Result<Vec<usize>, Memory>
-    ensures { IfOk result (λ ends. AreRunEnds (above_at aboves.now) ends.items) }
+// The run of each signal, if some signal has a parent multiplexor.
+fn runs_unless(
+    alloc: Global,
+    plain: bool,
+    rows: &[Row],
+    aboves: &[Above],
+) -> Result<Vec<Run>, Memory>
+    requires chained { AreChained rows.now aboves.now }
+    requires plain { plain ≡ true → ArePlain rows.now }
+    ensures runs { IfOk result (λ runs. AreRuns rows.now runs.items) }
+    ensures plain { IfOk result (λ runs. length runs.items < length rows.now → ArePlain rows.now) }
 {
     if plain {
         Ok(Vec::new(alloc))
     } else {
-        run_ends(alloc, aboves)
+        runs_of(alloc, rows, aboves)
     }
 }
 
@@ -192,20 +203,22 @@ pub(crate) fn plan_in<L: Lookup>(
     let size = message.head.size;
     let signals = message.signals.as_slice();
     let aboves = aboves_of(alloc, rows, signals)?;
-    let order = order_of(alloc, aboves.as_slice())?;
     let aboves = Rc::new(alloc, aboves)?;
     let made = plan_rows(alloc, rows, &aboves, size, signals)?;
     let labels = labels_of(alloc, made.as_slice())?;
     let plain = are_plain(made.as_slice());
-    let ends = ends_of(alloc, plain, aboves.as_ref().as_slice())?;
+    let runs = runs_unless(alloc, plain, made.as_slice(), aboves.as_ref().as_slice())?;
+    let order = order_of(alloc, &runs)?;
+    let slots = slots_unless_in_row(alloc, &runs)?;
     Ok(Plan {
         size,
         rows: made,
         labels,
         aboves,
         order,
+        slots,
         plain,
-        ends,
+        runs,
     })
 }
 
@@ -239,27 +252,42 @@ fn raw_of(reading: &Reading, bytes: &[u8]) -> Option<u64>
     }
 }
 
+// The run that a signal is in, among those of all signals.
+fn run_in(runs: &[Run], signal: usize) -> Option<&Run>
+    ensures { option_map (λ run. run.now) result ≡ slice_get runs.now signal }
+{
+    runs.get(signal)
+}
+
+// Whether a range has the raw bits.
+fn is_in(range: Range, raw: u64) -> bool
+    ensures { result ≡ in_range raw range }
+{
+    range.first <= raw && raw <= range.last
+}
+
+// Whether the raw bits are one of the numbers. Most links have one range.
+fn is_in_ranges(link: &Link, raw: u64) -> bool
+    ensures { result ≡ list_any (in_range raw) link.now.ranges }
+{
+    match link.ranges() {
+        [only] => is_in(*only, raw),
+        _ => link.has(raw),
+    }
+}
+
 // Whether the raw bits of a switch are one of the numbers.
 fn is_among(link: &Link, raw: Option<u64>) -> bool
     ensures { result ≡ is_among link.now.ranges raw }
 {
     match raw {
-        Some(raw) => link.has(raw),
-        None => false,
-    }
-}
-
-// Whether the signal at a place has a chain.
-fn has_chain(rows: &[Row], place: usize) -> bool
-    ensures { result ≡ is_some (chain_at rows.now place) }
-{
-    match rows.get(place) {
-        Some(row) => row.chain.is_some(),
+        Some(raw) => is_in_ranges(link, raw),
         None => false,
     }
 }
 
 // Whether the way up from a place is a chain of which each switch has one of its numbers.
+#[inline(never)]
 fn are_met(rows: &[Row], aboves: &[Above], place: usize, bytes: &[u8]) -> bool
     ensures { result ≡ are_met bytes.now rows.now (chain_of (walk_of aboves.now place)) }
 {
@@ -287,6 +315,13 @@ impl Plan {
         ensures { result ≡ length self.now.rows }
     {
         self.rows.len()
+    }
+
+    /// Whether no signal has a multiplexor, as in most messages: then all of them are in any data.
+    pub fn is_plain(&self) -> bool
+        ensures { result ≡ are_plain self.now.rows }
+    {
+        self.plain
     }
 
     /// What the plan says of the signal at a place.
@@ -324,64 +359,51 @@ impl Plan {
         )
     }
 
-    /// Whether no signal has a switch above it.
-    pub(crate) fn is_plain(&self) -> bool
-        ensures { result ≡ true → ArePlain self.now.rows }
-    {
-        self.plain
-    }
-
-    /// Up to where the signals from a place on have the chain of the one at that place, as far as that was looked for.
-    pub(crate) fn run_end(&self, signal: usize) -> usize
+    /// The run that the signal at a place is in, if some signal has a switch above it.
+    fn run_at(&self, signal: usize) -> Option<&Run>
         requires { signal < length self.now.rows }
-        ensures run { IsRun (chain_at self.now.rows) signal result }
-        ensures within { result ≤ length self.now.rows }
+        ensures run { (run : PlainRun) → option_map (λ run. run.now) result ≡ Some run → IsRunOf self.now.rows signal run }
+        ensures plain { result ≡ None → ArePlain self.now.rows }
     {
-        if signal < self.ends.len() {
-            self.ends[signal].min(self.rows.len())
-        } else {
-            signal + 1
-        }
+        run_in(self.runs.as_slice(), signal)
     }
 
-    /// If some chain has more links than one: the indexes of the switches that have a parent multiplexor, each after that of its
-    /// parent. Else it is empty.
+    /// If some chain has more links than one: the first signals of the runs with a parent multiplexor, each after the run of that.
+    /// Else it is empty.
     pub(crate) fn order(&self) -> &[usize] {
-        self.order.as_slice()
+        self.order.runs.as_slice()
     }
 
-    // Whether the signal at a place is there in data, by what is known of others.
-    pub(crate) fn present_by(&self, known: &[Option<bool>], place: usize, bytes: &[u8]) -> bool
+    /// Those of them that have runs under them.
+    pub(crate) fn order_of_parents(&self) -> &[usize] {
+        let order = self.order();
+        &order[..self.order.parents.min(order.len())]
+    }
+
+    /// Whether the signal at a place is there, if its run is known, or else by its chain.
+    #[inline(always)]
+    pub(crate) fn known_or_found(&self, known: &[Option<bool>], place: usize, bytes: &[u8]) -> bool
         requires { AreKnown bytes.now self.now.rows known.now }
         ensures { result ≡ is_present bytes.now self.now.rows (slice_get self.now.rows place) }
     {
-        let rows = self.rows.as_slice();
-        if !has_chain(rows, place) {
+        if place >= self.rows.len() {
             return false;
         }
-        match above_at(self.aboves.as_ref().as_slice(), place) {
-            Some(Above::Nothing) => true,
-            Some(Above::Switch(link)) => {
-                is_met(rows, link, bytes) && self.known_or_found(known, link.switch, bytes)
-            }
-            _ => false,
+        let Some(run) = self.run_at(place) else {
+            return true;
+        };
+        match &run.parent {
+            Above::Nothing => true,
+            Above::Missing => false,
+            Above::Switch(_) => match known_at(known, run.first) {
+                Some(there) => there,
+                None => self.present(place, bytes),
+            },
         }
     }
 
-    // Whether the signal at a place is there, where it is known, or else by its way up.
-    fn known_or_found(&self, known: &[Option<bool>], place: usize, bytes: &[u8]) -> bool
-        requires { AreKnown bytes.now self.now.rows known.now }
-        ensures { result ≡ is_present bytes.now self.now.rows (slice_get self.now.rows place) }
-    {
-        if let Some(there) = known_at(known, place) {
-            return there;
-        }
-        place < self.rows.len() && self.present(place, bytes)
-    }
-
-    // The raw bits of the switch at an index, if it is there in data with all its bits. It isn't inlined, so that the loop over
-    // runs of signals keeps its registers.
-    #[inline(never)]
+    // The raw bits of the switch at an index, if it is there in data with all its bits.
+    #[inline(always)]
     fn switch_raw(&self, known: &[Option<bool>], place: usize, bytes: &[u8]) -> Option<u64>
         requires { AreKnown bytes.now self.now.rows known.now }
         ensures { result ≡ switch_raw bytes.now self.now.rows (slice_get self.now.rows place) }
@@ -394,8 +416,9 @@ impl Plan {
         }
     }
 
-    // The same, which is looked for only if another switch was asked last.
-    fn asked_raw(
+    // The same, which is looked for only if another switch was asked before.
+    #[inline(always)]
+    fn last_raw(
         &self,
         known: &[Option<bool>],
         asked: &mut Asked,
@@ -417,7 +440,8 @@ impl Plan {
     }
 
     /// Whether the signal at a place is there in data, by what is known of others and what was found of the switch asked last.
-    pub(crate) fn present_asking(
+    #[inline(always)]
+    pub(crate) fn present_by(
         &self,
         known: &[Option<bool>],
         asked: &mut Asked,
@@ -426,26 +450,173 @@ impl Plan {
     ) -> bool
         requires known { AreKnown bytes.now self.now.rows known.now }
         requires asked { IsAsked bytes.now self.now.rows asked.old.switch asked.old.raw }
+        requires place { place < length self.now.rows }
         ensures there { result ≡ is_present bytes.now self.now.rows (slice_get self.now.rows place) }
         ensures asked { IsAsked bytes.now self.now.rows asked.new.switch asked.new.raw }
     {
-        match above_at(self.aboves.as_ref().as_slice(), place) {
-            Some(Above::Nothing) => true,
-            Some(Above::Switch(link)) => {
-                let raw = self.asked_raw(known, asked, link.switch, bytes);
+        let Some(run) = self.run_at(place) else {
+            return true;
+        };
+        match &run.parent {
+            Above::Nothing => true,
+            Above::Missing => false,
+            Above::Switch(link) => {
+                let raw = self.last_raw(known, asked, link.switch, bytes);
                 is_among(link, raw)
             }
-            _ => false,
         }
     }
 
-    /// Nothing was asked of a switch yet.
+    // The raw bits of a switch. It isn't inlined, so that what is kept is found with few registers.
+    #[inline(never)]
+    fn found_raw(&self, known: &[Option<bool>], place: usize, bytes: &[u8]) -> Option<u64>
+        requires { AreKnown bytes.now self.now.rows known.now }
+        ensures { result ≡ switch_raw bytes.now self.now.rows (slice_get self.now.rows place) }
+    {
+        self.switch_raw(known, place, bytes)
+    }
+
+    // The same, which is looked for only if another one was asked for the slot.
+    fn slot_raw(
+        &self,
+        known: &[Option<bool>],
+        kept: &mut [Asked],
+        slot: usize,
+        place: usize,
+        bytes: &[u8],
+    ) -> Option<u64>
+        requires known { AreKnown bytes.now self.now.rows known.now }
+        requires kept { AreAllAsked bytes.now self.now.rows kept.old }
+        requires slot { slot < length kept.old }
+        ensures raw { result ≡ switch_raw bytes.now self.now.rows (slice_get self.now.rows place) }
+        ensures kept { AreAllAsked bytes.now self.now.rows kept.new }
+    {
+        let asked = kept[slot];
+        if asked.switch == place {
+            return asked.raw;
+        }
+        let raw = self.found_raw(known, place, bytes);
+        kept[slot] = Asked { switch: place, raw };
+        raw
+    }
+
+    // The same, where there may be no slots yet.
+    fn kept_raw(
+        &self,
+        known: &[Option<bool>],
+        kept: &mut Option<[Asked; MAX_KEPT]>,
+        slot: usize,
+        place: usize,
+        bytes: &[u8],
+    ) -> Option<u64>
+        requires known { AreKnown bytes.now self.now.rows known.now }
+        requires kept { IfSome kept.old (AreAllAsked bytes.now self.now.rows) }
+        requires slot { slot < 8 }
+        ensures raw { result ≡ switch_raw bytes.now self.now.rows (slice_get self.now.rows place) }
+        ensures kept { IfSome kept.new (AreAllAsked bytes.now self.now.rows) }
+    {
+        match kept {
+            Some(all) => self.slot_raw(known, all, slot, place, bytes),
+            None => {
+                let mut all = [self.nothing_asked(); MAX_KEPT];
+                let raw = self.slot_raw(known, &mut all, slot, place, bytes);
+                *kept = Some(all);
+                raw
+            }
+        }
+    }
+
+    // The same, by its slot if it has one. It isn't inlined, so that the loop over runs of signals keeps its registers.
+    #[inline(never)]
+    fn raw_anew(
+        &self,
+        known: &[Option<bool>],
+        kept: &mut Option<[Asked; MAX_KEPT]>,
+        place: usize,
+        bytes: &[u8],
+    ) -> Option<u64>
+        requires known { AreKnown bytes.now self.now.rows known.now }
+        requires kept { IfSome kept.old (AreAllAsked bytes.now self.now.rows) }
+        ensures raw { result ≡ switch_raw bytes.now self.now.rows (slice_get self.now.rows place) }
+        ensures kept { IfSome kept.new (AreAllAsked bytes.now self.now.rows) }
+    {
+        match self.slots.get(place) {
+            Some(slot) if *slot < MAX_KEPT => self.kept_raw(known, kept, *slot, place, bytes),
+            _ => self.found_raw(known, place, bytes),
+        }
+    }
+
+    // The same, which is looked for only if another switch was asked last.
+    fn asked_raw(
+        &self,
+        known: &[Option<bool>],
+        asked: &mut Switches,
+        place: usize,
+        bytes: &[u8],
+    ) -> Option<u64>
+        requires known { AreKnown bytes.now self.now.rows known.now }
+        requires asked { AreAsked bytes.now self.now.rows asked.old }
+        ensures raw { result ≡ switch_raw bytes.now self.now.rows (slice_get self.now.rows place) }
+        ensures asked { AreAsked bytes.now self.now.rows asked.new }
+    {
+        if asked.last.switch != place {
+            let raw = self.raw_anew(known, &mut asked.kept, place, bytes);
+            asked.last = Asked { switch: place, raw };
+        }
+        asked.last.raw
+    }
+
+    /// Whether the signal at a place is there in data, and up to where the same goes for those from it on: as far as they have the
+    /// same chain. It goes by what is known of the run, or else by the switch, of which the bits are kept that were asked last.
+    #[inline(always)]
+    pub(crate) fn run_from(
+        &self,
+        known: &[Option<bool>],
+        asked: &mut Switches,
+        signal: usize,
+        bytes: &[u8],
+    ) -> (bool, usize)
+        requires known { AreKnown bytes.now self.now.rows known.now }
+        requires asked { AreAsked bytes.now self.now.rows asked.old }
+        requires signal { signal < length self.now.rows }
+        ensures there { (place : ℕ) → signal ≤ place → place < result.1
+            → result.0 ≡ is_present bytes.now self.now.rows (slice_get self.now.rows place) }
+        ensures longest { IsLongestRun (chain_at self.now.rows) (length self.now.rows) signal result.1 }
+        ensures asked { AreAsked bytes.now self.now.rows asked.new }
+    {
+        let Some(run) = self.run_at(signal) else {
+            return (true, self.rows.len());
+        };
+        match &run.parent {
+            Above::Nothing => (true, run.end),
+            Above::Missing => (false, run.end),
+            Above::Switch(link) => {
+                if let Some(there) = known_at(known, run.first) {
+                    return (there, run.end);
+                }
+                let raw = self.asked_raw(known, asked, link.switch, bytes);
+                (is_among(link, raw), run.end)
+            }
+        }
+    }
+
+    /// Nothing was asked of a switch.
     pub(crate) fn nothing_asked(&self) -> Asked
         ensures { (bytes : List ℕ) → IsAsked bytes self.now.rows result.switch result.raw }
     {
         Asked {
             switch: self.rows.len(),
             raw: None,
+        }
+    }
+
+    /// Nothing was asked of switches yet.
+    pub(crate) fn none_asked(&self) -> Switches
+        ensures { (bytes : List ℕ) → AreAsked bytes self.now.rows result }
+    {
+        Switches {
+            last: self.nothing_asked(),
+            kept: None,
         }
     }
 

@@ -1,24 +1,24 @@
 //! Which signals of a message are there in data.
 ghost use Rattle.std.specs.Prelude.{◌≡◌, ℕ, ◌<◌, ◌≤◌, None, IfOk, length, slice_get};
 ghost use Rattle.can_layout.specs.Plans.{is_present};
-ghost use Rattle.can_layout.specs.Presence.{AreKnown, known_at};
+ghost use Rattle.can_layout.specs.Presence.{AreKnown, IsAsked, IsLongestRun, chain_at, known_at};
 
-use crate::asked::Asked;
+use crate::asked::{Asked, Switches};
 use crate::plan::Plan;
 use dbc_values::Memory;
 use std::alloc::Global;
 use std::marker::Model;
 
-/// Which signals of a message are there in data. Where multiplexors have parents, each of these switches is looked for once, so the
-/// work is that of one link a signal.
+/// Which signals of a message are there in data. Where multiplexors have parents, each run of signals is looked for once, so the
+/// work is that of one link a run, and a signal is looked up.
 #[derive(Drop)]
 pub struct Presence<'a> {
     plan: &'a Plan,
     bytes: &'a [u8],
-    // Of the switches that were looked for.
+    // Of the runs that were looked for, at their first signals.
     known: Vec<Option<bool>>,
-    // What was found of the switch that was asked last.
-    asked: Asked,
+    // What was found of switches.
+    asked: Switches,
 }
 
 impl<'a> Model for Presence<'a> {
@@ -29,7 +29,7 @@ impl<'a> Model for Presence<'a> {
     ghost view = { λ a. record { bytes = a.bytes.now; rows = a.plan.now.rows } };
 
     ghost invariant = { λ a. plain.AreKnown a.bytes.now a.plan.now.rows a.known.items
-        × plain.IsAsked a.bytes.now a.plan.now.rows a.asked.switch a.asked.raw };
+        × plain.AreAsked a.bytes.now a.plan.now.rows a.asked };
 }
 
 /// What is known of the signal at a place.
@@ -50,41 +50,56 @@ fn none_known(alloc: Global, count: usize) -> Result<Vec<Option<bool>>, Memory>
     Ok(known)
 }
 
-// Looks for the signal at a place.
-fn look_for(known: &mut [Option<bool>], plan: &Plan, place: usize, bytes: &[u8])
-    requires { AreKnown bytes.now plan.now.rows known.old }
-    ensures { AreKnown bytes.now plan.now.rows known.new }
+// Looks for the run that begins at a place, by what is known of others.
+#[inline(always)]
+fn look_for(known: &mut [Option<bool>], asked: &mut Asked, plan: &Plan, place: usize, bytes: &[u8])
+    requires known { AreKnown bytes.now plan.now.rows known.old }
+    requires asked { IsAsked bytes.now plan.now.rows asked.old.switch asked.old.raw }
+    ensures known { AreKnown bytes.now plan.now.rows known.new }
+    ensures asked { IsAsked bytes.now plan.now.rows asked.new.switch asked.new.raw }
 {
-    let there = plan.present_by(known, place, bytes);
-    if place < known.len() {
+    if place < known.len() && place < plan.signals() {
+        let there = plan.present_by(known, asked, place, bytes);
         known[place] = Some(there);
     }
 }
 
-// Looks for the switches of a plan in its order. It isn't inlined, since few plans have an order.
+// Looks for runs in this order. It isn't inlined, since few plans have an order.
 #[cold]
 #[inline(never)]
-fn known_of(alloc: Global, plan: &Plan, bytes: &[u8]) -> Result<Vec<Option<bool>>, Memory>
+fn known_of(
+    alloc: Global,
+    plan: &Plan,
+    order: &[usize],
+    bytes: &[u8],
+) -> Result<Vec<Option<bool>>, Memory>
     ensures { IfOk result (λ known. AreKnown bytes.now plan.now.rows known.items) }
 {
     let mut known = none_known(alloc, plan.signals())?;
-    for place in plan.order() {
-        look_for(&mut known, plan, *place, bytes);
+    let mut asked = plan.nothing_asked();
+    for place in order {
+        look_for(&mut known, &mut asked, plan, *place, bytes);
     }
     Ok(known)
 }
 
 impl<'a> Presence<'a> {
-    /// Which signals of a plan are there in data. It takes memory if a multiplexor has a parent.
-    pub fn of(alloc: Global, plan: &'a Plan, bytes: &'a [u8]) -> Result<Presence<'a>, Memory>
+    // Which signals are there, once the runs of an order have been looked for.
+    #[inline(always)]
+    fn by_order(
+        alloc: Global,
+        plan: &'a Plan,
+        order: &[usize],
+        bytes: &'a [u8],
+    ) -> Result<Presence<'a>, Memory>
         ensures { IfOk result (λ presence. presence ≡ record { bytes = bytes.now; rows = plan.now.rows }) }
     {
-        let known = if plan.order().is_empty() {
+        let known = if order.is_empty() {
             Vec::new(alloc)
         } else {
-            known_of(alloc, plan, bytes)?
+            known_of(alloc, plan, order, bytes)?
         };
-        let asked = plan.nothing_asked();
+        let asked = plan.none_asked();
         Ok(Presence {
             plan,
             bytes,
@@ -93,33 +108,44 @@ impl<'a> Presence<'a> {
         })
     }
 
+    /// Which signals of a plan are there in data. It takes memory if a multiplexor has a parent.
+    pub fn of(alloc: Global, plan: &'a Plan, bytes: &'a [u8]) -> Result<Presence<'a>, Memory>
+        ensures { IfOk result (λ presence. presence ≡ record { bytes = bytes.now; rows = plan.now.rows }) }
+    {
+        Presence::by_order(alloc, plan, plan.order(), bytes)
+    }
+
+    /// The same for a caller of [`Presence::run_from`] that asks for each run once. It is faster, since only runs with multiplexors
+    /// of other signals are looked for at first. [`Presence::has`] is slower after it, since it follows a signal's chain.
+    #[inline(always)]
+    pub fn for_runs(alloc: Global, plan: &'a Plan, bytes: &'a [u8]) -> Result<Presence<'a>, Memory>
+        ensures { IfOk result (λ presence. presence ≡ record { bytes = bytes.now; rows = plan.now.rows }) }
+    {
+        Presence::by_order(alloc, plan, plan.order_of_parents(), bytes)
+    }
+
     /// Whether the signal at a place is there, as [`Plan::present`] says.
     pub fn has(&self, signal: usize) -> bool
         requires { signal < length self.now.rows }
         ensures { result ≡ is_present self.now.bytes self.now.rows (slice_get self.now.rows signal) }
     {
-        match known_at(self.known.as_slice(), signal) {
-            Some(there) => there,
-            None => self
-                .plan
-                .present_by(self.known.as_slice(), signal, self.bytes),
-        }
+        self.plan
+            .known_or_found(self.known.as_slice(), signal, self.bytes)
     }
 
-    /// Whether the signal at a place is there, as [`Plan::present`] says, and up to where the same goes for those from it on.
+    /// Whether the signal at a place is there, as [`Plan::present`] says, and up to where the same goes for those from it on:
+    /// as far as they have the same chain.
+    #[inline(always)]
     pub fn run_from(&mut self, signal: usize) -> (bool, usize)
         requires { signal < length self.old.rows }
         ensures some { signal < result.1 }
         ensures within { result.1 ≤ length self.old.rows }
         ensures there { (place : ℕ) → signal ≤ place → place < result.1
             → result.0 ≡ is_present self.old.bytes self.old.rows (slice_get self.old.rows place) }
+        ensures longest { IsLongestRun (chain_at self.old.rows) (length self.old.rows) signal result.1 }
         ensures same { self.new ≡ self.old }
     {
-        let plan = self.plan;
-        if plan.is_plain() {
-            return (true, plan.signals());
-        }
-        let there = plan.present_asking(self.known.as_slice(), &mut self.asked, signal, self.bytes);
-        (there, plan.run_end(signal))
+        self.plan
+            .run_from(self.known.as_slice(), &mut self.asked, signal, self.bytes)
     }
 }

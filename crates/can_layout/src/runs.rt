@@ -1,79 +1,146 @@
-//! Runs of signals under the same switch with the same numbers: they are there together.
-ghost use Rattle.std.specs.Prelude.{◌≡◌, ◌<◌, ◌≤◌, true, IfOk, length};
-ghost use Rattle.can_mux.specs.Walks.{above_at};
+//! Runs of signals with the same multiplexing chain: they are there together.
+ghost use Rattle.std.specs.Prelude.{◌≡◌, ◌<◌, ◌≤◌, is_some, option_map, IfOk, length};
+ghost use Rattle.std.specs.Bool.{Decides};
+ghost use Rattle.can_mux.specs.Walks.{above_at, above_or_missing};
 ghost use Rattle.can_mux.specs.declared.above.Above.TheVariants.{Switch};
-ghost use Rattle.can_layout.specs.Presence.{IsRun, AreRunEnds};
+ghost use Rattle.can_layout.specs.Presence.{AreChained, AreRuns, IsLongestRun, chain_at, parent_at};
 
-use can_mux::{Above, Link};
+use crate::row::Row;
+use can_mux::{Above, Link, above_at};
 use dbc_records::Range;
-use dbc_values::Memory;
+use dbc_values::{Copied, Memory};
 use std::alloc::Global;
+
+/// The run that a signal is in: signals one after another that have the same multiplexing chain, as many as there are.
+#[derive(Drop)]
+pub(crate) struct Run {
+    /// The index of its first signal.
+    pub(crate) first: usize,
+    /// The index after that of its last signal.
+    pub(crate) end: usize,
+    /// The parent multiplexor of its signals, with their numbers. It is missing where they have no chain, whatever the reason.
+    pub(crate) parent: Above,
+}
 
 // Whether the ranges are the same, in the same order.
 fn are_same(ones: &[Range], others: &[Range]) -> bool
-    ensures { result ≡ true → ones.now ≡ others.now }
+    ensures { Decides result (ones.now ≡ others.now) }
 {
     ones == others
 }
 
-// Whether a signal has this link to its parent multiplexor.
-fn is_switch_of(above: &Above, link: &Link) -> bool
-    ensures { result ≡ true → above.now ≡ Switch link.now }
+// Whether the links are to the same multiplexor with the same numbers.
+fn is_same_link(one: &Link, other: &Link) -> bool
+    ensures { Decides result (one.now ≡ other.now) }
 {
-    match above {
-        Above::Switch(other) => {
-            other.switch == link.switch && are_same(other.ranges(), link.ranges())
-        }
-        _ => false,
-    }
+    one.switch == other.switch && are_same(one.ranges(), other.ranges())
 }
 
-// Whether two signals have the same parent multiplexor and numbers, or both none.
+// Whether what is above two signals is the same.
 fn are_alike(one: &Above, other: &Above) -> bool
-    ensures { result ≡ true → one.now ≡ other.now }
+    ensures { Decides result (one.now ≡ other.now) }
 {
-    match other {
-        Above::Nothing => matches!(one, Above::Nothing),
-        Above::Missing => matches!(one, Above::Missing),
-        Above::Switch(link) => is_switch_of(one, link),
+    match one {
+        Above::Nothing => matches!(other, Above::Nothing),
+        Above::Missing => matches!(other, Above::Missing),
+        Above::Switch(link) => match other {
+            Above::Switch(other) => is_same_link(link, other),
+            _ => false,
+        },
     }
 }
 
-// Up to where the signals from an index on have the same parent multiplexor and numbers.
-fn run_end(aboves: &[Above], place: usize) -> usize
-    requires { place < length aboves.now }
-    ensures { IsRun (above_at aboves.now) place result }
+/// Whether the signal at a place has a chain.
+pub(crate) fn has_chain(rows: &[Row], place: usize) -> bool
+    ensures { result ≡ is_some (chain_at rows.now place) }
 {
-    for end in place + 1..aboves.len() {
-        if !are_alike(&aboves[end], &aboves[place]) {
+    match rows.get(place) {
+        Some(row) => row.chain.is_some(),
+        None => false,
+    }
+}
+
+// What is above the signal at a place, if it has a chain.
+fn parent_at<'a>(rows: &[Row], aboves: &'a [Above], place: usize) -> Option<&'a Above>
+    ensures { above_or_missing (option_map (λ above. above.now) result) ≡ parent_at rows.now aboves.now place }
+{
+    if has_chain(rows, place) {
+        above_at(aboves, place)
+    } else {
+        None
+    }
+}
+
+// The same, to be kept.
+fn parent_of(rows: &[Row], aboves: &[Above], place: usize) -> Result<Above, Memory>
+    ensures { IfOk result (λ parent. parent ≡ parent_at rows.now aboves.now place) }
+{
+    match parent_at(rows, aboves, place) {
+        Some(Above::Nothing) => Ok(Above::Nothing),
+        Some(Above::Switch(link)) => Ok(Above::Switch(link.copy()?)),
+        _ => Ok(Above::Missing),
+    }
+}
+
+// Whether two signals have the same parent multiplexor and numbers, or both none, or both no chain.
+fn have_same_parent(rows: &[Row], aboves: &[Above], one: usize, other: usize) -> bool
+    ensures { Decides result (parent_at rows.now aboves.now one ≡ parent_at rows.now aboves.now other) }
+{
+    let (one, other) = (parent_at(rows, aboves, one), parent_at(rows, aboves, other));
+    are_alike(
+        one.unwrap_or(&Above::Missing),
+        other.unwrap_or(&Above::Missing),
+    )
+}
+
+// Up to where the signals from an index on have the same chain.
+fn run_end(rows: &[Row], aboves: &[Above], place: usize) -> usize
+    requires { place < length rows.now }
+    ensures { IsLongestRun (parent_at rows.now aboves.now) (length rows.now) place result }
+{
+    for end in place + 1..rows.len() {
+        if !have_same_parent(rows, aboves, end, place) {
             return end;
         }
     }
-    aboves.len()
+    rows.len()
 }
 
-// The end of the run that an index is in, if the one before it ends at `end`.
-fn next_end(aboves: &[Above], place: usize, end: usize) -> usize
-    requires place { place < length aboves.now }
-    requires end { place < end → IsRun (above_at aboves.now) place end }
-    ensures { IsRun (above_at aboves.now) place result }
+// The first signal and the end of the run that an index is in, if that of the index before begins with `first` and ends at `end`.
+fn next_run(
+    rows: &[Row],
+    aboves: &[Above],
+    place: usize,
+    first: usize,
+    end: usize,
+) -> (usize, usize)
+    requires place { place < length rows.now }
+    requires first { first ≤ place }
+    requires run { place < end → IsLongestRun (parent_at rows.now aboves.now) (length rows.now) first end }
+    ensures first { result.0 ≤ place }
+    ensures end { place < result.1 }
+    ensures run { IsLongestRun (parent_at rows.now aboves.now) (length rows.now) result.0 result.1 }
 {
     if place < end {
-        end
+        (first, end)
     } else {
-        run_end(aboves, place)
+        (place, run_end(rows, aboves, place))
     }
 }
 
-/// For each signal the end of the run of signals from it on that have the same parent multiplexor and numbers.
-pub(crate) fn run_ends(alloc: Global, aboves: &[Above]) -> Result<Vec<usize>, Memory>
-    ensures { IfOk result (λ ends. AreRunEnds (above_at aboves.now) ends.items) }
+/// For each signal the run that it is in.
+pub(crate) fn runs_of(alloc: Global, rows: &[Row], aboves: &[Above]) -> Result<Vec<Run>, Memory>
+    requires { AreChained rows.now aboves.now }
+    ensures count { IfOk result (λ runs. length runs.items ≡ length rows.now) }
+    ensures runs { IfOk result (λ runs. AreRuns rows.now runs.items) }
 {
-    let mut ends = Vec::with_capacity(alloc, aboves.len())?;
+    let mut runs = Vec::with_capacity(alloc, rows.len())?;
+    let mut first = 0;
     let mut end = 0;
-    for place in 0..aboves.len() {
-        end = next_end(aboves, place, end);
-        ends.push(end)?;
+    for place in 0..rows.len() {
+        (first, end) = next_run(rows, aboves, place, first, end);
+        let parent = parent_of(rows, aboves, place)?;
+        runs.push(Run { first, end, parent })?;
     }
-    Ok(ends)
+    Ok(runs)
 }

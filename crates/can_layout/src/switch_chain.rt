@@ -1,8 +1,8 @@
 //! The switches above a signal, which all signals of a message share.
-ghost use Rattle.std.specs.Prelude.{◌≡◌, [], true, IfOk, slice_get, is_some};
+ghost use Rattle.std.specs.Prelude.{◌≡◌, IfOk, Some, slice_get, is_some};
 ghost use Rattle.std.specs.Option.{option_map};
 ghost use Rattle.can_layout.specs.Plans.{chain_of};
-ghost use Rattle.can_layout.specs.Presence.{link_of};
+ghost use Rattle.can_layout.specs.Presence.{link_of, is_top};
 ghost use Rattle.can_mux.specs.Walks.{walk_of, above_at};
 
 use can_mux::{Above, Link, above_at};
@@ -70,9 +70,9 @@ impl Chain {
     }
 
     /// Whether no switch stands above the signal.
-    #[tactic(auto, using(crate::proofs::Chains::none_first))]
+    #[tactic(auto, using(crate::proofs::Chains::without_first, crate::proofs::Chains::with_first))]
     pub(crate) fn is_empty(&self) -> bool
-        ensures { result ≡ true → self.now ≡ [] }
+        ensures { result ≡ is_top (Some self.now) }
     {
         match self.link(0) {
             Some(_) => false,

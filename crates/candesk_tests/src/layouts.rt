@@ -19,7 +19,11 @@ fn first_raw(alloc: Global, database: &Database, bytes: &[u8]) -> Result<u64, Fa
     requires { 0 < length database.now.messages }
 {
     let plan = make_plan(alloc, database, 0, &mut Meter::new())?;
-    if plan.signals() == 0 || bytes.len() != plan.size() as usize || !plan.present(0, bytes) {
+    if plan.signals() == 0
+        || bytes.len() != plan.size() as usize
+        || !plan.present(0, bytes)
+        || !plan.is_plain()
+    {
         return Err(Fail::from("no signal"));
     }
     Ok(plan.raw(0, bytes))
@@ -115,7 +119,8 @@ fn is_first_there(alloc: Global, plan: &Plan, bytes: &[u8]) -> Result<bool, Memo
     requires { 0 < length plan.now.rows }
 {
     let presence = Presence::of(alloc, plan, bytes)?;
-    Ok(plan.present(0, bytes) && presence.has(0))
+    let mut by_runs = Presence::for_runs(alloc, plan, bytes)?;
+    Ok(plan.present(0, bytes) && presence.has(0) && by_runs.has(0) && by_runs.run_from(0).0)
 }
 
 // Whether the chain leads by way of places 1 and 2, and the first link has the number 4 and not 6.
@@ -141,6 +146,7 @@ fn is_deep(alloc: Global, plan: &Plan) -> Result<bool, Memory> {
     };
     Ok(
         leads
+            && !plan.is_plain()
             && is_first_there(alloc, plan, &[1, 4, 0])?
             && !is_first_there(alloc, plan, &[1, 6, 0])?
             && !is_first_there(alloc, plan, &[2, 4, 0])?,

@@ -25,4 +25,4 @@ range_decides a b = (
 )
 
 pub returns : goal.returns
-returns c = (slice_eq-Decides range_decides _ _ _ c.eq.ensures).0
+returns c = slice_eq-Decides range_decides _ _ _ c.eq.ensures
