@@ -12,3 +12,4 @@ pub mod OneText
 pub mod ScaledTexts
 pub mod TextParts
 pub mod ShortTexts
+pub mod SmallNumbers

@@ -1,10 +1,10 @@
 -- What a frame goes to.
-use Rattle.std.proofs.Common.{◌≡◌, ℕ, true, false, List, map, Some, None, slice_get, if◌then◌else◌, refl, sym, ap, ◌∙◌}
-use Rattle.std.specs.Option.{is_some, option_map}
+use Rattle.std.proofs.Common.{◌≡◌, ℕ, List, map, Some, slice_get, sym, ap, ◌∙◌}
+use Rattle.std.specs.Option.{option_map}
 use Rattle.std.proofs.lemmas.Option.{slice_get-map}
 use Rattle.dbc_records.specs.Records.{Message}
 use Rattle.dbc_records.specs.Databases.{Database}
-use Rattle.can_rows.specs.Groups.{is_group_number, group_number_of, group_of}
+use Rattle.can_rows.specs.Groups.{is_group_number}
 use Rattle.can_layout.specs.Plans.{Plan, plan_of}
 use Rattle.can_decode.specs.declared.short.Short.{Short}
 use Rattle.can_decode.specs.DecodedLines.{target_of}

@@ -28,6 +28,7 @@ pub(crate) fn push_number(text: &mut Draft, number: u64) -> Result<(), Memory>
 }
 
 // What stands before the value of a signal, behind others where `some` says so.
+#[inline(always)]
 fn push_label(text: &mut Draft, some: bool, label: &ReadyText, row: &Row) -> Result<(), Memory>
     requires { label.now ≡ label_of row.now }
     ensures { OnOk result (text.new.items ≡ text.old.items ++ (if some then label_of row.now else row.now.name ++ codes ": ")) }
@@ -40,6 +41,7 @@ fn push_label(text: &mut Draft, some: bool, label: &ReadyText, row: &Row) -> Res
 }
 
 // A signal, behind others where `some` says so.
+#[inline(always)]
 fn push_next(
     text: &mut Draft,
     some: bool,
@@ -56,6 +58,7 @@ fn push_next(
 }
 
 // Whether the signal at a place is shown, where `there` says whether it is in the data.
+#[inline(always)]
 fn is_shown(plan: &Plan, there: bool, signal: usize, bytes: &[u8]) -> bool
     requires place { signal < length plan.now.rows }
     requires there { there ≡ is_present bytes.now plan.now.rows (slice_get plan.now.rows signal) }
@@ -67,6 +70,7 @@ fn is_shown(plan: &Plan, there: bool, signal: usize, bytes: &[u8]) -> bool
 
 // The signals of a run that are shown, after others if `some` says so. All of the run are in the data. It returns whether some
 // signal was shown.
+#[inline(always)]
 fn push_run(
     text: &mut Draft,
     plan: &Plan,
@@ -92,14 +96,14 @@ fn push_run(
     Ok(any)
 }
 
-// The signals that are shown, a comma and a blank between them. Runs of signals that are not in the data are passed over. It is
-// faster as a function of its own, with all registers for its loop.
+// The signals that are shown, a comma and a blank between them, where some have a multiplexor. Runs of signals that are not in the
+// data are skipped.
 #[inline(never)]
-fn push_signals(text: &mut Draft, plan: &Plan, bytes: &[u8]) -> Result<(), Memory>
+fn push_runs(text: &mut Draft, plan: &Plan, bytes: &[u8]) -> Result<(), Memory>
     ensures { OnOk result (text.new.items ≡ text.old.items ++ signals_text bytes.now
         (shown_rows bytes.now plan.now plan.now.rows)) }
 {
-    let mut presence = Presence::of(text.allocator(), plan, bytes)?;
+    let mut presence = Presence::for_runs(text.allocator(), plan, bytes)?;
     let mut some = false;
     let mut signal = 0;
     while signal < plan.signals() {
@@ -109,6 +113,20 @@ fn push_signals(text: &mut Draft, plan: &Plan, bytes: &[u8]) -> Result<(), Memor
         }
         signal = end;
     }
+    Ok(())
+}
+
+// The signals that are shown, a comma and a blank between them. It is faster as a function of its own, with all registers for its
+// loop.
+#[inline(never)]
+fn push_signals(text: &mut Draft, plan: &Plan, bytes: &[u8]) -> Result<(), Memory>
+    ensures { OnOk result (text.new.items ≡ text.old.items ++ signals_text bytes.now
+        (shown_rows bytes.now plan.now plan.now.rows)) }
+{
+    if !plan.is_plain() {
+        return push_runs(text, plan, bytes);
+    }
+    push_run(text, plan, 0..plan.signals(), false, bytes)?;
     Ok(())
 }
 

@@ -1,5 +1,5 @@
 //! The values of signals, as text.
-ghost use Rattle.std.specs.Prelude.{◌≡◌, ◌<◌, ◌≤◌, ◌++◌, ◌^◌, OnOk, decimal, length, unsigned_abs};
+ghost use Rattle.std.specs.Prelude.{◌≡◌, ◌<◌, ◌≤◌, ◌++◌, ◌^◌, IfSome, OnOk, decimal, length, pos, unsigned_abs};
 ghost use Rattle.dbc_records.specs.Layout.{point_before_last, filled, zeros};
 ghost use Rattle.can_decode.specs.Values.{fewest_places, fixed_text, sign_of, scaled_text, number_text, decoder_text, reading_text};
 
@@ -126,8 +126,7 @@ fn push_short(text: &mut Draft, number: u32, places: u8) -> Result<(), Memory>
     digits.push_fraction(text, 7 - places, places - trailing)
 }
 
-// A number of one word over ten to the number of places. Switches and states are small whole numbers, and most values have at most
-// eight digits.
+// A number of one word over ten to the number of places. Most values have at most eight digits.
 #[tactic(auto, unfolding(crate::specs::Values::fixed_text))]
 fn push_shortest_word(text: &mut Draft, number: u64, places: u8) -> Result<(), Memory>
     ensures { OnOk result (text.new.items ≡ text.old.items ++ fixed_text (fewest_places number places)) }
@@ -156,13 +155,52 @@ fn push_shortest(text: &mut Draft, number: u128, places: u8) -> Result<(), Memor
     }
 }
 
-// A value over ten to the number of places.
+// A value as a whole number below a thousand.
+#[inline(always)]
+fn below_thousand(value: i128) -> Option<u16>
+    ensures number { IfSome result (λ number. value ≡ pos number) }
+    ensures below { IfSome result (λ number. number < 1000) }
+{
+    if 0 <= value && value < 1000 {
+        Some(value as u16)
+    } else {
+        None
+    }
+}
+
+// The number below a thousand that a value over ten to the number of places is, if it has no sign and no point. Switches and states
+// are such numbers, and many values are zero.
+#[inline(always)]
+#[tactic(auto, using(crate::proofs::SmallNumbers::whole_text, crate::proofs::SmallNumbers::zero_text))]
+fn small_number(value: i128, places: u8) -> Option<u16>
+    ensures below { IfSome result (λ number. number < 1000) }
+    ensures text { IfSome result (λ number. scaled_text value places ≡ decimal number) }
+{
+    let number = below_thousand(value)?;
+    if places == 0 || number == 0 {
+        Some(number)
+    } else {
+        None
+    }
+}
+
+// A value over ten to the number of places, with its sign.
 #[tactic(auto, using(crate::proofs::Pushing::pushed_then), unfolding(crate::specs::Values::scaled_text))]
-fn push_scaled(text: &mut Draft, value: i128, places: u8) -> Result<(), Memory>
+fn push_signed(text: &mut Draft, value: i128, places: u8) -> Result<(), Memory>
     ensures { OnOk result (text.new.items ≡ text.old.items ++ scaled_text value places) }
 {
     push_sign(text, value)?;
     push_shortest(text, value.unsigned_abs(), places)
+}
+
+// A value over ten to the number of places.
+fn push_scaled(text: &mut Draft, value: i128, places: u8) -> Result<(), Memory>
+    ensures { OnOk result (text.new.items ≡ text.old.items ++ scaled_text value places) }
+{
+    match small_number(value, places) {
+        Some(number) => push_small_number(text, number),
+        None => push_signed(text, value, places),
+    }
 }
 
 // A value as a number with its unit.
@@ -176,6 +214,7 @@ fn push_number(text: &mut Draft, decoder: &Decoder, raw: i128) -> Result<(), Mem
 }
 
 // A value by its name, which is looked for among the entries, or as a number.
+#[inline(always)]
 fn push_searched(text: &mut Draft, decoder: &Decoder, raw: i128) -> Result<(), Memory>
     requires { unsigned_abs raw ≤ 2 ^ decoder.now.scale.length }
     ensures { OnOk result (text.new.items ≡ text.old.items ++ decoder_text decoder.now raw) }
@@ -187,6 +226,7 @@ fn push_searched(text: &mut Draft, decoder: &Decoder, raw: i128) -> Result<(), M
 }
 
 // A value by its name, or as a number. Most names are kept ready.
+#[inline(always)]
 #[tactic(auto, using(crate::proofs::Named::with_name, crate::proofs::Named::without_name))]
 fn push_value(text: &mut Draft, decoder: &Decoder, raw: i128) -> Result<(), Memory>
     requires { unsigned_abs raw ≤ 2 ^ decoder.now.scale.length }
@@ -200,6 +240,7 @@ fn push_value(text: &mut Draft, decoder: &Decoder, raw: i128) -> Result<(), Memo
 }
 
 /// The value of a signal in data, or why there is none.
+#[inline(always)]
 #[tactic(auto, using(crate::proofs::Pushing::pushed_then))]
 pub(crate) fn push_reading(text: &mut Draft, reading: &Reading, bytes: &[u8]) -> Result<(), Memory>
     ensures { OnOk result (text.new.items ≡ text.old.items ++ reading_text bytes.now reading.now) }

@@ -1,6 +1,6 @@
 use Rattle.std.proofs.Common.{◌≡◌, ◌-◌, ◌≤◌, length}
 use Rattle.can_decode.specs.DecodedLines.{IsShownTo}
-use Rattle.can_decode.proofs.message.push_signals.Given as goal
+use Rattle.can_decode.proofs.message.push_runs.Given as goal
 
 -- the signals so far that are shown
 abbrev pub invariant-loop-signal : goal.invariant-loop-signal

@@ -1,0 +1,34 @@
+use Rattle.std.proofs.Common.{◌≡◌, ℕ, ◌<◌, ◌≤◌, false, slice_get, length, sym, ap, ◌∙◌, arith}
+use Rattle.can_layout.specs.Plans.{is_present}
+use Rattle.can_layout.specs.Presence.{Presence}
+use Rattle.can_decode.proofs.Absent.{passed_over}
+use Rattle.can_decode.proofs.message.push_runs.Goals as goal
+use Rattle.can_decode.proofs.message.push_runs.Goals.{then-there+in_ok-some, else-there}
+
+pub loop-signal-preserved : goal.loop-signal-preserved
+loop-signal-preserved c =
+    let same = c.run_from-there.ensures.same ∙ c.loop-signal.invariant.presence in
+    let shown = c.loop-signal.invariant.shown in
+    let long = ap (λ (presence : Presence). length presence.rows) c.loop-signal.invariant.presence in
+    elim c.if-there.branch [
+      | then-there+in_ok-some w ↦ record {
+        within = omega (arith, c.run_from-there.ensures.within, long);
+        presence = same;
+        shown = rw (w.text-is, w.some-is) (w.in_ok-some.ensures c.args.text.now.items shown);
+      }
+      | else-there w ↦
+          let absent : (place : ℕ) → c.loop-signal.signal ≤ place → place < c.run_from-there.result.1
+          → false ≡ is_present c.args.bytes.now c.args.plan.now.rows (slice_get c.args.plan.now.rows place) =
+          λ place from below. sym w.if-there.false ∙ c.run_from-there.ensures.there place from below
+          ∙ ap (λ (presence : Presence). is_present presence.bytes presence.rows (slice_get presence.rows place))
+          c.loop-signal.invariant.presence in
+          let within : c.run_from-there.result.1 ≤ length c.args.plan.now.rows =
+          omega (arith, c.run_from-there.ensures.within, long) in
+          record {
+            within = within;
+            presence = same;
+            shown = rw (w.text-is, w.some-is) (passed_over c.args.bytes.now c.args.plan.now c.loop-signal.signal
+                c.run_from-there.result.1 (omega (arith, c.run_from-there.ensures.some)) within absent
+                c.args.text.now.items _ _ shown);
+          }
+    ]
