@@ -16,5 +16,5 @@ pub use can_decode::Short;
 pub use can_layout::{Meter, Plan};
 pub use dbc_edits::{Change, Edit, Refusal};
 pub use kept_lines::{Keep, LineCount};
-pub use options::Options;
+pub use options::{KeyedOptions, Options};
 pub use session::Session;

@@ -4,6 +4,7 @@ ghost use Rattle.can_session.specs.States.{usual};
 
 use can_decode::Short;
 use kept_lines::Keep;
+use std::hash::RandomState;
 
 /// What is chosen for a session as it is opened. No command changes it.
 #[derive(Clone, Copy, Debug, PartialEq, Eq)]
@@ -12,6 +13,17 @@ pub struct Options {
     pub short: Short,
     /// Which lines are retained.
     pub keep: Keep,
+}
+
+/// What is chosen for a session, and the keys with which its log's index hashes. They come from `RandomState::new`, and what is
+/// shown is the same without them; but then identifiers can be chosen that make each line as slow as all lines before it, so a
+/// program that reads lines of others draws keys.
+#[derive(Clone, Copy)]
+pub struct KeyedOptions {
+    /// The choices.
+    pub options: Options,
+    /// The keys, if any were drawn.
+    pub keys: Option<RandomState>,
 }
 
 impl Default for Options {

@@ -12,7 +12,7 @@ ghost use Rattle.compiled_database.specs.Compiled.{count_here, Raised, nothing_m
 ghost use Rattle.session_log.specs.Logs.{bytes_of, IsDecoded, Completes};
 ghost use Rattle.can_session.specs.States.{Applies, Adds, RaisedBy, Opens, usual};
 
-use crate::options::Options;
+use crate::options::{KeyedOptions, Options};
 use crate::shown_bus::ShownBus;
 use crate::touching::decode_touched;
 use can_check::Diagnostic;
@@ -27,6 +27,7 @@ use dbc_values::Memory;
 use ready_texts::Draft;
 use session_log::{Fresh, Log};
 use std::alloc::Global;
+use std::hash::RandomState;
 use std::marker::Model;
 
 // The most bytes of a retained line.
@@ -86,20 +87,30 @@ fn made_after(
     Ok((remade.into_shown(), fresh))
 }
 
+// The log of no lines, whose index hashes with these keys, if there are any.
+fn log_of(alloc: Global, keys: Option<RandomState>) -> Log
+    ensures { result ≡ [] }
+{
+    match keys {
+        Some(keys) => Log::keyed(alloc, keys),
+        None => Log::new(alloc),
+    }
+}
+
 // The session of a database.
-fn session_of(alloc: Global, database: Database, options: Options) -> Result<Session, Memory>
+fn session_of(alloc: Global, database: Database, keyed: KeyedOptions) -> Result<Session, Memory>
     ensures database { IfOk result (λ session. session.state.database ≡ database) }
     ensures lines { IfOk result (λ session. session.state.lines ≡ []) }
-    ensures options { IfOk result (λ session. session.state.options ≡ options) }
+    ensures options { IfOk result (λ session. session.state.options ≡ keyed.options) }
     ensures made { IfOk result (λ session. Raised (length database.messages) 0 nothing_made session.meter) }
 {
     let mut meter = Meter::new();
     let shown = Shown::of(alloc, database, &mut meter)?;
     Ok(Session {
         alloc,
-        options,
+        options: keyed.options,
         shown,
-        log: Log::new(alloc),
+        log: log_of(alloc, keyed.keys),
         meter,
         draft: Draft::new(alloc),
     })
@@ -130,8 +141,19 @@ impl Session {
     pub fn open_with(alloc: Global, text: &[u8], options: Options) -> Result<Session, ReadFault>
         ensures { Opens text.now options result }
     {
+        let keyed = KeyedOptions {
+            options,
+            keys: None,
+        };
+        Session::open_keyed(alloc, text, keyed)
+    }
+
+    /// The same, with keys for the index of the log.
+    pub fn open_keyed(alloc: Global, text: &[u8], keyed: KeyedOptions) -> Result<Session, ReadFault>
+        ensures { Opens text.now keyed.options result }
+    {
         let database = read(alloc, text)?;
-        match session_of(alloc, database, options) {
+        match session_of(alloc, database, keyed) {
             Ok(session) => Ok(session),
             Err(Memory) => Err(NO_MEMORY),
         }

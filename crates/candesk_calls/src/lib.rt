@@ -1,7 +1,7 @@
 //! The program's calls: what it does with its words, a database and the standard streams.
 //!
 //! [`job_of`] of `candesk_words` reads the words, [`run`] does a job on the bytes of its file, and [`refuse`] says why there is
-//! none.
+//! none. [`run_keyed`] is for programs that read the lines of others, as its session can't be slowed down by chosen identifiers.
 //! [`run`] stands on the runs of `candesk_runs` and on the session of `session_script`, whose contracts say what is written.
 #![tactic(auto)]
 
@@ -14,5 +14,5 @@ pub use candesk_runs::{
 };
 pub use candesk_words::{Command, Job, NoJob, job_of};
 pub use refusing::{refuse, refuse_file};
-pub use running::run;
+pub use running::{run, run_keyed};
 pub use session_script::{Keep, LineCount, Options, Session, serve};

@@ -10,8 +10,9 @@ use candesk_runs::{
 use candesk_words::{Command, Job};
 use dbc_model::{Sink, Source};
 use line_stream::StreamFault;
-use session_script::{Options, SessionFault, session_run};
+use session_script::{KeyedOptions, Options, SessionFault, keyed_run};
 use std::alloc::Global;
+use std::hash::RandomState;
 
 // The status of a fault of `session`.
 fn session_status_of(fault: SessionFault) -> u8
@@ -67,6 +68,23 @@ pub fn run<R: Source, W: Sink, E: Sink>(
     ensures { EndsWith job.now.command (options_of job.now) text.now (R.unread source.old) (R.unread source.new)
         (W.written sink.old) (W.written sink.new) result }
 {
+    run_keyed(alloc, job, text, None, source, sink, errors)
+}
+
+/// The same, with keys for the index of a session's log, if any were drawn. Without them a script can have lines that make
+/// `session` slow.
+pub fn run_keyed<R: Source, W: Sink, E: Sink>(
+    alloc: Global,
+    job: &Job,
+    text: &[u8],
+    keys: Option<RandomState>,
+    source: &mut R,
+    sink: &mut W,
+    errors: &mut E,
+) -> u8
+    ensures { EndsWith job.now.command (options_of job.now) text.now (R.unread source.old) (R.unread source.new)
+        (W.written sink.old) (W.written sink.new) result }
+{
     match job.command {
         Command::Check => check(alloc, text, sink, errors),
         Command::Decode => {
@@ -77,7 +95,8 @@ pub fn run<R: Source, W: Sink, E: Sink>(
         Command::Explain => explain(alloc, text, sink, errors),
         Command::Print => print(alloc, text, sink, errors),
         Command::Session => {
-            let outcome = session_run(alloc, text, options_of(job), source, sink);
+            let options = options_of(job);
+            let outcome = keyed_run(alloc, text, KeyedOptions { options, keys }, source, sink);
             session_ended(outcome, errors)
         }
     }

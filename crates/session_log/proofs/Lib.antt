@@ -4,7 +4,3 @@ pub mod Reached
 pub mod Covered
 pub mod Serials
 pub mod Indexed
-pub mod Items
-pub mod Keys
-pub mod Added
-pub mod Removed

@@ -1,17 +1,15 @@
 -- The retained lines by the numbers and by the parameter groups of their data frames.
 -- Source: SAE J1939-21, "Parameter Group Numbers", for which frames belong to one group.
 use Rattle.std.specs.Prelude.{◌≡◌, ◌<◌, ◌≤◌, ℕ, Bool, true, false, not, ◌&&◌, ◌==◌, List, [], ◌∷◌, ◌++◌, All, length, count_by}
-use Rattle.std.specs.Prelude.{Option, Some, None, slice_get, map, drop, option_and_then, if◌then◌else◌}
+use Rattle.std.specs.Prelude.{slice_get, map, drop, nat_eq, if◌then◌else◌}
 use Rattle.std.specs.List.{list_any, slice_index_or}
 use Rattle.std.specs.Option.{option_map_or}
-use Rattle.std.specs.Ordering.{nat_cmp}
-use Rattle.std.specs.BTreeMap.{get}
+use Rattle.indexmap.specs.IndexMap.{IndexMap, get}
 use Rattle.can_rows.specs.Groups.{is_extended, group_number_of}
 use Rattle.can_choice.specs.Choices.{data_number}
 use Rattle.edit_reach.specs.Touched.{may_have_group, line_touched}
 use Rattle.session_log.specs.declared.log_index.LogIndex.{LogIndex}
-use Rattle.session_log.specs.declared.keyed.Serials.{Serials}
-use Rattle.session_log.specs.declared.keyed.KeyedSerials.{KeyedSerials}
+use Rattle.session_log.specs.declared.keyed_serials.Serials.{Serials}
 use Rattle.session_log.specs.Places.{places_from, place_from}
 
 -- ---- what a line is found by
@@ -26,22 +24,17 @@ has_group group line = option_map_or (λ number. is_extended number && group == 
 
 -- ---- the index
 
--- the first serial number and those after it, if there is a first one
-abbrev pub from_first : Option ℕ → List ℕ → List ℕ
-from_first None later = []
-from_first (Some first) later = first ∷ later
-
 -- the serial numbers, in order
 abbrev pub numbers_in : Serials → List ℕ
-numbers_in serials = from_first serials.first serials.later.items
+numbers_in serials = serials.first ∷ serials.later.items
 
 -- those under a key
-abbrev pub serials_at : ℕ → KeyedSerials → List ℕ
-serials_at key keyed = option_map_or numbers_in (option_and_then (slice_get keyed.serials.items) (get nat_cmp keyed.places key)) []
+abbrev pub serials_at : {S : Type 0} → ℕ → IndexMap ℕ Serials S → List ℕ
+serials_at key serials = option_map_or numbers_in (get nat_eq serials key) []
 
 -- the places of the lines under a key, where the first line has the serial number `first`
-abbrev pub places_at : ℕ → ℕ → KeyedSerials → List ℕ
-places_at first key keyed = map (place_from first) (serials_at key keyed)
+abbrev pub places_at : {S : Type 0} → ℕ → ℕ → IndexMap ℕ Serials S → List ℕ
+places_at first key serials = map (place_from first) (serials_at key serials)
 
 -- each number has the places of the lines with data frames of that number, in order of arrival, and each group those of 29 bits
 -- that are of the group

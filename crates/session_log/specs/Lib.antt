@@ -1,5 +1,5 @@
+pub mod Hashes
 pub mod Places
-pub mod Keyed
 pub mod Indexes
 pub mod Logs
 pub mod Kept

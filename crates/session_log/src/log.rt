@@ -9,11 +9,13 @@ ghost use Rattle.session_log.specs.Indexes.{is_untouched_at, Covers};
 ghost use Rattle.session_log.specs.Kept.{IsLog};
 
 use crate::line::{Fresh, Line, exchange};
+use crate::log_hash::LogHash;
 use crate::log_index::LogIndex;
 use dbc_values::Memory;
 use edit_reach::number_touched;
 use std::alloc::Global;
 use std::collections::VecDeque;
+use std::hash::RandomState;
 use std::marker::Model;
 
 /// The retained lines in order of arrival, each with the number of its frame, and the index of them by their serial numbers, which
@@ -77,15 +79,30 @@ fn drop_first(first: usize, lines: &mut VecDeque<Line>, index: &mut LogIndex) ->
 }
 
 impl Log {
-    /// That of no lines.
-    pub fn new(alloc: Global) -> Log
+    // That of no lines, whose index hashes so.
+    fn hashed(alloc: Global, hash: LogHash) -> Log
         ensures { result ≡ [] }
     {
         Log {
             first: 0,
             lines: VecDeque::new(alloc),
-            index: LogIndex::new(alloc),
+            index: LogIndex::new(alloc, hash),
         }
+    }
+
+    /// That of no lines. Its index hashes the same way in each run, so identifiers can be chosen that make it slow.
+    pub fn new(alloc: Global) -> Log
+        ensures { result ≡ [] }
+    {
+        Log::hashed(alloc, LogHash::Fixed)
+    }
+
+    /// That of no lines, whose index hashes with these keys, so that nobody who doesn't know them can choose identifiers that make
+    /// it slow. Its answers are the same.
+    pub fn keyed(alloc: Global, keys: RandomState) -> Log
+        ensures { result ≡ [] }
+    {
+        Log::hashed(alloc, LogHash::Keyed(keys))
     }
 
     /// How many lines there are.

@@ -1,17 +1,21 @@
 //! The retained lines by the numbers and by the parameter groups of their data frames.
 ghost use Rattle.std.specs.Prelude.{◌≡◌, [], OnOk, OnErr};
 ghost use Rattle.std.specs.Option.{option_map_or};
+ghost use Rattle.indexmap.specs.IndexMap.{hasher_of};
 ghost use Rattle.can_rows.specs.Groups.{is_extended, group_number_of};
 ghost use Rattle.edit_reach.specs.Touched.{may_have_group};
 ghost use Rattle.session_log.specs.Indexes.{numbers_in, SameSerials, Puts, Drops, serials_of, IsIndexed};
 
-use crate::keyed::{KeyedSerials, Serials};
+use crate::keyed_serials::{KeyedSerials, Serials, add, drop_first, drop_last};
+use crate::log_hash::LogHash;
 use can_decode::group_number;
 use dbc_values::Memory;
 use edit_reach::{is_extended, may_have_group};
+use indexmap::IndexMap;
 use std::alloc::Global;
 
-/// The serial numbers of lines by the numbers of their data frames, and of those with identifiers of 29 bits by their groups.
+/// The serial numbers of lines by the numbers of their data frames, and of those with identifiers of 29 bits by their groups. A
+/// number or group is there as long as it has a line.
 #[derive(Drop)]
 pub(crate) struct LogIndex {
     numbers: KeyedSerials,
@@ -19,13 +23,15 @@ pub(crate) struct LogIndex {
 }
 
 impl LogIndex {
-    /// That of no lines.
-    pub(crate) fn new(alloc: Global) -> LogIndex
-        ensures { IsIndexed 0 [] result }
+    /// That of no lines, which hashes so.
+    pub(crate) fn new(alloc: Global, hash: LogHash) -> LogIndex
+        ensures none { IsIndexed 0 [] result }
+        ensures numbers { hasher_of result.numbers ≡ hash }
+        ensures groups { hasher_of result.groups ≡ hash }
     {
         LogIndex {
-            numbers: KeyedSerials::new(alloc),
-            groups: KeyedSerials::new(alloc),
+            numbers: IndexMap::with_hasher(alloc, hash),
+            groups: IndexMap::with_hasher(alloc, hash),
         }
     }
 
@@ -34,11 +40,11 @@ impl LogIndex {
         ensures ok { OnOk result (Puts number serial self.old self.new) }
         ensures err { OnErr result (SameSerials self.old self.new) }
     {
-        self.numbers.add(alloc, number, serial)?;
+        add(alloc, &mut self.numbers, number, serial)?;
         if is_extended(number) {
-            let grouped = self.groups.add(alloc, group_number(number), serial);
+            let grouped = add(alloc, &mut self.groups, group_number(number), serial);
             if grouped.is_err() {
-                self.numbers.drop_last(number);
+                drop_last(&mut self.numbers, number);
             }
             return grouped;
         }
@@ -49,9 +55,9 @@ impl LogIndex {
     pub(crate) fn drop_first(&mut self, number: u32)
         ensures { Drops number self.old self.new }
     {
-        self.numbers.drop_first(number);
+        drop_first(&mut self.numbers, number);
         if is_extended(number) {
-            self.groups.drop_first(group_number(number));
+            drop_first(&mut self.groups, group_number(number));
         }
     }
 
@@ -60,9 +66,9 @@ impl LogIndex {
         ensures { option_map_or (λ serials. numbers_in serials.now) result [] ≡ serials_of number self.now }
     {
         if may_have_group(number) {
-            self.groups.get(group_number(number))
+            self.groups.get(&group_number(number))
         } else {
-            self.numbers.get(number)
+            self.numbers.get(&number)
         }
     }
 }

@@ -9,8 +9,8 @@ mod replies;
 mod running;
 mod serving;
 
-pub use can_session::{Edit, Keep, LineCount, Options, Refusal, Session};
+pub use can_session::{Edit, Keep, KeyedOptions, LineCount, Options, Refusal, Session};
 pub use fault::SessionFault;
-pub use running::session_run;
+pub use running::{keyed_run, session_run};
 pub use script_commands::Verb;
 pub use serving::serve;
