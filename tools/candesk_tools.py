@@ -22,7 +22,7 @@ import sys
 import tempfile
 import threading
 from collections.abc import Callable, Iterable, Iterator
-from typing import BinaryIO, NamedTuple, NoReturn
+from typing import IO, BinaryIO, NamedTuple, NoReturn
 
 __all__ = ["BAD_FILES", "BAD_WORDS", "INTERRUPTED", "NO_MEMORY", "REFUSED", "TOOL", "Fault", "lacks_memory", "tell"]
 
@@ -217,9 +217,20 @@ def uninterrupted() -> Iterator[None]:
 class Folder(tempfile.TemporaryDirectory[str]):
     """A temporary folder that no interrupt keeps from being removed."""
 
+    def __init__(self, prefix: str, dir: str | None = None) -> None:
+        # (the first file or folder of all also tries where such may be)
+        with uninterrupted():
+            super().__init__(prefix=prefix, dir=dir)
+
     def cleanup(self) -> None:
         with uninterrupted():
             super().cleanup()
+
+
+def temporary_database() -> IO[bytes]:
+    """A temporary file for a database, which is removed when it is closed, and which no interrupt keeps from being removed."""
+    with uninterrupted():
+        return tempfile.NamedTemporaryFile(prefix="candesk-", suffix=".dbc")
 
 
 @contextlib.contextmanager
@@ -250,12 +261,13 @@ def lines_of(stream: Iterable[bytes], name: str) -> Iterator[bytes]:
 @contextlib.contextmanager
 def replacing(path: str) -> Iterator[BinaryIO]:
     """A new file in place of another: written beside it, and renamed once it is whole. Mode and owner stay."""
-    path = os.path.realpath(path)
+    path, room = os.path.realpath(path), ""
     try:
-        number, room = tempfile.mkstemp(prefix=".candesk-", dir=os.path.dirname(path))
-    except OSError as error:
-        raise Fault(f"{path}: {error.strerror}", BAD_FILES) from error
-    try:
+        try:
+            with uninterrupted():
+                number, room = tempfile.mkstemp(prefix=".candesk-", dir=os.path.dirname(path))
+        except OSError as error:
+            raise Fault(f"{path}: {error.strerror}", BAD_FILES) from error
         with naming(path), os.fdopen(number, "wb") as file:
             yield file
             file.flush()

@@ -9,7 +9,6 @@ import os
 import re
 import signal
 import subprocess
-import tempfile
 import threading
 from collections.abc import Callable
 from typing import Union
@@ -246,7 +245,7 @@ class Shell:
         """A session of its own on the database of before, with the lines that are retained."""
         if not self.before:
             raise refused("there is nothing to undo")
-        with tempfile.NamedTemporaryFile(prefix="candesk-", suffix=".dbc") as file, self.changing:
+        with tools.temporary_database() as file, self.changing:
             file.write(self.before[-1])
             file.flush()
             opened = shell_session.Session(file.name, self.session.is_short, self.session.keep)
