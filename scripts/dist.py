@@ -1,7 +1,8 @@
 """dist/: the program in the repository, as a complete proof of exactly these sources built it, so that it runs without a build.
 
-Beside the program are its sum (SHA256SUMS) and what it was built from (BUILD): its version, the kit, and the digest of its sources
-and the kit. Everything that needs the program and finds none of these sources that was built here takes it from there.
+Beside the program are its sum (SHA256SUMS) and what it was built from (BUILD): its version, the kit that proved it, and the digest
+of its sources. The sources decide whether it is current, whatever kit is on the PATH, or none. Everything that needs the program
+and finds none of these sources that was built here takes it from there.
 """
 
 from __future__ import annotations
@@ -51,13 +52,11 @@ def build_lines() -> dict[str, str]:
 
 def state() -> tuple[proving.Stamp | None, str]:
     """The stamp of dist's program if it is built from the sources as they are, or none and why it isn't."""
-    said, kit = build_lines(), proving.kit_line()
+    said = build_lines()
     if not ("kit" in said and "digest" in said and os.path.isfile(PROGRAM)):
         return None, f"{FOLDER}/ has no program"
-    if kit not in ("", said["kit"]):
-        return None, f"{FOLDER}/ is stale (built by {said['kit']}, but the kit here is {kit})"
     sources = proving.sources_of(proving.PROGRAM)
-    if said["digest"] != proving.build_digest(sources, said["kit"]):
+    if said["digest"] != sources:
         return None, f"{FOLDER}/ is stale (built from other sources)"
     try:
         with open(SUMS, encoding="utf-8") as text:
@@ -116,8 +115,7 @@ def files(found: Found) -> dict[str, tuple[bytes, int]]:
     """What dist/ has to be for a program: each file with its bytes and its mode."""
     with open(found.path, "rb") as data:
         program = data.read()
-    digest = proving.build_digest(found.stamp.sources, found.stamp.kit)
-    build = f"version {version_of(found.path)}\nkit {found.stamp.kit}\ndigest {digest}\n"
+    build = f"version {version_of(found.path)}\nkit {found.stamp.kit}\ndigest {found.stamp.sources}\n"
     return {
         PROGRAM: (program, 0o755),
         SUMS: (sums_line(found.stamp.program).encode(), 0o644),

@@ -1,5 +1,7 @@
 """What the scripts share that prove, build and pass on programs: the crates of crates.txt, bare copies for `rt ci`, digests of
-sources, and the programs that a proof leaves in the checkout, each with a stamp that tells what it was built from and how."""
+sources, and the programs that a proof leaves in the checkout, each with a stamp that tells what it was built from and how. The
+digest of the sources decides which program is theirs; which kit built it is told, and compared by nobody.
+"""
 
 from __future__ import annotations
 
@@ -74,11 +76,11 @@ class Built:
             raise ValueError(f"the stamp has no {missing}") from None
 
     def current(self) -> Stamp | None:
-        """Its stamp where it is built of the sources as they are, by the kit that is here if one is."""
+        """Its stamp if it is built from the sources as they are."""
         try:
             stamp = self.stamp()
             is_same = stamp.sources == sources_of(self.crate) and stamp.program == sum_of(self.path)
-            return stamp if is_same and os.access(self.path, os.X_OK) and kit_line() in ("", stamp.kit) else None
+            return stamp if is_same and os.access(self.path, os.X_OK) else None
         except (OSError, ValueError):
             return None
 
@@ -156,15 +158,9 @@ def files_of(crate: str, parts: Iterable[str] = PARTS, root: str = ROOT) -> Iter
 
 def kit_line() -> str:
     """The kit's name for itself, or nothing where there is no kit."""
-    rt = shutil.which("rt")
-    if not rt:
+    if not shutil.which("rt"):
         return ""
-    try:
-        # (`rt version` prints this file; to read it saves the start of another Python)
-        with open(f"{os.path.dirname(os.path.dirname(os.path.realpath(rt)))}/KIT-ID", encoding="utf-8") as text:
-            return text.read().strip()
-    except OSError:
-        return subprocess.run(["rt", "version"], capture_output=True, text=True, check=False).stdout.strip()
+    return subprocess.run(["rt", "version"], capture_output=True, text=True, check=False).stdout.strip()
 
 
 # ---- digests
@@ -181,13 +177,9 @@ def digest_of(names: Iterable[str], root: str = ROOT, others: Iterable[str] = ()
 
 
 def sources_of(crate: str, root: str = ROOT) -> str:
-    """The digest of the sources of a crate and of all below it."""
+    """The digest of the sources of a crate and of all below it. `--version` has the first digits of the program's, so the same
+    sources give the same version whatever kit builds them."""
     return digest_of(with_below(crate), root)
-
-
-def build_digest(sources: str, kit: str) -> str:
-    """The digest of all that a proof of the program reads: of its sources, and of the kit. `--version` has its first digits."""
-    return hashlib.sha256(f"{kit}\0{sources}".encode()).hexdigest()
 
 
 def sum_of(file: str) -> str:
@@ -232,24 +224,30 @@ class Room:
         return True
 
 
+def copy_crates(names: Iterable[str], tried: Iterable[str], room: str) -> None:
+    """Makes a folder the top of a repository with these crates, without what was built, and with the must-fail edits of the crates
+    that are tried."""
+    os.mkdir(f"{room}/.git")
+    for name in names:
+        left_out = ("out",) if name in tried else ("out", "must-fail")
+        shutil.copytree(f"{ROOT}/crates/{name}", f"{room}/crates/{name}", ignore=shutil.ignore_patterns(*left_out))
+    below = stands_on()
+    with open(f"{room}/crates.txt", "w", encoding="utf-8") as lines:
+        lines.writelines(f"{name}: {' '.join(below[name])}\n" for name in names)
+    shutil.copyfile(f"{ROOT}/HANDLES", f"{room}/HANDLES")
+
+
 @contextlib.contextmanager
-def room_for(names: list[str]) -> Iterator[Room]:
-    """A temporary copy of the crates, without must-fail edits and what was built. The program says there by its version what it is
-    built from."""
+def room_for(names: list[str], tried: Iterable[str] = ()) -> Iterator[Room]:
+    """A temporary copy of the crates, with the must-fail edits of some, and without what was built. The program says there by its
+    version what it is built from."""
     sweep()
     with tempfile.TemporaryDirectory(prefix=f"candesk-room-{os.getpid()}-") as room:
         made_at, kit = time.time_ns(), kit_line()
-        # (it is the top of a repository)
-        os.mkdir(f"{room}/.git")
-        for name in names:
-            shutil.copytree(f"{ROOT}/crates/{name}", f"{room}/crates/{name}", ignore=shutil.ignore_patterns("must-fail", "out"))
-        below = stands_on()
-        with open(f"{room}/crates.txt", "w", encoding="utf-8") as lines:
-            lines.writelines(f"{name}: {' '.join(below[name])}\n" for name in names)
-        shutil.copyfile(f"{ROOT}/HANDLES", f"{room}/HANDLES")
+        copy_crates(names, set(tried), room)
         sources = {it.crate: sources_of(it.crate, room) for it in ALL_BUILT if set(with_below(it.crate)) <= set(names)}
         if os.path.dirname(os.path.dirname(VERSION_FILE)) in (f"crates/{it}" for it in names):
-            name_build(f"{room}/{VERSION_FILE}", build_digest(sources.get(PROGRAM) or sources_of(PROGRAM), kit))
+            name_build(f"{room}/{VERSION_FILE}", sources.get(PROGRAM) or sources_of(PROGRAM))
         yield Room(room, made_at, kit, sources)
 
 
