@@ -25,13 +25,13 @@ EMPTY = b'#!/bin/sh\necho "candesk: 90 Memory" >&2\nexit 4\n'
 EMPTY_LATER = b'#!/bin/sh\nif [ "$1" = print ]; then exec "%s" "$@"; fi\necho "candesk: 90 Memory" >&2\nexit 4\n'
 # how many seconds behind its start a tool is interrupted
 DELAYS = (0, 0.02, 0.04, 0.06, 0.08, 0.1, 0.15, 0.25, 0.5)
-# a Python in which an interrupt comes as soon as a file or folder of this folder is made
+# a Python in which a signal comes as soon as a file or folder of this folder is made
 INTERRUPTING = b"""import os, signal
 def interrupting(make):
     def made(path, *rest, **named):
         is_new, done = not os.path.exists(path), make(path, *rest, **named)
         if is_new and os.path.dirname(os.path.abspath(path)) == os.environ["INTERRUPTED_FOLDER"]:
-            os.kill(os.getpid(), signal.SIGINT)
+            os.kill(os.getpid(), int(os.environ["INTERRUPT"]))
         return done
     return made
 os.open, os.mkdir = interrupting(os.open), interrupting(os.mkdir)
@@ -194,7 +194,7 @@ def try_interrupts(tries: Tries, folder: str, name: str) -> None:
 
 
 def try_interrupted_making(tries: Tries, folder: str) -> None:
-    """A file or folder that a tool is making as the interrupt comes isn't left over."""
+    """A file or folder that a tool is making as an interrupt or a request to end comes isn't left over."""
     database, log, elsewhere = example("wheel.dbc"), example("car.log"), tempfile.mkdtemp(dir=folder)
     # (where temporary files may be is found by making one)
     known = b"import tempfile\ntempfile.tempdir = os.environ['TMPDIR']\n"
@@ -206,14 +206,17 @@ def try_interrupted_making(tries: Tries, folder: str) -> None:
         ("", known, ["candesk-format", "--check", "wheel.dbc"]),
         (elsewhere, b"", ["candesk-format", "wheel.dbc"]),
     ):
-        work, modules = tempfile.mkdtemp(dir=folder), tempfile.mkdtemp(dir=folder)
-        written(work, "wheel.dbc", read(database) + b"\n")
-        written(modules, "sitecustomize.py", INTERRUPTING + python)
-        surroundings = {"TMPDIR": temporary or work, "PYTHONPATH": modules, "INTERRUPTED_FOLDER": work}
-        got = by_shell(f'cd "{work}" && exec "$@"', path_of(words[0]), *words[1:], **surroundings)
-        is_right = got == (INTERRUPTED, b"", words[0].encode() + b": interrupted\n") and os.listdir(work) == ["wheel.dbc"]
-        what = f"{words[0]} {words[-2] if len(words) > 2 else 'in place'}: interrupted as it makes a file"
-        tries.note(what, is_right, (got, os.listdir(work)))
+        for number in (signal.SIGINT, signal.SIGTERM):
+            work, modules = tempfile.mkdtemp(dir=folder), tempfile.mkdtemp(dir=folder)
+            written(work, "wheel.dbc", read(database) + b"\n")
+            written(modules, "sitecustomize.py", INTERRUPTING + python)
+            surroundings = {"TMPDIR": temporary or work, "PYTHONPATH": modules, "INTERRUPTED_FOLDER": work}
+            line = f'cd "{work}" && exec "$@"'
+            got = by_shell(line, path_of(words[0]), *words[1:], **surroundings, INTERRUPT=f"{number:d}")
+            said = words[0].encode() + b": interrupted\n" if number == signal.SIGINT else b""
+            is_right = got == (128 + number, b"", said) and os.listdir(work) == ["wheel.dbc"]
+            what = f"{words[0]} {words[-2] if len(words) > 2 else 'in place'}: {number.name} as it makes a file"
+            tries.note(what, is_right, (got, os.listdir(work)))
 
 
 def try_interrupted_decoding(tries: Tries, folder: str, name: str) -> None:

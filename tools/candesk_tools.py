@@ -30,6 +30,9 @@ HERE = os.path.dirname(os.path.realpath(__file__))
 # the largest exit status that a program may have of its own (a checkout without a program has 70)
 LARGEST_STATUS = 99
 
+# an interrupt, one that is repeated, as it came where nothing could be raised, and a request to end
+INTERRUPTS = (signal.SIGINT, signal.SIGALRM, signal.SIGTERM)
+
 # what the program says of a line of a log that is over 4,096 bytes
 LONG_LINE = "40 LongLine"
 
@@ -206,12 +209,17 @@ def messages_of(canonical: bytes) -> list[Message]:
 
 @contextlib.contextmanager
 def uninterrupted() -> Iterator[None]:
-    """Holds back interrupts."""
-    before = signal.pthread_sigmask(signal.SIG_BLOCK, {signal.SIGINT})
+    """Holds back interrupts until what stands here is done, whichever thread they come to. (A mask would hold them back from this
+    thread alone, and another would take them for it.)"""
+    came: list[int] = []
     try:
-        yield
+        with contextlib.ExitStack() as before:
+            for number in INTERRUPTS:
+                before.callback(signal.signal, number, signal.signal(number, lambda number, _: came.append(number)))
+            yield
     finally:
-        signal.pthread_sigmask(signal.SIG_SETMASK, before)
+        if came:
+            signal.raise_signal(came[0])
 
 
 class Folder(tempfile.TemporaryDirectory[str]):
