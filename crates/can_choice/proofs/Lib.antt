@@ -1,3 +1,5 @@
 pub mod Groups
 pub mod FirstChoices
 pub mod Indexes
+pub mod LineChoices
+pub mod Chosen

@@ -63,3 +63,11 @@ choice_at database place = record { place = place; group = is_group_message data
 
 unfoldable pub choice_of : Database → ℕ → Option Choice
 choice_of database number = option_map (choice_at database) (place_of_number database number)
+
+-- what a frame goes to; only data frames go to a message
+unfoldable pub frame_choice : Database → Frame → Option Choice
+frame_choice database frame = if is_data frame then choice_of database (number_of frame) else None
+
+-- what the frame of a line goes to, where the line has one that goes to any message
+abbrev pub line_choice : Database → List ℕ → Option Choice
+line_choice database line = option_and_then (frame_choice database) (frame_of (body_of line))

@@ -1,7 +1,7 @@
 //! The messages of a database, found by their numbers and by their groups.
-ghost use Rattle.std.specs.Prelude.{◌≡◌, Some, None, if◌then◌else◌};
+ghost use Rattle.std.specs.Prelude.{◌≡◌, None, if◌then◌else◌};
 ghost use Rattle.can_rows.specs.Groups.{is_extended, group_number_of};
-ghost use Rattle.can_choice.specs.Choices.{choice_of, place_of_number, chosen_place};
+ghost use Rattle.can_choice.specs.Choices.{choice_of, frame_choice};
 ghost use Rattle.can_choice.specs.Remembering.{IsIndexOf, first_of_group};
 
 use crate::choosing::{Choice, Choose};
@@ -68,21 +68,14 @@ impl<'a> Choices<'a> {
         }
     }
 
-    // The place of the message that a number goes to.
-    fn place_of_number(&self, number: u32) -> Option<usize>
-        ensures { result ≡ place_of_number self.now number }
-    {
-        let choice = self.find(number)?;
-        Some(choice.place)
-    }
-
-    /// The place of the message that a frame goes to, as [`choose`](crate::choose) finds it. It takes no memory.
-    #[tactic(auto, unfolding(crate::specs::Choices::chosen_place))]
-    pub fn choose(&self, frame: &Frame) -> Option<usize>
-        ensures { result ≡ chosen_place self.now frame.now }
+    /// What a frame goes to: the message whose place [`choose`](crate::choose) finds, and whether it is a group message. It takes
+    /// no memory.
+    #[tactic(auto, unfolding(crate::specs::Choices::frame_choice))]
+    pub fn choose(&self, frame: &Frame) -> Option<Choice>
+        ensures { result ≡ frame_choice self.now frame.now }
     {
         if frame.is_data() {
-            self.place_of_number(frame.number())
+            self.find(frame.number())
         } else {
             None
         }

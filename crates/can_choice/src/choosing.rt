@@ -38,14 +38,14 @@ pub(crate) fn messages_of(database: &Database) -> &[Message]
 }
 
 /// The number of a message.
-pub fn number_of(message: &Message) -> u32
+pub(crate) fn number_of(message: &Message) -> u32
     ensures { result ≡ message.now.head.number }
 {
     message.head.number
 }
 
-/// Whether messages of the number are group messages.
-pub fn is_group(database: &Database, number: u32) -> bool
+// Whether messages of the number are group messages.
+fn is_group(database: &Database, number: u32) -> bool
     ensures { result ≡ is_group_number number database.now }
 {
     group_in(database, number).is_some()
@@ -67,7 +67,8 @@ fn is_group_message(database: &Database, message: Option<&Message>) -> bool
     }
 }
 
-fn choice_at(database: &Database, place: usize) -> Choice
+/// The choice of the message at a place. It goes through the attributes of the database.
+pub fn choice_at(database: &Database, place: usize) -> Choice
     ensures { result ≡ choice_at database.now place }
 {
     let message = message_at(database, place);

@@ -13,7 +13,7 @@ mod remembered;
 
 pub use choice::choose;
 pub use choices::{Choices, Finding};
-pub use choosing::{Choice, Choose, Walking, is_group, message_at, number_of};
+pub use choosing::{Choice, Choose, Walking, choice_at, message_at};
 pub use log_frames::{Frame, Kind};
 pub use message_index::MessageIndex;
 pub use remembered::Remembered;

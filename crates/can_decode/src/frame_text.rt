@@ -1,5 +1,5 @@
 //! What is said of a frame, as text.
-ghost use Rattle.std.specs.Prelude.{◌≡◌, ◌++◌, OnOk, option_map};
+ghost use Rattle.std.specs.Prelude.{◌≡◌, ◌++◌, OnOk, codes, option_map};
 ghost use Rattle.std.specs.List.{flat_map};
 ghost use Rattle.can_decode.specs.DecodedLines.{wrong_size_text, unknown_text, data_text, text_of_kind};
 
@@ -72,8 +72,8 @@ fn push_data(
     }
 }
 
-/// What is said of a frame, by what it goes to.
-pub(crate) fn push_frame(
+// What is said of a frame, by what it goes to.
+fn push_frame(
     alloc: Global,
     text: &mut Draft,
     frame: &Frame,
@@ -87,4 +87,18 @@ pub(crate) fn push_frame(
         Kind::Remote => text.push_piece(b"Remote frame"),
         Kind::Classic | Kind::Fd => push_data(alloc, text, frame, target),
     }
+}
+
+/// What the frame of a line says, by what it goes to, and what stands before that.
+pub(crate) fn push_known(
+    alloc: Global,
+    text: &mut Draft,
+    frame: &Frame,
+    target: Option<&Target<'_>>,
+) -> Result<(), Memory>
+    ensures { OnOk result (text.new.items ≡ text.old.items ++ (codes " :: " ++ text_of_kind frame.now.kind frame.now
+        (option_map (λ target. target.now) target.entry))) }
+{
+    text.push_piece(b" :: ")?;
+    push_frame(alloc, text, frame, target)
 }

@@ -2,14 +2,14 @@
 ghost use Rattle.std.specs.Prelude.{◌≡◌, IfOk, OnOk, IfSome, Some, slice_get, option_map, option_and_then};
 ghost use Rattle.can_layout.specs.Plans.{plan_of};
 ghost use Rattle.can_layout.specs.Meters.{with_line};
-ghost use Rattle.can_choice.specs.Choices.{line_place};
+ghost use Rattle.can_choice.specs.Choices.{choice_at, line_place, line_choice};
 ghost use Rattle.can_decode.specs.DecodedLines.{target_of, decoded_line, bus_line};
 
-use crate::line::push_known;
+use crate::frame_text::push_known;
 use crate::read_line::ReadLine;
 use crate::short::Short;
 use crate::target::Target;
-use can_choice::{is_group, message_at, number_of};
+use can_choice::{Choice, choice_at, message_at};
 use can_layout::{Meter, Plan};
 use dbc_records::Database;
 use dbc_values::Memory;
@@ -37,27 +37,41 @@ impl<'a> Model for Bus<'a> {
 }
 
 impl<'a> Bus<'a> {
-    // What the message at a place is to a frame: that message, with its plan.
-    fn target_with(&self, chosen: Option<(usize, &'a Plan)>) -> Option<Target<'a>>
+    // What the message at a place is to a frame, with its plan.
+    fn with_choice(&self, chosen: Option<(usize, &'a Plan)>) -> Option<(Choice, &'a Plan)>
         requires { IfSome chosen (λ one. Some one.1.now ≡ option_map (plan_of self.now.database)
             (slice_get self.now.database.messages one.0)) }
-        ensures { result ≡ option_and_then (λ place. option_map (target_of self.now.short self.now.database)
-            (slice_get self.now.database.messages place)) (option_map (λ one. one.0) chosen.entry) }
+        ensures choice { option_map (λ one. one.0) result ≡ option_map (choice_at self.now.database)
+            (option_map (λ one. one.0) chosen.entry) }
+        ensures plan { IfSome result (λ one. Some one.1.now ≡ option_map (plan_of self.now.database)
+            (slice_get self.now.database.messages one.0.place)) }
     {
         let (place, plan) = chosen?;
-        let message = message_at(self.database, place)?;
-        let group = is_group(self.database, number_of(message));
+        Some((choice_at(self.database, place), plan))
+    }
+
+    // What a frame goes to: the message of a choice, with its plan.
+    fn target_of(&self, chosen: Option<(Choice, &'a Plan)>) -> Option<Target<'a>>
+        requires choice { IfSome chosen (λ one. one.0 ≡ choice_at self.now.database one.0.place) }
+        requires plan { IfSome chosen (λ one. Some one.1.now ≡ option_map (plan_of self.now.database)
+            (slice_get self.now.database.messages one.0.place)) }
+        ensures { result ≡ option_and_then (λ place. option_map (target_of self.now.short self.now.database)
+            (slice_get self.now.database.messages place)) (option_map (λ one. one.0.place) chosen.entry) }
+    {
+        let (choice, plan) = chosen?;
+        let message = message_at(self.database, choice.place)?;
         Some(Target {
             message,
             plan,
-            group,
+            group: choice.group,
             short: self.short,
         })
     }
 
     /// The decoded line, where it is known which message its frame goes to, if it has one that goes to any: `chosen` has the
-    /// place of that message and its plan. Nothing is looked for, and nothing is read again. The meter counts it, also where
-    /// memory is refused.
+    /// place of that message and its plan. Only whether it is a group message is looked for, and nothing is read again. The meter
+    /// counts it, also where memory is refused.
+    #[tactic(auto, using(can_choice::proofs::LineChoices::line_choice_by))]
     pub fn decode_frame_at(
         &self,
         alloc: Global,
@@ -72,23 +86,24 @@ impl<'a> Bus<'a> {
         ensures counted { meter.new ≡ with_line meter.old }
     {
         let mut text = Draft::new(alloc);
-        self.renew_frame_at(&mut text, chosen, line, meter)?;
+        self.renew_frame_at(&mut text, self.with_choice(chosen), line, meter)?;
         text.to_vec()
     }
 
-    /// As [`Bus::decode_frame_at`], and makes the decoded line in `text`, in place of what that held: so its room serves one line
-    /// after another. If memory is refused, what `text` holds means nothing.
-    #[tactic(auto, using(crate::proofs::Pushing::pushed_then), unfolding(crate::specs::DecodedLines::decoded_line, crate::specs::DecodedLines::chosen_target))]
+    /// As [`Bus::decode_frame_at`], where it is also known whether that is a group message: nothing is looked for. It makes the
+    /// decoded line in `text`, in place of what that held: so its room serves one line after another. If memory is refused, what
+    /// `text` holds means nothing.
+    #[tactic(auto, using(crate::proofs::Pushing::pushed_then), unfolding(crate::specs::DecodedLines::decoded_line, crate::specs::DecodedLines::chosen_target, can_choice::specs::Choices::frame_choice, can_choice::specs::Choices::choice_of, can_choice::specs::Choices::chosen_place))]
     pub fn renew_frame_at(
         &self,
         text: &mut Draft,
-        chosen: Option<(usize, &'a Plan)>,
+        chosen: Option<(Choice, &'a Plan)>,
         line: &ReadLine<'_>,
         meter: &mut Meter,
     ) -> Result<(), Memory>
-        requires place { option_map (λ one. one.0) chosen ≡ line_place self.now.database line.now }
+        requires choice { option_map (λ one. one.0) chosen ≡ line_choice self.now.database line.now }
         requires plan { IfSome chosen (λ one. Some one.1.now ≡ option_map (plan_of self.now.database)
-            (slice_get self.now.database.messages one.0)) }
+            (slice_get self.now.database.messages one.0.place)) }
         ensures text { OnOk result (text.new.items ≡ bus_line self.now line.now) }
         ensures counted { meter.new ≡ with_line meter.old }
     {
@@ -96,7 +111,7 @@ impl<'a> Bus<'a> {
         text.clear();
         push_bytes(text, body_of(line.bytes()))?;
         if let Some(frame) = line.frame() {
-            let target = self.target_with(chosen);
+            let target = self.target_of(chosen);
             push_known(text.allocator(), text, frame, target.as_ref())?;
         }
         Ok(())

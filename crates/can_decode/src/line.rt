@@ -1,14 +1,16 @@
 //! The decoded line.
-ghost use Rattle.std.specs.Prelude.{◌≡◌, ◌++◌, OnOk, IfOk, map, slice_get, codes, option_map};
+ghost use Rattle.std.specs.Prelude.{◌≡◌, ◌<◌, ◌++◌, OnOk, IfOk, IfSome, Some, length, map, slice_get, option_map};
 ghost use Rattle.can_layout.specs.Plans.{plan_of};
 ghost use Rattle.can_layout.specs.Meters.{with_line};
-ghost use Rattle.can_choice.specs.Choices.{choice_at};
-ghost use Rattle.can_decode.specs.DecodedLines.{target_of, chosen_target, text_of_kind, bus_line, decoded_line};
+ghost use Rattle.can_choice.specs.Choices.{choice_at, line_place};
+ghost use Rattle.can_decode.specs.DecodedLines.{target_of, chosen_target, bus_line, decoded_line};
 
-use crate::frame_text::push_frame;
+use crate::frame_text::push_known;
+use crate::known_line::decode_at;
+use crate::read_line::ReadLine;
 use crate::short::Short;
 use crate::target::Target;
-use can_choice::{Choice, Choose, Walking, message_at};
+use can_choice::{Choice, Choose, choose, message_at};
 use can_layout::{Meter, Plan};
 use dbc_records::Database;
 use dbc_values::Memory;
@@ -79,20 +81,6 @@ impl<'a, C: Choose> Finder<'a, C> {
     }
 }
 
-/// What the frame of a line says, by what it goes to, and what stands before that.
-pub(crate) fn push_known(
-    alloc: Global,
-    text: &mut Draft,
-    frame: &Frame,
-    target: Option<&Target<'_>>,
-) -> Result<(), Memory>
-    ensures { OnOk result (text.new.items ≡ text.old.items ++ (codes " :: " ++ text_of_kind frame.now.kind frame.now
-        (option_map (λ target. target.now) target.entry))) }
-{
-    text.push_piece(b" :: ")?;
-    push_frame(alloc, text, frame, target)
-}
-
 /// A line, and what its frame says.
 #[tactic(auto, using(crate::proofs::Pushing::pushed_then), unfolding(crate::specs::DecodedLines::decoded_line))]
 pub(crate) fn push_line<C: Choose>(
@@ -113,6 +101,30 @@ pub(crate) fn push_line<C: Choose>(
     push_known(alloc, text, &frame, target.as_ref())
 }
 
+// The plan of a message that is there.
+fn known_plan(plans: &[Plan], place: usize) -> &Plan
+    requires { place < length plans.now }
+    ensures { Some result.now ≡ slice_get plans.now place }
+{
+    &plans[place]
+}
+
+// The place of the message that the frame of a line goes to, with the plan of that message.
+fn chosen_of<'a>(
+    database: &Database,
+    plans: &'a [Plan],
+    line: &ReadLine<'_>,
+) -> Option<(usize, &'a Plan)>
+    requires { plans.now ≡ map (plan_of database.now) database.now.messages }
+    ensures place { option_map (λ one. one.0) result ≡ line_place database.now line.now }
+    ensures plan { IfSome result (λ one. Some one.1.now ≡ option_map (plan_of database.now) (slice_get database.now.messages
+        one.0)) }
+{
+    let frame = line.frame()?;
+    let place = choose(database, frame)?;
+    Some((place, known_plan(plans, place)))
+}
+
 /// The decoded line: the line without a final CR, and behind it what its frame says. `plans` are those of the messages
 /// in order, and `short` tells what is said of frames that are shorter than their message. The meter counts it, also where memory
 /// is refused.
@@ -128,14 +140,6 @@ pub fn decode_line(
     ensures text { IfOk result (λ text. text.items ≡ decoded_line short database.now line.now) }
     ensures counted { meter.new ≡ with_line meter.old }
 {
-    meter.count_line();
-    let mut text = Draft::new(alloc);
-    let mut finder = Finder {
-        database,
-        plans,
-        short,
-        chooser: Walking { database },
-    };
-    push_line(alloc, &mut text, &mut finder, line)?;
-    text.to_vec()
+    let chosen = chosen_of(database, plans, &ReadLine::of(line));
+    decode_at(alloc, database, chosen, line, meter, short)
 }

@@ -5,7 +5,7 @@ ghost use Rattle.can_layout.specs.Plans.{plan_of};
 ghost use Rattle.can_layout.specs.Pictures.{picture_of};
 ghost use Rattle.can_check.specs.AllFaults.{all_faults};
 ghost use Rattle.can_check.specs.MessageFaults.{own_faults};
-ghost use Rattle.can_choice.specs.Choices.{line_place};
+ghost use Rattle.can_choice.specs.Choices.{line_choice};
 ghost use Rattle.compiled_database.specs.Compiled.{compiled_of, Raised};
 ghost use Rattle.compiled_database.specs.Shown.{IsShown};
 
@@ -14,6 +14,7 @@ use crate::diagnosing::{Diagnosed, diagnose};
 use crate::splitting::OwnParts;
 use can_check::Diagnostic;
 use can_check::laws::faults_in_order;
+use can_choice::Choice;
 use can_decode::{Choices, MessageIndex, ReadLine};
 use can_layout::{Indexed, Meter, Plan};
 use dbc_records::{Database, Message};
@@ -156,20 +157,22 @@ impl Shown {
         self.compiled_at(place).picture.as_slice()
     }
 
-    // The place of the message that the frame of a line goes to.
-    fn place_of(&self, line: &ReadLine<'_>) -> Option<usize>
-        ensures { result ≡ line_place self.now line.now }
+    // What the frame of a line goes to.
+    fn choice_of(&self, line: &ReadLine<'_>) -> Option<Choice>
+        ensures { result ≡ line_choice self.now line.now }
     {
         let frame = line.frame()?;
         Choices::by(&self.database, &self.parts.messages).choose(frame)
     }
 
-    /// The place of the message that the frame of a line goes to, with the plan of that message.
-    pub fn chosen(&self, line: &ReadLine<'_>) -> Option<(usize, &Plan)>
-        ensures place { option_map (λ one. one.0) result ≡ line_place self.now line.now }
-        ensures plan { IfSome result (λ one. Some one.1.now ≡ option_map (plan_of self.now) (slice_get self.now.messages one.0)) }
+    /// What the frame of a line goes to, with the plan of that message. It is found by the index of the messages, in time that
+    /// doesn't depend on how many attributes the database has.
+    pub fn chosen(&self, line: &ReadLine<'_>) -> Option<(Choice, &Plan)>
+        ensures choice { option_map (λ one. one.0) result ≡ line_choice self.now line.now }
+        ensures plan { IfSome result (λ one. Some one.1.now ≡ option_map (plan_of self.now)
+            (slice_get self.now.messages one.0.place)) }
     {
-        let place = self.place_of(line)?;
-        Some((place, self.plan(place)))
+        let choice = self.choice_of(line)?;
+        Some((choice, self.plan(choice.place)))
     }
 }
