@@ -1,9 +1,10 @@
 //! What numbers went to before.
-ghost use Rattle.std.specs.Prelude.{◌≡◌, ◌<◌, All};
+ghost use Rattle.std.specs.Prelude.{◌≡◌, ◌<◌, All, IfOk};
 ghost use Rattle.can_choice.specs.Choices.{choice_of};
 ghost use Rattle.can_choice.specs.Remembering.{IsRemembered};
 
 use crate::choosing::{Choice, Choose};
+use dbc_values::Memory;
 use std::alloc::Global;
 use std::marker::Model;
 
@@ -17,11 +18,12 @@ struct Entry {
     choice: Option<Choice>,
 }
 
-/// Finds what numbers go to, and remembers it in a table of fixed size: a number takes the place of another one. Where there is no
-/// memory for the table, each number is found anew.
+/// Finds what numbers go to, and remembers it in a table of fixed size: a number takes the place of another one. Without the table
+/// each number is found anew.
 #[derive(Drop)]
 pub struct Remembered<C: Choose> {
     chooser: C,
+    // The table, or nothing where it wasn't taken yet.
     entries: Vec<Entry>,
 }
 
@@ -58,24 +60,35 @@ fn entry_of<C: Choose>(chooser: &mut C, number: u32) -> Entry
     Entry { number, choice }
 }
 
-// A table that has one entry at each place, or none where there is no memory for it.
-fn table_of(alloc: Global, entry: Entry) -> Vec<Entry>
-    ensures { All (λ other. other ≡ entry) result.items }
+// A table that has one entry at each place.
+fn table_of(alloc: Global, entry: Entry) -> Result<Vec<Entry>, Memory>
+    ensures { IfOk result (λ table. All (λ other. other ≡ entry) table.items) }
 {
-    match vec![in alloc; entry; REMEMBERED] {
-        Ok(entries) => entries,
-        Err(_) => Vec::new(alloc),
-    }
+    let entries = vec![in alloc; entry; REMEMBERED]?;
+    Ok(entries)
 }
 
 impl<C: Choose> Remembered<C> {
-    /// One that has found only what the number 0 goes to.
-    pub fn new(alloc: Global, mut chooser: C) -> Self
+    /// One that has no table yet, and takes no memory.
+    pub fn new(alloc: Global, chooser: C) -> Self
         ensures { result ≡ C.whole chooser }
     {
-        let entry = entry_of(&mut chooser, 0);
-        let entries = table_of(alloc, entry);
-        Remembered { chooser, entries }
+        Remembered {
+            chooser,
+            entries: Vec::new(alloc),
+        }
+    }
+
+    /// Takes the table, unless it was taken before. The table has found only what the number 0 goes to.
+    pub fn take_table(&mut self) -> Result<(), Memory>
+        ensures { self.new ≡ self.old }
+    {
+        if self.entries.is_empty() {
+            let entry = entry_of(&mut self.chooser, 0);
+            let entries = table_of(*self.entries.allocator(), entry)?;
+            self.entries = entries;
+        }
+        Ok(())
     }
 }
 

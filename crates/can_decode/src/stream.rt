@@ -19,10 +19,10 @@ use ready_texts::Draft;
 use std::alloc::Global;
 use std::mem::swap;
 
-// The decoded lines of a database, and the meter that counts them.
+// The decoded lines of a database, and the meter that counts them. What numbers went to is remembered.
 #[derive(Drop)]
 struct Decoded<'a, C: Choose> {
-    finder: Finder<'a, C>,
+    finder: Finder<'a, Remembered<C>>,
     meter: Meter,
 }
 
@@ -37,6 +37,7 @@ impl<'a, C: Choose> LineText for Decoded<'a, C> {
 
     fn renew(&mut self, text: &mut Draft, line: &[u8]) -> Result<(), Memory> {
         text.clear();
+        self.finder.chooser.take_table()?;
         push_line(text.allocator(), text, &mut self.finder, line)?;
         text.push(b'\n')?;
         self.meter.count_line();
