@@ -26,9 +26,13 @@ signal_line name (signal ∷ signals) lines =
 abbrev pub signal_lines : List Signal → List Line → List KeyLine
 signal_lines signals lines = key_lines (λ _. 0) (λ signal. signal.name) signals lines
 
--- the rows of which one is at fault where the code is told of a signal
+-- The rows of which one is at fault where the code is told of a signal: a signal's row of multiplexing names its switch, and its
+-- float row makes its values floats.
 abbrev pub rows_at_fault : Code → RowLines → List KeyLine
+rows_at_fault codes.NoSwitch rows = rows.muxes
 rows_at_fault codes.BadMuxRow rows = rows.muxes
+rows_at_fault codes.SwitchLoop rows = rows.muxes
+rows_at_fault codes.Float rows = rows.floats
 rows_at_fault code rows = []
 
 -- the line of the row, if there is one, or else that of the signal

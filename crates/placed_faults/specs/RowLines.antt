@@ -29,13 +29,15 @@ key_lines number_of signal_of (row ∷ rows) lines =
 abbrev pub line_of_key : ℕ → List ℕ → List KeyLine → Option ℕ
 line_of_key number name rows = option_map (λ row. row.line) (find (λ row. row.number == number && bytes_eq row.signal name) rows)
 
--- the lines of the rows of named values and of multiplexing
+-- the lines of the rows of signals: of their named values, their float types and their multiplexing
 pub record RowLines : Type 0 where
   pub values : List KeyLine
+  pub floats : List KeyLine
   pub muxes : List KeyLine
 
 abbrev pub row_lines_of : Database → Lines → RowLines
 row_lines_of database lines = record {
   values = key_lines (λ row. row.number) (λ row. row.signal) database.values lines.values;
+  floats = key_lines (λ row. row.number) (λ row. row.signal) database.floats lines.floats;
   muxes = key_lines (λ row. row.number) (λ row. row.signal) database.muxes lines.muxes;
 }

@@ -1,10 +1,10 @@
 //! All that is doubtful in a database, with its lines.
-ghost use Rattle.std.specs.Prelude.{◌≡◌, IfOk, map};
-ghost use Rattle.placed_faults.specs.RowLines.{key_line, row_lines_of};
+ghost use Rattle.std.specs.Prelude.{◌≡◌, IfOk};
+ghost use Rattle.placed_faults.specs.RowLines.{row_lines_of};
 ghost use Rattle.placed_faults.specs.PlacedFaults.{placed_faults};
 
 use crate::message_places::push_messages;
-use crate::row_lines::{KeyedLines, RowLine, row_lines};
+use crate::row_lines::{KeyedLines, SignalRowLines};
 use crate::row_places::push_all_rows;
 use can_references::Known;
 use can_remedies::Placed;
@@ -43,14 +43,12 @@ fn placed_by_keys<L: Lookup>(
     alloc: Global,
     known: &Known<'_, L>,
     lines: &Lines,
-    values: &[RowLine<'_>],
-    muxes: &[RowLine<'_>],
+    rows: &SignalRowLines<'_>,
 ) -> Result<Vec<Placed>, Memory>
-    requires values { map key_line values.now ≡ (row_lines_of known.now lines.now).values }
-    requires muxes { map key_line muxes.now ≡ (row_lines_of known.now lines.now).muxes }
+    requires { rows.now ≡ row_lines_of known.now lines.now }
     ensures { IfOk result (λ placed. placed.items ≡ placed_faults known.now lines.now) }
 {
-    match KeyedLines::of(alloc, values, muxes) {
+    match KeyedLines::of(alloc, rows) {
         Ok(rows) => placed_by(alloc, known, lines, &rows),
         Err(Memory) => Err(Memory),
     }
@@ -64,10 +62,8 @@ fn placed_in<L: Lookup>(
 ) -> Result<Vec<Placed>, Memory>
     ensures { IfOk result (λ placed. placed.items ≡ placed_faults known.now lines.now) }
 {
-    let database = known.database();
-    let values = row_lines(alloc, database.values.as_slice(), lines.values.as_slice())?;
-    let muxes = row_lines(alloc, database.muxes.as_slice(), lines.muxes.as_slice())?;
-    placed_by_keys(alloc, known, lines, values.as_slice(), muxes.as_slice())
+    let rows = SignalRowLines::of(alloc, known.database(), lines)?;
+    placed_by_keys(alloc, known, lines, &rows)
 }
 
 fn placed_with<L: Lookup>(alloc: Global, lookup: &L, lines: &Lines) -> Result<Vec<Placed>, Memory>

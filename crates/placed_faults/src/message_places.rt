@@ -71,7 +71,8 @@ fn line_at_fault(rows: &KeyedLines<'_>, code: Code, number: u32, signal: &Name) 
     ensures { result ≡ line_of_key number signal.now (rows_at_fault code rows.now) }
 {
     match code {
-        Code::BadMuxRow => rows.mux(number, signal),
+        Code::NoSwitch | Code::BadMuxRow | Code::SwitchLoop => rows.mux(number, signal),
+        Code::Float => rows.float(number, signal),
         _ => None,
     }
 }

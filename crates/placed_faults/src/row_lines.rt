@@ -1,11 +1,12 @@
 //! The lines in which rows of signals begin, found by the keys of the rows.
 ghost use Rattle.std.specs.Prelude.{◌≡◌, IfOk, map};
-ghost use Rattle.placed_faults.specs.RowLines.{key_line, key_lines, line_of_key};
+ghost use Rattle.placed_faults.specs.RowLines.{key_line, key_lines, line_of_key, row_lines_of};
 
 use crate::front::{behind_first, first_line};
 use can_rows::{Index, Keyed};
+use dbc_records::Database;
 use dbc_values::{Checked, Memory, Name};
-use statement_lines::Line;
+use statement_lines::{Line, Lines};
 use std::alloc::Global;
 use std::marker::Model;
 
@@ -40,8 +41,8 @@ impl<'a> Keyed for RowLine<'a> {
     }
 }
 
-/// The keys of rows that begin in these lines.
-pub(crate) fn row_lines<'a, R: Keyed>(
+// The keys of rows that begin in these lines.
+fn row_lines<'a, R: Keyed>(
     alloc: Global,
     rows: &'a [R],
     lines: &[Line],
@@ -61,10 +62,52 @@ pub(crate) fn row_lines<'a, R: Keyed>(
     Ok(made)
 }
 
-/// The lines of the rows of named values and of multiplexing, by their keys.
+/// The keys of the rows of signals, and the lines in which they begin.
+#[derive(Drop)]
+pub(crate) struct SignalRowLines<'a> {
+    values: Vec<RowLine<'a>>,
+    floats: Vec<RowLine<'a>>,
+    muxes: Vec<RowLine<'a>>,
+}
+
+impl<'a> Model for SignalRowLines<'a> {
+    ghost use Rattle.std.specs.Prelude.{map as each};
+    ghost use Rattle.placed_faults.specs.RowLines.{RowLines, key_line as plain};
+
+    ghost Value = { RowLines };
+
+    ghost view = { λ rows. record {
+      values = each plain rows.values.items;
+      floats = each plain rows.floats.items;
+      muxes = each plain rows.muxes.items;
+    } };
+}
+
+impl<'a> SignalRowLines<'a> {
+    /// Those of a database whose rows begin in these lines.
+    pub(crate) fn of(
+        alloc: Global,
+        database: &'a Database,
+        lines: &Lines,
+    ) -> Result<SignalRowLines<'a>, Memory>
+        ensures { IfOk result (λ rows. rows ≡ row_lines_of database.now lines.now) }
+    {
+        let values = row_lines(alloc, database.values.as_slice(), lines.values.as_slice())?;
+        let floats = row_lines(alloc, database.floats.as_slice(), lines.floats.as_slice())?;
+        let muxes = row_lines(alloc, database.muxes.as_slice(), lines.muxes.as_slice())?;
+        Ok(SignalRowLines {
+            values,
+            floats,
+            muxes,
+        })
+    }
+}
+
+/// The lines of the rows of signals, by their keys.
 #[derive(Drop)]
 pub(crate) struct KeyedLines<'a> {
     values: Index<'a, RowLine<'a>>,
+    floats: Index<'a, RowLine<'a>>,
     muxes: Index<'a, RowLine<'a>>,
 }
 
@@ -74,7 +117,11 @@ impl<'a> Model for KeyedLines<'a> {
 
     ghost Value = { RowLines };
 
-    ghost view = { λ rows. record { values = each plain rows.values; muxes = each plain rows.muxes } };
+    ghost view = { λ rows. record {
+      values = each plain rows.values;
+      floats = each plain rows.floats;
+      muxes = each plain rows.muxes;
+    } };
 }
 
 /// The line of the first row of the key.
@@ -88,17 +135,18 @@ pub(crate) fn line_in(index: &Index<'_, RowLine<'_>>, number: u32, signal: &Name
 }
 
 impl<'a> KeyedLines<'a> {
-    /// The lines of these rows of named values and of multiplexing.
-    pub(crate) fn of(
-        alloc: Global,
-        values: &'a [RowLine<'a>],
-        muxes: &'a [RowLine<'a>],
-    ) -> Result<KeyedLines<'a>, Memory>
-        ensures { IfOk result (λ rows. rows ≡ record { values = map key_line values.now; muxes = map key_line muxes.now }) }
+    /// The lines of these rows.
+    pub(crate) fn of(alloc: Global, rows: &'a SignalRowLines<'a>) -> Result<KeyedLines<'a>, Memory>
+        ensures { IfOk result (λ keyed. keyed ≡ rows.now) }
     {
-        let values = Index::of(alloc, values)?;
-        let muxes = Index::of(alloc, muxes)?;
-        Ok(KeyedLines { values, muxes })
+        let values = Index::of(alloc, rows.values.as_slice())?;
+        let floats = Index::of(alloc, rows.floats.as_slice())?;
+        let muxes = Index::of(alloc, rows.muxes.as_slice())?;
+        Ok(KeyedLines {
+            values,
+            floats,
+            muxes,
+        })
     }
 
     /// The line of the first row of named values of a signal.
@@ -106,6 +154,13 @@ impl<'a> KeyedLines<'a> {
         ensures { result ≡ line_of_key number signal.now self.now.values }
     {
         line_in(&self.values, number, signal)
+    }
+
+    /// The line of the first row of a signal's float type.
+    pub(crate) fn float(&self, number: u32, signal: &Name) -> Option<u64>
+        ensures { result ≡ line_of_key number signal.now self.now.floats }
+    {
+        line_in(&self.floats, number, signal)
     }
 
     /// The line of the first row of a signal's multiplexing.
