@@ -1,5 +1,5 @@
 -- What contracts see of the devices whose fields are private.
-use Rattle.std.specs.Prelude.{ℕ, List, drop, Option, Some}
+use Rattle.std.specs.Prelude.{◌≡◌, ℕ, ◌-◌, min, Bool, ◌==◌, ◌||◌, false, List, drop, Option, Some}
 use Rattle.byte_devices.specs.Device.{Written, Unread}
 use Rattle.byte_devices.specs.declared.from_std.FromRead.{FromRead}
 use Rattle.byte_devices.specs.declared.from_std.FromWrite.{FromWrite}
@@ -32,10 +32,24 @@ pub record Limping : Type 0 where
 abbrev pub limping_of : Limp → Limping
 limping_of limp = record { most = limp.most; calls = limp.calls_left; bytes = limp.bytes_left }
 
--- as a source: the bytes from its place on
+-- no calls are left, or no bytes: the next call fails
+abbrev pub is_spent : Limping → Bool
+is_spent limp = limp.calls == 0 || limp.bytes == 0
+
+-- a call in which `ready` bytes could move has moved `count` of them
+pub record Limped (old new : Limping) (ready count : ℕ) : Type 0 where
+  pub was_able : is_spent old ≡ false
+  pub moved : count ≡ min ready (min old.most old.bytes)
+  pub left : new ≡ record { most = old.most; calls = old.calls - 1; bytes = old.bytes - count }
+
+-- the bytes from its place on
+abbrev pub rest_of : Limp → List ℕ
+rest_of limp = drop limp.place limp.bytes.items
+
+-- as a source: these are left
 abbrev pub unread_of_limp : Limp → Unread
 unread_of_limp limp = record {
-  bytes = Some (drop limp.place limp.bytes.items);
+  bytes = Some (rest_of limp);
   failures = limp.failures;
   patience = limp.calls_left;
 }

@@ -1,6 +1,7 @@
 //! A device over memory that limps, for the tests of every crate: it moves little at a time, and fails from some call
 //! or byte on.
-ghost use Rattle.std.specs.Prelude.{◌≡◌, ◌<◌, ◌≤◌, Some, vec_len};
+ghost use Rattle.std.specs.Prelude.{◌≡◌, ◌<◌, ◌≤◌, [], length, take, min, true, IfOk, OnErr, Some, vec_len};
+ghost use Rattle.std.specs.Io.KnownBytes.{IsAtEnd};
 
 use crate::device::{Broken, Sink, Source};
 
@@ -57,6 +58,7 @@ impl Limp {
     fn fail(&mut self) -> Broken
         ensures bytes { self.new.bytes ≡ self.old.bytes }
         ensures place { self.new.place ≡ self.old.place }
+        ensures limping { limping_of self.new ≡ limping_of self.old }
         ensures failures { Rises self.old.failures self.new.failures }
     {
         self.failures = self.failures.saturating_add(1);
@@ -65,11 +67,22 @@ impl Limp {
 }
 
 impl Source for Limp {
-    ghost use Rattle.byte_devices.specs.Views.{unread_of_limp};
+    ghost use Rattle.byte_devices.specs.Device.{Pulled, PullFailed};
+    ghost use Rattle.byte_devices.specs.Views.{limping_of, unread_of_limp, rest_of, is_spent, Limped};
 
     ghost unread = { unread_of_limp };
 
-    fn pull(&mut self, piece: &mut [u8]) -> Result<usize, Broken> {
+    fn pull(&mut self, piece: &mut [u8]) -> Result<usize, Broken>
+        ensures count { IfOk result (λ n. n ≤ length piece.new) }
+        ensures pulled { IfOk result (λ n. Pulled (unread_of_limp self.old) (unread_of_limp self.new) (take n piece.new)) }
+        ensures end { IfOk result (λ n. n ≡ 0 → 0 < length piece.new → IsAtEnd (unread_of_limp self.new).bytes) }
+        ensures lowers { IfOk result (λ n. 0 < n → (unread_of_limp self.new).patience < (unread_of_limp self.old).patience) }
+        ensures failed { OnErr result (PullFailed (unread_of_limp self.old) (unread_of_limp self.new) []) }
+        ensures limped { IfOk result (Limped (limping_of self.old) (limping_of self.new)
+            (min (length (rest_of self.old)) (length piece.new))) }
+        ensures spent { OnErr result (is_spent (limping_of self.old) ≡ true) }
+        ensures stays { OnErr result (limping_of self.new ≡ limping_of self.old) }
+    {
         if self.calls_left == 0 || self.bytes_left == 0 {
             return Err(self.fail());
         }
@@ -88,11 +101,20 @@ impl Source for Limp {
 }
 
 impl Sink for Limp {
-    ghost use Rattle.byte_devices.specs.Views.{written_of_limp};
+    ghost use Rattle.byte_devices.specs.Device.{Wrote, Broke};
+    ghost use Rattle.byte_devices.specs.Views.{limping_of, written_of_limp, Limped};
 
     ghost written = { written_of_limp };
 
-    fn put(&mut self, piece: &[u8]) -> Result<usize, Broken> {
+    // It fails also where the bytes find no memory.
+    fn put(&mut self, piece: &[u8]) -> Result<usize, Broken>
+        ensures count { IfOk result (λ n. n ≤ length piece.now) }
+        ensures moves { 0 < length piece.now → IfOk result (λ n. 0 < n) }
+        ensures wrote { IfOk result (λ n. Wrote (written_of_limp self.old) (written_of_limp self.new) (take n piece.now)) }
+        ensures broke { OnErr result (Broke (written_of_limp self.old) (written_of_limp self.new) []) }
+        ensures limped { IfOk result (Limped (limping_of self.old) (limping_of self.new) (length piece.now)) }
+        ensures stays { OnErr result (limping_of self.new ≡ limping_of self.old) }
+    {
         if self.calls_left == 0 || self.bytes_left == 0 {
             return Err(self.fail());
         }
