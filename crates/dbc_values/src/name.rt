@@ -1,5 +1,5 @@
 //! Names of messages, signals, nodes and tables.
-ghost use Rattle.std.specs.Prelude.{◌≡◌, false, IfOk, OnErr, IsTrue, Some, None, if◌then◌else◌};
+ghost use Rattle.std.specs.Prelude.{◌≡◌, ◌<◌, false, IfOk, OnErr, IsTrue, Some, None, length, if◌then◌else◌};
 ghost use Rattle.std.specs.List.{list_any, list_all};
 ghost use Rattle.std.specs.Str.{bytes_eq};
 ghost use Rattle.dbc_values.specs.Lexical.{is_name, is_word, is_keyword, is_word_byte, is_kept_word, statement_words};
@@ -124,10 +124,11 @@ pub fn is_name(bytes: &[u8]) -> bool
 }
 
 impl Name {
-    /// The name of these bytes, or `None` where they are no name.
+    /// The name of these bytes, or `None` where they are no name. A name of at most 22 bytes takes no memory.
     pub fn new(alloc: Global, bytes: &[u8]) -> Result<Option<Name>, Memory>
         ensures made { IfOk result (λ made. made ≡ (if is_name bytes.now then Some bytes.now else None)) }
         ensures memory_for_one { OnErr result (IsTrue (is_name bytes.now)) }
+        ensures memory_for_many { OnErr result (22 < length bytes.now) }
     {
         if !is_name(bytes) {
             return Ok(None);

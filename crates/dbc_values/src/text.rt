@@ -43,11 +43,11 @@ pub fn is_text(bytes: &[u8]) -> bool
 }
 
 impl Text {
-    /// The text of these bytes, or `None` where they can't stand between quotes. A short text takes no memory.
+    /// The text of these bytes, or `None` where they can't stand between quotes. A text of at most 22 bytes takes no memory.
     pub fn new(alloc: Global, bytes: &[u8]) -> Result<Option<Text>, Memory>
         ensures made { IfOk result (λ made. made ≡ (if is_text bytes.now then Some bytes.now else None)) }
         ensures memory_for_one { OnErr result (IsTrue (is_text bytes.now)) }
-        ensures memory_for_bytes { OnErr result (0 < length bytes.now) }
+        ensures memory_for_many { OnErr result (22 < length bytes.now) }
     {
         if !is_text(bytes) {
             return Ok(None);
