@@ -1,3 +1,2 @@
-pub mod Reaching
 pub mod WalkSteps
 pub mod WalkLaws

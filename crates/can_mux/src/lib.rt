@@ -7,7 +7,6 @@
 mod above;
 pub mod laws;
 mod link;
-mod range_index;
 mod rows;
 mod switches;
 mod walk;

@@ -6,7 +6,7 @@ use crate::above::Above;
 use crate::link::Link;
 use crate::rows::MessageRows;
 use can_rows::Lookup;
-use dbc_records::{Range, Signal, Tag};
+use dbc_records::{Numbers, Range, Signal, Tag};
 use dbc_values::{Copied, List, Memory, same};
 use std::alloc::Global;
 
@@ -55,24 +55,24 @@ fn only_switch(signals: &[Signal]) -> Option<usize>
     }
 }
 
-fn under(alloc: Global, switch: Option<usize>, ranges: List<Range>) -> Result<Above, Memory>
-    ensures { IfOk result (λ above. above ≡ under switch ranges) }
+fn under(switch: Option<usize>, numbers: Numbers) -> Above
+    ensures { result ≡ under switch numbers }
 {
     match switch {
-        Some(switch) => Ok(Above::Switch(Link::new(alloc, switch, ranges)?)),
-        None => Ok(Above::Missing),
+        Some(switch) => Above::Switch(Link::new(switch, numbers)),
+        None => Above::Missing,
     }
 }
 
-fn just(alloc: Global, number: u64) -> Result<List<Range>, Memory>
-    ensures { IfOk result (λ ranges. ranges ≡ just number) }
+fn just(alloc: Global, number: u64) -> Result<Numbers, Memory>
+    ensures { IfOk result (λ numbers. numbers ≡ just number) }
 {
     let mut ranges = List::new(alloc);
     ranges.push(Range {
         first: number,
         last: number,
     })?;
-    Ok(ranges)
+    Numbers::of(alloc, ranges)
 }
 
 fn by_tag(alloc: Global, only: Option<usize>, tag: Tag) -> Result<Above, Memory>
@@ -80,7 +80,7 @@ fn by_tag(alloc: Global, only: Option<usize>, tag: Tag) -> Result<Above, Memory>
 {
     match tag {
         Tag::Plain | Tag::Switch => Ok(Above::Nothing),
-        Tag::Muxed(number) | Tag::Both(number) => under(alloc, only, just(alloc, number)?),
+        Tag::Muxed(number) | Tag::Both(number) => Ok(under(only, just(alloc, number)?)),
     }
 }
 
@@ -98,8 +98,8 @@ fn above_of<L: Lookup>(
 {
     match rows.mux(&signal.name) {
         Some(row) => {
-            let ranges = row.ranges.copy()?;
-            under(alloc, place_named(row.switch.as_bytes(), signals), ranges)
+            let numbers = row.ranges.copy()?;
+            Ok(under(place_named(row.switch.as_bytes(), signals), numbers))
         }
         None => by_tag(alloc, only, signal.tag),
     }

@@ -10,7 +10,7 @@ use crate::ranges::{in_order, meet};
 use crate::table::{empty, grow, mark_all};
 use can_bits::Field;
 use can_mux::{Link, Walk};
-use dbc_records::Range;
+use dbc_records::{Numbers, Range};
 use dbc_values::{List, Memory};
 use std::alloc::Global;
 use std::test::Fail;
@@ -20,7 +20,7 @@ fn switched(alloc: Global, first: u64, last: u64) -> Result<Walk, Memory> {
     let mut ranges = List::new(alloc);
     ranges.push(Range { first, last })?;
     let mut links = List::new(alloc);
-    links.push(Link::new(alloc, 0, ranges)?)?;
+    links.push(Link::new(0, Numbers::of(alloc, ranges)?))?;
     Ok(Walk::Chain(links))
 }
 
@@ -118,7 +118,7 @@ fn link_below(alloc: Global, switch: usize, last: u64) -> Result<Link, Memory> {
     ranges.push(Range { first: 9, last: 0 })?;
     let last = if switch == 2 { last } else { 7 };
     ranges.push(Range { first: 7, last })?;
-    Link::new(alloc, switch, ranges)
+    Ok(Link::new(switch, Numbers::of(alloc, ranges)?))
 }
 
 // The way up from the signal at a place, where each is under the one before.

@@ -10,7 +10,7 @@ use crate::cursor::Cursor;
 use crate::numerals::{entries, id, whole};
 use crate::parts::{mark, name};
 use crate::stopped::Stopped;
-use dbc_records::{FloatRow, MuxRow, Range, TableRow, ValueRow};
+use dbc_records::{FloatRow, MuxRow, Numbers, Range, TableRow, ValueRow};
 use dbc_values::List;
 use std::alloc::Global;
 
@@ -118,6 +118,7 @@ pub fn mux(alloc: Global, at: &mut Cursor<'_>) -> Result<MuxRow, Stopped>
     let switch = name(alloc, at)?;
     let ranges = ranges(alloc, at)?;
     mark(at, b';')?;
+    let ranges = Numbers::of(alloc, ranges)?;
     Ok(MuxRow {
         number,
         signal,

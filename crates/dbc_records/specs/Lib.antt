@@ -6,6 +6,7 @@ pub mod Records
 pub mod Comments
 pub mod Attributes
 pub mod Kept
+pub mod Ranges
 pub mod Databases
 pub mod Layout
 pub mod CanonicalText

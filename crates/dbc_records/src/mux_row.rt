@@ -2,7 +2,8 @@
 ghost use Rattle.std.specs.Prelude.{◌≡◌, Some, None, if◌then◌else◌};
 ghost use Rattle.dbc_records.specs.Records.{ranges_fit};
 
-use dbc_values::{Checked, Copied, List, Memory, Name};
+use crate::numbers::Numbers;
+use dbc_values::{Checked, Copied, Memory, Name};
 use std::marker::Model;
 
 /// The numbers from `first` to `last`, both included. There are none where `first` is the greater.
@@ -25,7 +26,7 @@ pub struct MuxRow {
     /// The name of the signal that switches it.
     pub switch: Name,
     /// The numbers of the switch with which the signal is there.
-    pub ranges: List<Range>,
+    pub ranges: Numbers,
 }
 
 impl Model for MuxRow {
@@ -41,7 +42,7 @@ impl Model for MuxRow {
 
 impl MuxRow {
     /// The row, or `None` where there is no range.
-    pub fn new(number: u32, signal: Name, switch: Name, ranges: List<Range>) -> Option<MuxRow>
+    pub fn new(number: u32, signal: Name, switch: Name, ranges: Numbers) -> Option<MuxRow>
         ensures { result ≡ (if ranges_fit ranges then Some (record {
           number = number;
           signal = signal;
@@ -49,7 +50,7 @@ impl MuxRow {
           ranges = ranges;
         }) else None) }
     {
-        if ranges.is_empty() {
+        if ranges.as_slice().is_empty() {
             return None;
         }
         Some(MuxRow {

@@ -1,7 +1,7 @@
 use Rattle.std.proofs.Common.{nat_le, rules}
 use Rattle.std.proofs.lemmas.List.Sorted.{IsPartitionPoint-from_clause, IsPartitionedBy-leb}
 use Rattle.dbc_records.specs.declared.mux_row.Range.{Range}
-use Rattle.can_mux.proofs.range_index.begun.Goals as goal
+use Rattle.dbc_records.proofs.range_index.begun.Goals as goal
 
 pub returns-clause-parted : goal.returns-clause-parted
 returns-clause-parted c =

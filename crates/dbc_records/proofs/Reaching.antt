@@ -8,7 +8,7 @@ use Rattle.std.proofs.lemmas.List.{get_or_default}
 use Rattle.std.proofs.lemmas.List.Folds.{list_any_at, list_any_none}
 use Rattle.std.proofs.lemmas.Grind.{common_steps}
 use Rattle.dbc_records.specs.declared.mux_row.Range.{Range}
-use Rattle.can_mux.specs.Ranges.{in_range, reaching}
+use Rattle.dbc_records.specs.Ranges.{in_range, reaching}
 
 -- ---- one range more
 

@@ -2,7 +2,7 @@ use Rattle.std.proofs.Common.{rules, sym, ap, ◌∙◌, List}
 use Rattle.std.specs.List.{list_any}
 use Rattle.std.proofs.lemmas.List.Sorted.{list_any-IsPermutation, IsNonDecreasingBy-from_sort_by_key}
 use Rattle.dbc_records.specs.declared.mux_row.Range.{Range}
-use Rattle.can_mux.proofs.range_index.in_order.Goals as goal
+use Rattle.dbc_records.proofs.range_index.in_order.Goals as goal
 
 pub returns-clause-firsts : goal.returns-clause-firsts
 returns-clause-firsts c =

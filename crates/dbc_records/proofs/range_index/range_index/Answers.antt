@@ -1,8 +1,8 @@
 use Rattle.std.proofs.Common.{◌≡◌, List, subst, sym, ap, ◌∙◌}
 use Rattle.dbc_records.specs.declared.mux_row.Range.{Range}
-use Rattle.can_mux.specs.Ranges.{in_range, reaching, IsRangeIndex}
-use Rattle.can_mux.proofs.Reaching.{firsts_rise, lasts_rise, same_numbers}
-use Rattle.can_mux.proofs.range_index.range_index.Goals as goal
+use Rattle.dbc_records.specs.Ranges.{in_range, reaching, IsRangeIndex}
+use Rattle.dbc_records.proofs.Reaching.{firsts_rise, lasts_rise, same_numbers}
+use Rattle.dbc_records.proofs.range_index.range_index.Goals as goal
 
 pub returns : goal.returns
 returns c =

@@ -1,6 +1,6 @@
 use Rattle.std.proofs.Common.{◌≡◌, arith}
-use Rattle.can_mux.proofs.Reaching.{last_tells, none_begun}
-use Rattle.can_mux.proofs.range_index.is_in.Goals as goal
+use Rattle.dbc_records.proofs.Reaching.{last_tells, none_begun}
+use Rattle.dbc_records.proofs.range_index.is_in.Goals as goal
 
 pub bounds-index-begun : goal.bounds-index-begun
 bounds-index-begun c = omega (arith, c.begun-begun.ensures.bound, c.if-begun-gt0.true)

@@ -1,7 +1,7 @@
 use Rattle.std.proofs.Common.{◌≡◌, take}
-use Rattle.can_mux.specs.Ranges.{reaching}
-use Rattle.can_mux.proofs.Reaching.{most_of}
-use Rattle.can_mux.proofs.range_index.reaching.Given as goal
+use Rattle.dbc_records.specs.Ranges.{reaching}
+use Rattle.dbc_records.proofs.Reaching.{most_of}
+use Rattle.dbc_records.proofs.range_index.reaching.Given as goal
 
 -- the ranges so far
 abbrev pub invariant-loop-range : goal.invariant-loop-range

@@ -3,9 +3,9 @@ ghost use Rattle.std.specs.Prelude.{◌≡◌, Bool, true, false, nat_le, max, �
 ghost use Rattle.std.specs.List.{list_any};
 ghost use Rattle.std.specs.List.Sorted.{IsNonDecreasingBy, IsPartitionPoint};
 ghost use Rattle.dbc_records.specs.declared.mux_row.Range.{Range as PlainRange};
-ghost use Rattle.can_mux.specs.Ranges.{in_range, reaching, IsRangeIndex};
+ghost use Rattle.dbc_records.specs.Ranges.{in_range, reaching, IsRangeIndex};
 
-use dbc_records::Range;
+use crate::mux_row::Range;
 use dbc_values::Memory;
 use std::alloc::Global;
 
