@@ -8,6 +8,7 @@ use crate::choosing::{Choice, Choose};
 use crate::message_index::MessageIndex;
 use can_rows::group_number;
 use dbc_records::Database;
+use dbc_values::Memory;
 use log_frames::Frame;
 use std::marker::Model;
 
@@ -92,7 +93,7 @@ pub struct Finding<'c, 'a> {
 impl<'c, 'a> Choose for Finding<'c, 'a> {
     ghost whole = { λ finding. finding.choices.now };
 
-    fn choice(&mut self, number: u32) -> Option<Choice> {
-        self.choices.find(number)
+    fn choice(&mut self, number: u32) -> Result<Option<Choice>, Memory> {
+        Ok(self.choices.find(number))
     }
 }

@@ -1,5 +1,5 @@
 //! What numbers go to.
-ghost use Rattle.std.specs.Prelude.{◌≡◌, slice_get};
+ghost use Rattle.std.specs.Prelude.{◌≡◌, slice_get, IfOk};
 ghost use Rattle.std.specs.Option.{option_map};
 ghost use Rattle.can_rows.specs.Groups.{is_group_number};
 ghost use Rattle.can_choice.specs.Choices.{is_group_message, choice_at, choice_of};
@@ -7,6 +7,7 @@ ghost use Rattle.can_choice.specs.Choices.{is_group_message, choice_at, choice_o
 use crate::choice::place_of_number;
 use can_rows::group_in;
 use dbc_records::{Database, Message};
+use dbc_values::Memory;
 
 /// What a number goes to.
 #[derive(Clone, Copy, Debug, PartialEq, Eq)]
@@ -24,9 +25,9 @@ pub trait Choose: Drop {
     // The database of the messages.
     ghost whole: { Self → Database };
 
-    /// What the number goes to.
-    fn choice(&mut self, number: u32) -> Option<Choice>
-        ensures choice { result ≡ choice_of (whole self.old) number }
+    /// What the number goes to. Only what remembers takes memory.
+    fn choice(&mut self, number: u32) -> Result<Option<Choice>, Memory>
+        ensures choice { IfOk result (λ choice. choice ≡ choice_of (whole self.old) number) }
         ensures same { whole self.new ≡ whole self.old };
 }
 
@@ -83,12 +84,20 @@ pub struct Walking<'a> {
     pub database: &'a Database,
 }
 
+impl<'a> Walking<'a> {
+    #[tactic(auto, unfolding(crate::specs::Choices::choice_of))]
+    fn find(&self, number: u32) -> Option<Choice>
+        ensures { result ≡ choice_of self.now.database.now number }
+    {
+        let place = place_of_number(self.database, number)?;
+        Some(choice_at(self.database, place))
+    }
+}
+
 impl<'a> Choose for Walking<'a> {
     ghost whole = { λ walking. walking.database.now };
 
-    #[tactic(auto, unfolding(crate::specs::Choices::choice_of))]
-    fn choice(&mut self, number: u32) -> Option<Choice> {
-        let place = place_of_number(self.database, number)?;
-        Some(choice_at(self.database, place))
+    fn choice(&mut self, number: u32) -> Result<Option<Choice>, Memory> {
+        Ok(self.find(number))
     }
 }

@@ -1,5 +1,5 @@
 //! What numbers went to before.
-ghost use Rattle.std.specs.Prelude.{◌≡◌, ◌<◌, All, IfOk};
+ghost use Rattle.std.specs.Prelude.{◌≡◌, All, IfOk};
 ghost use Rattle.can_choice.specs.Choices.{choice_of};
 ghost use Rattle.can_choice.specs.Remembering.{IsRemembered};
 
@@ -18,8 +18,8 @@ struct Entry {
     choice: Option<Choice>,
 }
 
-/// Finds what numbers go to, and remembers it in a table of fixed size: a number takes the place of another one. Without the table
-/// each number is found anew.
+/// Finds what numbers go to, and remembers it in a table of fixed size: a number takes the place of another one. The table is taken
+/// for the first number.
 #[derive(Drop)]
 pub struct Remembered<C: Choose> {
     chooser: C,
@@ -40,9 +40,7 @@ impl<C: Choose> Model for Remembered<C> {
 }
 
 // The place in the table for a number. Those of 29 bits are spread over it.
-fn slot_of(number: u32) -> usize
-    ensures { result < 2048 }
-{
+fn slot_of(number: u32) -> usize {
     let spread = if number <= 2047 {
         number
     } else {
@@ -51,13 +49,12 @@ fn slot_of(number: u32) -> usize
     spread as usize % REMEMBERED
 }
 
-fn entry_of<C: Choose>(chooser: &mut C, number: u32) -> Entry
-    ensures entry { IsRemembered (C.whole chooser.old) result }
-    ensures number { result.number ≡ number }
+fn entry_of<C: Choose>(chooser: &mut C, number: u32) -> Result<Entry, Memory>
+    ensures entry { IfOk result (λ entry. entry ≡ record { number = number; choice = choice_of (C.whole chooser.old) number }) }
     ensures same { C.whole chooser.new ≡ C.whole chooser.old }
 {
-    let choice = chooser.choice(number);
-    Entry { number, choice }
+    let choice = chooser.choice(number)?;
+    Ok(Entry { number, choice })
 }
 
 // A table that has one entry at each place.
@@ -69,7 +66,7 @@ fn table_of(alloc: Global, entry: Entry) -> Result<Vec<Entry>, Memory>
 }
 
 impl<C: Choose> Remembered<C> {
-    /// One that has no table yet, and takes no memory.
+    /// One that has no table yet. It takes no memory.
     pub fn new(alloc: Global, chooser: C) -> Self
         ensures { result ≡ C.whole chooser }
     {
@@ -79,33 +76,30 @@ impl<C: Choose> Remembered<C> {
         }
     }
 
-    /// Takes the table, unless it was taken before. The table has found only what the number 0 goes to.
-    pub fn take_table(&mut self) -> Result<(), Memory>
-        ensures { self.new ≡ self.old }
+    // Finds what a number goes to, and remembers it at its place. Where there is no table yet, one is taken that has it at each
+    // place.
+    fn find(&mut self, slot: usize, number: u32) -> Result<Option<Choice>, Memory>
+        ensures choice { IfOk result (λ choice. choice ≡ choice_of self.old number) }
+        ensures same { self.new ≡ self.old }
     {
-        if self.entries.is_empty() {
-            let entry = entry_of(&mut self.chooser, 0);
-            let entries = table_of(*self.entries.allocator(), entry)?;
-            self.entries = entries;
+        let entry = entry_of(&mut self.chooser, number)?;
+        if slot < self.entries.len() {
+            self.entries[slot] = entry;
+        } else {
+            self.entries = table_of(*self.entries.allocator(), entry)?;
         }
-        Ok(())
+        Ok(entry.choice)
     }
 }
 
 impl<C: Choose> Choose for Remembered<C> {
     ghost whole = { λ database. database };
 
-    fn choice(&mut self, number: u32) -> Option<Choice> {
+    fn choice(&mut self, number: u32) -> Result<Option<Choice>, Memory> {
         let slot = slot_of(number);
-        if slot >= self.entries.len() {
-            return self.chooser.choice(number);
+        match self.entries.get(slot) {
+            Some(entry) if entry.number == number => Ok(entry.choice),
+            _ => self.find(slot, number),
         }
-        let remembered = self.entries[slot];
-        if remembered.number == number {
-            return remembered.choice;
-        }
-        let entry = entry_of(&mut self.chooser, number);
-        self.entries[slot] = entry;
-        entry.choice
     }
 }

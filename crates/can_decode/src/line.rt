@@ -69,15 +69,17 @@ impl<'a, C: Choose> Finder<'a, C> {
 
     // What a frame goes to.
     #[tactic(auto, unfolding(crate::specs::DecodedLines::chosen_target, can_choice::specs::Choices::chosen_place, can_choice::specs::Choices::choice_of))]
-    fn target_of(&mut self, frame: &Frame) -> Option<Target<'a>>
-        ensures target { result ≡ chosen_target self.old.short self.old.database frame.now }
+    fn target_of(&mut self, frame: &Frame) -> Result<Option<Target<'a>>, Memory>
+        ensures target { IfOk result (λ target. target ≡ chosen_target self.old.short self.old.database frame.now) }
         ensures same { self.new ≡ self.old }
     {
         if !frame.is_data() {
-            return None;
+            return Ok(None);
         }
-        let choice = self.chooser.choice(frame.number())?;
-        self.target_at(choice)
+        match self.chooser.choice(frame.number())? {
+            Some(choice) => Ok(self.target_at(choice)),
+            None => Ok(None),
+        }
     }
 }
 
@@ -97,7 +99,7 @@ pub(crate) fn push_line<C: Choose>(
     if !fill_frame(&mut frame, line) {
         return Ok(());
     }
-    let target = finder.target_of(&frame);
+    let target = finder.target_of(&frame)?;
     push_known(alloc, text, &frame, target.as_ref())
 }
 

@@ -37,7 +37,6 @@ impl<'a, C: Choose> LineText for Decoded<'a, C> {
 
     fn renew(&mut self, text: &mut Draft, line: &[u8]) -> Result<(), Memory> {
         text.clear();
-        self.finder.chooser.take_table()?;
         push_line(text.allocator(), text, &mut self.finder, line)?;
         text.push(b'\n')?;
         self.meter.count_line();
