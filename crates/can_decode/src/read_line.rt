@@ -1,27 +1,29 @@
 //! Lines that were read.
-ghost use Rattle.std.specs.Prelude.{◌≡◌, option_map};
+ghost use Rattle.std.specs.Prelude.{◌≡◌, Some, None, option_map, if◌then◌else◌};
 ghost use Rattle.log_frames.specs.Frames.{body_of, frame_of};
 ghost use Rattle.can_choice.specs.Choices.{data_number, number_of_data};
 
-use log_frames::{Frame, read_frame};
+use log_frames::{Frame, fill_frame};
 use std::marker::Model;
 
 /// A line of a log, and the frame that was read in it, if it has one. Contracts see the line.
 #[derive(Drop)]
 pub struct ReadLine<'l> {
     line: &'l [u8],
-    frame: Option<Frame>,
+    // Whether the line has a frame. Without one, what stands in its place means nothing.
+    is_frame: bool,
+    frame: Frame,
 }
 
 impl<'l> Model for ReadLine<'l> {
-    ghost use Rattle.std.specs.Prelude.{◌≡◌, ℕ, List};
+    ghost use Rattle.std.specs.Prelude.{◌≡◌, ℕ, List, Some, None, if◌then◌else◌};
     ghost use Rattle.log_frames.specs.Frames.{body_of, frame_of};
 
     ghost Value = { List ℕ };
 
     ghost view = { λ a. a.line.now };
 
-    ghost invariant = { λ a. a.frame ≡ frame_of (body_of a.line.now) };
+    ghost invariant = { λ a. (if a.is_frame then Some a.frame else None) ≡ frame_of (body_of a.line.now) };
 }
 
 fn number_of_data(frame: &Frame) -> Option<u32>
@@ -39,9 +41,12 @@ impl<'l> ReadLine<'l> {
     pub fn of(line: &'l [u8]) -> ReadLine<'l>
         ensures { result ≡ line.now }
     {
+        let mut frame = Frame::empty();
+        let is_frame = fill_frame(&mut frame, line);
         ReadLine {
             line,
-            frame: read_frame(line),
+            is_frame,
+            frame,
         }
     }
 
@@ -56,7 +61,11 @@ impl<'l> ReadLine<'l> {
     pub fn frame(&self) -> Option<&Frame>
         ensures { option_map (λ frame. frame.now) result ≡ frame_of (body_of self.now) }
     {
-        self.frame.as_ref()
+        if self.is_frame {
+            Some(&self.frame)
+        } else {
+            None
+        }
     }
 
     /// The number of its frame, where that is a data frame: what a database knows it by.

@@ -11,6 +11,7 @@ use compiled_database::Shown;
 use dbc_values::Memory;
 use ready_texts::Draft;
 use session_log::Line;
+use smallvec::SmallVec;
 use std::marker::Model;
 
 /// A bus whose lines are decoded by what is shown of its database.
@@ -63,7 +64,7 @@ impl<'a> ShownBus<'a> {
     {
         let read = ReadLine::of(line);
         let number = read.number();
-        let bytes = line.to_vec(draft.allocator())?;
+        let bytes = SmallVec::from_slice(draft.allocator(), line)?;
         let decoded = self.decode(draft, &read, meter)?;
         Ok(Line {
             bytes,

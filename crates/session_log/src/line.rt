@@ -3,13 +3,14 @@ ghost use Rattle.std.specs.Prelude.{◌≡◌, ◌<◌, All, map, length};
 ghost use Rattle.can_decode.specs.DecodedLines.{Bus};
 ghost use Rattle.session_log.specs.Logs.{bytes_of, IsNumbered, IsDecoded, Completes};
 
+use smallvec::SmallVec;
 use std::collections::VecDeque;
 
 /// A retained line and its decoded text.
 #[derive(Drop)]
 pub struct Line {
-    /// The line.
-    pub bytes: Vec<u8>,
+    /// The line. Up to 64 bytes lie in the value itself.
+    pub bytes: SmallVec<u8, 64>,
     /// The number of its frame, where that is a data frame.
     pub number: Option<u32>,
     /// Its decoded text.

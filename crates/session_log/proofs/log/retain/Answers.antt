@@ -20,7 +20,7 @@ returns-clause-log c =
     ∙ ap (λ xs. xs ++ line ∷ []) c.in_ok-reserve.ensures.items in
     let many = length-map lines bytes_of in
     rw all record {
-      indexed = rw (map_push bytes_of lines line) (elim c.match-line.branch [
+      indexed = rw (map_push bytes_of lines line) (elim c.match-line-2.branch [
         | in-Some+in_ok-add w ↦
             let long : w.len.result ≡ length (map bytes_of lines) = search rules in
             let within : w.len.result < 2 ^ 64 = search rules in
