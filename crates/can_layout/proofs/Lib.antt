@@ -7,4 +7,5 @@ pub mod Names
 pub mod Placed
 pub mod Pushing
 pub mod RunLaws
+pub mod Shares
 pub mod SwitchBits

@@ -47,7 +47,3 @@ found_name entries names raw found place name are number same within is =
     ∙ ap (λ (names : List (Option (List ℕ))). get_or names place name) are
     ∙ get_or-map-range_with_len all 0 (length names) place place name few (omega arith)
     ∙ ap (λ (z : ℤ). name_of z entries) (sym at)
-
-pub no_entries : (entries : List Entry) → length entries ≡ 0 → entries ≡ []
-no_entries [] none = refl
-no_entries (entry ∷ entries) none = let no : ⊥ = omega (arith, none) in absurd no

@@ -7,7 +7,7 @@ use Rattle.std.proofs.lemmas.Option.{slice_get_past, slice_get-get_or, slice_get
 use Rattle.dbc_records.specs.declared.mux_row.Range.{Range}
 use Rattle.can_bits.specs.Bits.{unsigned_raw}
 use Rattle.can_mux.specs.Links.{Link}
-use Rattle.can_mux.specs.Ranges.{in_range}
+use Rattle.dbc_records.specs.Ranges.{in_range}
 use Rattle.can_mux.specs.Walks.{above_at}
 use Rattle.can_mux.specs.declared.above.Above.{Above}
 use Rattle.can_mux.specs.declared.above.Above.TheVariants.{Nothing, Missing, Switch}

@@ -29,6 +29,11 @@ abbrev pub unit_text : List ℕ → List ℕ
 unit_text [] = []
 unit_text (b ∷ unit) = codes " " ++ shown (b ∷ unit)
 
+-- the named values, none where there is no row of them
+abbrev pub entries_in : Option (List Entry) → List Entry
+entries_in None = []
+entries_in (Some entries) = entries
+
 -- the first entry of a raw value
 abbrev pub first_entry : ℤ → List Entry → Option Entry
 first_entry raw entries = find (λ entry. int_eq entry.number raw) entries

@@ -3,6 +3,7 @@ pub use Rattle.can_bits.specs.Grids
 pub use Rattle.can_rows.specs.Rows
 pub use Rattle.can_rows.specs.Groups
 pub mod Decoders
+pub mod Shares
 pub mod Searches
 pub mod Plans
 pub mod Presence

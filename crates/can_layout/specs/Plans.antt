@@ -14,7 +14,7 @@ use Rattle.dbc_records.specs.declared.mux_row.Range.{Range}
 use Rattle.can_bits.specs.Bits.{field_of, is_outside, bits_of, unsigned_raw, raw_value}
 use Rattle.can_rows.specs.Rows.{SignalRows, rows_of, first_values, first_float, is_float_row, entries_of}
 use Rattle.can_mux.specs.Links.{Link}
-use Rattle.can_mux.specs.Ranges.{in_range}
+use Rattle.dbc_records.specs.Ranges.{in_range}
 use Rattle.can_mux.specs.Walks.{walk_of}
 use Rattle.can_mux.specs.Switches.{aboves_of}
 use Rattle.can_mux.specs.declared.above.Above.{Above}

@@ -6,7 +6,7 @@ use Rattle.std.specs.Option.{option_and_then}
 use Rattle.dbc_records.specs.declared.mux_row.Range.{Range}
 use Rattle.can_bits.specs.Bits.{unsigned_raw}
 use Rattle.can_mux.specs.Links.{Link}
-use Rattle.can_mux.specs.Ranges.{in_range}
+use Rattle.dbc_records.specs.Ranges.{in_range}
 use Rattle.can_mux.specs.Walks.{walk_of, above_at}
 use Rattle.can_layout.specs.Plans.{chain_of, is_present, is_whole}
 use Rattle.can_mux.specs.declared.above.Above.{Above}

@@ -6,7 +6,7 @@ ghost use Rattle.can_layout.specs.Meters.{with_plan, repeated, AtMost};
 
 use crate::meter::Meter;
 use crate::plan::{Plan, plan_in};
-use can_mux::MessageRows;
+use crate::sharing::{PlanRows, SharedRows, Sharing};
 use can_rows::{Indexed, Lookup};
 use dbc_records::{Database, Message};
 use dbc_values::Memory;
@@ -23,12 +23,21 @@ pub fn plan_with<L: Lookup>(
     ensures plan { IfOk result (λ plan. plan ≡ plan_of (L.whole lookup.now) message.now) }
     ensures counted { meter.new ≡ with_plan meter.old }
 {
+    plan_sharing(alloc, &Sharing::none(lookup), message, meter)
+}
+
+/// As [`plan_with`], where rows that plans share are not made anew. The meter counts it, also where memory is refused.
+pub fn plan_sharing<L: Lookup>(
+    alloc: Global,
+    sharing: &Sharing<'_, L>,
+    message: &Message,
+    meter: &mut Meter,
+) -> Result<Plan, Memory>
+    ensures plan { IfOk result (λ plan. plan ≡ plan_of sharing.now message.now) }
+    ensures counted { meter.new ≡ with_plan meter.old }
+{
     meter.count_plan();
-    plan_in(
-        alloc,
-        &MessageRows::of(lookup, message.head.number),
-        message,
-    )
+    plan_in(alloc, &PlanRows::of(sharing, message.head.number), message)
 }
 
 /// The plan of the message at a place. It goes through the rows of the database for each signal. The meter counts it, also
@@ -49,22 +58,44 @@ pub fn make_plan(
 // The plans of messages, in order.
 fn plans_of<L: Lookup>(
     alloc: Global,
-    lookup: &L,
+    sharing: &Sharing<'_, L>,
     messages: &[Message],
     meter: &mut Meter,
 ) -> Result<Vec<Plan>, Memory>
-    ensures plans { IfOk result (λ plans. plans.items ≡ map (plan_of (L.whole lookup.now)) messages.now) }
+    ensures plans { IfOk result (λ plans. plans.items ≡ map (plan_of sharing.now) messages.now) }
     ensures counted { OnOk result (meter.new ≡ repeated (length messages.now) with_plan meter.old) }
     ensures at_most { AtMost (length messages.now) with_plan meter.old meter.new }
 {
     let mut plans = Vec::with_capacity(alloc, messages.len())?;
     for message in messages {
-        plans.push(plan_with(alloc, lookup, message, meter)?)?;
+        plans.push(plan_sharing(alloc, sharing, message, meter)?)?;
     }
     Ok(plans)
 }
 
-/// The plans of all messages of a database whose rows are found by `lookup`, in order. The meter counts each.
+// The plans of all messages, which share these rows.
+fn plans_by<L: Lookup>(
+    alloc: Global,
+    lookup: &L,
+    rows: &SharedRows<'_>,
+    meter: &mut Meter,
+) -> Result<Vec<Plan>, Memory>
+    requires { rows.now ≡ L.whole lookup.now }
+    ensures plans { IfOk result (λ plans. plans.items ≡ map (plan_of (L.whole lookup.now)) (L.whole lookup.now).messages) }
+    ensures counted { OnOk result (meter.new ≡ repeated (length (L.whole lookup.now).messages) with_plan meter.old) }
+    ensures at_most { AtMost (length (L.whole lookup.now).messages) with_plan meter.old meter.new }
+{
+    let sharing = Sharing::of(alloc, lookup, rows)?;
+    plans_of(
+        alloc,
+        &sharing,
+        lookup.database().messages.as_slice(),
+        meter,
+    )
+}
+
+/// The plans of all messages of a database whose rows are found by `lookup`, in order. Those of one number share their named
+/// values. The meter counts each.
 pub fn plans_with<L: Lookup>(
     alloc: Global,
     lookup: &L,
@@ -74,7 +105,8 @@ pub fn plans_with<L: Lookup>(
     ensures counted { OnOk result (meter.new ≡ repeated (length (L.whole lookup.now).messages) with_plan meter.old) }
     ensures at_most { AtMost (length (L.whole lookup.now).messages) with_plan meter.old meter.new }
 {
-    plans_of(alloc, lookup, lookup.database().messages.as_slice(), meter)
+    let rows = SharedRows::of(alloc, lookup.database())?;
+    plans_by(alloc, lookup, &rows, meter)
 }
 
 /// The plans of all messages, in order, by an index of the rows. The meter counts each.

@@ -1,5 +1,5 @@
 //! What is written beside numbers, or in their place: units and the names of raw values.
-ghost use Rattle.std.specs.Prelude.{◌≡◌, [], ◌++◌, OnOk, IfOk, IfSome, option_map};
+ghost use Rattle.std.specs.Prelude.{◌≡◌, ◌++◌, OnOk, IfOk, IfSome, option_map};
 ghost use Rattle.can_layout.specs.Decoders.{unit_text, first_entry, name_of, AreNames};
 ghost use Rattle.can_layout.specs.Searches.{IsEntrySearch};
 
@@ -73,8 +73,7 @@ pub(crate) fn ready_names(
     entries: &[Entry],
 ) -> Result<Vec<Option<ReadyText>>, Memory>
     requires { IfSome search.now (λ search. IsEntrySearch search entries.now) }
-    ensures names { IfOk result (λ names. AreNames entries.now names.items) }
-    ensures none { IfOk result (λ names. names.items ≡ [] → entries.now ≡ []) }
+    ensures { IfOk result (λ names. AreNames entries.now names.items) }
 {
     let count = entries.len().min(MOST);
     let mut names = Vec::with_capacity(alloc, count)?;

@@ -1,16 +1,14 @@
 //! Decode plans.
 ghost use Rattle.std.specs.Prelude.{◌≡◌, ℕ, List, [], ◌<◌, ◌≤◌, IfOk, IfSome, Some, None, true, length, map, slice_get, option_map};
-ghost use Rattle.can_rows.specs.Rows.{entries_of};
 ghost use Rattle.can_layout.specs.Plans.{reading_of, chain_of, row_of, plan_rows, label_of, plan_in, raw_at};
 ghost use Rattle.can_layout.specs.Plans.{raw_value_at, has_number, is_met, are_met, is_present};
 ghost use Rattle.can_layout.specs.Presence.{AreKnown, ArePlain, AreChained, AreRuns, IsRunOf, IsLongestRun, IsAsked, chain_at};
 ghost use Rattle.can_layout.specs.Presence.{AreAsked, AreAllAsked, raw_of, switch_raw, is_among, is_top, are_plain};
 ghost use Rattle.can_layout.specs.declared.runs.Run.{Run as PlainRun};
 ghost use Rattle.std.specs.List.{list_any};
-ghost use Rattle.can_mux.specs.Ranges.{in_range};
+ghost use Rattle.dbc_records.specs.Ranges.{in_range};
 ghost use Rattle.can_mux.specs.Walks.{walk_of};
 ghost use Rattle.can_mux.specs.declared.above.Above.{Above as PlainAbove};
-ghost use Rattle.can_rows.specs.Rows.{first_values};
 ghost use Rattle.can_mux.specs.Switches.{aboves_of};
 
 use crate::asked::{Asked, MAX_KEPT, Switches};
@@ -20,11 +18,12 @@ use crate::presence::known_at;
 use crate::refusal::cause_of;
 use crate::row::{Reading, Row};
 use crate::runs::{Run, runs_of};
+use crate::sharing::PlanRows;
 use crate::switch_chain::Chain;
 use can_bits::Field;
-use can_mux::{Above, Link, MessageRows, above_at, aboves_of};
+use can_mux::{Above, Link, above_at, aboves_of};
 use can_rows::Lookup;
-use dbc_records::{Entry, Message, Range, Signal};
+use dbc_records::{Message, Range, Signal};
 use dbc_values::{Copied, List, Memory, Scale};
 use ready_texts::{Draft, ReadyText, push_bytes};
 use std::alloc::Global;
@@ -64,42 +63,29 @@ impl Model for Plan {
         × (length a.runs.items < length a.rows → ArePlain a.rows) × (a.plain ≡ are_plain a.rows) };
 }
 
-fn entries_of<L: Lookup>(
-    alloc: Global,
-    rows: &MessageRows<'_, L>,
-    signal: &Signal,
-) -> Result<List<Entry>, Memory>
-    ensures { IfOk result (λ entries. entries ≡ entries_of (first_values signal.now.name rows.now)) }
-{
-    match rows.values(&signal.name) {
-        Some(row) => row.entries.copy(),
-        None => Ok(List::new(alloc)),
-    }
-}
-
 #[tactic(auto, unfolding(crate::specs::Plans::cause_of))]
 fn reading_of<L: Lookup>(
     alloc: Global,
-    rows: &MessageRows<'_, L>,
+    rows: &PlanRows<'_, L>,
     size: u16,
     signal: &Signal,
 ) -> Result<Reading, Memory>
     ensures { IfOk result (λ reading. reading ≡ reading_of rows.now size signal.now) }
 {
-    if let Some(cause) = cause_of(rows, size, signal) {
+    if let Some(cause) = cause_of(&rows.rows(), size, signal) {
         return Ok(Reading::Refused(cause));
     }
     let Some(scale) = Scale::of(&signal.factor, &signal.offset, signal.length) else {
         return Ok(Reading::Refused(crate::refusal::Cause::Scale));
     };
-    let entries = entries_of(alloc, rows, signal)?;
-    let decoder = Decoder::of(alloc, signal, scale, entries)?;
+    let named = rows.named(alloc, &signal.name)?;
+    let decoder = Decoder::of(alloc, signal, scale, named)?;
     Ok(Reading::Read(decoder))
 }
 
 fn row_of<L: Lookup>(
     alloc: Global,
-    rows: &MessageRows<'_, L>,
+    rows: &PlanRows<'_, L>,
     chain: Option<Chain>,
     size: u16,
     signal: &Signal,
@@ -119,7 +105,7 @@ fn row_of<L: Lookup>(
 
 fn plan_rows<L: Lookup>(
     alloc: Global,
-    rows: &MessageRows<'_, L>,
+    rows: &PlanRows<'_, L>,
     aboves: &Rc<List<Above>>,
     size: u16,
     signals: &[Signal],
@@ -195,14 +181,14 @@ fn runs_unless(
 #[tactic(auto, unfolding(crate::specs::Plans::plan_in))]
 pub(crate) fn plan_in<L: Lookup>(
     alloc: Global,
-    rows: &MessageRows<'_, L>,
+    rows: &PlanRows<'_, L>,
     message: &Message,
 ) -> Result<Plan, Memory>
     ensures { IfOk result (λ plan. plan ≡ plan_in rows.now message.now) }
 {
     let size = message.head.size;
     let signals = message.signals.as_slice();
-    let aboves = aboves_of(alloc, rows, signals)?;
+    let aboves = aboves_of(alloc, &rows.rows(), signals)?;
     let aboves = Rc::new(alloc, aboves)?;
     let made = plan_rows(alloc, rows, &aboves, size, signals)?;
     let labels = labels_of(alloc, made.as_slice())?;

@@ -2,7 +2,7 @@
 ghost use Rattle.std.specs.Prelude.{◌≡◌, IfOk, map, length};
 ghost use Rattle.compiled_database.specs.Compiled.{compiled_of, Raised};
 
-use can_layout::{Lookup, Meter, Plan, picture_with, plan_with};
+use can_layout::{Lookup, Meter, Plan, SharedRows, Sharing, picture_with, plan_sharing};
 use dbc_records::Message;
 use dbc_values::Memory;
 use std::alloc::Global;
@@ -29,33 +29,49 @@ impl Model for Compiled {
 /// Those of a message, by the rows of a database.
 pub(crate) fn compiled_with<L: Lookup>(
     alloc: Global,
-    lookup: &L,
+    sharing: &Sharing<'_, L>,
     message: &Message,
     meter: &mut Meter,
 ) -> Result<Rc<Compiled>, Memory>
-    ensures compiled { IfOk result (λ compiled. compiled.value ≡ compiled_of (L.whole lookup.now) message.now) }
+    ensures compiled { IfOk result (λ compiled. compiled.value ≡ compiled_of sharing.now message.now) }
     ensures made { Raised 1 0 meter.old meter.new }
 {
-    let plan = plan_with(alloc, lookup, message, meter)?;
-    let mut picture = picture_with(alloc, lookup, message, meter)?;
+    let plan = plan_sharing(alloc, sharing, message, meter)?;
+    let mut picture = picture_with(alloc, sharing.lookup(), message, meter)?;
     picture.shrink_to_fit();
     let compiled = Rc::new(alloc, Compiled { plan, picture })?;
     Ok(compiled)
 }
 
-/// Those of all messages, in order.
-pub(crate) fn compiled_all<L: Lookup>(
+// Those of messages, in order.
+fn compiled_of<L: Lookup>(
     alloc: Global,
-    lookup: &L,
+    sharing: &Sharing<'_, L>,
     messages: &[Message],
     meter: &mut Meter,
 ) -> Result<Vec<Rc<Compiled>>, Memory>
-    ensures compiled { IfOk result (λ all. map (λ one. one.value) all.items ≡ map (compiled_of (L.whole lookup.now)) messages.now) }
+    ensures compiled { IfOk result (λ all. map (λ one. one.value) all.items ≡ map (compiled_of sharing.now) messages.now) }
     ensures made { Raised (length messages.now) 0 meter.old meter.new }
 {
     let mut all = Vec::new(alloc);
     for message in messages {
-        all.push(compiled_with(alloc, lookup, message, meter)?)?;
+        all.push(compiled_with(alloc, sharing, message, meter)?)?;
     }
     Ok(all)
+}
+
+/// Those of all messages, in order. Their plans share these rows.
+pub(crate) fn compiled_all<L: Lookup>(
+    alloc: Global,
+    lookup: &L,
+    rows: &SharedRows<'_>,
+    messages: &[Message],
+    meter: &mut Meter,
+) -> Result<Vec<Rc<Compiled>>, Memory>
+    requires { rows.now ≡ L.whole lookup.now }
+    ensures compiled { IfOk result (λ all. map (λ one. one.value) all.items ≡ map (compiled_of (L.whole lookup.now)) messages.now) }
+    ensures made { Raised (length messages.now) 0 meter.old meter.new }
+{
+    let sharing = Sharing::of(alloc, lookup, rows)?;
+    compiled_of(alloc, &sharing, messages, meter)
 }

@@ -10,7 +10,7 @@ use crate::compiled::{Compiled, compiled_with};
 use crate::rediagnosing::diagnose_after;
 use crate::shown::{Parts, Shown, messages_of};
 use can_decode::MessageIndex;
-use can_layout::{Indexed, Lookup, Meter};
+use can_layout::{Indexed, Lookup, Meter, SharedRows, Sharing};
 use dbc_records::Message;
 use dbc_values::Memory;
 use edit_reach::is_among;
@@ -58,13 +58,13 @@ fn kept_after(alloc: Global, accepted: &Accepted<'_>) -> Result<Vec<Rc<Compiled>
 fn merged<L: Lookup>(
     numbers: &[u32],
     kept: &Vec<Rc<Compiled>>,
-    lookup: &L,
+    sharing: &Sharing<'_, L>,
     messages: &[Message],
     meter: &mut Meter,
 ) -> Result<Vec<Rc<Compiled>>, Memory>
-    requires { map (λ one. one.value) kept.now.items ≡ map (compiled_of (L.whole lookup.now)) (filter (is_elsewhere numbers.now)
+    requires { map (λ one. one.value) kept.now.items ≡ map (compiled_of sharing.now) (filter (is_elsewhere numbers.now)
         messages.now) }
-    ensures compiled { IfOk result (λ all. map (λ one. one.value) all.items ≡ map (compiled_of (L.whole lookup.now)) messages.now) }
+    ensures compiled { IfOk result (λ all. map (λ one. one.value) all.items ≡ map (compiled_of sharing.now) messages.now) }
     ensures made { Raised (count_by (is_here numbers.now) messages.now) 0 meter.old meter.new }
 {
     let alloc = *kept.allocator();
@@ -72,13 +72,33 @@ fn merged<L: Lookup>(
     let mut rest = kept.as_slice();
     for message in messages {
         if is_here(numbers, message) {
-            all.push(compiled_with(alloc, lookup, message, meter)?)?;
+            all.push(compiled_with(alloc, sharing, message, meter)?)?;
         } else if let [first, others @ ..] = rest {
             all.push(first.clone()?)?;
             rest = others;
         }
     }
     Ok(all)
+}
+
+// What is compiled of the messages of the database that an accepted edit gives. Their plans share these rows.
+fn recompiled<L: Lookup>(
+    alloc: Global,
+    accepted: &Accepted<'_>,
+    lookup: &L,
+    rows: &SharedRows<'_>,
+    meter: &mut Meter,
+) -> Result<Vec<Rc<Compiled>>, Memory>
+    requires after { L.whole lookup.now ≡ accepted.now.after }
+    requires rows { rows.now ≡ accepted.now.after }
+    ensures compiled { IfOk result (λ all. map (λ one. one.value) all.items ≡ map (compiled_of accepted.now.after)
+        accepted.now.after.messages) }
+    ensures made { Raised (count_here (numbers_of accepted.now) accepted.now.after) 0 meter.old meter.new }
+{
+    let kept = kept_after(alloc, accepted)?;
+    let sharing = Sharing::of(alloc, lookup, rows)?;
+    let messages = messages_of(accepted.after());
+    merged(accepted.numbers(), &kept, &sharing, messages, meter)
 }
 
 /// What is made of the database that an accepted edit gives, by one index of its rows. Only of messages that have one of the
@@ -94,9 +114,8 @@ pub(crate) fn parts_after(
 {
     let indexed = Indexed::of(alloc, accepted.after())?;
     let diagnosed = diagnose_after(alloc, accepted, &indexed)?;
-    let kept = kept_after(alloc, accepted)?;
-    let messages = messages_of(accepted.after());
-    let compiled = merged(accepted.numbers(), &kept, &indexed, messages, meter)?;
+    let rows = SharedRows::of(alloc, accepted.after())?;
+    let compiled = recompiled(alloc, accepted, &indexed, &rows, meter)?;
     let index = MessageIndex::by(alloc, &indexed)?;
     Ok(Parts {
         diagnosed,

@@ -16,7 +16,7 @@ use can_check::Diagnostic;
 use can_check::laws::faults_in_order;
 use can_choice::Choice;
 use can_decode::{Choices, MessageIndex, ReadLine};
-use can_layout::{Indexed, Meter, Plan};
+use can_layout::{Indexed, Meter, Plan, SharedRows};
 use dbc_records::{Database, Message};
 use dbc_values::Memory;
 use std::alloc::Global;
@@ -69,7 +69,8 @@ fn parts_of(alloc: Global, database: &Database, meter: &mut Meter) -> Result<Par
 {
     let indexed = Indexed::of(alloc, database)?;
     let diagnosed = diagnose(alloc, &indexed)?;
-    let compiled = compiled_all(alloc, &indexed, messages_of(database), meter)?;
+    let rows = SharedRows::of(alloc, database)?;
+    let compiled = compiled_all(alloc, &indexed, &rows, messages_of(database), meter)?;
     let messages = MessageIndex::by(alloc, &indexed)?;
     Ok(Parts {
         diagnosed,

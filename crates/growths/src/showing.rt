@@ -59,7 +59,7 @@ fn show_decoder<W: Sink>(sink: &mut W, decoder: &Decoder) {
     let (signed, scale) = (decoder.signed, decoder.scale);
     say(sink, format_args!("signed {signed} {scale:?}"));
     put_line(sink, decoder.unit.as_bytes());
-    for entry in decoder.entries.as_slice() {
+    for entry in decoder.entries() {
         say(sink, entry.number);
         put_line(sink, entry.text.as_bytes());
     }

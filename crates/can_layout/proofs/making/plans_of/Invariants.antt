@@ -6,6 +6,6 @@ use Rattle.can_layout.proofs.making.plans_of.Given as goal
 -- the plans of the messages so far, each counted
 abbrev pub invariant-loop-message : goal.invariant-loop-message
 invariant-loop-message g l = record {
-  plans : l.plans.items ≡ map (plan_of (g.L.Lookup.whole l.lookup)) (take l.message-index l.messages);
+  plans : l.plans.items ≡ map (plan_of l.sharing) (take l.message-index l.messages);
   counted : l.meter ≡ repeated l.message-index with_plan l.initial.meter;
 }

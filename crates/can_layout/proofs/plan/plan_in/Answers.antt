@@ -9,7 +9,7 @@ pub runs_unless-requires-clause-chained : goal.runs_unless-requires-clause-chain
 runs_unless-requires-clause-chained g c =
     let chained : AreChained c.in_ok-made.made c.in_ok-aboves-2.aboves.value =
     plan_chained c.args.rows.now _ c.as_slice-signals.result.now c.in_ok-aboves-2.aboves.value c.in_ok-made.made
-    (c.in_ok-aboves-2.ensures.ok ∙ c.in_ok-aboves.ensures) c.in_ok-made.ensures in
+    (rw c.rows.ensures at (c.in_ok-aboves-2.ensures.ok ∙ c.in_ok-aboves.ensures)) c.in_ok-made.ensures in
     subst (λ rows. AreChained rows c.as_slice-4.result.now) (sym c.as_slice-3.ensures.value)
     (subst (λ aboves. AreChained c.in_ok-made.made aboves) (sym (c.as_slice-4.ensures.value ∙ c.as_ref.ensures)) chained)
 
@@ -22,7 +22,7 @@ pub invariant_of-result : goal.invariant_of-result
 invariant_of-result g c = (
   c.in_ok-labels.ensures ∙ ap (λ (rows : List Row). map label_of rows) c.as_slice.ensures.value,
   plan_chained c.args.rows.now _ c.as_slice-signals.result.now c.in_ok-aboves-2.aboves.value c.in_ok-made.made
-      (c.in_ok-aboves-2.ensures.ok ∙ c.in_ok-aboves.ensures) c.in_ok-made.ensures,
+      (rw c.rows.ensures at (c.in_ok-aboves-2.ensures.ok ∙ c.in_ok-aboves.ensures)) c.in_ok-made.ensures,
   λ is. no_links _ (sym (ap are_plain c.as_slice-2.ensures.value) ∙ sym c.are_plain-plain.ensures ∙ is),
   subst (λ rows. AreRuns rows c.in_ok-runs.runs.items) c.as_slice-3.ensures.value c.in_ok-runs.ensures.runs,
   subst (λ rows. length c.in_ok-runs.runs.items < length rows → ArePlain rows) c.as_slice-3.ensures.value

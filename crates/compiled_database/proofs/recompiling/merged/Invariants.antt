@@ -6,7 +6,7 @@ use Rattle.compiled_database.proofs.recompiling.merged.Given as goal
 -- those of the messages so far are there, and the kept ones of the messages to come are left
 abbrev pub invariant-loop-message : goal.invariant-loop-message
 invariant-loop-message g l =
-    let database = g.L.Lookup.whole l.lookup in
+    let database = l.sharing in
     record {
       compiled : map (λ one. one.value) l.all.items ++ map (compiled_of database) (drop l.message-index l.messages)
           ≡ map (compiled_of database) l.messages;

@@ -1,11 +1,11 @@
 use Rattle.std.proofs.Common.{◌≡◌, ◌++◌, map, drop}
 use Rattle.compiled_database.specs.Compiled.{compiled_of, Raised}
-use Rattle.compiled_database.proofs.compiled.compiled_all.Given as goal
+use Rattle.compiled_database.proofs.compiled.compiled_of.Given as goal
 
 -- those of the messages so far are there
 abbrev pub invariant-loop-message : goal.invariant-loop-message
 invariant-loop-message g l =
-    let database = g.L.Lookup.whole l.lookup in
+    let database = l.sharing in
     record {
       compiled : map (λ one. one.value) l.all.items ++ map (compiled_of database) (drop l.message-index l.messages)
           ≡ map (compiled_of database) l.messages;

@@ -1,0 +1,74 @@
+//! The named values of a signal.
+ghost use Rattle.std.specs.Prelude.{◌≡◌, IfOk, IfSome, option_map};
+ghost use Rattle.can_layout.specs.Decoders.{first_entry, name_of};
+
+use crate::entries::{EntrySearch, entry_of, search_of_many};
+use crate::naming::ready_names;
+use dbc_records::Entry;
+use dbc_values::{List, Memory};
+use ready_texts::ReadyText;
+use std::alloc::Global;
+use std::marker::Model;
+
+/// The named values of a signal, found by their raw values.
+#[derive(Drop)]
+pub struct Named {
+    // The names of the first raw values.
+    names: Vec<Option<ReadyText>>,
+    entries: List<Entry>,
+    // Where the entries are many, how they are found by their numbers.
+    search: Option<EntrySearch>,
+}
+
+impl Model for Named {
+    ghost use Rattle.std.specs.Prelude.{List as Items, IfSome};
+    ghost use Rattle.dbc_records.specs.Records.{Entry as PlainEntry};
+    ghost use Rattle.can_layout.specs.Decoders.{AreNames};
+    ghost use Rattle.can_layout.specs.Searches.{IsEntrySearch};
+
+    ghost Value = { Items PlainEntry };
+
+    ghost view = { λ a. a.entries };
+
+    ghost invariant = { λ a. AreNames a.entries a.names.items × IfSome a.search (λ search. IsEntrySearch search a.entries) };
+}
+
+impl Named {
+    /// These named values.
+    pub(crate) fn of(alloc: Global, entries: List<Entry>) -> Result<Named, Memory>
+        ensures { IfOk result (λ named. named ≡ entries) }
+    {
+        let search = search_of_many(alloc, entries.as_slice())?;
+        let names = ready_names(alloc, &search, entries.as_slice())?;
+        Ok(Named {
+            names,
+            entries,
+            search,
+        })
+    }
+
+    /// The named values, in the order of the text.
+    pub(crate) fn entries(&self) -> &[Entry]
+        ensures { result.now ≡ self.now }
+    {
+        self.entries.as_slice()
+    }
+
+    /// The name of a raw value, or that it has none, if that is kept ready. Else it has to be looked for among the entries.
+    pub(crate) fn kept_name(&self, raw: i128) -> Option<Option<&ReadyText>>
+        ensures { IfSome result (λ name. option_map (λ ready. ready.now) name ≡ name_of raw self.now) }
+    {
+        let Ok(place) = usize::try_from(raw) else {
+            return None;
+        };
+        let name = self.names.as_slice().get(place)?;
+        Some(name.as_ref())
+    }
+
+    /// The first entry for a raw value.
+    pub(crate) fn entry(&self, raw: i128) -> Option<&Entry>
+        ensures { option_map (λ entry. entry.now) result ≡ first_entry raw self.now }
+    {
+        entry_of(&self.search, self.entries.as_slice(), raw)
+    }
+}

@@ -1,0 +1,69 @@
+//! Rows that plans of messages of one number share.
+ghost use Rattle.std.specs.Prelude.{◌≡◌};
+
+use crate::named::Named;
+use can_rows::Keyed;
+use dbc_records::ValueRow;
+use dbc_values::Checked;
+use std::rc::Rc;
+
+/// A message number of which plans share the named values.
+#[derive(Drop)]
+pub(crate) struct SharedNumber {
+    /// The number.
+    pub number: u32,
+}
+
+impl Checked for SharedNumber {
+    ghost use Rattle.std.specs.Prelude.{⊤};
+
+    ghost IsValid = { λ shared. ⊤ };
+}
+
+impl Keyed for SharedNumber {
+    ghost use Rattle.std.specs.Prelude.{[]};
+
+    ghost number_of = { λ shared. shared.number };
+
+    ghost signal_of = { λ shared. [] };
+
+    fn number(&self) -> u32 {
+        self.number
+    }
+
+    fn signal(&self) -> &[u8] {
+        b""
+    }
+}
+
+/// A row of named values, and these as plans share them.
+#[derive(Drop)]
+pub(crate) struct NamedRow<'a> {
+    /// The row.
+    pub row: &'a ValueRow,
+    /// Its named values.
+    pub named: Rc<Named>,
+    ghost same: { named.value ≡ row.now.entries },
+}
+
+impl<'a> Checked for NamedRow<'a> {
+    ghost use Rattle.std.specs.Prelude.{⊤};
+
+    ghost IsValid = { λ named. ⊤ };
+}
+
+impl<'a> Keyed for NamedRow<'a> {
+    ghost number_of = { λ named. named.row.now.number };
+
+    ghost signal_of = { λ named. named.row.now.signal };
+
+    fn number(&self) -> u32 {
+        let row = self.row;
+        row.number
+    }
+
+    fn signal(&self) -> &[u8] {
+        let row = self.row;
+        row.signal.as_bytes()
+    }
+}
