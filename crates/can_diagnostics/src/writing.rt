@@ -120,7 +120,7 @@ pub fn hold_lines<W: Sink>(out: &mut Out<'_, W>, found: &[Diagnostic]) -> Result
 }
 
 /// Writes the line of each and an LF. It takes no memory. Where the sink fails a beginning of the lines was written. They go
-/// out in pieces of up to 64 KiB.
+/// out in pieces of up to 16 KiB.
 #[tactic(auto, using(byte_devices::proofs::Outs::flushes))]
 pub fn write_lines<W: Sink>(found: &[Diagnostic], sink: &mut W) -> Result<(), WriteFault>
     ensures { Prints (W.written sink.old) (W.written sink.new) result (flat_map (λ diagnostic. line_text diagnostic ++ codes "\n")

@@ -17,7 +17,7 @@ fn print_all<W: Sink>(database: &Database, sink: &mut W) -> Result<(), PrintFaul
     }
 }
 
-/// Reads the database text to its end, and then writes its canonical text in pieces of up to 64 KiB.
+/// Reads the database text to its end, and then writes its canonical text in pieces of up to 16 KiB.
 #[inline(never)]
 pub fn print_run<W: Sink>(alloc: Global, text: &[u8], sink: &mut W) -> Result<(), PrintFault>
     ensures { PrintsText text.now (W.written sink.old) (W.written sink.new) result }
