@@ -6,9 +6,9 @@ use Rattle.std.specs.Ordering.{int_eq}
 use Rattle.std.proofs.lemmas.Bool.{and_parts}
 use Rattle.std.proofs.lemmas.List.Folds.{list_any-append}
 use Rattle.dbc_records.specs.Records.{Head, Signal, Entry}
-use Rattle.can_rows.specs.declared.order.EntryOrder.{EntryOrder}
-use Rattle.can_rows.specs.Orders.{precedes, are_in_order_after, are_in_order}
-use Rattle.can_rows.proofs.InOrder.{precedes-trans, precedes-differs_back}
+use Rattle.dbc_records.specs.declared.order.EntryOrder.{EntryOrder}
+use Rattle.dbc_records.specs.Orders.{precedes, are_in_order_after, are_in_order}
+use Rattle.dbc_records.proofs.InOrder.{precedes-trans, precedes-differs_back}
 use Rattle.can_diagnostics.specs.Diagnostics.{of_value}
 use Rattle.can_diagnostics.specs.declared.code.Code.TheVariants as codes
 use Rattle.can_references.specs.Finding.{where_true, stands_in, each_after}

@@ -2,14 +2,14 @@
 -- Source: the DBC file format, "Signal Definitions", "Extended Multiplexing", "Signal Extended Value Type Definitions",
 -- "Signal Value Descriptions".
 use Rattle.std.specs.Prelude.{ℕ, ℤ, pos, negsuc, ◌-◌, ◌^◌, ◌&&◌, ◌||◌, nat_lt, nat_le, Bool, true, false, not, List, Option, Some}
-use Rattle.std.specs.Prelude.{None, if◌then◌else◌}
+use Rattle.std.specs.Prelude.{None, length, slice_get, if◌then◌else◌}
 use Rattle.std.specs.List.{list_any}
 use Rattle.std.specs.Str.{bytes_eq}
 use Rattle.dbc_values.specs.Scales.{scale_fits, most_raw_bits}
 use Rattle.dbc_records.specs.Records.{Signal, Entry, MuxRow}
 use Rattle.dbc_records.specs.declared.tag.Tag.{Tag}
 use Rattle.dbc_records.specs.declared.tag.Tag.TheVariants as tags
-use Rattle.dbc_records.specs.declared.mux_row.Range.{Range}
+use Rattle.dbc_records.specs.Ranges.{is_empty_range}
 use Rattle.can_bits.specs.Bits.{field_of, is_outside}
 use Rattle.can_rows.specs.Rows.{SignalRows, first_float}
 use Rattle.can_rows.specs.Rows.{is_float_row}
@@ -36,10 +36,6 @@ can_switch tags.Plain = false
 can_switch tags.Switch = true
 can_switch (tags.Muxed n) = false
 can_switch (tags.Both n) = true
-
--- a range that holds no number
-abbrev pub is_empty_range : Range → Bool
-is_empty_range range = nat_lt range.last range.first
 
 -- the signal of the name, which has no `M`
 abbrev pub is_no_switch : List ℕ → Signal → Bool
@@ -76,3 +72,12 @@ in_raw_range signed bits (negsuc n) = signed && nat_lt n (2 ^ (bits - 1))
 -- a named value that the signal never has
 abbrev pub is_out_of_range : Signal → Entry → Bool
 is_out_of_range signal entry = not (in_raw_range signal.signed signal.length entry.number)
+
+-- the signal can have the named value, if there is one
+abbrev pub has_at : Signal → Option Entry → Bool
+has_at signal None = true
+has_at signal (Some entry) = not (is_out_of_range signal entry)
+
+-- the signal can have the first and the last of the named values
+abbrev pub has_both_ends : Signal → List Entry → Bool
+has_both_ends signal entries = has_at signal (slice_get entries 0) && has_at signal (slice_get entries (length entries - 1))

@@ -2,7 +2,7 @@
 ghost use Rattle.std.specs.Prelude.{◌≡◌, ◌++◌, OnOk, option_map};
 ghost use Rattle.std.specs.List.{list_any};
 ghost use Rattle.can_rows.specs.Rows.{is_float_row};
-ghost use Rattle.can_check.specs.SignalRules.{can_switch, is_empty_range, is_no_switch, is_bad_row, lies_outside, is_float};
+ghost use Rattle.can_check.specs.SignalRules.{can_switch, is_no_switch, is_bad_row, lies_outside, is_float};
 ghost use Rattle.can_check.specs.SignalRules.{is_long, has_no_scale};
 ghost use Rattle.can_check.specs.MessageFaults.{signals_where};
 
@@ -10,7 +10,7 @@ use can_bits::Field;
 use can_diagnostics::{Code, Diagnostic};
 use can_mux::MessageRows;
 use can_rows::Lookup;
-use dbc_records::{FloatRow, Head, MuxRow, Range, Signal, Tag};
+use dbc_records::{FloatRow, Head, MuxRow, Signal, Tag};
 use dbc_values::{Memory, Name, Scale, same};
 
 /// A test of signals.
@@ -67,12 +67,6 @@ fn can_switch(tag: Tag) -> bool
     }
 }
 
-fn has_empty_range(ranges: &[Range]) -> bool
-    ensures { result ≡ list_any is_empty_range ranges.now }
-{
-    ranges.iter().any(|range| range.last < range.first)
-}
-
 fn is_no_switch(name: &Name, signal: &Signal) -> bool
     ensures { result ≡ is_no_switch name.now signal.now }
 {
@@ -89,9 +83,7 @@ fn is_bad_row(signals: &[Signal], row: Option<&MuxRow>) -> bool
     ensures { result ≡ is_bad_row signals.now (option_map (λ row. row.now) row.entry) }
 {
     match row {
-        Some(row) => {
-            has_empty_range(row.ranges.as_slice()) || has_no_switch(&row.switch, signals)
-        }
+        Some(row) => row.ranges.has_empty_range() || has_no_switch(&row.switch, signals),
         None => false,
     }
 }

@@ -1,35 +1,18 @@
 //! Named values.
-ghost use Rattle.std.specs.Prelude.{◌≡◌, ◌^◌, ◌<◌, nat_lt, [], ◌∷◌, ◌++◌, OnOk, IsTrue, option_map};
+ghost use Rattle.std.specs.Prelude.{◌≡◌, ◌^◌, ◌<◌, ◌-◌, nat_lt, [], ◌∷◌, ◌++◌, OnOk, IsTrue, length, slice_get, option_map};
 ghost use Rattle.std.specs.List.{flat_map};
 ghost use Rattle.dbc_records.specs.Records.{entry_fits};
 ghost use Rattle.can_rows.specs.Rows.{entries_of};
-ghost use Rattle.can_check.specs.SignalRules.{in_raw_range, is_out_of_range};
+ghost use Rattle.can_check.specs.SignalRules.{in_raw_range, is_out_of_range, has_at, has_both_ends};
 ghost use Rattle.can_check.specs.MessageFaults.{named, out_of_range, values_out_of_range, repeated_value, repeated_among};
 ghost use Rattle.can_check.specs.MessageFaults.{repeated_in, repeated_values, value_faults};
 
 use can_diagnostics::{Code, Diagnostic};
 use can_keys::Integers;
 use can_mux::MessageRows;
-use can_rows::{Lookup, entry_order};
-use dbc_records::{Entry, Head, Message, Signal, ValueRow};
+use can_rows::Lookup;
+use dbc_records::{Entries, Entry, Head, Message, Signal, ValueRow};
 use dbc_values::Memory;
-
-// The entries of a row.
-fn entries_of(row: Option<&ValueRow>) -> &[Entry]
-    ensures { result.now ≡ entries_of (option_map (λ row. row.now) row.entry) }
-{
-    match row {
-        Some(row) => row.entries.as_slice(),
-        None => &[],
-    }
-}
-
-// The named values of a signal, by its first row.
-fn named<'r, L: Lookup>(rows: &'r MessageRows<'_, L>, signal: &Signal) -> &'r [Entry]
-    ensures { result.now ≡ named rows.now signal.now }
-{
-    entries_of(rows.values(&signal.name))
-}
 
 // Whether a number is below a power of two. No number of an entry needs more than 64 bits.
 #[tactic(auto, using(crate::proofs::Counts::below_power))]
@@ -59,8 +42,8 @@ fn is_out_of_range(signal: &Signal, entry: &Entry) -> bool
     !in_raw_range(signal.signed, signal.length, entry.number)
 }
 
-// Adds the entries that a signal never has.
-fn push_out_of_range(
+// Adds the entries that a signal never has, of entries in any order.
+fn push_each_out_of_range(
     found: &mut Vec<Diagnostic>,
     head: &Head,
     signal: &Signal,
@@ -76,6 +59,66 @@ fn push_out_of_range(
     Ok(())
 }
 
+// Whether a signal can have the value of an entry, if there is one.
+fn has_at(signal: &Signal, entry: Option<&Entry>) -> bool
+    ensures { result ≡ has_at signal.now (option_map (λ entry. entry.now) entry.entry) }
+{
+    match entry {
+        Some(entry) => !is_out_of_range(signal, entry),
+        None => true,
+    }
+}
+
+fn first_of(entries: &[Entry]) -> Option<&Entry>
+    ensures { option_map (λ entry. entry.now) result ≡ slice_get entries.now 0 }
+{
+    entries.first()
+}
+
+fn last_of(entries: &[Entry]) -> Option<&Entry>
+    ensures { option_map (λ entry. entry.now) result ≡ slice_get entries.now (length entries.now - 1) }
+{
+    entries.last()
+}
+
+// Whether a signal can have the first and the last of some entries.
+fn has_both_ends(signal: &Signal, entries: &[Entry]) -> bool
+    ensures { result ≡ has_both_ends signal.now entries.now }
+{
+    has_at(signal, first_of(entries)) && has_at(signal, last_of(entries))
+}
+
+// Adds the entries that a signal never has. There are none where it can have both ends of entries in an order, as it mostly can.
+fn push_out_of_range(
+    found: &mut Vec<Diagnostic>,
+    head: &Head,
+    signal: &Signal,
+    entries: &Entries,
+) -> Result<(), Memory>
+    ensures { OnOk result (found.new.items ≡ found.old.items ++ flat_map (out_of_range head.now signal.now) entries.now) }
+{
+    match entries.order() {
+        Some(_) if has_both_ends(signal, entries.as_slice()) => Ok(()),
+        _ => push_each_out_of_range(found, head, signal, entries.as_slice()),
+    }
+}
+
+// The same of the first row of a signal, if it has one.
+fn push_row_out_of_range(
+    found: &mut Vec<Diagnostic>,
+    head: &Head,
+    signal: &Signal,
+    row: Option<&ValueRow>,
+) -> Result<(), Memory>
+    ensures { OnOk result (found.new.items ≡ found.old.items ++ flat_map (out_of_range head.now signal.now) (entries_of
+        (option_map (λ row. row.now) row.entry))) }
+{
+    match row {
+        Some(row) => push_out_of_range(found, head, signal, &row.entries),
+        None => Ok(()),
+    }
+}
+
 fn push_all_out_of_range<L: Lookup>(
     found: &mut Vec<Diagnostic>,
     rows: &MessageRows<'_, L>,
@@ -86,7 +129,7 @@ fn push_all_out_of_range<L: Lookup>(
         (named rows.now signal)) signals.now) }
 {
     for signal in signals {
-        push_out_of_range(found, head, signal, named(rows, signal))?;
+        push_row_out_of_range(found, head, signal, rows.values(&signal.name))?;
     }
     Ok(())
 }
@@ -141,13 +184,29 @@ fn push_repeated(
     found: &mut Vec<Diagnostic>,
     head: &Head,
     signal: &Signal,
-    entries: &[Entry],
+    entries: &Entries,
 ) -> Result<(), Memory>
     ensures { OnOk result (found.new.items ≡ found.old.items ++ repeated_among head.now signal.now entries.now) }
 {
-    match entry_order(entries) {
+    match entries.order() {
         Some(_) => Ok(()),
-        None => push_repeated_unordered(found, head, signal, entries),
+        None => push_repeated_unordered(found, head, signal, entries.as_slice()),
+    }
+}
+
+// The same of the first row of a signal, if it has one.
+fn push_row_repeated(
+    found: &mut Vec<Diagnostic>,
+    head: &Head,
+    signal: &Signal,
+    row: Option<&ValueRow>,
+) -> Result<(), Memory>
+    ensures { OnOk result (found.new.items ≡ found.old.items ++ repeated_among head.now signal.now (entries_of (option_map
+        (λ row. row.now) row.entry))) }
+{
+    match row {
+        Some(row) => push_repeated(found, head, signal, &row.entries),
+        None => Ok(()),
     }
 }
 
@@ -160,7 +219,7 @@ fn push_all_repeated<L: Lookup>(
     ensures { OnOk result (found.new.items ≡ found.old.items ++ flat_map (repeated_in rows.now head.now) signals.now) }
 {
     for signal in signals {
-        push_repeated(found, head, signal, named(rows, signal))?;
+        push_row_repeated(found, head, signal, rows.values(&signal.name))?;
     }
     Ok(())
 }

@@ -8,10 +8,10 @@ use Rattle.std.proofs.lemmas.Bool.{cases_lt, cases_eq}
 use Rattle.std.proofs.lemmas.Int.{ints}
 use Rattle.std.proofs.lemmas.List.{get_or_default}
 use Rattle.dbc_records.specs.Records.{Entry}
-use Rattle.can_rows.specs.declared.order.EntryOrder.{EntryOrder}
-use Rattle.can_rows.specs.declared.order.EntryOrder.TheVariants as orders
-use Rattle.can_rows.specs.Orders.{precedes, are_in_order}
-use Rattle.can_rows.proofs.InOrder.{precedes-trans, precedes-differs, precedes-differs_back, earlier_precedes}
+use Rattle.dbc_records.specs.declared.order.EntryOrder.{EntryOrder}
+use Rattle.dbc_records.specs.declared.order.EntryOrder.TheVariants as orders
+use Rattle.dbc_records.specs.Orders.{precedes, are_in_order}
+use Rattle.dbc_records.proofs.InOrder.{precedes-trans, precedes-differs, precedes-differs_back, earlier_precedes}
 use Rattle.can_rows.proofs.SortedRows.{find_one, find_none}
 use Rattle.can_layout.specs.Decoders.{first_entry}
 

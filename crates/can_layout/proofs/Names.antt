@@ -1,6 +1,6 @@
 -- The names of the first raw values.
 use Rattle.std.proofs.Common.{◌≡◌, ℕ, true, nat_lt, get_or, Result, Ok, Err, ◌+◌, ◌^◌, ◌<◌, List, [], ◌∷◌, ◌++◌, Option, map}
-use Rattle.std.proofs.Common.{length, refl, sym, ap, ◌∙◌, arith}
+use Rattle.std.proofs.Common.{length, sym, ap, ◌∙◌, arith}
 use Rattle.std.specs.Prelude.{ℤ, pos, unsigned_abs}
 use Rattle.std.specs.Int.{w64, w128, FitsUnsigned}
 use Rattle.std.specs.Result.{OkIff}

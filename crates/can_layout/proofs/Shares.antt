@@ -1,6 +1,6 @@
 -- A row that plans share is the first of its key.
-use Rattle.std.proofs.Common.{◌≡◌, ◌==◌, ℕ, Bool, true, false, List, [], ◌∷◌, Option, Some, None, map, filter, bytes_eq}
-use Rattle.std.proofs.Common.{refl, sym, ap, ◌∙◌, inl, inr, Bor}
+use Rattle.std.proofs.Common.{◌≡◌, ◌==◌, ℕ, true, false, List, [], ◌∷◌, Option, Some, None, map, filter, bytes_eq, length}
+use Rattle.std.proofs.Common.{refl, sym, ap, ◌∙◌, inl, inr, Bor, arith}
 use Rattle.std.specs.Prelude.{IfSome}
 use Rattle.std.specs.Option.{option_map}
 use Rattle.std.proofs.lemmas.Bool.{cases_Bool, eqb-true}
@@ -93,3 +93,13 @@ pub shared_there : (database : Database) (numbers : List SharedNumber) (named : 
     → IfSome found (λ (one : Bor NamedRow). first_values name (rows_of number database) ≡ Some (row_of one.now))
 shared_there database numbers named number name None are is = tt
 shared_there database numbers named number name (Some one) are is = shared_first database numbers named number name one.now are is
+
+-- without numbers no row is shared
+none_without_numbers : (rows : List ValueRow) → shared_of [] rows ≡ []
+none_without_numbers [] = refl
+none_without_numbers (row ∷ rows) = none_without_numbers rows
+
+pub none_named : (named : List NamedRow) (numbers : List SharedNumber) (rows : List ValueRow) → named ≡ []
+    → (length numbers == 0) ≡ true → map row_of named ≡ filter (λ (row : ValueRow). is_shared numbers row.number) rows
+none_named named [] rows nothing empty = ap (map row_of) nothing ∙ sym (none_without_numbers rows)
+none_named named (number ∷ numbers) rows nothing empty = absurd (omega (arith, eqb-true (length (number ∷ numbers)) 0 empty))

@@ -1,7 +1,7 @@
 -- How the entries of a decoder are searched.
 use Rattle.std.specs.Prelude.{List, IsTrue}
 use Rattle.dbc_records.specs.Records.{Entry}
-use Rattle.can_rows.specs.Orders.{are_in_order}
+use Rattle.dbc_records.specs.Orders.{are_in_order}
 use Rattle.can_layout.specs.declared.entries.EntrySearch.{EntrySearch}
 use Rattle.can_layout.specs.declared.entries.EntrySearch.TheVariants as searches
 use Rattle.can_layout.specs.Decoders.{IsEntryIndex}

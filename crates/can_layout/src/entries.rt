@@ -5,13 +5,12 @@ ghost use Rattle.std.specs.BTreeMap.{get};
 ghost use Rattle.std.specs.List.Sorted.{IsPartitionPoint};
 ghost use Rattle.std.specs.Option.{option_or};
 ghost use Rattle.std.specs.Ordering.{int_eq, int_cmp};
-ghost use Rattle.can_rows.specs.Orders.{precedes, are_in_order};
+ghost use Rattle.dbc_records.specs.Orders.{precedes, are_in_order};
 ghost use Rattle.can_layout.specs.Decoders.{first_entry, IsEntryIndex};
 ghost use Rattle.can_layout.specs.Searches.{IsEntrySearch};
 
 use crate::naming::first_entry;
-use can_rows::{EntryOrder, entry_order};
-use dbc_records::Entry;
+use dbc_records::{Entries, Entry, EntryOrder};
 use dbc_values::Memory;
 use std::alloc::Global;
 use std::collections::BTreeMap;
@@ -53,17 +52,17 @@ fn places_of(alloc: Global, entries: &[Entry]) -> Result<Places, Memory>
 /// How entries are found by their numbers, where there are many.
 pub(crate) fn search_of_many(
     alloc: Global,
-    entries: &[Entry],
+    entries: &Entries,
 ) -> Result<Option<EntrySearch>, Memory>
     ensures { IfOk result (λ search. IfSome search (λ search. IsEntrySearch search entries.now)) }
 {
-    if entries.len() <= FEW {
+    if entries.as_slice().len() <= FEW {
         return Ok(None);
     }
-    if let Some(order) = entry_order(entries) {
+    if let Some(order) = entries.order() {
         return Ok(Some(EntrySearch::Ordered(order)));
     }
-    let places = places_of(alloc, entries)?;
+    let places = places_of(alloc, entries.as_slice())?;
     Ok(Some(EntrySearch::Indexed(places)))
 }
 

@@ -4,8 +4,8 @@ ghost use Rattle.can_layout.specs.Decoders.{first_entry, name_of};
 
 use crate::entries::{EntrySearch, entry_of, search_of_many};
 use crate::naming::ready_names;
-use dbc_records::Entry;
-use dbc_values::{List, Memory};
+use dbc_records::{Entries, Entry};
+use dbc_values::Memory;
 use ready_texts::ReadyText;
 use std::alloc::Global;
 use std::marker::Model;
@@ -15,7 +15,7 @@ use std::marker::Model;
 pub struct Named {
     // The names of the first raw values.
     names: Vec<Option<ReadyText>>,
-    entries: List<Entry>,
+    entries: Entries,
     // Where the entries are many, how they are found by their numbers.
     search: Option<EntrySearch>,
 }
@@ -35,10 +35,10 @@ impl Model for Named {
 
 impl Named {
     /// These named values.
-    pub(crate) fn of(alloc: Global, entries: List<Entry>) -> Result<Named, Memory>
+    pub(crate) fn of(alloc: Global, entries: Entries) -> Result<Named, Memory>
         ensures { IfOk result (λ named. named ≡ entries) }
     {
-        let search = search_of_many(alloc, entries.as_slice())?;
+        let search = search_of_many(alloc, &entries)?;
         let names = ready_names(alloc, &search, entries.as_slice())?;
         Ok(Named {
             names,

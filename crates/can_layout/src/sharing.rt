@@ -34,10 +34,13 @@ fn named_of(alloc: Global, row: Option<&ValueRow>) -> Result<Option<Rc<Named>>, 
     }
 }
 
-// The numbers that several messages have.
-fn shared_numbers(alloc: Global, messages: &[Message]) -> Result<Vec<SharedNumber>, Memory> {
-    let mut numbers = Vec::with_capacity(alloc, messages.len())?;
-    for message in messages {
+// The numbers that several messages have. Without named values there is no need to look for them.
+fn shared_numbers(alloc: Global, database: &Database) -> Result<Vec<SharedNumber>, Memory> {
+    if database.values.is_empty() {
+        return Ok(Vec::new(alloc));
+    }
+    let mut numbers = Vec::with_capacity(alloc, database.messages.len())?;
+    for message in database.messages.as_slice() {
         numbers.push(message.head.number)?;
     }
     numbers.sort_by_key(|number| *number)?;
@@ -49,6 +52,35 @@ fn shared_numbers(alloc: Global, messages: &[Message]) -> Result<Vec<SharedNumbe
             _ => {}
         }
         last = Some(number);
+    }
+    Ok(shared)
+}
+
+// Whether several messages have a number.
+fn have_several(messages: &[Message], number: u32) -> bool {
+    let mut has_one = false;
+    for message in messages {
+        if message.head.number == number {
+            if has_one {
+                return true;
+            }
+            has_one = true;
+        }
+    }
+    false
+}
+
+// Those of the numbers that several messages have.
+fn shared_among(
+    alloc: Global,
+    messages: &[Message],
+    numbers: &[u32],
+) -> Result<Vec<SharedNumber>, Memory> {
+    let mut shared = Vec::new(alloc);
+    for number in numbers {
+        if have_several(messages, *number) {
+            shared.push(SharedNumber { number: *number })?;
+        }
     }
     Ok(shared)
 }
@@ -89,6 +121,9 @@ fn named_rows<'a>(
 ) -> Result<Vec<NamedRow<'a>>, Memory>
     ensures { IfOk result (λ named. map row_of named.items ≡ filter (λ row. is_shared numbers.now row.number) rows.now) }
 {
+    if numbers.is_empty() {
+        return Ok(Vec::new(alloc));
+    }
     let index = Index::of(alloc, numbers)?;
     named_by(alloc, rows, &index)
 }
@@ -114,17 +149,40 @@ impl<'a> Model for SharedRows<'a> {
 }
 
 impl<'a> SharedRows<'a> {
-    /// Those of a database.
-    pub fn of(alloc: Global, database: &'a Database) -> Result<SharedRows<'a>, Memory>
+    // Those of some numbers.
+    fn by(
+        alloc: Global,
+        database: &'a Database,
+        numbers: Vec<SharedNumber>,
+    ) -> Result<SharedRows<'a>, Memory>
         ensures { IfOk result (λ shared. shared ≡ database.now) }
     {
-        let numbers = shared_numbers(alloc, database.messages.as_slice())?;
         let values = named_rows(alloc, database.values.as_slice(), numbers.as_slice())?;
         Ok(SharedRows {
             database,
             numbers,
             values,
         })
+    }
+
+    /// Those of a database.
+    pub fn of(alloc: Global, database: &'a Database) -> Result<SharedRows<'a>, Memory>
+        ensures { IfOk result (λ shared. shared ≡ database.now) }
+    {
+        let numbers = shared_numbers(alloc, database)?;
+        SharedRows::by(alloc, database, numbers)
+    }
+
+    /// Those of a database for plans of messages with these numbers. It goes through all messages for each number.
+    pub fn among(
+        alloc: Global,
+        database: &'a Database,
+        numbers: &[u32],
+    ) -> Result<SharedRows<'a>, Memory>
+        ensures { IfOk result (λ shared. shared ≡ database.now) }
+    {
+        let numbers = shared_among(alloc, database.messages.as_slice(), numbers)?;
+        SharedRows::by(alloc, database, numbers)
     }
 }
 

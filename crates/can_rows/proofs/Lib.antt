@@ -1,4 +1,3 @@
 pub mod FirstRows
 pub mod SortedRows
 pub mod IndexedRows
-pub mod InOrder

@@ -2,4 +2,3 @@ pub mod Rows
 pub mod Groups
 pub mod Mixes
 pub mod Indexes
-pub mod Orders

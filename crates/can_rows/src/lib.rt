@@ -2,7 +2,7 @@
 //! messages.
 //!
 //! [`Lookup`] finds rows: a database by going through them, an [`Indexed`] database by its keys. An [`Index`] has the first row of
-//! each key, of [`Keyed`] rows of any kind. [`entry_order`] says whether the numbers of entries rise or fall.
+//! each key, of [`Keyed`] rows of any kind.
 #![tactic(auto)]
 
 mod format;
@@ -12,12 +12,10 @@ mod index;
 mod indexed;
 pub mod laws;
 mod lookup;
-mod order;
 mod row;
 
 pub use group::{group_in, group_number, group_of, is_bad_number};
 pub use index::Index;
 pub use indexed::Indexed;
 pub use lookup::Lookup;
-pub use order::{EntryOrder, entry_order};
 pub use row::Keyed;

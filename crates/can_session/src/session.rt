@@ -179,8 +179,7 @@ impl Session {
 
     /// Retains a line, which holds no LF, as the session's choice says. A refused one changes nothing but the meter: a line has at
     /// most 4,096 bytes, and where all lines are retained there is room for 1,048,576. Where the last ones are, the oldest goes for
-    /// a
-    /// new one, and no log is full. Want of memory comes last.
+    /// a new one, and no log is full. Want of memory comes last.
     pub fn add_line(&mut self, line: &[u8]) -> Result<(), Refusal>
         ensures step { Adds line.now self.old.state result self.new.state }
         ensures meter { Raised 0 1 self.old.meter self.new.meter }

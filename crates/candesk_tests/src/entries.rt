@@ -4,8 +4,7 @@ use crate::reading::database;
 use can_check::{Code, Diagnostic, Subject, all_faults};
 use can_decode::{Short, decode_line};
 use can_layout::{Decoder, Meter, Plan, Reading, make_plans};
-use can_rows::{EntryOrder, entry_order};
-use dbc_records::Database;
+use dbc_records::{Database, EntryOrder, entry_order};
 use dbc_values::Memory;
 use std::alloc::Global;
 use std::test::Fail;
@@ -102,7 +101,7 @@ const LINES: [(&[u8], &[u8]); 3] = [
 fn are_in_orders(database: &Database) -> bool {
     for (place, order) in ORDERS {
         match database.values.as_slice().get(place) {
-            Some(row) if entry_order(row.entries.as_slice()) == order => {}
+            Some(row) if row.entries.order() == order => {}
             _ => return false,
         }
     }

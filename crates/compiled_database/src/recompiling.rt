@@ -114,7 +114,7 @@ pub(crate) fn parts_after(
 {
     let indexed = Indexed::of(alloc, accepted.after())?;
     let diagnosed = diagnose_after(alloc, accepted, &indexed)?;
-    let rows = SharedRows::of(alloc, accepted.after())?;
+    let rows = SharedRows::among(alloc, accepted.after(), accepted.numbers())?;
     let compiled = recompiled(alloc, accepted, &indexed, &rows, meter)?;
     let index = MessageIndex::by(alloc, &indexed)?;
     Ok(Parts {

@@ -149,6 +149,9 @@ pub fn entries(alloc: Global, at: &mut Cursor<'_>) -> Result<List<Entry>, Stoppe
     'entries: while let Some(found) = entry_if_any(alloc, at)? {
         entries.push(found)?;
     }
-    entries.shrink_to_fit();
+    // (two to four keep the room that a list begins with, since a second request costs more than it spares)
+    if entries.len() == 1 || entries.len() > 4 {
+        entries.shrink_to_fit();
+    }
     Ok(entries)
 }

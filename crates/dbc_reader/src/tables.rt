@@ -10,7 +10,7 @@ use crate::cursor::Cursor;
 use crate::numerals::{entries, id, whole};
 use crate::parts::{mark, name};
 use crate::stopped::Stopped;
-use dbc_records::{FloatRow, MuxRow, Numbers, Range, TableRow, ValueRow};
+use dbc_records::{Entries, FloatRow, MuxRow, Numbers, Range, TableRow, ValueRow};
 use dbc_values::List;
 use std::alloc::Global;
 
@@ -37,6 +37,7 @@ pub fn values(alloc: Global, at: &mut Cursor<'_>) -> Result<ValueRow, Stopped>
     let signal = name(alloc, at)?;
     let entries = entries(alloc, at)?;
     mark(at, b';')?;
+    let entries = Entries::of(alloc, entries)?;
     Ok(ValueRow {
         number,
         signal,

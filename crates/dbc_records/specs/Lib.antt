@@ -7,6 +7,7 @@ pub mod Comments
 pub mod Attributes
 pub mod Kept
 pub mod Ranges
+pub mod Orders
 pub mod Databases
 pub mod Layout
 pub mod CanonicalText

@@ -1,6 +1,6 @@
 -- The numbers of a switch, as ranges.
 -- Source: the DBC file format, "Extended Multiplexing".
-use Rattle.std.specs.Prelude.{◌≡◌, ℕ, nat_le, max, Bool, ◌&&◌, List, [], ◌∷◌}
+use Rattle.std.specs.Prelude.{◌≡◌, ℕ, nat_le, nat_lt, max, Bool, ◌&&◌, List, [], ◌∷◌}
 use Rattle.std.specs.List.{list_any}
 use Rattle.std.specs.List.Sorted.{IsNonDecreasingBy}
 use Rattle.dbc_records.specs.declared.mux_row.Range.{Range}
@@ -8,6 +8,10 @@ use Rattle.dbc_records.specs.declared.mux_row.Range.{Range}
 -- both ends are in a range
 abbrev pub in_range : ℕ → Range → Bool
 in_range raw range = nat_le range.first raw && nat_le raw range.last
+
+-- no number is in the range
+abbrev pub is_empty_range : Range → Bool
+is_empty_range range = nat_lt range.last range.first
 
 -- each range with the greatest last number of those up to it, where `most` is that of those before
 abbrev pub reaching : ℕ → List Range → List Range

@@ -1,7 +1,7 @@
 //! The numbers of a switch.
 ghost use Rattle.std.specs.Prelude.{◌≡◌, IfOk};
 ghost use Rattle.std.specs.List.{list_any};
-ghost use Rattle.dbc_records.specs.Ranges.{in_range};
+ghost use Rattle.dbc_records.specs.Ranges.{in_range, is_empty_range};
 
 use crate::mux_row::Range;
 use crate::range_index::{is_in, range_index};
@@ -10,32 +10,46 @@ use std::alloc::Global;
 use std::marker::Model;
 use std::rc::Rc;
 
-// Ranges, and how numbers are found in them.
+// Ranges, whether one of them is empty, and how numbers are found in them.
 #[derive(Drop)]
 struct Found {
     ranges: List<Range>,
+    has_empty: bool,
     // Where the ranges are many, numbers are found by this.
     index: Option<Vec<Range>>,
 }
 
 impl Model for Found {
-    ghost use Rattle.std.specs.Prelude.{List as Items, IfSome};
+    ghost use Rattle.std.specs.Prelude.{◌≡◌, List as Items, IfSome};
+    ghost use Rattle.std.specs.List.{list_any};
     ghost use Rattle.dbc_records.specs.declared.mux_row.Range.{Range as PlainRange};
-    ghost use Rattle.dbc_records.specs.Ranges.{IsRangeIndex};
+    ghost use Rattle.dbc_records.specs.Ranges.{is_empty_range, IsRangeIndex};
 
     ghost Value = { Items PlainRange };
 
     ghost view = { λ a. a.ranges };
 
-    ghost invariant = { λ a. IfSome a.index (λ index. IsRangeIndex index.items a.ranges) };
+    ghost invariant = { λ a. (a.has_empty ≡ list_any is_empty_range a.ranges)
+        × IfSome a.index (λ index. IsRangeIndex index.items a.ranges) };
+}
+
+fn has_empty_range(ranges: &[Range]) -> bool
+    ensures { result ≡ list_any is_empty_range ranges.now }
+{
+    ranges.iter().any(|range| range.last < range.first)
 }
 
 impl Found {
     fn of(alloc: Global, ranges: List<Range>) -> Result<Found, Memory>
         ensures { IfOk result (λ found. found ≡ ranges) }
     {
+        let has_empty = has_empty_range(ranges.as_slice());
         let index = range_index(alloc, ranges.as_slice())?;
-        Ok(Found { ranges, index })
+        Ok(Found {
+            ranges,
+            has_empty,
+            index,
+        })
     }
 }
 
@@ -97,6 +111,13 @@ impl Numbers {
         ensures { result.now ≡ self.now }
     {
         self.found.as_ref().ranges.as_slice()
+    }
+
+    /// Whether one of the ranges holds no number. How many there are doesn't matter.
+    pub fn has_empty_range(&self) -> bool
+        ensures { result ≡ list_any is_empty_range self.now }
+    {
+        self.found.as_ref().has_empty
     }
 
     /// Whether a number is one of them. Of many ranges it is found in time with the logarithm of how many there are.

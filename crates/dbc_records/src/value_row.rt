@@ -1,8 +1,8 @@
 //! The named values of a signal.
 ghost use Rattle.std.specs.Prelude.{◌≡◌, Some};
 
-use crate::entry::Entry;
-use dbc_values::{Checked, Copied, List, Memory, Name};
+use crate::entries::Entries;
+use dbc_values::{Checked, Copied, Memory, Name};
 use std::marker::Model;
 
 /// The named values of a signal: `VAL_ number signal entries ;`.
@@ -13,7 +13,7 @@ pub struct ValueRow {
     /// The name of the signal.
     pub signal: Name,
     /// The named values, in the order of the text.
-    pub entries: List<Entry>,
+    pub entries: Entries,
 }
 
 impl Model for ValueRow {
@@ -28,7 +28,7 @@ impl Model for ValueRow {
 
 impl ValueRow {
     /// The row. It is always there.
-    pub fn new(number: u32, signal: Name, entries: List<Entry>) -> Option<ValueRow>
+    pub fn new(number: u32, signal: Name, entries: Entries) -> Option<ValueRow>
         ensures { result ≡ Some (record { number = number; signal = signal; entries = entries }) }
     {
         Some(ValueRow {

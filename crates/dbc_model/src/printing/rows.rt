@@ -8,7 +8,7 @@ ghost use Rattle.dbc_records.specs.CanonicalText.{piece_layout};
 use crate::printing::parts::{
     SpacedName, hold_signal_key, hold_spaced_end, hold_statement_end, hold_word,
 };
-use crate::printing::style::{Style, hold_list, hold_separated};
+use crate::printing::style::{Style, hold_items, hold_list, hold_separated};
 use byte_devices::{Out, Sink, WriteFault};
 use dbc_records::{Entry, FloatRow, Kept, MuxRow, Range, TableRow, ValueRow};
 use dbc_values::Pieces;
@@ -79,7 +79,7 @@ impl Style<ValueRow> for ValuesLine {
     #[tactic(auto, using(crate::proofs::Layouts::layouts), unfolding(dbc_records::specs::CanonicalText::values_layout))]
     fn hold_item<W: Sink>(out: &mut Out<'_, W>, row: &ValueRow) -> Result<(), WriteFault> {
         hold_values_key(out, row)?;
-        hold_list::<EntryStyle, Entry, W>(out, &row.entries)?;
+        hold_items::<EntryStyle, Entry, W>(out, row.entries.as_slice())?;
         hold_spaced_end(out)
     }
 }

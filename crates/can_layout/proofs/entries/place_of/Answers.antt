@@ -3,9 +3,9 @@ use Rattle.std.specs.Prelude.{int_lt}
 use Rattle.std.specs.List.Sorted.{IsPartitionPoint}
 use Rattle.std.proofs.lemmas.List.Sorted.{IsPartitionPoint-from_clause}
 use Rattle.dbc_records.specs.Records.{Entry}
-use Rattle.can_rows.specs.declared.order.EntryOrder.{EntryOrder}
-use Rattle.can_rows.specs.declared.order.EntryOrder.TheVariants as orders
-use Rattle.can_rows.specs.Orders.{precedes, are_in_order}
+use Rattle.dbc_records.specs.declared.order.EntryOrder.{EntryOrder}
+use Rattle.dbc_records.specs.declared.order.EntryOrder.TheVariants as orders
+use Rattle.dbc_records.specs.Orders.{precedes, are_in_order}
 use Rattle.can_layout.proofs.EntryOrders.{parted}
 use Rattle.can_layout.proofs.entries.place_of.Goals as goal
 

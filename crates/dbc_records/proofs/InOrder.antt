@@ -5,9 +5,9 @@ use Rattle.std.specs.Ordering.{int_eq}
 use Rattle.std.proofs.lemmas.Bool.{and_parts}
 use Rattle.std.proofs.lemmas.Int.{ints}
 use Rattle.dbc_records.specs.Records.{Entry}
-use Rattle.can_rows.specs.declared.order.EntryOrder.{EntryOrder}
-use Rattle.can_rows.specs.declared.order.EntryOrder.TheVariants as orders
-use Rattle.can_rows.specs.Orders.{precedes, are_in_order_after, are_in_order}
+use Rattle.dbc_records.specs.declared.order.EntryOrder.{EntryOrder}
+use Rattle.dbc_records.specs.declared.order.EntryOrder.TheVariants as orders
+use Rattle.dbc_records.specs.Orders.{precedes, are_in_order_after, are_in_order}
 
 -- ---- numbers
 

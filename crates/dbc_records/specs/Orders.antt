@@ -1,8 +1,8 @@
 -- Entries in the order of their numbers.
 use Rattle.std.specs.Prelude.{ℤ, Bool, true, ◌&&◌, int_lt, List, [], ◌∷◌, Option, Some, None, if◌then◌else◌}
 use Rattle.dbc_records.specs.Records.{Entry}
-use Rattle.can_rows.specs.declared.order.EntryOrder.{EntryOrder}
-use Rattle.can_rows.specs.declared.order.EntryOrder.TheVariants as orders
+use Rattle.dbc_records.specs.declared.order.EntryOrder.{EntryOrder}
+use Rattle.dbc_records.specs.declared.order.EntryOrder.TheVariants as orders
 
 -- a number precedes another one in an order
 abbrev pub precedes : EntryOrder → ℤ → ℤ → Bool

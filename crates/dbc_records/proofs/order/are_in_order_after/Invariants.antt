@@ -1,6 +1,6 @@
 use Rattle.std.proofs.Common.{◌≡◌, drop}
-use Rattle.can_rows.specs.Orders.{are_in_order_after}
-use Rattle.can_rows.proofs.order.are_in_order_after.Given as goal
+use Rattle.dbc_records.specs.Orders.{are_in_order_after}
+use Rattle.dbc_records.proofs.order.are_in_order_after.Given as goal
 
 -- the entries so far are in the order
 abbrev pub invariant-loop-entry : goal.invariant-loop-entry

@@ -1,8 +1,8 @@
 //! Entries in the order of their numbers.
 ghost use Rattle.std.specs.Prelude.{◌≡◌, IfSome, IsTrue};
-ghost use Rattle.can_rows.specs.Orders.{precedes, are_in_order_after, are_in_order, entry_order};
+ghost use Rattle.dbc_records.specs.Orders.{precedes, are_in_order_after, are_in_order, entry_order};
 
-use dbc_records::Entry;
+use crate::entry::Entry;
 
 /// A strict order of numbers.
 #[derive(Clone, Copy, Debug, PartialEq, Eq)]
