@@ -1,7 +1,6 @@
 -- Numbers of elements, and lists made of lists.
-use Rattle.std.proofs.Common.{◌≡◌, ◌<◌, ◌≤◌, ◌^◌, ℕ, Bool, true, nat_lt, List, [], ◌∷◌, ◌++◌, map, length, refl, ap, ◌∙◌, arith}
-use Rattle.std.specs.List.{flat_map, list_any, range_with_len}
-use Rattle.std.proofs.Math.Pow.{pow_mono}
+use Rattle.std.proofs.Common.{◌≡◌, ℕ, Bool, List, [], ◌∷◌, map, length, refl, ap, ◌∙◌}
+use Rattle.std.specs.List.{list_any, range_with_len}
 use Rattle.std.proofs.lemmas.List.FromFn.{length-map-range_with_len}
 
 -- as many ways up as signals
@@ -12,6 +11,3 @@ pub any_of_map : {X Y : Type 0} (test : Y → Bool) (g : X → Y) (xs : List X) 
     ≡ list_any (λ x. test (g x)) xs
 any_of_map test g [] = refl
 any_of_map test g (x ∷ xs) = rw (any_of_map test g xs) refl
-
-pub below_power : (n bits : ℕ) → n < 2 ^ 64 → 64 ≤ bits → nat_lt n (2 ^ bits) ≡ true
-below_power n bits small big = let more : 2 ^ 64 ≤ 2 ^ bits = pow_mono big in grind (arith, small, more)

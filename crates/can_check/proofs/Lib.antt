@@ -1,6 +1,5 @@
 pub mod Counts
-pub mod InOrder
-pub mod BothEnds
 pub mod OwnFaults
 pub mod Parts
 pub mod Placed
+pub mod Told

@@ -18,8 +18,8 @@ use Rattle.can_diagnostics.specs.declared.code.Code.TheVariants as codes
 use Rattle.can_diagnostics.specs.declared.diagnostic.Diagnostic.{Diagnostic}
 use Rattle.can_references.specs.Finding.{where_true, stands_in, each_after}
 use Rattle.can_references.specs.HeadFaults.{is_pseudo, head_faults, unknown_nodes}
+use Rattle.can_references.specs.RawRanges.{is_out_of_range}
 use Rattle.can_check.specs.SignalRules.{has_no_switch, is_loop, is_bad_row, lies_outside, is_float, is_long, has_no_scale}
-use Rattle.can_check.specs.SignalRules.{is_out_of_range}
 
 -- ---- its signals
 

@@ -1,12 +1,10 @@
 -- What may be doubtful of a signal: each a test.
--- Source: the DBC file format, "Signal Definitions", "Extended Multiplexing", "Signal Extended Value Type Definitions",
--- "Signal Value Descriptions".
-use Rattle.std.specs.Prelude.{ℕ, ℤ, pos, negsuc, ◌-◌, ◌^◌, ◌&&◌, ◌||◌, nat_lt, nat_le, Bool, true, false, not, List, Option, Some}
-use Rattle.std.specs.Prelude.{None, length, slice_get, if◌then◌else◌}
+-- Source: the DBC file format, "Signal Definitions", "Extended Multiplexing", "Signal Extended Value Type Definitions".
+use Rattle.std.specs.Prelude.{ℕ, ◌&&◌, ◌||◌, nat_lt, nat_le, Bool, true, false, not, List, Option, Some, None}
 use Rattle.std.specs.List.{list_any}
 use Rattle.std.specs.Str.{bytes_eq}
 use Rattle.dbc_values.specs.Scales.{scale_fits, most_raw_bits}
-use Rattle.dbc_records.specs.Records.{Signal, Entry, MuxRow}
+use Rattle.dbc_records.specs.Records.{Signal, MuxRow}
 use Rattle.dbc_records.specs.declared.tag.Tag.{Tag}
 use Rattle.dbc_records.specs.declared.tag.Tag.TheVariants as tags
 use Rattle.dbc_records.specs.Ranges.{is_empty_range}
@@ -61,23 +59,3 @@ is_long signal = nat_lt most_raw_bits signal.length
 -- its values have too many digits
 abbrev pub has_no_scale : Signal → Bool
 has_no_scale signal = nat_le signal.length most_raw_bits && not (scale_fits signal.factor signal.offset signal.length)
-
--- ---- named values
-
--- a raw value of so many bits: with a sign from -2^(bits - 1) to 2^(bits - 1) - 1, and else from 0 to 2^bits - 1
-abbrev pub in_raw_range : Bool → ℕ → ℤ → Bool
-in_raw_range signed bits (pos n) = nat_lt n (2 ^ (if signed then bits - 1 else bits))
-in_raw_range signed bits (negsuc n) = signed && nat_lt n (2 ^ (bits - 1))
-
--- a named value that the signal never has
-abbrev pub is_out_of_range : Signal → Entry → Bool
-is_out_of_range signal entry = not (in_raw_range signal.signed signal.length entry.number)
-
--- the signal can have the named value, if there is one
-abbrev pub has_at : Signal → Option Entry → Bool
-has_at signal None = true
-has_at signal (Some entry) = not (is_out_of_range signal entry)
-
--- the signal can have the first and the last of the named values
-abbrev pub has_both_ends : Signal → List Entry → Bool
-has_both_ends signal entries = has_at signal (slice_get entries 0) && has_at signal (slice_get entries (length entries - 1))

@@ -1,8 +1,9 @@
 //! All that is doubtful, of one message and of a whole database.
 ghost use Rattle.std.specs.Prelude.{◌≡◌, ◌++◌, ◌<◌, IfOk, OnOk, Some, length, slice_get, option_map};
 ghost use Rattle.std.specs.List.{flat_map};
+ghost use Rattle.can_rows.specs.Rows.{rows_of};
 ghost use Rattle.can_references.specs.RowFaults.{row_faults};
-ghost use Rattle.can_check.specs.MessageFaults.{reading_faults, place_faults, other_faults, faults_with, message_faults};
+ghost use Rattle.can_check.specs.MessageFaults.{reading_faults, place_faults, other_faults, faults_by, message_faults};
 ghost use Rattle.can_check.specs.MessageFaults.{floats, long, no_scale};
 ghost use Rattle.can_check.specs.AllFaults.{all_faults};
 ghost use Rattle.can_check.specs.Reports.{Takes};
@@ -12,8 +13,9 @@ use crate::overlap_rules::report_overlaps;
 use crate::report::{Report, Stop};
 use crate::signal_rules::{HasNoScale, IsFloat, IsLong, push_where};
 use crate::value_rules::push_value_faults;
+use crate::walk_rules::walks_in;
 use can_diagnostics::{Code, Diagnostic};
-use can_mux::{MessageRows, Walk, message_walks};
+use can_mux::{MessageRows, Walk};
 use can_overlap::Occupancy;
 use can_references::{Known, push_head_faults, push_row_faults, push_unknown_nodes};
 use can_rows::{Indexed, Lookup};
@@ -67,16 +69,17 @@ fn push_place_faults<'a, L: Lookup>(
 pub(crate) fn push_other_faults<'a, L: Lookup>(
     found: &mut Vec<Diagnostic>,
     known: &Known<'a, L>,
-    rows: &MessageRows<'_, L>,
     message: &'a Message,
     walks: &[Walk],
 ) -> Result<(), Memory>
-    ensures { OnOk result (found.new.items ≡ found.old.items ++ other_faults known.now rows.now message.now walks.now) }
+    ensures { OnOk result (found.new.items ≡ found.old.items ++ other_faults known.now (rows_of message.now.head.number known.now)
+        message.now walks.now) }
 {
-    push_switch_faults(found, rows, message, walks)?;
-    push_reading_faults(found, rows, message)?;
+    let rows = MessageRows::of(known.lookup(), message.head.number);
+    push_switch_faults(found, &rows, message, walks)?;
+    push_reading_faults(found, &rows, message)?;
     push_unknown_nodes(found, known, message)?;
-    push_value_faults(found, rows, message)
+    push_value_faults(found, known, message)
 }
 
 // Hands on what stands before the overlaps of a message.
@@ -98,40 +101,39 @@ fn report_place_faults<'a, L: Lookup, T: Report>(
 fn report_other_faults<'a, L: Lookup, T: Report>(
     to: &mut T,
     known: &Known<'a, L>,
-    rows: &MessageRows<'_, L>,
     message: &'a Message,
     walks: &Vec<Walk>,
 ) -> Result<(), Stop>
-    ensures { Takes T.Took T.Stopped to.old to.new result (other_faults known.now rows.now message.now walks.now.items) }
+    ensures { Takes T.Took T.Stopped to.old to.new result (other_faults known.now (rows_of message.now.head.number known.now)
+        message.now walks.now.items) }
 {
     let mut found = Vec::new(*walks.allocator());
-    match push_other_faults(&mut found, known, rows, message, walks.as_slice()) {
+    match push_other_faults(&mut found, known, message, walks.as_slice()) {
         Ok(()) => to.take(found),
         Err(Memory) => Err(Stop::Memory),
     }
 }
 
-// Hands on the diagnostics of a message, by the rows of its number. The table for overlaps is empty before and after.
-#[tactic(auto, using(crate::proofs::Counts::as_many))]
-fn report_by_rows<'a, L: Lookup, T: Report>(
+// Hands on the diagnostics of a message, by the ways up of its signals. The table for overlaps is empty before and after.
+fn report_by_walks<'a, L: Lookup, T: Report>(
     to: &mut T,
     known: &Known<'a, L>,
     occupancy: Occupancy,
-    rows: &MessageRows<'_, L>,
     message: &'a Message,
+    walks: &Vec<Walk>,
 ) -> Result<Occupancy, Stop>
-    ensures { Takes T.Took T.Stopped to.old to.new result (faults_with known.now rows.now message.now) }
+    requires { length walks.now.items ≡ length message.now.signals }
+    ensures { Takes T.Took T.Stopped to.old to.new result (faults_by known.now (rows_of message.now.head.number known.now)
+        message.now walks.now.items) }
 {
-    let alloc = occupancy.allocator();
-    let walks = message_walks(alloc, rows, message.signals.as_slice())?;
-    report_place_faults(to, alloc, known, message)?;
+    report_place_faults(to, occupancy.allocator(), known, message)?;
     let occupancy = report_overlaps(to, occupancy, message, walks.as_slice())?;
-    report_other_faults(to, known, rows, message, &walks)?;
+    report_other_faults(to, known, message, walks)?;
     Ok(occupancy)
 }
 
 /// Hands on the diagnostics of a message, by what is known of its database. The table for overlaps is empty before and after.
-#[tactic(auto, unfolding(crate::specs::MessageFaults::message_faults))]
+#[tactic(auto, using(crate::proofs::Counts::as_many), unfolding(crate::specs::MessageFaults::message_faults))]
 pub fn report_message<'a, L: Lookup, T: Report>(
     to: &mut T,
     known: &Known<'a, L>,
@@ -140,8 +142,8 @@ pub fn report_message<'a, L: Lookup, T: Report>(
 ) -> Result<Occupancy, Stop>
     ensures { Takes T.Took T.Stopped to.old to.new result (message_faults known.now message.now) }
 {
-    let rows = MessageRows::of(known.lookup(), message.head.number);
-    report_by_rows(to, known, occupancy, &rows, message)
+    let walks = walks_in(occupancy.allocator(), known, message)?;
+    report_by_walks(to, known, occupancy, message, &walks)
 }
 
 // Hands on the diagnostics of messages, in order.

@@ -1,12 +1,14 @@
 //! A message's own diagnostics.
 ghost use Rattle.std.specs.Prelude.{◌≡◌, ◌++◌, OnOk, length};
-ghost use Rattle.can_check.specs.MessageFaults.{overlaps, own_with, own_faults};
+ghost use Rattle.can_rows.specs.Rows.{rows_of};
+ghost use Rattle.can_check.specs.MessageFaults.{overlaps, own_by, own_faults};
 
 use crate::all::push_other_faults;
 use crate::layout_rules::push_outside;
 use crate::overlap_rules::report_overlaps;
+use crate::walk_rules::walks_in;
 use can_diagnostics::Diagnostic;
-use can_mux::{MessageRows, Walk, message_walks};
+use can_mux::Walk;
 use can_overlap::Occupancy;
 use can_references::Known;
 use can_rows::Lookup;
@@ -29,28 +31,28 @@ fn push_overlaps(
     }
 }
 
-// Adds a message's own diagnostics, by the rows of its number. The table for overlaps is empty before and after.
-#[tactic(auto, using(crate::proofs::Counts::as_many, crate::proofs::OwnFaults::pushed_thrice))]
-fn push_by_rows<'a, L: Lookup>(
+// Adds a message's own diagnostics, by the ways up of its signals. The table for overlaps is empty before and after.
+#[tactic(auto, using(crate::proofs::OwnFaults::pushed_thrice))]
+fn push_by_walks<'a, L: Lookup>(
     found: &mut Vec<Diagnostic>,
     known: &Known<'a, L>,
     occupancy: Occupancy,
-    rows: &MessageRows<'_, L>,
     message: &'a Message,
+    walks: &[Walk],
 ) -> Result<Occupancy, Memory>
-    ensures { OnOk result (found.new.items ≡ found.old.items ++ own_with known.now rows.now message.now) }
+    requires { length walks.now ≡ length message.now.signals }
+    ensures { OnOk result (found.new.items ≡ found.old.items ++ own_by known.now (rows_of message.now.head.number known.now)
+        message.now walks.now) }
 {
-    let alloc = occupancy.allocator();
-    let walks = message_walks(alloc, rows, message.signals.as_slice())?;
     push_outside(found, message)?;
-    let occupancy = push_overlaps(found, occupancy, message, walks.as_slice())?;
-    push_other_faults(found, known, rows, message, walks.as_slice())?;
+    let occupancy = push_overlaps(found, occupancy, message, walks)?;
+    push_other_faults(found, known, message, walks)?;
     Ok(occupancy)
 }
 
 /// Adds a message's own diagnostics: codes 5 to 15. Other messages can't change them. The table for overlaps is empty before and
 /// after.
-#[tactic(auto, unfolding(crate::specs::MessageFaults::own_faults))]
+#[tactic(auto, using(crate::proofs::Counts::as_many), unfolding(crate::specs::MessageFaults::own_faults))]
 pub fn push_own_faults<'a, L: Lookup>(
     found: &mut Vec<Diagnostic>,
     known: &Known<'a, L>,
@@ -59,6 +61,6 @@ pub fn push_own_faults<'a, L: Lookup>(
 ) -> Result<Occupancy, Memory>
     ensures { OnOk result (found.new.items ≡ found.old.items ++ own_faults known.now message.now) }
 {
-    let rows = MessageRows::of(known.lookup(), message.head.number);
-    push_by_rows(found, known, occupancy, &rows, message)
+    let walks = walks_in(occupancy.allocator(), known, message)?;
+    push_by_walks(found, known, occupancy, message, walks.as_slice())
 }

@@ -1,8 +1,27 @@
-//! Tests of the ways up from signals.
-ghost use Rattle.std.specs.Prelude.{◌≡◌};
+//! The ways up from signals, and tests of them.
+ghost use Rattle.std.specs.Prelude.{◌≡◌, IfOk};
+ghost use Rattle.can_rows.specs.Rows.{rows_of};
+ghost use Rattle.can_mux.specs.Switches.{walks_of};
 ghost use Rattle.can_check.specs.SignalRules.{has_no_switch, is_loop};
 
-use can_mux::Walk;
+use can_mux::{MessageRows, Walk, message_walks};
+use can_references::Known;
+use can_rows::Lookup;
+use dbc_records::Message;
+use dbc_values::Memory;
+use std::alloc::Global;
+
+/// The ways up from the signals of a message, in order.
+pub(crate) fn walks_in<'a, L: Lookup>(
+    alloc: Global,
+    known: &Known<'a, L>,
+    message: &Message,
+) -> Result<Vec<Walk>, Memory>
+    ensures { IfOk result (λ walks. walks.items ≡ walks_of (rows_of message.now.head.number known.now) message.now.signals) }
+{
+    let rows = MessageRows::of(known.lookup(), message.head.number);
+    message_walks(alloc, &rows, message.signals.as_slice())
+}
 
 /// A test of ways up.
 pub(crate) trait WalkTest {

@@ -3,3 +3,8 @@ pub mod Pushing
 pub mod Alone
 pub mod ByKind
 pub mod Alike
+pub mod InSpans
+pub mod Powers
+pub mod KeptRows
+pub mod InOrder
+pub mod BothEnds

@@ -1,9 +1,9 @@
 -- What the whole of a database says of a number, a name or a node: lists of keys in the order of the database.
-use Rattle.std.specs.Prelude.{◌||◌, ℕ, Bool, List, [], ◌∷◌, Option, Some, None, map, codes}
+use Rattle.std.specs.Prelude.{◌≡◌, ◌||◌, ℕ, Bool, List, [], ◌∷◌, Option, Some, None, map, codes}
 use Rattle.std.specs.List.{flat_map}
 use Rattle.std.specs.List.Sorted.{IsPermutation}
 use Rattle.std.specs.Str.{bytes_eq}
-use Rattle.dbc_records.specs.Records.{Message}
+use Rattle.dbc_records.specs.Records.{Message, ValueRow}
 use Rattle.dbc_records.specs.Databases.{Database}
 use Rattle.can_rows.specs.Groups.{group_of}
 use Rattle.can_references.specs.Finding.{stands_in}
@@ -46,12 +46,13 @@ is_known_node database name = stands_in bytes_eq name database.nodes || bytes_eq
 
 -- ---- what is found by keys
 
--- these are all keys of a database, each kind in any order
+-- these are all keys of a database, each kind in any order, and all rows of named values
 pub record IsKnown (database : Database) (numbers : List ℕ) (names : List (List ℕ)) (groups : List ℕ) (signals : List (ℕ × List ℕ))
-    (nodes defined : List (List ℕ)) : Type 0 where
+    (nodes defined : List (List ℕ)) (many : List ValueRow) : Type 0 where
   pub all_numbers : IsPermutation (numbers_of database) numbers
   pub all_names : IsPermutation (names_of database) names
   pub all_groups : IsPermutation (groups_of database) groups
   pub all_signals : IsPermutation (signals_of database) signals
   pub all_nodes : IsPermutation database.nodes nodes
   pub all_defined : IsPermutation (defined_in database) defined
+  pub all_values : many ≡ database.values

@@ -2,3 +2,7 @@ pub mod Finding
 pub mod Known
 pub mod HeadFaults
 pub mod RowFaults
+pub mod RawRanges
+pub mod Spans
+pub mod Values
+pub mod ManyRows

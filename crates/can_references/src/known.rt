@@ -1,14 +1,20 @@
 //! What the whole of a database says of numbers, names and nodes, found by keys.
-ghost use Rattle.std.specs.Prelude.{◌≡◌, ◌==◌, ◌++◌, IfOk, OnOk, map};
+ghost use Rattle.std.specs.Prelude.{◌≡◌, ◌==◌, ◌++◌, IfOk, IfSome, OnOk, Some, map};
 ghost use Rattle.std.specs.List.{flat_map};
 ghost use Rattle.std.specs.List.Sorted.{IsPermutation};
 ghost use Rattle.std.specs.Str.{bytes_eq};
 ghost use Rattle.can_keys.specs.SignalNames.{same_signal, named_signal};
+ghost use Rattle.can_rows.specs.Rows.{rows_of, first_values, entries_of};
 ghost use Rattle.can_rows.specs.Groups.{group_of};
 ghost use Rattle.can_references.specs.Finding.{is_shared, stands_in};
 ghost use Rattle.can_references.specs.Known.{numbers_of, names_of, groups_of, signals_in, signals_of, defined_in, perhaps};
 ghost use Rattle.can_references.specs.Known.{is_known_node};
+ghost use Rattle.can_references.specs.RawRanges.{numbers_out_of_range};
+ghost use Rattle.can_references.specs.Values.{numbers_repeated};
 
+use crate::many_rows::{FEW, ManyRows};
+use crate::many_values::ManyValues;
+use crate::values::{push_out_of_range, push_repeated};
 use can_keys::{Names, Numbers, SignalNames};
 use can_rows::{Lookup, group_in};
 use dbc_records::{AttrDef, Database, Message, Signal};
@@ -30,6 +36,7 @@ pub struct Known<'a, L: Lookup> {
     signals: SignalNames<'a>,
     nodes: Names<'a>,
     defined: Names<'a>,
+    many: ManyRows<'a>,
 }
 
 impl<'a, L: Lookup> Model for Known<'a, L> {
@@ -40,7 +47,8 @@ impl<'a, L: Lookup> Model for Known<'a, L> {
 
     ghost view = { λ a. L.whole a.lookup.now };
 
-    ghost invariant = { λ a. IsKnown (L.whole a.lookup.now) a.numbers a.names a.groups a.signals a.nodes a.defined };
+    ghost invariant = { λ a. IsKnown (L.whole a.lookup.now) a.numbers a.names a.groups a.signals a.nodes a.defined
+        a.many };
 }
 
 fn numbers_of(alloc: Global, messages: &[Message]) -> Result<Numbers, Memory>
@@ -131,8 +139,8 @@ fn defined_in<'a>(alloc: Global, definitions: &'a [AttrDef]) -> Result<Names<'a>
 }
 
 impl<'a, L: Lookup> Known<'a, L> {
-    /// What a database says whose rows are found by `lookup`.
-    pub fn of(alloc: Global, lookup: &'a L) -> Result<Known<'a, L>, Memory>
+    // The same. Of rows of many named values that several messages have, what is found is kept if their number is wanted.
+    fn with(alloc: Global, lookup: &'a L, wanted: Option<&[u32]>) -> Result<Known<'a, L>, Memory>
         ensures { IfOk result (λ known. known ≡ L.whole lookup.now) }
     {
         let database = lookup.database();
@@ -143,6 +151,7 @@ impl<'a, L: Lookup> Known<'a, L> {
         let signals = signals_of(alloc, messages)?;
         let nodes = names_among(alloc, database.nodes.as_slice())?;
         let defined = defined_in(alloc, database.definitions.as_slice())?;
+        let many = ManyRows::of(alloc, &numbers, wanted, database.values.as_slice())?;
         Ok(Known {
             lookup,
             numbers,
@@ -151,7 +160,23 @@ impl<'a, L: Lookup> Known<'a, L> {
             signals,
             nodes,
             defined,
+            many,
         })
+    }
+
+    /// What a database says whose rows are found by `lookup`.
+    pub fn of(alloc: Global, lookup: &'a L) -> Result<Known<'a, L>, Memory>
+        ensures { IfOk result (λ known. known ≡ L.whole lookup.now) }
+    {
+        Known::with(alloc, lookup, None)
+    }
+
+    /// The same, made to look for what is doubtful of messages with these numbers. It answers for others too, but of many named
+    /// values of theirs it takes longer, if several messages have them.
+    pub fn among(alloc: Global, lookup: &'a L, numbers: &[u32]) -> Result<Known<'a, L>, Memory>
+        ensures { IfOk result (λ known. known ≡ L.whole lookup.now) }
+    {
+        Known::with(alloc, lookup, Some(numbers))
     }
 
     /// The database.
@@ -222,5 +247,57 @@ impl<'a, L: Lookup> Known<'a, L> {
         ensures { result ≡ stands_in bytes_eq name.now (defined_in self.now) }
     {
         self.defined.has(name)
+    }
+
+    // What is kept of the row of a signal's named values.
+    fn many_values(&self, number: u32, signal: &'a Signal) -> Option<&ManyValues<'a>>
+        ensures { IfSome result (λ many. first_values signal.now.name (rows_of number self.now) ≡ Some many.now) }
+    {
+        if self.many.is_empty() {
+            return None;
+        }
+        let row = self.lookup.values(number, &signal.name)?;
+        if row.entries.as_slice().len() <= FEW {
+            return None;
+        }
+        self.many.kept(number, signal.name.as_bytes())
+    }
+
+    /// Adds the numbers of the named values of a signal that it never has, in the order of the text.
+    pub fn push_out_of_range(
+        &self,
+        found: &mut Vec<i128>,
+        number: u32,
+        signal: &'a Signal,
+    ) -> Result<(), Memory>
+        ensures { OnOk result (found.new.items ≡ found.old.items ++ numbers_out_of_range signal.now (entries_of
+            (first_values signal.now.name (rows_of number self.now)))) }
+    {
+        if let Some(many) = self.many_values(number, signal) {
+            return many.push_out_of_range(found, signal);
+        }
+        match self.lookup.values(number, &signal.name) {
+            Some(row) => push_out_of_range(found, signal, &row.entries),
+            None => Ok(()),
+        }
+    }
+
+    /// Adds the numbers of the named values of a signal that stood earlier among them, in the order of the text.
+    pub fn push_repeated(
+        &self,
+        found: &mut Vec<i128>,
+        number: u32,
+        signal: &'a Signal,
+    ) -> Result<(), Memory>
+        ensures { OnOk result (found.new.items ≡ found.old.items ++ numbers_repeated (entries_of
+            (first_values signal.now.name (rows_of number self.now)))) }
+    {
+        if let Some(many) = self.many_values(number, signal) {
+            return many.push_repeated(found);
+        }
+        match self.lookup.values(number, &signal.name) {
+            Some(row) => push_repeated(found, &row.entries),
+            None => Ok(()),
+        }
     }
 }

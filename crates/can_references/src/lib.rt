@@ -6,10 +6,15 @@
 #![tactic(auto)]
 
 mod known;
+mod many_rows;
+mod many_values;
 mod message_rules;
 mod node_rules;
+mod raw_range;
 mod row;
 mod row_rules;
+mod spans;
+mod values;
 
 pub use known::Known;
 pub use message_rules::{is_pseudo, push_head_faults};

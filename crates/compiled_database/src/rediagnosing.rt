@@ -93,7 +93,7 @@ pub(crate) fn diagnose_after<L: Lookup>(
     ensures { IfOk result (λ made. AreDiagnosed accepted.now.after made.diagnostics.items made.counts.items) }
 {
     faults_in_order();
-    let known = Known::of(alloc, lookup)?;
+    let known = Known::among(alloc, lookup, accepted.numbers())?;
     let kept = kept_own_after(alloc, accepted)?;
     let messages = messages_of(known.database());
     let mut made = Diagnosed::with_room(alloc, messages.len())?;

@@ -1,12 +1,19 @@
-use Rattle.std.proofs.Common.{List, ◌++◌, ap, sym, ◌∙◌, append-nil}
-use Rattle.can_diagnostics.specs.declared.diagnostic.Diagnostic.{Diagnostic}
-use Rattle.can_check.specs.SignalRules.{has_both_ends}
-use Rattle.can_check.proofs.BothEnds.{none_out}
+use Rattle.std.proofs.Common.{◌++◌, List, ap, ◌∙◌}
+use Rattle.std.specs.Prelude.{ℤ}
+use Rattle.dbc_records.specs.Records.{Head, Entry}
+use Rattle.can_rows.specs.Rows.{rows_of}
+use Rattle.can_references.specs.RawRanges.{numbers_out_of_range}
+use Rattle.can_check.specs.MessageFaults.{named}
+use Rattle.can_check.proofs.Told.{told_out_of_range}
 use Rattle.can_check.proofs.value_rules.push_out_of_range.Goals as goal
 
-pub returns-in-Some : goal.returns-in-Some
-returns-in-Some c =
-    sym (ap (λ (more : List Diagnostic). c.args.found.now.items ++ more)
-    (none_out c.in-Some.field-0 c.args.head.now c.args.signal.now c.args.entries.now c.in-Some.ensures.in_order
-    (ap (has_both_ends c.args.signal.now) (sym c.as_slice.ensures) ∙ sym c.has_both_ends.ensures ∙ c.if-has_both_ends.true))
-    ∙ append-nil c.args.found.now.items)
+pub returns : goal.returns
+returns g c =
+    let signal = c.args.signal.now in
+    let entries : List Entry = named (rows_of c.args.head.now.number c.args.known.now) signal in
+    told_out_of_range c.args.head.now signal entries c.args.found.now.items c.push_each.new.found.items c.as_slice.result.now
+    c.in_ok-push_each.ensures
+    (c.as_slice.ensures.value ∙ c.in_ok-push_out_of_range.ensures
+    ∙ ap (λ (values : List ℤ). values ++ numbers_out_of_range signal (named (rows_of c.head.inside.number c.args.known.now) signal))
+    c.new-values.ensures.items
+    ∙ ap (λ (head : Head). numbers_out_of_range signal (named (rows_of head.number c.args.known.now) signal)) c.head.view_is)

@@ -1,0 +1,57 @@
+-- What is told of named values, each by its number.
+use Rattle.std.proofs.Common.{◌≡◌, ◌++◌, Bool, true, false, List, [], ◌∷◌, refl, ap, ◌∙◌}
+use Rattle.std.specs.Prelude.{ℤ, map, if◌then◌else◌}
+use Rattle.std.specs.List.{flat_map}
+use Rattle.std.specs.Ordering.{int_eq}
+use Rattle.dbc_records.specs.Records.{Head, Signal, Entry}
+use Rattle.can_diagnostics.specs.Diagnostics.{of_value}
+use Rattle.can_diagnostics.specs.declared.code.Code.{Code}
+use Rattle.can_diagnostics.specs.declared.code.Code.TheVariants as codes
+use Rattle.can_diagnostics.specs.declared.diagnostic.Diagnostic.{Diagnostic}
+use Rattle.can_references.specs.Finding.{where_true, stands_in, each_after}
+use Rattle.can_references.specs.RawRanges.{is_out_of_range, numbers_out_of_range}
+use Rattle.can_references.specs.Values.{number_repeated, numbers_repeated}
+use Rattle.can_check.specs.MessageFaults.{out_of_range, repeated_value, repeated_among}
+
+abbrev told : Code → Head → Signal → List ℤ → List Diagnostic
+told code head signal values = flat_map (λ value. of_value code head signal value ∷ []) values
+
+-- a value that is told where a test holds, and behind it others
+told_first : (code : Code) (head : Head) (signal : Signal) (test : Bool) (value : ℤ) (values : List ℤ) (others : List Diagnostic)
+    → told code head signal values ≡ others
+    → told code head signal ((if test then value ∷ [] else []) ++ values)
+    ≡ where_true test (of_value code head signal value) ++ others
+told_first code head signal true value values others is = ap (λ more. of_value code head signal value ∷ more) is
+told_first code head signal false value values others is = is
+
+told_of_entries : (head : Head) (signal : Signal) (entries : List Entry)
+    → told codes.ValueOutOfRange head signal (numbers_out_of_range signal entries) ≡ flat_map (out_of_range head signal) entries
+told_of_entries head signal [] = refl
+told_of_entries head signal (entry ∷ entries) =
+    told_first codes.ValueOutOfRange head signal (is_out_of_range signal entry) entry.number (numbers_out_of_range signal entries)
+    (flat_map (out_of_range head signal) entries) (told_of_entries head signal entries)
+
+told_after : (head : Head) (signal : Signal) (before numbers : List ℤ)
+    → told codes.RepeatedValue head signal (each_after number_repeated before numbers)
+    ≡ each_after (repeated_value head signal) before numbers
+told_after head signal before [] = refl
+told_after head signal before (number ∷ numbers) =
+    told_first codes.RepeatedValue head signal (stands_in int_eq number before) number
+    (each_after number_repeated (before ++ number ∷ []) numbers)
+    (each_after (repeated_value head signal) (before ++ number ∷ []) numbers)
+    (told_after head signal (before ++ number ∷ []) numbers)
+
+-- what is pushed for the values found, the later push first
+pub told_out_of_range : (head : Head) (signal : Signal) (entries : List Entry) (old now : List Diagnostic) (values : List ℤ)
+    → now ≡ old ++ told codes.ValueOutOfRange head signal values → values ≡ [] ++ numbers_out_of_range signal entries
+    → now ≡ old ++ flat_map (out_of_range head signal) entries
+told_out_of_range head signal entries old now values pushed are =
+    pushed ∙ ap (λ v. old ++ told codes.ValueOutOfRange head signal v) are
+    ∙ ap (λ more. old ++ more) (told_of_entries head signal entries)
+
+pub told_repeated : (head : Head) (signal : Signal) (entries : List Entry) (old now : List Diagnostic) (values : List ℤ)
+    → now ≡ old ++ told codes.RepeatedValue head signal values → values ≡ [] ++ numbers_repeated entries
+    → now ≡ old ++ repeated_among head signal entries
+told_repeated head signal entries old now values pushed are =
+    pushed ∙ ap (λ v. old ++ told codes.RepeatedValue head signal v) are
+    ∙ ap (λ more. old ++ more) (told_after head signal [] (map (λ entry. entry.number) entries))

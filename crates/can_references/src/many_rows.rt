@@ -1,0 +1,125 @@
+//! The rows of many named values that several messages have, found by their keys.
+ghost use Rattle.std.specs.Prelude.{◌≡◌, ℕ, List, IsTrue, IfOk, IfSome, OnOk, Some, None, if◌then◌else◌};
+ghost use Rattle.std.specs.List.{find};
+ghost use Rattle.std.specs.Option.{option_map, option_or};
+ghost use Rattle.dbc_records.specs.Records.{ValueRow as Row};
+ghost use Rattle.can_references.specs.Values.{has_many};
+ghost use Rattle.can_references.specs.ManyRows.{is_of, is_wanted, is_kept_number, is_kept, kept_at, AreKept};
+
+use crate::many_values::ManyValues;
+use can_keys::Numbers;
+use dbc_records::ValueRow;
+use dbc_values::Memory;
+use std::alloc::Global;
+use std::collections::BTreeMap;
+use std::marker::Model;
+
+/// Up to this many named values of a row are gone through for each message.
+pub(crate) const FEW: usize = 16;
+
+// A message number, and the name of a signal.
+type Key<'a> = (u32, &'a [u8]);
+
+// Whether a number is among those that are wanted, if not all are.
+fn is_wanted(wanted: Option<&[u32]>, number: u32) -> bool
+    ensures { result ≡ is_wanted (option_map (λ numbers. numbers.now) wanted.entry) number }
+{
+    match wanted {
+        Some(numbers) => numbers.contains(&number),
+        None => true,
+    }
+}
+
+// Whether what is found of a row is kept: it has many named values, several messages have its number, and that is wanted.
+fn is_kept(numbers: &Numbers, wanted: Option<&[u32]>, row: &ValueRow) -> bool
+    ensures { result ≡ is_kept (is_kept_number numbers.now (option_map (λ numbers. numbers.now) wanted.entry)) row.now }
+{
+    row.entries.as_slice().len() > FEW
+        && numbers.is_shared(row.number)
+        && is_wanted(wanted, row.number)
+}
+
+// Keeps what is found of a row, if nothing is kept for its key.
+fn keep_row<'a>(
+    alloc: Global,
+    by_key: &mut BTreeMap<Key<'a>, ManyValues<'a>>,
+    row: &'a ValueRow,
+) -> Result<(), Memory>
+    ensures { OnOk result ((number : ℕ) (name : List ℕ) → kept_at number name by_key.new ≡ option_or
+        (kept_at number name by_key.old) (if is_of number name row.now then Some row.now else None)) }
+{
+    let key = (row.number, row.signal.as_bytes());
+    if by_key.contains_key(&key) {
+        return Ok(());
+    }
+    let values = ManyValues::of(alloc, row)?;
+    by_key.insert(key, values)?;
+    Ok(())
+}
+
+// What is kept of rows: of those that are to be kept the first of each key.
+fn kept_rows<'a>(
+    alloc: Global,
+    numbers: &Numbers,
+    wanted: Option<&[u32]>,
+    rows: &'a [ValueRow],
+) -> Result<BTreeMap<Key<'a>, ManyValues<'a>>, Memory>
+    ensures { IfOk result (λ by_key. AreKept (is_kept_number numbers.now (option_map (λ numbers. numbers.now) wanted.entry)) by_key
+        rows.now) }
+{
+    let mut by_key: BTreeMap<Key<'a>, ManyValues<'a>> = BTreeMap::new(alloc);
+    for row in rows {
+        if is_kept(numbers, wanted, row) {
+            keep_row(alloc, &mut by_key, row)?;
+        }
+    }
+    Ok(by_key)
+}
+
+/// Rows of named values, and what is found of some of those that have many. Contracts see all rows.
+#[derive(Drop)]
+pub(crate) struct ManyRows<'a> {
+    rows: &'a [ValueRow],
+    by_key: BTreeMap<Key<'a>, ManyValues<'a>>,
+}
+
+impl<'a> Model for ManyRows<'a> {
+    ghost use Rattle.std.specs.Prelude.{ℕ, Bool, List};
+    ghost use Rattle.dbc_records.specs.Records.{ValueRow as Row};
+    ghost use Rattle.can_references.specs.ManyRows.{AreKept};
+
+    ghost Value = { List Row };
+
+    ghost view = { λ a. a.rows.now };
+
+    ghost invariant = { λ a. (test : ℕ → Bool) × AreKept test a.by_key a.rows.now };
+}
+
+impl<'a> ManyRows<'a> {
+    /// These rows. What is found of those is kept that have many named values, and whose number stands at least twice among these
+    /// and is wanted.
+    pub(crate) fn of(
+        alloc: Global,
+        numbers: &Numbers,
+        wanted: Option<&[u32]>,
+        rows: &'a [ValueRow],
+    ) -> Result<ManyRows<'a>, Memory>
+        ensures { IfOk result (λ made. made ≡ rows.now) }
+    {
+        let by_key = kept_rows(alloc, numbers, wanted, rows)?;
+        Ok(ManyRows { rows, by_key })
+    }
+
+    /// Whether nothing is kept.
+    pub(crate) fn is_empty(&self) -> bool {
+        self.by_key.is_empty()
+    }
+
+    /// What is kept for a key. If the key's first row has many named values, it is found of that.
+    pub(crate) fn kept(&self, number: u32, name: &'a [u8]) -> Option<&ManyValues<'a>>
+        ensures { IfSome result (λ values. (row : Row) → find (is_of number name.now) self.now ≡ Some row → IsTrue (has_many row)
+            → values.now ≡ row) }
+    {
+        self.by_key.get(&(number, name))
+    }
+}
