@@ -29,10 +29,12 @@ fn push_each(
     Ok(())
 }
 
-// Adds the named values that a signal never has.
+// Adds the named values that a signal never has. They are gathered in `values`, whatever is there before.
+#[inline(always)]
 #[tactic(auto, using(crate::proofs::Told::told_out_of_range))]
 fn push_out_of_range<'a, L: Lookup>(
     found: &mut Vec<Diagnostic>,
+    values: &mut Vec<i128>,
     known: &Known<'a, L>,
     head: &Head,
     signal: &'a Signal,
@@ -40,8 +42,8 @@ fn push_out_of_range<'a, L: Lookup>(
     ensures { OnOk result (found.new.items ≡ found.old.items ++ flat_map (out_of_range head.now signal.now)
         (named (rows_of head.now.number known.now) signal.now)) }
 {
-    let mut values = Vec::new(*found.allocator());
-    known.push_out_of_range(&mut values, head.number, signal)?;
+    values.clear();
+    known.push_out_of_range(values, head.number, signal)?;
     push_each(
         found,
         Code::ValueOutOfRange,
@@ -61,8 +63,9 @@ fn push_all_out_of_range<'a, L: Lookup>(
     ensures { OnOk result (found.new.items ≡ found.old.items ++ flat_map (λ signal. flat_map (out_of_range head.now signal)
         (named (rows_of head.now.number known.now) signal)) signals.now) }
 {
+    let mut values = Vec::new(*found.allocator());
     for signal in signals {
-        push_out_of_range(found, known, head, signal)?;
+        push_out_of_range(found, &mut values, known, head, signal)?;
     }
     Ok(())
 }
@@ -79,10 +82,12 @@ fn push_values_out_of_range<'a, L: Lookup>(
     push_all_out_of_range(found, known, &message.head, message.signals.as_slice())
 }
 
-// Adds the named values whose number stood earlier.
+// Adds the named values whose number stood earlier. They are gathered in `values`, whatever is there before.
+#[inline(always)]
 #[tactic(auto, using(crate::proofs::Told::told_repeated))]
 fn push_repeated<'a, L: Lookup>(
     found: &mut Vec<Diagnostic>,
+    values: &mut Vec<i128>,
     known: &Known<'a, L>,
     head: &Head,
     signal: &'a Signal,
@@ -90,8 +95,8 @@ fn push_repeated<'a, L: Lookup>(
     ensures { OnOk result (found.new.items ≡ found.old.items ++ repeated_in (rows_of head.now.number known.now) head.now
         signal.now) }
 {
-    let mut values = Vec::new(*found.allocator());
-    known.push_repeated(&mut values, head.number, signal)?;
+    values.clear();
+    known.push_repeated(values, head.number, signal)?;
     push_each(found, Code::RepeatedValue, head, signal, values.as_slice())?;
     Ok(())
 }
@@ -105,8 +110,9 @@ fn push_all_repeated<'a, L: Lookup>(
     ensures { OnOk result (found.new.items ≡ found.old.items ++ flat_map (repeated_in (rows_of head.now.number known.now) head.now)
         signals.now) }
 {
+    let mut values = Vec::new(*found.allocator());
     for signal in signals {
-        push_repeated(found, known, head, signal)?;
+        push_repeated(found, &mut values, known, head, signal)?;
     }
     Ok(())
 }

@@ -2,13 +2,13 @@
 use Rattle.std.proofs.Common.{◌≡◌, ◌++◌, not, true, false, ℕ, Bool, List, [], ◌∷◌, All, refl, ap, ◌∙◌, arith}
 use Rattle.std.specs.Prelude.{ℤ, pos, negsuc, ◌^◌, ◌-◌, int_lt, nat_lt, if◌then◌else◌}
 use Rattle.std.proofs.lemmas.Bool.{and_parts, and_from}
-use Rattle.std.proofs.lemmas.List.Elements.{All-head, All-tail}
+use Rattle.std.proofs.lemmas.List.Elements.{All-head, All-tail, All-same, All-append, All-weaker}
 use Rattle.dbc_records.specs.Records.{Signal, Entry}
 use Rattle.can_references.specs.RawRanges.{in_raw_range, number_out_of_range, numbers_out_of_range}
 use Rattle.can_references.specs.declared.spans.Span.{Span}
 use Rattle.can_references.specs.declared.spans.Spans.{Spans}
 use Rattle.can_references.specs.declared.spans.Spans.TheVariants as spans
-use Rattle.can_references.specs.Spans.{IsWithin, AreSpans, span_of, has_all}
+use Rattle.can_references.specs.Spans.{Holds, IsWithin, AreSpans, span_of, has_all}
 
 not_above : (a b bound : ℕ) → nat_lt b a ≡ false → nat_lt b bound ≡ true → nat_lt a bound ≡ true
 not_above a b bound reaches below = grind (arith, reaches, below)
@@ -49,3 +49,14 @@ all_within (spans.Halves' span p first q second) entries are = are.0
 pub none_outside : (signal : Signal) (halves : Spans) (entries : List Entry) → AreSpans halves entries
     → has_all signal (span_of halves) ≡ true → numbers_out_of_range signal entries ≡ []
 none_outside signal halves entries are has = none_out signal (span_of halves) entries has (all_within halves entries are)
+
+-- a span that holds what those of both halves hold
+pub of_halves : (span : Span) (first second : Spans) (entries front back : List Entry) → entries ≡ front ++ back
+    → AreSpans first front → AreSpans second back → ((number : ℤ) → Holds (span_of first) number → Holds span number)
+    → ((number : ℤ) → Holds (span_of second) number → Holds span number) → All (IsWithin span) entries
+of_halves span first second entries front back is ahead behind holds_first holds_second =
+    All-same (IsWithin span) entries (front ++ back) is (All-append (IsWithin span) front back
+    (All-weaker (IsWithin (span_of first)) (IsWithin span) (λ (entry : Entry) within. holds_first entry.number within) front
+    (all_within first front ahead))
+    (All-weaker (IsWithin (span_of second)) (IsWithin span) (λ (entry : Entry) within. holds_second entry.number within) back
+    (all_within second back behind)))

@@ -16,4 +16,4 @@ numbers_repeated entries = each_after number_repeated [] (map (λ entry. entry.n
 
 -- a row of so many named values that they aren't gone through for each message
 abbrev pub has_many : ValueRow → Bool
-has_many row = nat_lt 16 (length row.entries)
+has_many row = nat_lt 64 (length row.entries)

@@ -250,6 +250,7 @@ impl<'a, L: Lookup> Known<'a, L> {
     }
 
     // What is kept of the row of a signal's named values.
+    #[inline(always)]
     fn many_values(&self, number: u32, signal: &'a Signal) -> Option<&ManyValues<'a>>
         ensures { IfSome result (λ many. first_values signal.now.name (rows_of number self.now) ≡ Some many.now) }
     {
@@ -264,6 +265,7 @@ impl<'a, L: Lookup> Known<'a, L> {
     }
 
     /// Adds the numbers of the named values of a signal that it never has, in the order of the text.
+    #[inline(always)]
     pub fn push_out_of_range(
         &self,
         found: &mut Vec<i128>,
@@ -283,6 +285,7 @@ impl<'a, L: Lookup> Known<'a, L> {
     }
 
     /// Adds the numbers of the named values of a signal that stood earlier among them, in the order of the text.
+    #[inline(always)]
     pub fn push_repeated(
         &self,
         found: &mut Vec<i128>,

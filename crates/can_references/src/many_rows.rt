@@ -15,7 +15,7 @@ use std::collections::BTreeMap;
 use std::marker::Model;
 
 /// Up to this many named values of a row are gone through for each message.
-pub(crate) const FEW: usize = 16;
+pub(crate) const FEW: usize = 64;
 
 // A message number, and the name of a signal.
 type Key<'a> = (u32, &'a [u8]);

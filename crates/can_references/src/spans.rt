@@ -9,7 +9,7 @@ use dbc_values::Memory;
 use std::alloc::Global;
 
 // At most so many entries are gone through.
-const FEW: usize = 16;
+const FEW: usize = 64;
 
 /// Numbers from the least to the greatest.
 #[derive(Clone, Copy)]
@@ -63,18 +63,37 @@ fn entries_span(entries: &[Entry]) -> Span
     span
 }
 
+// The span that holds what either of two holds.
+fn joined(first: Span, second: Span) -> Span
+    ensures first { (number : ℤ) → Holds first number → Holds result number }
+    ensures second { (number : ℤ) → Holds second number → Holds result number }
+{
+    Span {
+        least: if first.least < second.least {
+            first.least
+        } else {
+            second.least
+        },
+        greatest: if first.greatest < second.greatest {
+            second.greatest
+        } else {
+            first.greatest
+        },
+    }
+}
+
 /// The spans of entries.
 pub(crate) fn spans_of(alloc: Global, entries: &[Entry]) -> Result<Spans, Memory>
     ensures { IfOk result (λ spans. AreSpans spans entries.now) }
 {
-    let span = entries_span(entries);
     if entries.len() <= FEW {
-        return Ok(Spans::Few(span));
+        return Ok(Spans::Few(entries_span(entries)));
     }
-    let (first, second) = entries.split_at(entries.len() / 2);
-    let first = Box::new(alloc, spans_of(alloc, first)?)?;
-    let second = Box::new(alloc, spans_of(alloc, second)?)?;
-    Ok(Spans::Halves(span, first, second))
+    let (left, right) = entries.split_at(entries.len() / 2);
+    let first = spans_of(alloc, left)?;
+    let second = spans_of(alloc, right)?;
+    let span = joined(first.span(), second.span());
+    Ok(Spans::Halves(span, Box::new(alloc, first)?, Box::new(alloc, second)?))
 }
 
 // Whether a signal can have all numbers of a span.

@@ -15,5 +15,5 @@ returns g c =
     c.in_ok-push_each.ensures
     (c.as_slice.ensures.value ∙ c.in_ok-push_repeated.ensures
     ∙ ap (λ (values : List ℤ). values ++ numbers_repeated (named (rows_of c.head.inside.number c.args.known.now) signal))
-    c.new-values.ensures.items
+    c.clear.ensures.items
     ∙ ap (λ (head : Head). numbers_repeated (named (rows_of head.number c.args.known.now) signal)) c.head.view_is)

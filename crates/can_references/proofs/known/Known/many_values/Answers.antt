@@ -15,7 +15,7 @@ pub returns : goal.returns
 returns g c =
     let whole = g.L.Lookup.whole c.self.inside.lookup.now in
     let row = c.in_ok-row.row.now in
-    let many : has_many row ≡ true = lt-ltb 16 (length row.entries) (subst (λ (entries : List Entry). 16 < length entries)
+    let many : has_many row ≡ true = lt-ltb 64 (length row.entries) (subst (λ (entries : List Entry). 64 < length entries)
     (c.as_slice.ensures ∙ ap (λ (r : ValueRow). r.entries) c.row.view_is) c.if-as_slice-le-FEW.false) in
     let by_name = subst (λ (name : List ℕ). IfSome c.kept.result (λ (values : Bor ValueRow). (other : ValueRow)
     → find (is_of c.args.number name) c.self.inside.many ≡ Some other → IsTrue (has_many other) → values.now ≡ other))
