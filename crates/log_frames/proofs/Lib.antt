@@ -4,8 +4,8 @@ mod Lanes
 mod DigitLanes
 mod Pieces
 mod Runs
-mod LineWords
-mod Stamps
+pub mod LineWords
+pub mod Stamps
 mod Hexadecimals
 mod Identifiers
 mod Tails

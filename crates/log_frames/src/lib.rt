@@ -14,5 +14,5 @@ mod pairs;
 mod reading;
 
 pub use frame::{Frame, Kind};
-pub use line::body_of;
+pub use line::{body_of, split_word};
 pub use reading::{fill_frame, read_frame};

@@ -25,18 +25,6 @@ fn is_log_blank(b: u8) -> bool
     b == b' ' || b == b'\t'
 }
 
-// Whether one of sixteen bytes is a blank. All of them are looked at, which is faster than to stop at the first.
-#[inline(always)]
-fn has_blank(bytes: &[u8; 16]) -> bool
-    ensures { result ≡ list_any is_log_blank bytes.now }
-{
-    let mut some = false;
-    for b in bytes {
-        some |= is_log_blank(*b);
-    }
-    some
-}
-
 // How many bytes stand before the first blank, byte by byte.
 #[inline(always)]
 fn short_word_len(bytes: &[u8]) -> usize
@@ -46,7 +34,23 @@ fn short_word_len(bytes: &[u8]) -> usize
     bytes.iter().take_while(|b| !is_log_blank(**b)).count()
 }
 
-// How many bytes stand before the first blank.
+// How many of sixteen bytes stand before the first blank.
+#[inline(always)]
+fn run_len(bytes: &[u8]) -> usize
+    requires { length bytes.now ≡ 16 }
+    ensures { result ≡ prefix_len (λ b. not (is_log_blank b)) bytes.now }
+{
+    let run = u8x16::from_slice(bytes);
+    let blanks = run.simd_eq(u8x16::splat(b' ')) | run.simd_eq(u8x16::splat(b'\t'));
+    let mask = blanks.to_bitmask();
+    if mask == 0 {
+        16
+    } else {
+        mask.trailing_zeros() as usize
+    }
+}
+
+// How many bytes stand before the first blank, sixteen at a time.
 #[inline(always)]
 fn word_len(bytes: &[u8]) -> usize
     ensures value { result ≡ prefix_len (λ b. not (is_log_blank b)) bytes.now }
@@ -54,8 +58,9 @@ fn word_len(bytes: &[u8]) -> usize
 {
     let mut from = 0;
     while let Some(run) = bytes[from..].first_chunk::<16>() {
-        if has_blank(run) {
-            break;
+        let len = run_len(run);
+        if len < 16 {
+            return from + len;
         }
         from += 16;
     }
@@ -71,9 +76,9 @@ fn blanks_len(bytes: &[u8]) -> usize
     bytes.iter().take_while(|b| is_log_blank(**b)).count()
 }
 
-// The first word, and what stands behind it and its blanks.
+/// The first word, and what follows it and the blanks after it.
 #[inline(always)]
-fn split_word(bytes: &[u8]) -> (&[u8], &[u8])
+pub fn split_word(bytes: &[u8]) -> (&[u8], &[u8])
     ensures word { result.0.now ≡ first_word bytes.now }
     ensures behind { result.1.now ≡ behind_first_word bytes.now }
 {
@@ -109,48 +114,6 @@ fn is_stamp(word: &[u8]) -> bool
         [b'(', rest @ ..] => is_seconds_end(rest),
         _ => false,
     }
-}
-
-// How many of sixteen bytes stand before the first blank.
-#[inline(always)]
-fn run_len(bytes: &[u8]) -> usize
-    requires { length bytes.now ≡ 16 }
-    ensures { result ≡ prefix_len (λ b. not (is_log_blank b)) bytes.now }
-{
-    let run = u8x16::from_slice(bytes);
-    let blanks = run.simd_eq(u8x16::splat(b' ')) | run.simd_eq(u8x16::splat(b'\t'));
-    let mask = blanks.to_bitmask();
-    if mask == 0 {
-        16
-    } else {
-        mask.trailing_zeros() as usize
-    }
-}
-
-// How many bytes stand before the first blank, which is mostly among the first sixteen.
-#[inline(always)]
-fn near_word_len(bytes: &[u8]) -> usize
-    ensures value { result ≡ prefix_len (λ b. not (is_log_blank b)) bytes.now }
-    ensures in_range { result ≤ length bytes.now }
-{
-    if let Some(run) = bytes.first_chunk::<16>() {
-        let len = run_len(run);
-        if len < 16 {
-            return len;
-        }
-    }
-    short_word_len(bytes)
-}
-
-// The first word of one that is mostly short, and what stands behind it and its blanks.
-#[inline(always)]
-fn split_short_word(bytes: &[u8]) -> (&[u8], &[u8])
-    ensures word { result.0.now ≡ first_word bytes.now }
-    ensures behind { result.1.now ≡ behind_first_word bytes.now }
-{
-    let (word, rest) = bytes.split_at(near_word_len(bytes));
-    let (_, behind) = rest.split_at(blanks_len(rest));
-    (word, behind)
 }
 
 #[inline(always)]
@@ -236,7 +199,7 @@ pub fn behind_interface(body: &[u8]) -> Option<&[u8]>
     ensures { option_map (λ rest. first_word rest.now) result ≡ frame_word body.now }
 {
     let interface_on = behind_stamp(body)?;
-    let (interface, rest) = split_short_word(interface_on);
+    let (interface, rest) = split_word(interface_on);
     if interface.is_empty() {
         return None;
     }
