@@ -5,10 +5,10 @@ use Rattle.std.specs.Prelude.{nat_le}
 use Rattle.std.specs.Option.{option_map_or}
 use Rattle.can_layout.specs.Plans.{Plan, is_present, is_whole}
 use Rattle.can_layout.specs.declared.row.Row.{Row}
-use Rattle.can_decode.specs.DecodedLines.{is_shown, shown_rows, IsShownTo}
+use Rattle.can_decode.specs.DecodedLines.{is_shown, shown_rows, IsListedTo}
 use Rattle.can_decode.proofs.Signals.{without_row}
 
-module _ (bytes : List ℕ) (plan : Plan) where
+module _ (first_text further_text : List ℕ → Row → List ℕ) (bytes : List ℕ) (plan : Plan) where
   -- a signal that is not in the data isn't shown
   not_shown : (row : Option Row) → false ≡ is_present bytes plan.rows row → false ≡ option_map_or (is_shown bytes plan) row false
   not_shown None absent = refl
@@ -24,14 +24,14 @@ module _ (bytes : List ℕ) (plan : Plan) where
   none_more first (suc count) absent within =
       let last : first + suc count ≡ first + count + 1 = omega arith in
       ap (λ (place : ℕ). shown_rows bytes plan (take place plan.rows)) last
-      ∙ without_row (is_shown bytes plan) bytes plan.rows (first + count) (omega (arith, within))
+      ∙ without_row (is_shown bytes plan) (first_text bytes) (further_text bytes) plan.rows (first + count) (omega (arith, within))
       (not_shown (slice_get plan.rows (first + count)) (absent (first + count) (omega arith) (omega arith)))
       ∙ none_more first count (λ place from below. absent place from (omega (arith, below))) (omega (arith, within))
 
   pub passed_over : (first end : ℕ) → first ≤ end → end ≤ length plan.rows
       → ((place : ℕ) → first ≤ place → place < end → false ≡ is_present bytes plan.rows (slice_get plan.rows place))
-      → (before text : List ℕ) (some : Bool) → IsShownTo before bytes plan first text some
-      → IsShownTo before bytes plan end text some
+      → (before text : List ℕ) (some : Bool) → IsListedTo first_text further_text before bytes plan first text some
+      → IsListedTo first_text further_text before bytes plan end text some
   passed_over first end order within absent before text some shown =
       let whole : first + (end - first) ≡ end = omega (arith, order) in
       let more = none_more first (end - first) (λ place from below. absent place from (omega (arith, order, below)))

@@ -9,21 +9,21 @@ use Rattle.std.proofs.lemmas.List.{take_more}
 use Rattle.std.proofs.lemmas.List.Concat.{flat_map-append}
 use Rattle.std.proofs.lemmas.List.Elements.{filter-append}
 use Rattle.can_layout.specs.declared.row.Row.{Row}
-use Rattle.can_decode.specs.DecodedLines.{signal_text, further_signal, signals_text}
+use Rattle.can_decode.specs.DecodedLines.{listed}
 
 -- one signal behind others
-signals_text-push : (bytes : List ℕ) (rows : List Row) (row : Row) → signals_text bytes (rows ++ row ∷ []) ≡ signals_text bytes rows
-    ++ (if not (length rows == 0) then further_signal bytes row else signal_text bytes row)
-signals_text-push bytes [] row = append-nil (signal_text bytes row)
-signals_text-push bytes (first ∷ rows) row =
-    let some : (length (first ∷ rows) == 0) ≡ false = grind arith in
-    ap (λ text. signal_text bytes first ++ text) (flat_map-append (further_signal bytes) rows (row ∷ [])
-    ∙ ap (λ text. flat_map (further_signal bytes) rows ++ text) (append-nil (further_signal bytes row)))
-    ∙ sym (append_assoc (signal_text bytes first) (flat_map (further_signal bytes) rows) (further_signal bytes row))
-    ∙ ap (λ none. signals_text bytes (first ∷ rows) ++ (if not none then further_signal bytes row else signal_text bytes row))
+listed-push : (first further : Row → List ℕ) (rows : List Row) (row : Row) → listed first further (rows ++ row ∷ [])
+    ≡ listed first further rows ++ (if not (length rows == 0) then further row else first row)
+listed-push first further [] row = append-nil (first row)
+listed-push first further (front ∷ rows) row =
+    let some : (length (front ∷ rows) == 0) ≡ false = grind arith in
+    ap (λ text. first front ++ text) (flat_map-append further rows (row ∷ [])
+    ∙ ap (λ text. flat_map further rows ++ text) (append-nil (further row)))
+    ∙ sym (append_assoc (first front) (flat_map further rows) (further row))
+    ∙ ap (λ none. listed first further (front ∷ rows) ++ (if not none then further row else first row))
     (sym some)
 
-module _ (test : Row → Bool) (bytes : List ℕ) (rows : List Row) (i : ℕ) (d : Row) (within : i < length rows) where
+module _ (test : Row → Bool) (first further : Row → List ℕ) (rows : List Row) (i : ℕ) (d : Row) (within : i < length rows) where
   abbrev so_far : List Row
   so_far = filter test (take i rows)
 
@@ -39,16 +39,16 @@ module _ (test : Row → Bool) (bytes : List ℕ) (rows : List Row) (i : ℕ) (d
 
   -- a signal that is there
   pub text_more : test (get_or rows i d) ≡ true → (before mid now : List ℕ) (some : Bool) → some ≡ not (length so_far == 0)
-      → mid ≡ before ++ signals_text bytes so_far → now ≡ mid ++ (if some then further_signal bytes (get_or rows i d) else
-      signal_text bytes (get_or rows i d))
-      → now ≡ before ++ signals_text bytes (filter test (take (i + 1) rows))
+      → mid ≡ before ++ listed first further so_far → now ≡ mid ++ (if some then further (get_or rows i d) else
+      first (get_or rows i d))
+      → now ≡ before ++ listed first further (filter test (take (i + 1) rows))
   text_more there before mid now some is q p =
-      p ∙ ap (λ some. mid ++ (if some then further_signal bytes (get_or rows i d) else signal_text bytes (get_or rows i d))) is
-      ∙ ap (λ text. text ++ (if not (length so_far == 0) then further_signal bytes (get_or rows i d) else signal_text bytes
+      p ∙ ap (λ some. mid ++ (if some then further (get_or rows i d) else first (get_or rows i d))) is
+      ∙ ap (λ text. text ++ (if not (length so_far == 0) then further (get_or rows i d) else first
       (get_or rows i d))) q
-      ∙ append_assoc before (signals_text bytes so_far) _
-      ∙ ap (λ text. before ++ text) (sym (signals_text-push bytes so_far (get_or rows i d)))
-      ∙ ap (λ rows. before ++ signals_text bytes rows) (sym (present_more there))
+      ∙ append_assoc before (listed first further so_far) _
+      ∙ ap (λ text. before ++ text) (sym (listed-push first further so_far (get_or rows i d)))
+      ∙ ap (λ rows. before ++ listed first further rows) (sym (present_more there))
 
   pub some_more : test (get_or rows i d) ≡ true → true ≡ not (length (filter test (take (i + 1) rows)) == 0)
   some_more there =
@@ -59,26 +59,40 @@ module _ (test : Row → Bool) (bytes : List ℕ) (rows : List Row) (i : ℕ) (d
 
 -- ---- by the row at a place
 
-module _ (test : Row → Bool) (bytes : List ℕ) (rows : List Row) (i : ℕ) where
-  pub with_row : (row : Row) → Some row ≡ slice_get rows i → true ≡ option_map_or test (slice_get rows i) false
+module _ (test : Row → Bool) (first further : Row → List ℕ) (rows : List Row) (i : ℕ) where
+  with_row : (row : Row) → Some row ≡ slice_get rows i → true ≡ option_map_or test (slice_get rows i) false
       → (before mid now : List ℕ) (some : Bool) → some ≡ not (length (filter test (take i rows)) == 0)
-      → mid ≡ before ++ signals_text bytes (filter test (take i rows))
-      → now ≡ mid ++ (if some then further_signal bytes row else signal_text bytes row)
-      → (now ≡ before ++ signals_text bytes (filter test (take (i + 1) rows)))
+      → mid ≡ before ++ listed first further (filter test (take i rows))
+      → now ≡ mid ++ (if some then further row else first row)
+      → (now ≡ before ++ listed first further (filter test (take (i + 1) rows)))
       × (true ≡ not (length (filter test (take (i + 1) rows)) == 0))
   with_row row is there before mid now some so q p =
       let within : i < length rows = slice_get_within rows i row (sym is) in
       let same : get_or rows i row ≡ row = get_or_from_slice_get rows i row row (sym is) in
       let present : test (get_or rows i row) ≡ true =
       ap test same ∙ ap (λ found. option_map_or test found false) is ∙ sym there in (
-        text_more test bytes rows i row within present before mid now some so q (p
-            ∙ ap (λ row. mid ++ (if some then further_signal bytes row else signal_text bytes row)) (sym same)),
-        some_more test bytes rows i row within present,
+        text_more test first further rows i row within present before mid now some so q (p
+            ∙ ap (λ row. mid ++ (if some then further row else first row)) (sym same)),
+        some_more test first further rows i row within present,
       )
 
   none_past : (xs : List Row) → slice_get xs i ≡ None → i < length xs → ⊥
   none_past [] e within = omega (arith, within)
   none_past (x ∷ xs) e within = let no : None ≡ Some (get_or (x ∷ xs) i x) = sym e ∙ slice_get-get_or (x ∷ xs) i x within in cc
+
+  pub with_row_at : i < length rows → true ≡ option_map_or test (slice_get rows i) false
+      → (before mid now : List ℕ) (some : Bool) → some ≡ not (length (filter test (take i rows)) == 0)
+      → mid ≡ before ++ listed first further (filter test (take i rows))
+      → ((row : Row) → Some row ≡ slice_get rows i → now ≡ mid ++ (if some then further row else first row))
+      → (now ≡ before ++ listed first further (filter test (take (i + 1) rows)))
+      × (true ≡ not (length (filter test (take (i + 1) rows)) == 0))
+  with_row_at within there before mid now some so q p =
+      elim (slice_get rows i) as (λ found. slice_get rows i ≡ found
+      → (now ≡ before ++ listed first further (filter test (take (i + 1) rows)))
+      × (true ≡ not (length (filter test (take (i + 1) rows)) == 0))) [
+        | None ↦ λ e. absurd (none_past rows e within)
+        | Some row ↦ λ e. with_row row (sym e) there before mid now some so q (p row (sym e))
+      ] refl
 
   pub without_row : i < length rows → false ≡ option_map_or test (slice_get rows i) false → filter test (take (i + 1) rows)
       ≡ filter test (take i rows)
@@ -87,6 +101,6 @@ module _ (test : Row → Bool) (bytes : List ℕ) (rows : List Row) (i : ℕ) wh
         | None ↦ λ e. absurd (none_past rows e within)
         | Some row ↦ λ e.
             let same : get_or rows i row ≡ row = get_or_from_slice_get rows i row row e in
-            absent_more test bytes rows i row within (ap test same ∙ ap (λ found. option_map_or test found false) (sym e)
+            absent_more test first further rows i row within (ap test same ∙ ap (λ found. option_map_or test found false) (sym e)
             ∙ sym absent)
       ] refl

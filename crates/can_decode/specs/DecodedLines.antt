@@ -38,14 +38,20 @@ shown_rows bytes plan rows = filter (is_shown bytes plan) rows
 abbrev pub further_signal : List ℕ → Row → List ℕ
 further_signal bytes row = codes ", " ++ signal_text bytes row
 
+-- the text of the first one, and those of all later ones
+abbrev pub listed : (Row → List ℕ) → (Row → List ℕ) → List Row → List ℕ
+listed first further [] = []
+listed first further (row ∷ rows) = first row ++ flat_map further rows
+
 -- `S: 1.5 km/h, T: open`
 abbrev pub signals_text : List ℕ → List Row → List ℕ
-signals_text bytes [] = []
-signals_text bytes (row ∷ rows) = signal_text bytes row ++ flat_map (further_signal bytes) rows
+signals_text bytes rows = listed (signal_text bytes) (further_signal bytes) rows
 
--- after `before` the text has the signals that are shown of those up to an index, and `some` says whether there are any
-pub record IsShownTo (before bytes : List ℕ) (plan : Plan) (place : ℕ) (text : List ℕ) (some : Bool) : Type 0 where
-  pub written : text ≡ before ++ signals_text bytes (shown_rows bytes plan (take place plan.rows))
+-- after `before` the text has the signals that are shown of those up to an index, by their texts in data, and `some` says whether
+-- there are any
+pub record IsListedTo (first further : List ℕ → Row → List ℕ) (before bytes : List ℕ) (plan : Plan) (place : ℕ) (text : List ℕ)
+    (some : Bool) : Type 0 where
+  pub written : text ≡ before ++ listed (first bytes) (further bytes) (shown_rows bytes plan (take place plan.rows))
   pub any : some ≡ not (length (shown_rows bytes plan (take place plan.rows)) == 0)
 
 -- ---- messages

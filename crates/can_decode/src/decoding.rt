@@ -4,8 +4,9 @@ ghost use Rattle.can_layout.specs.Plans.{plan_of};
 ghost use Rattle.can_layout.specs.Meters.{with_plan, repeated, AtMost};
 ghost use Rattle.can_decode.specs.Decodings.{IsDecoding};
 
+use crate::line::Finder;
 use crate::short::Short;
-use can_choice::{Choices, MessageIndex};
+use can_choice::{Choices, Choose, MessageIndex};
 use can_layout::{Indexed, Meter, Plan, plans_with};
 use dbc_records::Database;
 use dbc_values::Memory;
@@ -96,5 +97,18 @@ impl Decoding {
         ensures { result ≡ self.now.database }
     {
         Choices::by(&self.database, &self.index)
+    }
+
+    /// What finds the messages of its frames, by what chooses them.
+    pub fn finder<'a, C: Choose>(&'a self, chooser: C) -> Finder<'a, C>
+        requires { C.whole chooser ≡ self.now.database }
+        ensures { result ≡ self.now }
+    {
+        Finder {
+            database: &self.database,
+            plans: self.plans.as_slice(),
+            short: self.short,
+            chooser,
+        }
     }
 }

@@ -2,7 +2,7 @@
 ghost use Rattle.std.specs.Prelude.{◌≡◌, ◌<◌, ◌++◌, OnOk, IfOk, IfSome, Some, length, map, slice_get, option_map};
 ghost use Rattle.can_layout.specs.Plans.{plan_of};
 ghost use Rattle.can_layout.specs.Meters.{with_line};
-ghost use Rattle.can_choice.specs.Choices.{choice_at, line_place};
+ghost use Rattle.can_choice.specs.Choices.{choice_at, frame_choice, line_place};
 ghost use Rattle.can_decode.specs.DecodedLines.{target_of, chosen_target, bus_line, decoded_line};
 
 use crate::frame_text::push_known;
@@ -22,7 +22,7 @@ use std::marker::Model;
 /// Where the messages of frames are looked for: a database, the plans of its messages in order, what is said of short frames, and
 /// what finds the message of a number.
 #[derive(Drop)]
-pub(crate) struct Finder<'a, C: Choose> {
+pub struct Finder<'a, C: Choose> {
     /// The database.
     pub database: &'a Database,
     /// The plans of its messages.
@@ -51,8 +51,8 @@ fn plan_at(plans: &[Plan], place: usize) -> Option<&Plan>
 }
 
 impl<'a, C: Choose> Finder<'a, C> {
-    // The message of a choice, with its plan.
-    fn target_at(&self, choice: Choice) -> Option<Target<'a>>
+    /// The message of a choice, with its plan.
+    pub fn target_at(&self, choice: Choice) -> Option<Target<'a>>
         requires { choice ≡ choice_at self.now.database choice.place }
         ensures { result ≡ option_map (target_of self.now.short self.now.database) (slice_get self.now.database.messages
             choice.place) }
@@ -67,16 +67,26 @@ impl<'a, C: Choose> Finder<'a, C> {
         })
     }
 
+    /// The choice of a frame, if it is a data frame that goes to a message. Only what remembers takes memory.
+    #[tactic(auto, unfolding(can_choice::specs::Choices::frame_choice))]
+    pub fn choose(&mut self, frame: &Frame) -> Result<Option<Choice>, Memory>
+        ensures choice { IfOk result (λ choice. choice ≡ frame_choice self.old.database frame.now) }
+        ensures same { self.new ≡ self.old }
+    {
+        if frame.is_data() {
+            self.chooser.choice(frame.number())
+        } else {
+            Ok(None)
+        }
+    }
+
     // What a frame goes to.
-    #[tactic(auto, unfolding(crate::specs::DecodedLines::chosen_target, can_choice::specs::Choices::chosen_place, can_choice::specs::Choices::choice_of))]
+    #[tactic(auto, unfolding(crate::specs::DecodedLines::chosen_target, can_choice::specs::Choices::chosen_place, can_choice::specs::Choices::frame_choice, can_choice::specs::Choices::choice_of))]
     fn target_of(&mut self, frame: &Frame) -> Result<Option<Target<'a>>, Memory>
         ensures target { IfOk result (λ target. target ≡ chosen_target self.old.short self.old.database frame.now) }
         ensures same { self.new ≡ self.old }
     {
-        if !frame.is_data() {
-            return Ok(None);
-        }
-        match self.chooser.choice(frame.number())? {
+        match self.choose(frame)? {
             Some(choice) => Ok(self.target_at(choice)),
             None => Ok(None),
         }

@@ -22,7 +22,7 @@ impl Default for Short {
 
 impl Short {
     /// Whether a frame is refused that has so many bytes of data, where its message has `wanted`.
-    pub(crate) fn refuses(self, there: usize, wanted: u16) -> bool
+    pub fn refuses(self, there: usize, wanted: u16) -> bool
         ensures { result ≡ is_refused self there wanted }
     {
         match self {

@@ -1,6 +1,6 @@
 //! A log in, its decoded lines out.
 ghost use Rattle.std.specs.Prelude.{◌≡◌, ℕ, List, map};
-ghost use Rattle.line_stream.specs.LineTexts.{StreamsLines};
+ghost use Rattle.line_stream.specs.LineTexts.{StreamsTexts, StreamsLines};
 ghost use Rattle.can_layout.specs.Plans.{plan_of};
 ghost use Rattle.can_layout.specs.Meters.{with_line, repeated};
 ghost use Rattle.can_decode.specs.Counting.{refused_count, counted};
@@ -19,35 +19,56 @@ use ready_texts::Draft;
 use std::alloc::Global;
 use std::mem::swap;
 
-// The decoded lines of a database, and the meter that counts them. What numbers went to is remembered.
+// The decoded lines of a database. What numbers went to is remembered.
 #[derive(Drop)]
-struct Decoded<'a, C: Choose> {
+struct PlainLines<'a, C: Choose> {
     finder: Finder<'a, Remembered<C>>,
-    meter: Meter,
 }
 
-impl<'a, C: Choose> LineText for Decoded<'a, C> {
+impl<'a, C: Choose> LineText for PlainLines<'a, C> {
     ghost use Rattle.std.proofs.Common.{refl};
-    ghost use Rattle.can_layout.specs.Meters.{with_line};
+    ghost use Rattle.line_stream.specs.LineTexts.{line_text};
     ghost use Rattle.can_decode.specs.DecodedLines.{bus_line};
 
-    ghost text_of = { λ decoded. bus_line decoded.finder };
+    ghost text_of = { λ lines. line_text (bus_line lines.finder) };
 
-    ghost next = { λ decoded line. record decoded { meter = with_line decoded.meter } };
+    ghost next = { λ lines line. lines };
 
     fn renew(&mut self, text: &mut Draft, line: &[u8]) -> Result<(), Memory> {
         text.clear();
         push_line(text.allocator(), text, &mut self.finder, line)?;
         text.push(b'\n')?;
+        Ok(())
+    }
+
+    ghost same_texts = { λ lines line. refl };
+}
+
+// The texts of lines, and the meter that counts them.
+#[derive(Drop)]
+struct Counted<T: LineText> {
+    texts: T,
+    meter: Meter,
+}
+
+impl<T: LineText> LineText for Counted<T> {
+    ghost use Rattle.can_layout.specs.Meters.{with_line};
+
+    ghost text_of = { λ counted. T.text_of counted.texts };
+
+    ghost next = { λ counted line. record { texts = T.next counted.texts line; meter = with_line counted.meter } };
+
+    fn renew(&mut self, text: &mut Draft, line: &[u8]) -> Result<(), Memory> {
+        self.texts.renew(text, line)?;
         self.meter.count_line();
         Ok(())
     }
 
-    ghost same_texts = { λ decoded line. refl };
+    ghost same_texts = { λ counted line. T.same_texts counted.texts line };
 }
 
-// The same, and what numbers went to is remembered.
-fn remembering<'a, C: Choose>(alloc: Global, finder: Finder<'a, C>) -> Finder<'a, Remembered<C>>
+/// A finder that remembers what numbers went to.
+pub fn remembering<'a, C: Choose>(alloc: Global, finder: Finder<'a, C>) -> Finder<'a, Remembered<C>>
     ensures { result ≡ finder.entry }
 {
     Finder {
@@ -67,6 +88,30 @@ fn count_refused(ended: &Result<u64, StreamFault>, meter: &mut Meter)
     }
 }
 
+/// Writes what `texts` makes of each line. The meter counts each line whose text was made, and the one that memory was
+/// wanting for.
+pub fn stream_counted<T: LineText, R: Source, W: Sink>(
+    alloc: Global,
+    texts: T,
+    meter: &mut Meter,
+    source: &mut R,
+    sink: &mut W,
+) -> Result<u64, StreamFault>
+    ensures { (lines : List (List ℕ)) × StreamsTexts (T.text_of texts) (R.unread source.old) (R.unread source.new)
+        (W.written sink.old) (W.written sink.new) result lines
+        × (meter.new ≡ counted result lines meter.old) }
+{
+    let mut counted = Counted {
+        texts,
+        meter: Meter::new(),
+    };
+    swap(&mut counted.meter, meter);
+    let ended = stream_texts(alloc, &mut counted, source, sink);
+    swap(&mut counted.meter, meter);
+    count_refused(&ended, meter);
+    ended
+}
+
 // Decodes by what finds the messages of numbers.
 fn stream_by<'a, C: Choose, R: Source, W: Sink>(
     alloc: Global,
@@ -79,15 +124,10 @@ fn stream_by<'a, C: Choose, R: Source, W: Sink>(
         (W.written sink.old) (W.written sink.new) result lines
         × (meter.new ≡ counted result lines meter.old) }
 {
-    let mut decoded = Decoded {
+    let lines = PlainLines {
         finder: remembering(alloc, finder),
-        meter: Meter::new(),
     };
-    swap(&mut decoded.meter, meter);
-    let ended = stream_texts(alloc, &mut decoded, source, sink);
-    swap(&mut decoded.meter, meter);
-    count_refused(&ended, meter);
-    ended
+    stream_counted(alloc, lines, meter, source, sink)
 }
 
 /// Reads the source to its end, writes the decoded line and an LF for each line, and answers how many lines there are,

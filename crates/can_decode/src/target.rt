@@ -7,7 +7,7 @@ use std::marker::Model;
 
 /// The message that a frame goes to, with its plan.
 #[derive(Drop)]
-pub(crate) struct Target<'a> {
+pub struct Target<'a> {
     /// The message.
     pub message: &'a Message,
     /// Its plan.

@@ -193,8 +193,9 @@ fn push_signed(text: &mut Draft, value: i128, places: u8) -> Result<(), Memory>
     push_shortest(text, value.unsigned_abs(), places)
 }
 
-// A value over ten to the number of places.
-fn push_scaled(text: &mut Draft, value: i128, places: u8) -> Result<(), Memory>
+/// Appends a value over ten to the number of places, as an exact decimal.
+#[inline(always)]
+pub fn push_scaled(text: &mut Draft, value: i128, places: u8) -> Result<(), Memory>
     ensures { OnOk result (text.new.items ≡ text.old.items ++ scaled_text value places) }
 {
     match small_number(value, places) {

@@ -1,4 +1,4 @@
--- A stream whose lines have one text each: what it handled is what it wrote.
+-- A stream that writes a text for each line: what it handled is what it wrote.
 use Rattle.std.proofs.Common.{◌≡◌, ℕ, List, [], ◌∷◌, ◌++◌, Option, None, Some, IfSome, Result, Ok, Err, refl, sym, ap, subst, ◌∙◌}
 use Rattle.std.proofs.Common.{append_assoc, inl, inr}
 use Rattle.std.proofs.lemmas.Grind.{flat_map-append}
@@ -9,8 +9,8 @@ use Rattle.line_stream.specs.declared.fault.StreamFault.TheVariants as faults
 use Rattle.line_stream.specs.Lines.{lines_of, whole_lines, AllShort}
 use Rattle.line_stream.specs.Runs.{Runs, Leads, Handled, BreaksAmong}
 use Rattle.line_stream.specs.Stream.{StreamEnds}
-use Rattle.line_stream.specs.LineTexts.{longest_line, line_text, texts, Texts, WritesText, writes_texts, behind, StreamsAll}
-use Rattle.line_stream.specs.LineTexts.{StopsAtLong, StopsAtWrite, StopsAtMemory, StreamsLines}
+use Rattle.line_stream.specs.LineTexts.{longest_line, all_texts, Texts, WritesText, writes_texts, behind, StreamsAll}
+use Rattle.line_stream.specs.LineTexts.{StopsAtLong, StopsAtWrite, StopsAtMemory, StreamsTexts}
 use Rattle.line_stream.proofs.Handling.{Runs-push, Broke-both}
 
 module _ {S : Type 0} (made : Texts S) (same : (s : S) (line : List ℕ) → made.text_of (made.next s line) ≡ made.text_of s) where
@@ -21,12 +21,12 @@ module _ {S : Type 0} (made : Texts S) (same : (s : S) (line : List ℕ) → mad
 
   -- all the text of a run is the texts of its lines
   text-run : (s t : S) (lines : List (List ℕ)) (text : List ℕ) → Runs (WritesText made) s lines t text
-      → text ≡ texts (made.text_of s) lines
+      → text ≡ all_texts (made.text_of s) lines
   text-run s t [] text p = p.1
   text-run s t (line ∷ lines) text p =
       p.5 ∙ ap (λ xs. xs ++ p.2) p.3.1
-      ∙ ap (λ xs. line_text (made.text_of s) line ++ xs) (text-run p.0 t lines p.2 p.4
-      ∙ ap (λ text_of. texts text_of lines) (ap made.text_of p.3.0 ∙ same s line))
+      ∙ ap (λ xs. made.text_of s line ++ xs) (text-run p.0 t lines p.2 p.4
+      ∙ ap (λ text_of. all_texts text_of lines) (ap made.text_of p.3.0 ∙ same s line))
 
   module _ (s t : S) (old new : Written) where
     -- these lines led there, and this holds of them
@@ -35,7 +35,7 @@ module _ {S : Type 0} (made : Texts S) (same : (s : S) (line : List ℕ) → mad
 
     handled-led : (lines : List (List ℕ)) (Holds : List (List ℕ) → Type 0) → Handled (writes_texts made) longest_line s old lines
         t new
-        → (Wrote old new (texts (made.text_of s) lines) → Holds lines) → Led Holds
+        → (Wrote old new (all_texts (made.text_of s) lines) → Holds lines) → Led Holds
     handled-led lines Holds h f = (
       lines,
       run-behind s t lines h.text h.ran,
@@ -47,8 +47,8 @@ module _ {S : Type 0} (made : Texts S) (same : (s : S) (line : List ℕ) → mad
         → AllShort longest_line lines
         → Runs (WritesText made) s lines t text → Broke old new text → Led (StopsAtWrite (made.text_of s) input old new)
     broke-led input lines more text e short ran broke =
-        let all : Broke old new (texts (made.text_of s) lines) = subst (Broke old new) (text-run s t lines text ran) broke in
-        let joined = ap (texts (made.text_of s)) e ∙ flat_map-append (line_text (made.text_of s)) lines more in (
+        let all : Broke old new (all_texts (made.text_of s) lines) = subst (Broke old new) (text-run s t lines text ran) broke in
+        let joined = ap (all_texts (made.text_of s)) e ∙ flat_map-append (made.text_of s) lines more in (
           lines,
           run-behind s t lines text ran,
           record {
@@ -56,8 +56,8 @@ module _ {S : Type 0} (made : Texts S) (same : (s : S) (line : List ℕ) → mad
             parts = e;
             short = short;
             broke = all;
-            of_all = subst (Broke old new) (sym joined) (Broke-more old new (texts (made.text_of s) lines)
-                (texts (made.text_of s) more) all);
+            of_all = subst (Broke old new) (sym joined) (Broke-more old new (all_texts (made.text_of s) lines)
+                (all_texts (made.text_of s) more) all);
           },
         )
 
@@ -81,7 +81,7 @@ module _ {S : Type 0} (made : Texts S) (same : (s : S) (line : List ℕ) → mad
 
     pub Streams-of : (before after : Unread) (result : Result ℕ StreamFault) → StreamEnds (writes_texts made) longest_line s old
         before after t new result
-        → Leads (WritesText made) s t → Led (StreamsLines (made.text_of s) before after old new result)
+        → Leads (WritesText made) s t → Led (StreamsTexts (made.text_of s) before after old new result)
     Streams-of before after (Ok count) h led =
         let told = told-led before.bytes _ (λ input. StreamsAll (made.text_of s) input after old new count)
         (λ input k. handled-led (lines_of input) _ k.handled (λ wrote. record {

@@ -1,7 +1,6 @@
-//! One text for each line.
-ghost use Rattle.std.specs.Prelude.{◌≡◌, ℕ, List, [], ◌∷◌, ◌++◌, OnOk, OnErr};
-ghost use Rattle.dbc_values.specs.Lexical.{line_feed};
-ghost use Rattle.line_stream.specs.LineTexts.{behind, StreamsLines};
+//! What is written for each line.
+ghost use Rattle.std.specs.Prelude.{◌≡◌, ℕ, List, OnOk, OnErr};
+ghost use Rattle.line_stream.specs.LineTexts.{behind, StreamsTexts};
 
 use crate::fault::{Stop, StreamFault};
 use crate::handler::Handler;
@@ -17,18 +16,16 @@ const LONGEST: usize = 4096;
 
 /// What is written for a line.
 pub trait LineText: Drop {
-    // The text of a line, without the LF that is written behind it.
+    // What is written for a line, with any LF.
     ghost text_of: { Self → List ℕ → List ℕ };
 
-    // What it becomes when it has made the text of a line, such as a count that rises.
+    // What it becomes when it has made that, such as a count that rises.
     ghost next: { Self → List ℕ → Self };
 
-    /// Puts the text of a line, and an LF behind it, into `text` in the place of what it held. Where memory is wanting it is as it
-    /// was,
-    /// and what `text` holds means nothing. What else it changes of itself, such as a table of what was looked up, no contract
-    /// sees.
+    /// Puts what is written for a line into `text` in the place of what it held. Where memory is wanting it is as it was, and what
+    /// `text` holds means nothing. What else it changes of itself, such as a table of what was looked up, no contract sees.
     fn renew(&mut self, text: &mut Draft, line: &[u8]) -> Result<(), Memory>
-        ensures text { OnOk result (text.new.items ≡ text_of self.old line.now ++ line_feed ∷ []) }
+        ensures text { OnOk result (text.new.items ≡ text_of self.old line.now) }
         ensures next { OnOk result (self.new ≡ next self.old line.now) }
         ensures same { OnErr result (self.new ≡ self.old) };
 
@@ -72,9 +69,8 @@ impl<T: LineText> Handler for Writer<T> {
     ghost nothing_waits = { λ handler. tt };
 }
 
-/// Reads the source to its end, writes the text of each line and an LF behind it, and answers how many lines there are,
-/// up to `u64::MAX`. A line has at most 4,096 bytes. Before it pulls again, the texts of all lines that were read whole
-/// are written.
+/// Reads the source to its end, writes what is made of each line, and answers how many lines there are, up to `u64::MAX`. A line
+/// has at most 4,096 bytes. Before it pulls again, what is made of all lines that were read whole is written.
 pub fn stream_texts<T: LineText, R: Source, W: Sink>(
     alloc: Global,
     texts: &mut T,
@@ -82,7 +78,7 @@ pub fn stream_texts<T: LineText, R: Source, W: Sink>(
     sink: &mut W,
 ) -> Result<u64, StreamFault>
     ensures { (lines : List (List ℕ)) × (texts.new ≡ behind (record { text_of = T.text_of; next = T.next }) texts.old lines)
-        × StreamsLines (T.text_of texts.old) (R.unread source.old) (R.unread source.new) (W.written sink.old) (W.written sink.new)
+        × StreamsTexts (T.text_of texts.old) (R.unread source.old) (R.unread source.new) (W.written sink.old) (W.written sink.new)
         result lines }
 {
     let mut line = ArrayVec::<u8, LONGEST>::new();

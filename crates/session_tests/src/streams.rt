@@ -24,8 +24,9 @@ impl<'t> Model for Marked<'t> {
 
 impl<'t> LineText for Marked<'t> {
     ghost use Rattle.std.proofs.Common.{refl};
+    ghost use Rattle.line_stream.specs.LineTexts.{line_text};
 
-    ghost text_of = { λ mark line. mark ++ line };
+    ghost text_of = { λ mark. line_text (λ line. mark ++ line) };
 
     ghost next = { λ mark line. mark };
 

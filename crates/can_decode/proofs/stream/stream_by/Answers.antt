@@ -1,18 +1,4 @@
-use Rattle.std.proofs.Common.{◌≡◌, ◌∙◌, length, ap, refl}
-use Rattle.can_layout.specs.Meters.{with_line, repeated}
-use Rattle.can_decode.specs.Counting.{refused_count}
-use Rattle.can_decode.proofs.Counting.{behind-counts}
 use Rattle.can_decode.proofs.stream.stream_by.Goals as goal
 
 pub returns : goal.returns
-returns g c =
-    let streamed = c.stream_texts-ended.ensures in
-    let lines = streamed.0 in
-    let made : c.swap-2.new.y ≡ repeated (length lines) with_line c.args.meter.now =
-    c.swap-2.ensures.y_after ∙ behind-counts _ _ _ lines streamed.1 (λ decoded. decoded.meter) (λ decoded line. refl)
-    ∙ ap (repeated (length lines) with_line) c.swap.ensures.x_after in (
-      lines,
-      rw c.remembering.ensures at streamed.2,
-      c.count_refused.ensures
-          ∙ ap (repeated (refused_count c.stream_texts-ended.result) with_line) made,
-    )
+returns g c = rw c.remembering.ensures at c.stream_counted.ensures
