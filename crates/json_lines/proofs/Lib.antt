@@ -1,0 +1,5 @@
+pub mod Labels
+pub mod Prepared
+pub mod Pushing
+pub mod Taken
+pub mod Told

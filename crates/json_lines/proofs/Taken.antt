@@ -1,0 +1,32 @@
+-- Lists made item by item.
+use Rattle.std.proofs.Common.{◌≡◌, ℕ, ◌+◌, ◌<◌, List, [], ◌∷◌, ◌++◌, length, take, map, get_or, Some, slice_get, sym, ap, ◌∙◌}
+use Rattle.can_layout.specs.declared.row.Row.{Row}
+use Rattle.json_lines.specs.declared.plan_texts.RowTexts.{RowTexts}
+use Rattle.json_lines.specs.Prepared.{MessageTexts, row_texts}
+use Rattle.std.proofs.lemmas.Option.{slice_get_within, get_or_from_slice_get}
+use Rattle.std.proofs.lemmas.List.{take_more, map-append}
+
+take_next : {A : Type 0} (items : List A) (i : ℕ) (item : A) → Some item ≡ slice_get items i
+    → take (i + 1) items ≡ take i items ++ item ∷ []
+take_next items i item is =
+    take_more items i item (slice_get_within items i item (sym is))
+    ∙ ap (λ one. take i items ++ one ∷ []) (get_or_from_slice_get items i item item (sym is))
+
+map_next : {A B : Type 0} (f : A → B) (items : List A) (i : ℕ) (item : A) → Some item ≡ slice_get items i
+    → map f (take (i + 1) items) ≡ map f (take i items) ++ f item ∷ []
+map_next f items i item is = ap (map f) (take_next items i item is) ∙ map-append f (take i items) (item ∷ [])
+
+-- one row more
+pub row_texts_pushed : (rows : List Row) (place : ℕ) (row : Row) (texts : RowTexts) (old new : List RowTexts) → new ≡ old
+    ++ texts ∷ []
+    → old ≡ map row_texts (take place rows) → texts ≡ row_texts row → Some row ≡ slice_get rows place
+    → new ≡ map row_texts (take (place + 1) rows)
+row_texts_pushed rows place row texts old new last so_far is here =
+    last ∙ ap (λ (front : List RowTexts). front ++ texts ∷ []) so_far
+    ∙ ap (λ (one : RowTexts). map row_texts (take place rows) ++ one ∷ []) is ∙ sym (map_next row_texts rows place row here)
+
+-- one message more
+pub message_texts_pushed : (all : List MessageTexts) (place : ℕ) (texts : MessageTexts) (old new : List MessageTexts)
+    → new ≡ old ++ texts ∷ [] → old ≡ take place all → Some texts ≡ slice_get all place → new ≡ take (place + 1) all
+message_texts_pushed all place texts old new last so_far here =
+    last ∙ ap (λ (front : List MessageTexts). front ++ texts ∷ []) so_far ∙ sym (take_next all place texts here)

@@ -1,0 +1,164 @@
+//! The keys of objects.
+ghost use Rattle.std.specs.Prelude.{◌≡◌, codes};
+ghost use Rattle.json_texts.specs.Members.{Key as PlainKey};
+
+use crate::flags::Flags;
+use dbc_values::Memory;
+use json_texts::Key;
+use std::alloc::Global;
+
+/// The keys of a signal's object.
+#[derive(Drop)]
+pub(crate) struct SignalKeys<'a> {
+    /// The value.
+    pub value: Key<'a>,
+    /// Why there is none.
+    pub refused: Key<'a>,
+    /// The unit.
+    pub unit: Key<'a>,
+    /// The name of the value.
+    pub name: Key<'a>,
+    ghost is_value: { value ≡ record { mark = 123; name = codes "value" } },
+    ghost is_refused: { refused ≡ record { mark = 123; name = codes "refused" } },
+    ghost is_unit: { unit ≡ record { mark = 44; name = codes "unit" } },
+    ghost is_name: { name ≡ record { mark = 44; name = codes "name" } },
+}
+
+impl<'a> SignalKeys<'a> {
+    pub fn of(alloc: Global) -> Result<SignalKeys<'a>, Memory> {
+        Ok(SignalKeys {
+            value: Key::first(alloc, b"value")?,
+            refused: Key::first(alloc, b"refused")?,
+            unit: Key::further(alloc, b"unit")?,
+            name: Key::further(alloc, b"name")?,
+        })
+    }
+}
+
+/// The keys of a J1939 message.
+#[derive(Drop)]
+pub(crate) struct GroupKeys<'a> {
+    /// The parameter group.
+    pub pgn: Key<'a>,
+    /// The priority.
+    pub priority: Key<'a>,
+    /// The source address.
+    pub source: Key<'a>,
+    /// The destination address.
+    pub destination: Key<'a>,
+    ghost is_pgn: { pgn ≡ record { mark = 123; name = codes "pgn" } },
+    ghost is_priority: { priority ≡ record { mark = 44; name = codes "priority" } },
+    ghost is_source: { source ≡ record { mark = 44; name = codes "source" } },
+    ghost is_destination: { destination ≡ record { mark = 44; name = codes "destination" } },
+}
+
+impl<'a> GroupKeys<'a> {
+    pub fn of(alloc: Global) -> Result<GroupKeys<'a>, Memory> {
+        Ok(GroupKeys {
+            pgn: Key::first(alloc, b"pgn")?,
+            priority: Key::further(alloc, b"priority")?,
+            source: Key::further(alloc, b"source")?,
+            destination: Key::further(alloc, b"destination")?,
+        })
+    }
+}
+
+/// The keys of what a frame says.
+#[derive(Drop)]
+pub(crate) struct SaidKeys<'a> {
+    /// The message.
+    pub message: Key<'a>,
+    /// Its number.
+    pub number: Key<'a>,
+    /// What its identifier says, of a J1939 message.
+    pub j1939: Key<'a>,
+    /// The signals.
+    pub signals: Key<'a>,
+    /// Why they aren't decoded.
+    pub not_decoded: Key<'a>,
+    /// The size that data should have.
+    pub size: Key<'a>,
+    /// The keys of a J1939 message.
+    pub group: GroupKeys<'a>,
+    ghost is_message: { message ≡ record { mark = 44; name = codes "message" } },
+    ghost is_number: { number ≡ record { mark = 44; name = codes "number" } },
+    ghost is_j1939: { j1939 ≡ record { mark = 44; name = codes "j1939" } },
+    ghost is_signals: { signals ≡ record { mark = 44; name = codes "signals" } },
+    ghost is_not_decoded: { not_decoded ≡ record { mark = 44; name = codes "not_decoded" } },
+    ghost is_size: { size ≡ record { mark = 44; name = codes "size" } },
+}
+
+impl<'a> SaidKeys<'a> {
+    pub fn of(alloc: Global) -> Result<SaidKeys<'a>, Memory> {
+        Ok(SaidKeys {
+            message: Key::further(alloc, b"message")?,
+            number: Key::further(alloc, b"number")?,
+            j1939: Key::further(alloc, b"j1939")?,
+            signals: Key::further(alloc, b"signals")?,
+            not_decoded: Key::further(alloc, b"not_decoded")?,
+            size: Key::further(alloc, b"size")?,
+            group: GroupKeys::of(alloc)?,
+        })
+    }
+}
+
+/// The keys of a line.
+#[derive(Drop)]
+pub(crate) struct LineKeys<'a> {
+    /// The line, if it has no frame.
+    pub line: Key<'a>,
+    /// When the frame came.
+    pub time: Key<'a>,
+    /// Where it came.
+    pub interface: Key<'a>,
+    /// Its identifier.
+    pub id: Key<'a>,
+    /// Whether that has 29 bits, and what the frame is.
+    pub flags: Flags,
+    /// Its bytes.
+    pub bytes: Key<'a>,
+    /// What follows it.
+    pub rest: Key<'a>,
+    ghost is_line: { line ≡ record { mark = 123; name = codes "line" } },
+    ghost is_time: { time ≡ record { mark = 123; name = codes "time" } },
+    ghost is_interface: { interface ≡ record { mark = 44; name = codes "interface" } },
+    ghost is_id: { id ≡ record { mark = 44; name = codes "id" } },
+    ghost is_bytes: { bytes ≡ record { mark = 44; name = codes "data" } },
+    ghost is_rest: { rest ≡ record { mark = 44; name = codes "rest" } },
+}
+
+impl<'a> LineKeys<'a> {
+    pub fn of(alloc: Global) -> Result<LineKeys<'a>, Memory> {
+        Ok(LineKeys {
+            line: Key::first(alloc, b"line")?,
+            time: Key::first(alloc, b"time")?,
+            interface: Key::further(alloc, b"interface")?,
+            id: Key::further(alloc, b"id")?,
+            flags: Flags::of(alloc)?,
+            bytes: Key::further(alloc, b"data")?,
+            rest: Key::further(alloc, b"rest")?,
+        })
+    }
+}
+
+/// All keys.
+#[derive(Drop)]
+pub(crate) struct Keys<'a> {
+    /// Those of a line.
+    pub line: LineKeys<'a>,
+    /// Those of what a frame says.
+    pub said: SaidKeys<'a>,
+    /// Those of a signal.
+    pub signal: SignalKeys<'a>,
+}
+
+impl<'a> Keys<'a> {
+    /// All keys, kept ready.
+    pub fn of(alloc: Global) -> Result<Keys<'a>, Memory> {
+        Ok(Keys {
+            line: LineKeys::of(alloc)?,
+            said: SaidKeys::of(alloc)?,
+            signal: SignalKeys::of(alloc)?,
+        })
+    }
+}

@@ -1,0 +1,18 @@
+//! Log lines in, objects of JSON out.
+//!
+//! [`json_stream_by`] writes the object of each line of a log. It says what the decoded line of `can_decode` says.
+#![tactic(auto)]
+
+mod flags;
+mod frame;
+mod keys;
+mod line;
+mod plan_texts;
+mod signals;
+mod stream;
+mod target;
+mod words;
+
+pub use plan_texts::{MessageTexts, RowTexts};
+pub use stream::{JsonDecoding, json_stream_by};
+pub use words::{Words, words_of};

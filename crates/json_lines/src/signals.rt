@@ -1,0 +1,164 @@
+//! The signals of a message as an object.
+ghost use Rattle.std.specs.Prelude.{◌≡◌, ◌≤◌, ◌<◌, ◌^◌, ◌++◌, OnOk, codes, map, unsigned_abs, length, slice_get, Some};
+ghost use Rattle.can_layout.specs.Decoders.{first_entry};
+ghost use Rattle.json_texts.specs.Members.{member_text, further_members, object_text};
+ghost use Rattle.json_lines.specs.Signals.{value_text, told_members, signal_member, signal_members};
+ghost use Rattle.json_lines.specs.Prepared.{row_tail, row_texts, behind_label};
+ghost use Rattle.can_layout.specs.declared.row.Reading.TheVariants.{Read};
+
+use crate::keys::SignalKeys;
+use crate::plan_texts::RowTexts;
+use can_decode::{SignalText, push_scaled, push_signals};
+use can_layout::{Decoder, Plan, Reading, Row};
+use dbc_values::Memory;
+use ready_texts::Draft;
+use std::marker::Model;
+
+/// The signals of a message, with the texts that are prepared for them.
+#[derive(Drop)]
+pub(crate) struct JsonSignals<'a> {
+    plan: &'a Plan,
+    texts: &'a [RowTexts],
+    keys: &'a SignalKeys<'a>,
+}
+
+impl<'a> Model for JsonSignals<'a> {
+    ghost use Rattle.std.specs.Prelude.{◌≡◌, map};
+    ghost use Rattle.can_layout.specs.Plans as plans;
+    ghost use Rattle.json_lines.specs.Prepared.{row_texts};
+
+    ghost Value = { plans.Plan };
+
+    ghost view = { λ signals. signals.plan.now };
+
+    ghost invariant = { λ signals. signals.texts.now ≡ map row_texts signals.plan.now.rows };
+}
+
+// What is told of a raw value after its number, and the end of the object.
+#[inline(always)]
+#[tactic(auto, using(crate::proofs::Pushing::pushed_then))]
+fn push_told(
+    text: &mut Draft,
+    keys: &SignalKeys<'_>,
+    texts: &RowTexts,
+    decoder: &Decoder,
+    raw: i128,
+) -> Result<(), Memory>
+    requires { texts.now.tail ≡ row_tail (Read decoder.now) }
+    ensures { OnOk result (text.new.items ≡ text.old.items ++ (further_members (told_members decoder.now
+        (first_entry raw decoder.now.entries)) ++ codes "}")) }
+{
+    match decoder.entry(raw) {
+        Some(entry) => {
+            keys.name.push_texts(text, entry.text.as_bytes())?;
+            text.push(b'}')?;
+            Ok(())
+        }
+        None => texts.tail.push_to(text),
+    }
+}
+
+// A value, what is told of it, and the end of the object.
+#[inline(always)]
+#[tactic(auto, using(crate::proofs::Pushing::pushed_then))]
+fn push_value(
+    text: &mut Draft,
+    keys: &SignalKeys<'_>,
+    texts: &RowTexts,
+    decoder: &Decoder,
+    raw: i128,
+) -> Result<(), Memory>
+    requires texts { texts.now.tail ≡ row_tail (Read decoder.now) }
+    requires raw { unsigned_abs raw ≤ 2 ^ decoder.now.scale.length }
+    ensures { OnOk result (text.new.items ≡ text.old.items ++ (value_text decoder.now raw ++ (further_members
+        (told_members decoder.now (first_entry raw decoder.now.entries)) ++ codes "}"))) }
+{
+    push_scaled(text, decoder.value(raw), decoder.scale.places())?;
+    push_told(text, keys, texts, decoder, raw)?;
+    Ok(())
+}
+
+// What follows the label of a signal: nothing if it can't be decoded.
+#[inline(always)]
+fn push_behind_label(
+    text: &mut Draft,
+    keys: &SignalKeys<'_>,
+    texts: &RowTexts,
+    reading: &Reading,
+    bytes: &[u8],
+) -> Result<(), Memory>
+    requires { texts.now.tail ≡ row_tail reading.now }
+    ensures { OnOk result (text.new.items ≡ text.old.items ++ behind_label bytes.now reading.now) }
+{
+    match reading {
+        Reading::Refused(_) => Ok(()),
+        Reading::Read(decoder) => push_value(text, keys, texts, decoder, decoder.raw_value(bytes)),
+    }
+}
+
+// A signal as a member.
+#[inline(always)]
+fn push_signal(
+    text: &mut Draft,
+    keys: &SignalKeys<'_>,
+    texts: &RowTexts,
+    row: &Row,
+    bytes: &[u8],
+) -> Result<(), Memory>
+    requires { texts.now ≡ row_texts row.now }
+    ensures { OnOk result (text.new.items ≡ text.old.items ++ member_text (signal_member bytes.now row.now)) }
+{
+    texts.label.push_to(text)?;
+    push_behind_label(text, keys, texts, &row.reading, bytes)?;
+    Ok(())
+}
+
+fn texts_at(texts: &[RowTexts], place: usize) -> &RowTexts
+    requires { place < length texts.now }
+    ensures { Some result.now ≡ slice_get texts.now place }
+{
+    &texts[place]
+}
+
+impl<'a> SignalText for JsonSignals<'a> {
+    ghost use Rattle.json_texts.specs.Members.{member_text, further_member};
+    ghost use Rattle.json_lines.specs.Signals.{signal_member};
+
+    ghost plan_of = { λ signals. signals };
+
+    ghost first = { λ signals bytes row. member_text (signal_member bytes row) };
+
+    ghost further = { λ signals bytes row. further_member (signal_member bytes row) };
+
+    fn plan(&self) -> &Plan {
+        self.plan
+    }
+
+    fn push(&self, text: &mut Draft, some: bool, place: usize, bytes: &[u8]) -> Result<(), Memory> {
+        let row = self.plan.row(place);
+        let texts = texts_at(self.texts, place);
+        text.push_if(some, b',')?;
+        push_signal(text, self.keys, texts, row, bytes)?;
+        Ok(())
+    }
+}
+
+impl<'a> JsonSignals<'a> {
+    /// Those of a plan, by the texts that are prepared for it.
+    pub fn of(plan: &'a Plan, texts: &'a [RowTexts], keys: &'a SignalKeys<'a>) -> JsonSignals<'a>
+        requires { texts.now ≡ map row_texts plan.now.rows }
+        ensures { result ≡ plan.now }
+    {
+        JsonSignals { plan, texts, keys }
+    }
+
+    /// Appends the signals that are shown, as an object.
+    pub fn push_to(&self, text: &mut Draft, bytes: &[u8]) -> Result<(), Memory>
+        ensures { OnOk result (text.new.items ≡ text.old.items ++ object_text (signal_members bytes.now self.now)) }
+    {
+        text.push(b'{')?;
+        push_signals(text, self, bytes)?;
+        text.push(b'}')?;
+        Ok(())
+    }
+}
