@@ -1,0 +1,4 @@
+pub mod Keys
+pub mod Said
+pub mod OneLine
+pub mod Laws
