@@ -1,13 +1,14 @@
 //! A job on a file's bytes, the standard streams and an exit status.
 ghost use Rattle.std.specs.Prelude.{◌≡◌, Err};
 ghost use Rattle.candesk_calls.specs.Scripting.{session_status_of};
-ghost use Rattle.candesk_calls.specs.Run.{EndsWith, options_of};
+ghost use Rattle.candesk_calls.specs.Run.{Decoded, EndsWith, options_of};
 
 use can_decode::Short;
 use candesk_runs::{
-    check, decode_ended, decode_run, dump, explain, print, report, status, status_of_cause,
+    RunFault, check, decode_ended, decode_json_run, decode_run, dump, explain, print, report,
+    status, status_of_cause,
 };
-use candesk_words::{Command, Job};
+use candesk_words::{Command, Form, Job};
 use dbc_model::{Sink, Source};
 use line_stream::StreamFault;
 use session_script::{KeyedOptions, Options, SessionFault, keyed_run};
@@ -55,6 +56,24 @@ fn options_of(job: &Job) -> Options
     }
 }
 
+// Decodes a log, in the form that the command line chooses.
+fn decoded<R: Source, W: Sink>(
+    alloc: Global,
+    job: &Job,
+    text: &[u8],
+    source: &mut R,
+    sink: &mut W,
+) -> Result<u64, RunFault>
+    ensures { Decoded job.now.form text.now (options_of job.now).short (R.unread source.old) (R.unread source.new)
+        (W.written sink.old) (W.written sink.new) result }
+{
+    let short = options_of(job).short;
+    match job.form {
+        Form::Text => decode_run(alloc, text, short, source, sink),
+        Form::Json => decode_json_run(alloc, text, short, source, sink),
+    }
+}
+
 /// Does the job on the bytes of its file: writes the output to `sink` and a fault's line to `errors`, and answers the
 /// exit status. `source` is standard input, which only `decode` and `session` read. That `errors` fails doesn't change the status.
 pub fn run<R: Source, W: Sink, E: Sink>(
@@ -65,7 +84,7 @@ pub fn run<R: Source, W: Sink, E: Sink>(
     sink: &mut W,
     errors: &mut E,
 ) -> u8
-    ensures { EndsWith job.now.command (options_of job.now) text.now (R.unread source.old) (R.unread source.new)
+    ensures { EndsWith job.now.command job.now.form (options_of job.now) text.now (R.unread source.old) (R.unread source.new)
         (W.written sink.old) (W.written sink.new) result }
 {
     run_keyed(alloc, job, text, None, source, sink, errors)
@@ -82,15 +101,12 @@ pub fn run_keyed<R: Source, W: Sink, E: Sink>(
     sink: &mut W,
     errors: &mut E,
 ) -> u8
-    ensures { EndsWith job.now.command (options_of job.now) text.now (R.unread source.old) (R.unread source.new)
+    ensures { EndsWith job.now.command job.now.form (options_of job.now) text.now (R.unread source.old) (R.unread source.new)
         (W.written sink.old) (W.written sink.new) result }
 {
     match job.command {
         Command::Check => check(alloc, text, sink, errors),
-        Command::Decode => {
-            let outcome = decode_run(alloc, text, options_of(job).short, source, sink);
-            decode_ended(outcome, errors)
-        }
+        Command::Decode => decode_ended(decoded(alloc, job, text, source, sink), errors),
         Command::Dump => dump(alloc, text, sink, errors),
         Command::Explain => explain(alloc, text, sink, errors),
         Command::Print => print(alloc, text, sink, errors),

@@ -13,7 +13,6 @@ use Rattle.fault_places.specs.Places.{Found, IsPlace}
 use Rattle.fault_places.specs.Walks.{found_of}
 use Rattle.fault_reports.specs.Headlines.{BeginsSo}
 use Rattle.fault_reports.specs.declared.report.Report.{Report}
-use Rattle.can_decode.specs.declared.short.Short.{Short}
 use Rattle.candesk_runs.specs.declared.fault.RunFault.{RunFault}
 use Rattle.candesk_runs.specs.declared.fault.RunFault.TheVariants as run
 use Rattle.candesk_runs.specs.declared.fault.PrintFault.{PrintFault}
@@ -22,17 +21,16 @@ use Rattle.candesk_runs.specs.declared.checking.Verdict.{Verdict}
 use Rattle.candesk_runs.specs.declared.fault.CheckFault.{CheckFault}
 use Rattle.candesk_runs.specs.declared.fault.CheckFault.TheVariants as check
 use Rattle.candesk_runs.specs.Explaining.{Explains, ExplainsFault, ExplainsText}
-use Rattle.candesk_runs.specs.Decoding.{Decodes, Runs}
+use Rattle.candesk_runs.specs.Decoding.{Writes, RunsToTexts}
 use Rattle.candesk_runs.specs.Printing.{Prints, PrintsText}
 
 module _ (text : List ℕ) (database : Database) (read : HasDatabase text database) where
-  pub decoded : (short : Short) (before after : Unread) (old new : Written) (result : Result ℕ RunFault)
-      → Decodes (record { database = database; short = short }) before after old new result
-      → Runs text short before after old new result
-  decoded short before after old new (Ok count) done = (database, read, done)
-  decoded short before after old new (Err (run.Stream fault)) done = (database, read, done)
-  decoded short before after old new (Err (run.Read fault)) done = absurd done
-  decoded short before after old new (Err run.Memory) done = done
+  pub written : (text_of : Database → List ℕ → List ℕ) (before after : Unread) (old new : Written) (result : Result ℕ RunFault)
+      → Writes (text_of database) before after old new result → RunsToTexts text_of text before after old new result
+  written text_of before after old new (Ok count) done = (database, read, done)
+  written text_of before after old new (Err (run.Stream fault)) done = (database, read, done)
+  written text_of before after old new (Err (run.Read fault)) done = absurd done
+  written text_of before after old new (Err run.Memory) done = done
 
   pub explained : (old new : Written) (result : Result Verdict CheckFault) → Explains text database old new result
       → ExplainsText text old new result

@@ -8,6 +8,7 @@ use Rattle.line_stream.specs.LineTexts.{Streams}
 use Rattle.line_stream.specs.declared.fault.StreamFault.TheVariants as streams
 use Rattle.can_decode.specs.declared.short.Short.{Short}
 use Rattle.can_decode.specs.DecodedLines.{Bus, bus_line}
+use Rattle.json_lines.specs.Lines.{json_line}
 use Rattle.candesk_runs.specs.declared.fault.RunFault.{RunFault}
 use Rattle.candesk_runs.specs.declared.fault.RunFault.TheVariants as faults
 use Rattle.candesk_runs.specs.Printing.{status_of_cause}
@@ -18,24 +19,33 @@ pub record IsUntouched (before after : Unread) (old new : Written) : Type 0 wher
   pub unread : after ≡ before
   pub written : new ≡ old
 
--- The log of a bus is decoded. Or it is untouched, and memory ran out.
-abbrev pub Decodes : Bus → Unread → Unread → Written → Written → Result ℕ RunFault → Type 0
-Decodes bus before after old new (Ok count) = Streams (bus_line bus) before after old new (Ok count)
-Decodes bus before after old new (Err (faults.Stream fault)) = Streams (bus_line bus) before after old new (Err fault)
-Decodes bus before after old new (Err (faults.Read fault)) = ⊥
-Decodes bus before after old new (Err faults.Memory) = IsUntouched before after old new
+-- The texts of the lines of a log are written. Or the log is untouched, and memory ran out.
+abbrev pub Writes : (List ℕ → List ℕ) → Unread → Unread → Written → Written → Result ℕ RunFault → Type 0
+Writes text_of before after old new (Ok count) = Streams text_of before after old new (Ok count)
+Writes text_of before after old new (Err (faults.Stream fault)) = Streams text_of before after old new (Err fault)
+Writes text_of before after old new (Err (faults.Read fault)) = ⊥
+Writes text_of before after old new (Err faults.Memory) = IsUntouched before after old new
 
--- The text has a database, and the log is decoded with it, by what is chosen for short frames. Or the log is untouched, and the
--- fault
--- is the first of the text, or memory ran out.
-abbrev pub Runs : List ℕ → Short → Unread → Unread → Written → Written → Result ℕ RunFault → Type 0
-Runs text short before after old new (Ok count) = (database : Database) × HasDatabase text database
-    × Decodes (record { database = database; short = short }) before after old new (Ok count)
-Runs text short before after old new (Err (faults.Stream fault)) = (database : Database) × HasDatabase text database
-    × Decodes (record { database = database; short = short }) before after old new (Err (faults.Stream fault))
-Runs text short before after old new (Err (faults.Read fault)) = IsUntouched before after old new
+-- The text has a database, and the texts of the lines of a log by it are written. Or the log is untouched, and the fault is the
+-- first of the text, or memory ran out.
+abbrev pub RunsToTexts : (Database → List ℕ → List ℕ) → List ℕ → Unread → Unread → Written → Written → Result ℕ RunFault → Type 0
+RunsToTexts text_of text before after old new (Ok count) = (database : Database) × HasDatabase text database
+    × Writes (text_of database) before after old new (Ok count)
+RunsToTexts text_of text before after old new (Err (faults.Stream fault)) = (database : Database) × HasDatabase text database
+    × Writes (text_of database) before after old new (Err (faults.Stream fault))
+RunsToTexts text_of text before after old new (Err (faults.Read fault)) = IsUntouched before after old new
     × HasFirstFault grammar.text text fault
-Runs text short before after old new (Err faults.Memory) = IsUntouched before after old new
+RunsToTexts text_of text before after old new (Err faults.Memory) = IsUntouched before after old new
+
+-- the log is decoded, by what is chosen for short frames
+abbrev pub Runs : List ℕ → Short → Unread → Unread → Written → Written → Result ℕ RunFault → Type 0
+Runs text short before after old new outcome =
+    RunsToTexts (λ database. bus_line (record { database = database; short = short })) text before after old new outcome
+
+-- the log is decoded to objects of JSON
+abbrev pub RunsToJson : List ℕ → Short → Unread → Unread → Written → Written → Result ℕ RunFault → Type 0
+RunsToJson text short before after old new outcome =
+    RunsToTexts (λ database. json_line (record { database = database; short = short })) text before after old new outcome
 
 -- the exit status of an outcome
 abbrev pub status_of : Result ℕ RunFault → ℕ
@@ -51,3 +61,8 @@ status_of (Err (faults.Stream streams.Memory)) = memory
 abbrev pub DecodingEndsWith : List ℕ → Short → Unread → Unread → Written → Written → ℕ → Type 0
 DecodingEndsWith text short before after old new status =
     (outcome : Result ℕ RunFault) × Runs text short before after old new outcome × (status ≡ status_of outcome)
+
+-- the same of objects of JSON
+abbrev pub JsonEndsWith : List ℕ → Short → Unread → Unread → Written → Written → ℕ → Type 0
+JsonEndsWith text short before after old new status =
+    (outcome : Result ℕ RunFault) × RunsToJson text short before after old new outcome × (status ≡ status_of outcome)

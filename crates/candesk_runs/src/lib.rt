@@ -1,6 +1,7 @@
 //! What each command but `session` does with a database and the standard streams.
 //!
-//! [`decode_run`], [`print_run`], [`dump_run`], [`check_run`] and [`explain_run`] say by their contracts what is written;
+//! [`decode_run`], [`decode_json_run`], [`print_run`], [`dump_run`], [`check_run`] and [`explain_run`] say by their contracts what
+//! is written;
 //! [`check`], [`explain`], [`print`] and [`dump`] are the same with the line of a fault and an exit status.
 #![tactic(auto)]
 
@@ -14,7 +15,7 @@ mod printing;
 
 pub use can_decode::Short;
 pub use checking::{Verdict, check_run};
-pub use decoding::decode_run;
+pub use decoding::{decode_json_run, decode_run};
 pub use dumping::dump_run;
 pub use ending::{check, decode_ended, dump, explain, print, report, status, status_of_cause};
 pub use explaining::explain_run;

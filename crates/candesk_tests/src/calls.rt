@@ -3,7 +3,7 @@
 
 use byte_devices::limp::Limp;
 use candesk_calls::{
-    Command, Job, Keep, NoJob, Verdict, check_run, refuse, refuse_file, run, status,
+    Command, Form, Job, Keep, NoJob, Verdict, check_run, refuse, refuse_file, run, status,
 };
 use std::alloc::{AllocError, Global};
 use std::test::Fail;
@@ -42,6 +42,7 @@ fn ends_so(
         file: String::new(alloc),
         short: false,
         keep: Keep::All,
+        form: Form::Text,
     };
     let mut from = source(alloc, limits.0)?;
     let mut to = sink(alloc, limits.1);

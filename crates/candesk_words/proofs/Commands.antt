@@ -26,11 +26,13 @@ use Rattle.clap.proofs.WalkLemmas.{both, first_value-rows, one_text-rows}
 use Rattle.clap.proofs.OnLiterals.{clap_on_literals}
 use Rattle.candesk_words.proofs.OnLiterals.{words_on_literals}
 use Rattle.candesk_words.specs.declared.job.Command.{Command}
+use Rattle.candesk_words.specs.declared.job.Form.{Form}
 use Rattle.candesk_words.specs.declared.job.Job.{Job}
 use Rattle.candesk_words.specs.declared.job.NoJob.{NoJob}
 use Rattle.candesk_words.specs.declared.job.NoJob.TheVariants as reasons
-use Rattle.candesk_words.specs.Words.{command_line, command_named, has_flag, count_in, keep_found, job_found, job_as_found, SaysOf}
-use Rattle.candesk_words.specs.Words.{IsJobOf}
+use Rattle.candesk_words.specs.Words.{command_line, command_named, has_flag, form_found, count_in, keep_found, job_found}
+use Rattle.candesk_words.specs.Words.{job_as_found}
+use Rattle.candesk_words.specs.Words.{SaysOf, IsJobOf}
 
 pair-of : {X A B : Type 0} (o : Option X) (f : X → A) (g : X → B) (a : A) (b : B) → Some a ≡ option_map f o
     → Some b ≡ option_map (λ (p : A × B). p.1) (option_map {U = A × B} (λ x. (f x, g x)) o)
@@ -71,11 +73,13 @@ module _ (m found : ArgMatches) (name : Text) (e : Some name ≡ subcommand_name
     none,
   ) refl
 
-  pub job-found : (command : Command) (file : Text) (short : Bool) (keep : Keep) → command_named name ≡ Some command
+  pub job-found : (command : Command) (file : Text) (short : Bool) (keep : Keep) (form : Form) → command_named name ≡ Some command
       → first_value (found_of found) (codes "FILE") ≡ Some file
       → short ≡ has_flag (codes "short") (rows_of (found_of found)) → keep_found (rows_of (found_of found)) ≡ Some keep
-      → job_found (subcommand_rows_of m) ≡ Some (command, file, short, keep)
-  job-found command file short keep is some flag kept = rw (
+      → form ≡ form_found (rows_of (found_of found))
+      → job_found (subcommand_rows_of m) ≡ Some (command, file, short, keep, form)
+  job-found command file short keep form is some flag kept written = rw (
+    written,
     flag,
     rows-named m name (rows_of (found_of found)) e h,
     is,

@@ -6,14 +6,15 @@ use Rattle.clap.specs.declared.error.kind.ErrorKind.TheVariants.{UnknownArgument
 use Rattle.clap.proofs.OnLiterals.{clap_on_literals}
 use Rattle.candesk_words.proofs.OnLiterals.{words_on_literals}
 use Rattle.candesk_words.specs.declared.job.Command.TheVariants.{Check, Decode, Dump, Explain, Print, Session}
+use Rattle.candesk_words.specs.declared.job.Form.TheVariants.{Text, Json}
 use Rattle.kept_lines.specs.declared.keep.Keep.TheVariants.{All, Last}
 use Rattle.candesk_words.specs.Words.{command_line, job_named}
 
-check-job : job_named (codes "check" ∷ codes "a" ∷ []) ≡ Some (Check, codes "a", false, All)
+check-job : job_named (codes "check" ∷ codes "a" ∷ []) ≡ Some (Check, codes "a", false, All, Text)
 unfolding clap_on_literals words_on_literals
 check-job = refl
 
-decode-job : job_named (codes "decode" ∷ codes "a" ∷ []) ≡ Some (Decode, codes "a", false, All)
+decode-job : job_named (codes "decode" ∷ codes "a" ∷ []) ≡ Some (Decode, codes "a", false, All, Text)
 unfolding clap_on_literals words_on_literals
 decode-job = refl
 
@@ -21,15 +22,15 @@ decode-has_no_fault : fault_of command_line (codes "decode" ∷ codes "a" ∷ []
 unfolding clap_on_literals words_on_literals
 decode-has_no_fault = refl
 
-print-job : job_named (codes "print" ∷ codes "--" ∷ codes "--a" ∷ []) ≡ Some (Print, codes "--a", false, All)
+print-job : job_named (codes "print" ∷ codes "--" ∷ codes "--a" ∷ []) ≡ Some (Print, codes "--a", false, All, Text)
 unfolding clap_on_literals words_on_literals
 print-job = refl
 
-dump-job : job_named (codes "dump" ∷ codes "a" ∷ []) ≡ Some (Dump, codes "a", false, All)
+dump-job : job_named (codes "dump" ∷ codes "a" ∷ []) ≡ Some (Dump, codes "a", false, All, Text)
 unfolding clap_on_literals words_on_literals
 dump-job = refl
 
-explain-job : job_named (codes "explain" ∷ codes "a" ∷ []) ≡ Some (Explain, codes "a", false, All)
+explain-job : job_named (codes "explain" ∷ codes "a" ∷ []) ≡ Some (Explain, codes "a", false, All, Text)
 unfolding clap_on_literals words_on_literals
 explain-job = refl
 
@@ -45,7 +46,7 @@ no-file : fault_of command_line (codes "print" ∷ []) ≡ MissingRequiredArgume
 unfolding clap_on_literals words_on_literals
 no-file = refl
 
-decode-short : job_named (codes "decode" ∷ codes "--short" ∷ codes "a" ∷ []) ≡ Some (Decode, codes "a", true, All)
+decode-short : job_named (codes "decode" ∷ codes "--short" ∷ codes "a" ∷ []) ≡ Some (Decode, codes "a", true, All, Text)
 unfolding clap_on_literals words_on_literals
 decode-short = refl
 
@@ -53,11 +54,20 @@ decode-short-has_no_fault : fault_of command_line (codes "decode" ∷ codes "--s
 unfolding clap_on_literals words_on_literals
 decode-short-has_no_fault = refl
 
-session-job : job_named (codes "session" ∷ codes "a" ∷ []) ≡ Some (Session, codes "a", false, All)
+decode-json : job_named (codes "decode" ∷ codes "a" ∷ codes "--json" ∷ codes "--short" ∷ [])
+    ≡ Some (Decode, codes "a", true, All, Json)
+unfolding clap_on_literals words_on_literals
+decode-json = refl
+
+session-takes_no_json : fault_of command_line (codes "session" ∷ codes "--json" ∷ codes "a" ∷ []) ≡ UnknownArgument ∷ []
+unfolding clap_on_literals words_on_literals
+session-takes_no_json = refl
+
+session-job : job_named (codes "session" ∷ codes "a" ∷ []) ≡ Some (Session, codes "a", false, All, Text)
 unfolding clap_on_literals words_on_literals
 session-job = refl
 
-session-short : job_named (codes "session" ∷ codes "a" ∷ codes "--short" ∷ []) ≡ Some (Session, codes "a", true, All)
+session-short : job_named (codes "session" ∷ codes "a" ∷ codes "--short" ∷ []) ≡ Some (Session, codes "a", true, All, Text)
 unfolding clap_on_literals words_on_literals
 session-short = refl
 
@@ -77,7 +87,7 @@ print-takes_no_short : fault_of command_line (codes "print" ∷ codes "--short" 
 unfolding clap_on_literals words_on_literals
 print-takes_no_short = refl
 
-short-file : job_named (codes "decode" ∷ codes "--" ∷ codes "--short" ∷ []) ≡ Some (Decode, codes "--short", false, All)
+short-file : job_named (codes "decode" ∷ codes "--" ∷ codes "--short" ∷ []) ≡ Some (Decode, codes "--short", false, All, Text)
 unfolding clap_on_literals words_on_literals
 short-file = refl
 
@@ -85,7 +95,8 @@ short-twice : fault_of command_line (codes "decode" ∷ codes "--short" ∷ code
 unfolding clap_on_literals words_on_literals
 short-twice = refl
 
-session-keep : job_named (codes "session" ∷ codes "--keep" ∷ codes "2" ∷ codes "a" ∷ []) ≡ Some (Session, codes "a", false, Last 2)
+session-keep : job_named (codes "session" ∷ codes "--keep" ∷ codes "2" ∷ codes "a" ∷ [])
+    ≡ Some (Session, codes "a", false, Last 2, Text)
 unfolding clap_on_literals words_on_literals
 session-keep = refl
 

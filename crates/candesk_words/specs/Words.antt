@@ -17,6 +17,8 @@ use Rattle.clap.specs.declared.error.kind.ErrorKind.{ErrorKind}
 use Rattle.clap.specs.declared.error.kind.ErrorKind.TheVariants as kinds
 use Rattle.candesk_words.specs.declared.job.Command.{Command}
 use Rattle.candesk_words.specs.declared.job.Command.TheVariants as commands
+use Rattle.candesk_words.specs.declared.job.Form.{Form}
+use Rattle.candesk_words.specs.declared.job.Form.TheVariants as forms
 use Rattle.candesk_words.specs.declared.job.Job.{Job}
 use Rattle.candesk_words.specs.declared.job.NoJob.{NoJob}
 use Rattle.candesk_words.specs.declared.job.NoJob.TheVariants as reasons
@@ -38,6 +40,14 @@ short_rule = record (new_rule (codes "short")) { long = Some (codes "short"); ac
 -- a command on a FILE that says what frames say, and takes `--short`
 unfoldable pub on_frames : Text → App
 on_frames name = with_rule (on_file name) short_rule
+
+-- the flag `--json`
+abbrev pub json_rule : Rule
+json_rule = record (new_rule (codes "json")) { long = Some (codes "json"); action = Some SetTrue }
+
+-- `decode`, which takes `--json` too
+unfoldable pub on_decode : App
+on_decode = with_rule (on_frames (codes "decode")) json_rule
 
 -- `--keep` with a number of lines
 abbrev pub keep_rule : Rule
@@ -64,7 +74,7 @@ with_command line command = with_subcommand line command.top
 unfoldable pub command_line : App
 command_line =
     let check = with_command before_command (on_file (codes "check")) in
-    let decode = with_command check (on_frames (codes "decode")) in
+    let decode = with_command check on_decode in
     let dump = with_command decode (on_file (codes "dump")) in
     let explain = with_command dump (on_file (codes "explain")) in
     let print = with_command explain (on_file (codes "print")) in
@@ -93,21 +103,25 @@ count_in text = if is_unsigned_in 1 most_lines text then Some (digits_value 10 (
 abbrev pub keep_found : List Row → Option Keep
 keep_found rows = option_map_or (λ text. option_map (λ count. Last count) (count_in text)) (one_of (codes "keep") rows) (Some All)
 
--- what a job says: the command, its FILE, whether `--short` is there, and which lines are retained
+-- JSON where `--json` is there, and text where it isn't
+abbrev pub form_found : List Row → Form
+form_found rows = if has_flag (codes "json") rows then forms.Json else forms.Text
+
+-- what a job says: the command, its FILE, whether `--short` is there, which lines are retained, and what is written
 abbrev pub Said : Type 0
-Said = Command × Text × Bool × Keep
+Said = Command × Text × Bool × Keep × Form
 
 -- that of the words, from what clap finds in them
 abbrev pub job_found : Option (Text × List Row) → Option Said
 job_found None = None
 job_found (Some found) = option_and_then
     (λ command. option_and_then
-    (λ file. option_map (λ keep. (command, file, has_flag (codes "short") found.1, keep)) (keep_found found.1))
+    (λ file. option_map (λ keep. (command, file, has_flag (codes "short") found.1, keep, form_found found.1)) (keep_found found.1))
     (first_of (codes "FILE") found.1))
     (command_named found.0)
 
 abbrev pub job_as_found : Job → Said
-job_as_found job = (job.command, job.file.bytes.items, job.short, job.keep)
+job_as_found job = (job.command, job.file.bytes.items, job.short, job.keep, job.form)
 
 -- the job that the words name
 abbrev pub job_named : List Text → Option Said

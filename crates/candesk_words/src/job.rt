@@ -1,7 +1,8 @@
 //! The job that the words name.
 ghost use Rattle.std.specs.Prelude.{◌≡◌, map, Some, None, IfOk, IfErr, ◌⊎◌};
 ghost use Rattle.clap.specs.Words.{kind_of, found_of, rows_of, subcommand_rows_of};
-ghost use Rattle.candesk_words.specs.Words.{command_named, has_flag, keep_found, job_found, job_as_found, SaysOf, IsJobOf};
+ghost use Rattle.candesk_words.specs.Words.{command_named, has_flag, form_found, keep_found, job_found, job_as_found, SaysOf};
+ghost use Rattle.candesk_words.specs.Words.{IsJobOf};
 
 use crate::line::command_line;
 use clap::ArgMatches;
@@ -26,6 +27,15 @@ pub enum Command {
     Session,
 }
 
+/// What lines and databases are written as.
+#[derive(Clone, Copy, Debug, PartialEq, Eq)]
+pub enum Form {
+    /// Text to be read by people.
+    Text,
+    /// An object of JSON for each.
+    Json,
+}
+
 /// A job: a command, the path of its database, and what the options say.
 #[derive(Debug, Drop)]
 pub struct Job {
@@ -38,6 +48,8 @@ pub struct Job {
     pub short: bool,
     /// Which lines are retained, as `--keep` asks for; all for commands without the option.
     pub keep: Keep,
+    /// What is written, as `--json` asks for; text for commands without the flag.
+    pub form: Form,
 }
 
 /// Why there is no job.
@@ -108,6 +120,17 @@ fn keep_in(found: &ArgMatches<'_>) -> Option<Keep>
     }
 }
 
+// What is to be written.
+fn form_in(found: &ArgMatches<'_>) -> Form
+    ensures { result ≡ form_found (rows_of (found_of found.now)) }
+{
+    if has_flag(found, "json") {
+        Form::Json
+    } else {
+        Form::Text
+    }
+}
+
 // The job that the matches name.
 fn job_in(alloc: Global, matches: &ArgMatches<'_>) -> Result<Job, NoJob>
     ensures ok { IfOk result (λ job. job_found (subcommand_rows_of matches.now) ≡ Some (job_as_found job)) }
@@ -133,12 +156,13 @@ fn job_in(alloc: Global, matches: &ArgMatches<'_>) -> Result<Job, NoJob>
         file,
         short,
         keep,
+        form: form_in(found),
     })
 }
 
 /// Reads the words after the program's name. Options stand before or behind FILE, `--` ends them, `help` is the
-/// word for `--help`, and `--version` and `-V` stand before a command alone. `decode` and `session` alone take `--short`, and
-/// `session` alone takes `--keep`, with a whole number from 1 to 1,048,576.
+/// word for `--help`, and `--version` and `-V` stand before a command alone. `decode` and `session` alone take `--short`, `decode`
+/// alone takes `--json`, and `session` alone takes `--keep`, with a whole number from 1 to 1,048,576.
 pub fn job_of<'a>(alloc: Global, words: &'a [&'a str]) -> Result<Job, NoJob>
     ensures { IsJobOf (map (λ word. word.now) words.now) result }
 {

@@ -2,7 +2,7 @@
 ghost use Rattle.std.specs.Prelude.{◌≡◌, false, codes, IfOk};
 ghost use Rattle.clap.specs.Words.{app_of};
 ghost use Rattle.clap.specs.declared.builder.command.Command.TheViews.{out-Command};
-ghost use Rattle.candesk_words.specs.Words.{before_command, on_file, on_frames, on_session, with_command, command_line};
+ghost use Rattle.candesk_words.specs.Words.{before_command, on_file, on_frames, on_decode, on_session, with_command, command_line};
 
 use crate::notes;
 use crate::version::VERSION;
@@ -63,6 +63,19 @@ fn on_frames<'a>(
     on_file(alloc, name, about, notes)?.arg(short)
 }
 
+// `decode`, which takes `--json` too.
+#[tactic(auto, unfolding(crate::specs::Words::on_decode))]
+fn on_decode<'a>(alloc: Global, about: &'a str, notes: &'a str) -> Result<Command<'a>, AllocError>
+    ensures app { IfOk result (λ command. app_of command ≡ on_decode) }
+    ensures local { IfOk result (λ command. (out-Command command).has_globals ≡ false) }
+{
+    let json = Arg::new(alloc, "json")
+        .long("json")
+        .action(ArgAction::SetTrue)
+        .help("Write an object of JSON for each line");
+    on_frames(alloc, "decode", about, notes)?.arg(json)
+}
+
 // `session`, which takes `--keep` too.
 #[tactic(auto, unfolding(crate::specs::Words::on_session))]
 fn on_session<'a>(alloc: Global, about: &'a str, notes: &'a str) -> Result<Command<'a>, AllocError>
@@ -96,10 +109,10 @@ fn with_check<'a>(alloc: Global, line: Command<'a>) -> Result<Command<'a>, Alloc
 }
 
 fn with_decode<'a>(alloc: Global, line: Command<'a>) -> Result<Command<'a>, AllocError>
-    ensures { IfOk result (λ longer. app_of longer ≡ with_command (app_of line.entry) (on_frames (codes "decode"))) }
+    ensures { IfOk result (λ longer. app_of longer ≡ with_command (app_of line.entry) on_decode) }
 {
     let about = "Decodes a log of `candump -L` on standard input";
-    let command = on_frames(alloc, "decode", about, notes::DECODE)?;
+    let command = on_decode(alloc, about, notes::DECODE)?;
     with_command(line, command)
 }
 
@@ -136,7 +149,7 @@ fn with_session<'a>(alloc: Global, line: Command<'a>) -> Result<Command<'a>, All
 }
 
 /// The command line: `candesk check FILE`, and so with `decode`, `dump`, `explain`, `print` and `session`, of which `decode`
-/// and `session` take `--short` too, and `session` takes `--keep N`.
+/// and `session` take `--short` too, `decode` takes `--json`, and `session` takes `--keep N`.
 #[tactic(auto, unfolding(crate::specs::Words::command_line))]
 pub fn command_line<'a>(alloc: Global) -> Result<Command<'a>, AllocError>
     ensures { IfOk result (λ line. app_of line ≡ command_line) }

@@ -1,4 +1,4 @@
-use Rattle.candesk_runs.proofs.decoding.decode_with.Goals as goal
+use Rattle.candesk_runs.proofs.decoding.stream_decoded.Goals as goal
 
 pub returns-in-Ok : goal.returns-in-Ok
 returns-in-Ok g c = (c.in-Ok.ensures.0, c.in-Ok.ensures.1)
