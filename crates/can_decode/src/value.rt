@@ -185,6 +185,7 @@ fn small_number(value: i128, places: u8) -> Option<u16>
 }
 
 // A value over ten to the number of places, with its sign.
+#[inline(always)]
 #[tactic(auto, using(crate::proofs::Pushing::pushed_then), unfolding(crate::specs::Values::scaled_text))]
 fn push_signed(text: &mut Draft, value: i128, places: u8) -> Result<(), Memory>
     ensures { OnOk result (text.new.items ≡ text.old.items ++ scaled_text value places) }

@@ -196,6 +196,7 @@ fn fill_other(frame: &mut Frame, rest: &[u8]) -> bool
 
 /// Reads the frame of a log line, as [`read_frame`], into the place of another, and answers whether there is one. It is faster, as
 /// no frame is moved. Where there is none, what then stands there means nothing.
+#[inline(always)]
 #[tactic(auto, unfolding(crate::specs::Frames::frame_of))]
 pub fn fill_frame(frame: &mut Frame, line: &[u8]) -> bool
     ensures { (if result then Some frame.new else None) ≡ frame_of (body_of line.now) }
