@@ -16,7 +16,7 @@ use Rattle.can_layout.specs.declared.row.Reading.{Reading}
 use Rattle.can_layout.specs.declared.row.Reading.TheVariants.{Refused, Read}
 use Rattle.can_decode.specs.DecodedLines.{listed, shown_rows}
 use Rattle.json_lines.specs.Signals.{value_text, told_members, reading_members, signal_member, signal_members}
-use Rattle.json_lines.specs.Prepared.{value_label, row_label, behind_label}
+use Rattle.json_lines.specs.Prepared.{value_label, row_label, next_label, behind_label}
 use Rattle.json_lines.proofs.Pushing.{pushed_then}
 
 -- an object of one member
@@ -62,21 +62,21 @@ signal_text name bytes (Read decoder) =
     ∙ ap (λ (text : List ℕ). (key ++ (codes ":" ++ text)) ++ told) (sym (number_printed value))))
     ∙ ap (λ (text : List ℕ). quoted name ++ (codes ":" ++ text)) (sym (objects_are_printed (reading_members bytes (Read decoder))))
 
-pub signal_pushed : (old mid new bytes : List ℕ) (row : Row) → new ≡ mid ++ behind_label bytes row.reading → mid ≡ old
+signal_pushed : (old mid new bytes : List ℕ) (row : Row) → new ≡ mid ++ behind_label bytes row.reading → mid ≡ old
     ++ row_label row
     → new ≡ old ++ member_text (signal_member bytes row)
 signal_pushed old mid new bytes row last begun =
     pushed_then old mid new (row_label row) (behind_label bytes row.reading) last begun
     ∙ ap (λ (text : List ℕ). old ++ text) (signal_text row.name bytes row.reading)
 
--- a signal after others
-pub next_pushed : (some : Bool) (old mid new bytes : List ℕ) (row : Row) → new ≡ mid ++ member_text (signal_member bytes row)
-    → mid ≡ old ++ (if some then 44 ∷ [] else [])
+-- a signal, after others or not
+pub next_pushed : (some : Bool) (old mid new bytes : List ℕ) (row : Row) → new ≡ mid ++ behind_label bytes row.reading
+    → mid ≡ old ++ (if some then next_label row else row_label row)
     → new ≡ old ++ (if some then further_member (signal_member bytes row) else member_text (signal_member bytes row))
 next_pushed true old mid new bytes row last begun =
-    pushed_then old mid new (44 ∷ []) (member_text (signal_member bytes row)) last begun
-next_pushed false old mid new bytes row last begun =
-    pushed_then old mid new [] (member_text (signal_member bytes row)) last begun
+    pushed_then old mid new (next_label row) (behind_label bytes row.reading) last begun
+    ∙ ap (λ (text : List ℕ). old ++ (44 ∷ text)) (signal_text row.name bytes row.reading)
+next_pushed false old mid new bytes row last begun = signal_pushed old mid new bytes row last begun
 
 -- the signals that are shown, as members
 listed_members : (bytes : List ℕ) (rows : List Row)

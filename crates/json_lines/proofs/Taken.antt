@@ -3,7 +3,8 @@ use Rattle.std.proofs.Common.{◌≡◌, ℕ, ◌+◌, ◌<◌, List, [], ◌∷
 use Rattle.can_layout.specs.declared.row.Row.{Row}
 use Rattle.json_lines.specs.declared.plan_texts.RowTexts.{RowTexts}
 use Rattle.json_lines.specs.Prepared.{MessageTexts, row_texts}
-use Rattle.std.proofs.lemmas.Option.{slice_get_within, get_or_from_slice_get}
+use Rattle.std.specs.Option.{option_map}
+use Rattle.std.proofs.lemmas.Option.{slice_get_within, get_or_from_slice_get, slice_get-map}
 use Rattle.std.proofs.lemmas.List.{take_more, map-append}
 
 take_next : {A : Type 0} (items : List A) (i : ℕ) (item : A) → Some item ≡ slice_get items i
@@ -30,3 +31,12 @@ pub message_texts_pushed : (all : List MessageTexts) (place : ℕ) (texts : Mess
     → new ≡ old ++ texts ∷ [] → old ≡ take place all → Some texts ≡ slice_get all place → new ≡ take (place + 1) all
 message_texts_pushed all place texts old new last so_far here =
     last ∙ ap (λ (front : List MessageTexts). front ++ texts ∷ []) so_far ∙ sym (take_next all place texts here)
+
+-- the texts at the place of a row
+pub mapped_at : (rows : List Row) (all : List RowTexts) (place : ℕ) (texts : RowTexts) (row : Row) → all ≡ map row_texts rows
+    → Some texts ≡ slice_get all place → Some row ≡ slice_get rows place → texts ≡ row_texts row
+mapped_at rows all place texts row are found here =
+    let same : Some texts ≡ Some (row_texts row) =
+    found ∙ ap (λ (all : List RowTexts). slice_get all place) are ∙ slice_get-map row_texts rows place
+    ∙ ap (option_map row_texts) (sym here) in
+    cc

@@ -25,6 +25,10 @@ value_label (Read decoder) = codes "{" ++ (quoted (codes "value") ++ codes ":")
 abbrev pub row_label : Row → List ℕ
 row_label row = quoted row.name ++ (codes ":" ++ value_label row.reading)
 
+-- the same after another signal
+abbrev pub next_label : Row → List ℕ
+next_label row = codes "," ++ row_label row
+
 -- `,"unit":"km/h"}`
 abbrev pub row_tail : Reading → List ℕ
 row_tail (Refused cause) = []
@@ -38,7 +42,7 @@ behind_label bytes (Read decoder) =
     value_text decoder raw ++ (further_members (told_members decoder (first_entry raw decoder.entries)) ++ codes "}")
 
 abbrev pub row_texts : Row → RowTexts
-row_texts row = record { label = row_label row; tail = row_tail row.reading }
+row_texts row = record { label = row_label row; next = next_label row; tail = row_tail row.reading }
 
 -- `,"message":"CCVS","number":2566844672`
 abbrev pub message_text : Message → List ℕ

@@ -16,7 +16,7 @@ use can_decode::{J1939, group_number, push_number};
 use dbc_values::Memory;
 use json_texts::Key;
 use log_frames::{Frame, Kind};
-use ready_texts::Draft;
+use ready_texts::{Draft, push_small_number};
 
 // From this PDU format on an identifier has no destination.
 const FIRST_BROADCAST_FORMAT: u8 = 240;
@@ -26,6 +26,15 @@ fn push_number_member(text: &mut Draft, key: &Key<'_>, n: u64) -> Result<(), Mem
 {
     key.push_to(text)?;
     push_number(text, n)?;
+    Ok(())
+}
+
+#[inline(always)]
+fn push_byte_member(text: &mut Draft, key: &Key<'_>, n: u8) -> Result<(), Memory>
+    ensures { OnOk result (text.new.items ≡ text.old.items ++ keyed key.now (number (decimal n))) }
+{
+    key.push_to(text)?;
+    push_small_number(text, u16::from(n))?;
     Ok(())
 }
 
@@ -67,7 +76,7 @@ fn push_destination(text: &mut Draft, keys: &GroupKeys<'_>, identifier: u32) -> 
     if fields.format >= FIRST_BROADCAST_FORMAT {
         return Ok(());
     }
-    push_number_member(text, &keys.destination, u64::from(fields.specific))
+    push_byte_member(text, &keys.destination, fields.specific)
 }
 
 // Priority, source and destination.
@@ -77,8 +86,8 @@ fn push_addresses(text: &mut Draft, keys: &GroupKeys<'_>, identifier: u32) -> Re
         ++ further_members (destination_members identifier)))) }
 {
     let fields = J1939::of(identifier);
-    push_number_member(text, &keys.priority, u64::from(fields.priority))?;
-    push_number_member(text, &keys.source, u64::from(fields.source))?;
+    push_byte_member(text, &keys.priority, fields.priority)?;
+    push_byte_member(text, &keys.source, fields.source)?;
     push_destination(text, keys, identifier)?;
     Ok(())
 }

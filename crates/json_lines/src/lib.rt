@@ -5,6 +5,7 @@
 
 mod flags;
 mod frame;
+mod interface;
 mod keys;
 mod line;
 mod plan_texts;

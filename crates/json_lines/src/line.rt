@@ -8,6 +8,7 @@ ghost use Rattle.json_lines.specs.Lines.{frame_members, said_members, rest_membe
 ghost use Rattle.json_lines.specs.Prepared.{database_texts};
 
 use crate::frame::{push_frame, push_said};
+use crate::interface::Ready;
 use crate::keys::{Keys, LineKeys};
 use crate::plan_texts::MessageTexts;
 use crate::target::JsonTarget;
@@ -21,12 +22,12 @@ use std::marker::Model;
 
 // When and where a frame came.
 #[tactic(auto, using(crate::proofs::Pushing::pushed_then))]
-fn push_came(text: &mut Draft, keys: &LineKeys<'_>, words: &Words<'_>) -> Result<(), Memory>
+fn push_came(text: &mut Draft, ready: &mut Ready<'_>, words: &Words<'_>) -> Result<(), Memory>
     ensures { OnOk result (text.new.items ≡ text.old.items ++ (keyed (record { mark = 123; name = codes "time" })
         (number words.now.time.now) ++ further_members (text_members (codes "interface") words.now.interface.now))) }
 {
-    keys.time.push_digits(text, words.time)?;
-    keys.interface.push_texts(text, words.interface)?;
+    ready.keys.line.time.push_digits(text, words.time)?;
+    ready.push_interface(text, words.interface)?;
     Ok(())
 }
 
@@ -62,7 +63,7 @@ fn push_behind_came(
 // A line with a frame.
 fn push_known(
     text: &mut Draft,
-    keys: &Keys<'_>,
+    ready: &mut Ready<'_>,
     body: &[u8],
     frame: &Frame,
     target: Option<&JsonTarget<'_>>,
@@ -71,8 +72,8 @@ fn push_known(
         (option_map (λ target. target.now) target.entry))) }
 {
     let words = words_of(body);
-    push_came(text, &keys.line, &words)?;
-    push_behind_came(text, keys, frame, target, words.rest)?;
+    push_came(text, ready, &words)?;
+    push_behind_came(text, ready.keys, frame, target, words.rest)?;
     text.push(b'}')?;
     Ok(())
 }
@@ -149,7 +150,7 @@ impl<'a, C: Choose> JsonFinder<'a, C> {
 #[tactic(auto, unfolding(crate::specs::Lines::line_members))]
 pub(crate) fn push_line<C: Choose>(
     text: &mut Draft,
-    keys: &Keys<'_>,
+    ready: &mut Ready<'_>,
     finder: &mut JsonFinder<'_, C>,
     line: &[u8],
 ) -> Result<(), Memory>
@@ -159,8 +160,8 @@ pub(crate) fn push_line<C: Choose>(
     let body = body_of(line);
     let mut frame = Frame::empty();
     if !fill_frame(&mut frame, line) {
-        return push_unread(text, &keys.line, body);
+        return push_unread(text, &ready.keys.line, body);
     }
     let target = finder.target_of(&frame)?;
-    push_known(text, keys, body, &frame, target.as_ref())
+    push_known(text, ready, body, &frame, target.as_ref())
 }

@@ -2,7 +2,7 @@
 ghost use Rattle.std.specs.Prelude.{◌≡◌, ◌++◌, IfOk, OnOk, codes, map};
 ghost use Rattle.json_texts.specs.Members.{further_members};
 ghost use Rattle.json_lines.specs.Signals.{unit_members};
-ghost use Rattle.json_lines.specs.Prepared.{value_label, row_label, row_tail, row_texts, message_text, texts_of};
+ghost use Rattle.json_lines.specs.Prepared.{value_label, row_label, next_label, row_tail, row_texts, message_text, texts_of};
 
 use crate::keys::{Keys, SaidKeys, SignalKeys};
 use can_layout::{Decoder, Plan, Reading, Row};
@@ -19,6 +19,8 @@ use std::marker::Model;
 pub struct RowTexts {
     /// `"Speed":{"value":`, or all of a signal that can't be decoded.
     pub label: ReadyText,
+    /// The same with a comma before it, after another signal.
+    pub next: ReadyText,
     /// `,"unit":"km/h"}`, of a signal that can be.
     pub tail: ReadyText,
 }
@@ -93,6 +95,15 @@ fn ready_label(text: &mut Draft, keys: &SignalKeys<'_>, row: &Row) -> Result<Rea
     ReadyText::of(text.allocator(), text.as_slice())
 }
 
+fn ready_next(text: &mut Draft, keys: &SignalKeys<'_>, row: &Row) -> Result<ReadyText, Memory>
+    ensures { IfOk result (λ ready. ready ≡ next_label row.now) }
+{
+    text.clear();
+    text.push(b',')?;
+    push_row_label(text, keys, row)?;
+    ReadyText::of(text.allocator(), text.as_slice())
+}
+
 fn ready_tail(text: &mut Draft, keys: &SignalKeys<'_>, row: &Row) -> Result<ReadyText, Memory>
     ensures { IfOk result (λ ready. ready ≡ row_tail row.now.reading) }
 {
@@ -105,8 +116,9 @@ fn row_texts(text: &mut Draft, keys: &SignalKeys<'_>, row: &Row) -> Result<RowTe
     ensures { IfOk result (λ texts. texts ≡ row_texts row.now) }
 {
     let label = ready_label(text, keys, row)?;
+    let next = ready_next(text, keys, row)?;
     let tail = ready_tail(text, keys, row)?;
-    Ok(RowTexts { label, tail })
+    Ok(RowTexts { label, next, tail })
 }
 
 /// The texts of a plan's signals, in order.

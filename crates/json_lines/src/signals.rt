@@ -1,15 +1,17 @@
 //! The signals of a message as an object.
 ghost use Rattle.std.specs.Prelude.{◌≡◌, ◌≤◌, ◌<◌, ◌^◌, ◌++◌, OnOk, codes, map, unsigned_abs, length, slice_get, Some};
+ghost use Rattle.std.specs.Prelude.{if◌then◌else◌};
 ghost use Rattle.can_layout.specs.Decoders.{first_entry};
-ghost use Rattle.json_texts.specs.Members.{member_text, further_members, object_text};
-ghost use Rattle.json_lines.specs.Signals.{value_text, told_members, signal_member, signal_members};
+ghost use Rattle.json_texts.specs.Members.{further_members, object_text};
+ghost use Rattle.json_lines.specs.Signals.{value_text, told_members, signal_members};
 ghost use Rattle.json_lines.specs.Prepared.{row_tail, row_texts, behind_label};
 ghost use Rattle.can_layout.specs.declared.row.Reading.TheVariants.{Read};
+ghost use Rattle.can_layout.specs.declared.row.Row.{Row as PlainRow};
 
 use crate::keys::SignalKeys;
 use crate::plan_texts::RowTexts;
 use can_decode::{SignalText, push_scaled, push_signals};
-use can_layout::{Decoder, Plan, Reading, Row};
+use can_layout::{Decoder, Plan, Reading};
 use dbc_values::Memory;
 use ready_texts::Draft;
 use std::marker::Model;
@@ -96,21 +98,13 @@ fn push_behind_label(
     }
 }
 
-// A signal as a member.
+// The label of a signal, after others if `some` says so.
 #[inline(always)]
-fn push_signal(
-    text: &mut Draft,
-    keys: &SignalKeys<'_>,
-    texts: &RowTexts,
-    row: &Row,
-    bytes: &[u8],
-) -> Result<(), Memory>
-    requires { texts.now ≡ row_texts row.now }
-    ensures { OnOk result (text.new.items ≡ text.old.items ++ member_text (signal_member bytes.now row.now)) }
+fn push_label(text: &mut Draft, texts: &RowTexts, some: bool) -> Result<(), Memory>
+    ensures { OnOk result (text.new.items ≡ text.old.items ++ (if some then texts.now.next else texts.now.label)) }
 {
-    texts.label.push_to(text)?;
-    push_behind_label(text, keys, texts, &row.reading, bytes)?;
-    Ok(())
+    let label = if some { &texts.next } else { &texts.label };
+    label.push_to(text)
 }
 
 fn texts_at(texts: &[RowTexts], place: usize) -> &RowTexts
@@ -118,6 +112,18 @@ fn texts_at(texts: &[RowTexts], place: usize) -> &RowTexts
     ensures { Some result.now ≡ slice_get texts.now place }
 {
     &texts[place]
+}
+
+impl<'a> JsonSignals<'a> {
+    // What is prepared of the signal at a place.
+    #[inline(always)]
+    #[tactic(auto, using(crate::proofs::Taken::mapped_at))]
+    fn texts_at(&self, place: usize) -> &RowTexts
+        requires { place < length self.now.rows }
+        ensures { (row : PlainRow) → Some row ≡ slice_get self.now.rows place → result.now ≡ row_texts row }
+    {
+        texts_at(self.texts, place)
+    }
 }
 
 impl<'a> SignalText for JsonSignals<'a> {
@@ -130,15 +136,17 @@ impl<'a> SignalText for JsonSignals<'a> {
 
     ghost further = { λ signals bytes row. further_member (signal_member bytes row) };
 
+    #[inline(always)]
     fn plan(&self) -> &Plan {
         self.plan
     }
 
+    #[inline(always)]
     fn push(&self, text: &mut Draft, some: bool, place: usize, bytes: &[u8]) -> Result<(), Memory> {
         let row = self.plan.row(place);
-        let texts = texts_at(self.texts, place);
-        text.push_if(some, b',')?;
-        push_signal(text, self.keys, texts, row, bytes)?;
+        let texts = self.texts_at(place);
+        push_label(text, texts, some)?;
+        push_behind_label(text, self.keys, texts, &row.reading, bytes)?;
         Ok(())
     }
 }

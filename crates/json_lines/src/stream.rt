@@ -6,6 +6,7 @@ ghost use Rattle.can_decode.specs.Counting.{counted};
 ghost use Rattle.json_lines.specs.Lines.{json_line};
 ghost use Rattle.json_lines.specs.Prepared.{database_texts};
 
+use crate::interface::Ready;
 use crate::keys::Keys;
 use crate::line::{JsonFinder, push_line};
 use crate::plan_texts::MessageTexts;
@@ -107,11 +108,19 @@ impl<'a> JsonDecoding<'a> {
     }
 }
 
-// The objects of lines. What numbers went to is remembered.
+// The objects of lines. What numbers went to is remembered. Contracts see the bus.
 #[derive(Drop)]
 struct JsonLines<'a, C: Choose> {
     finder: JsonFinder<'a, Remembered<C>>,
-    keys: &'a Keys<'a>,
+    ready: Ready<'a>,
+}
+
+impl<'a, C: Choose> Model for JsonLines<'a, C> {
+    ghost use Rattle.can_decode.specs.DecodedLines.{Bus};
+
+    ghost Value = { Bus };
+
+    ghost view = { λ a. a.finder };
 }
 
 impl<'a, C: Choose> LineText for JsonLines<'a, C> {
@@ -119,14 +128,14 @@ impl<'a, C: Choose> LineText for JsonLines<'a, C> {
     ghost use Rattle.line_stream.specs.LineTexts.{line_text};
     ghost use Rattle.json_lines.specs.Lines.{json_line};
 
-    ghost text_of = { λ lines. line_text (json_line lines.finder) };
+    ghost text_of = { λ lines. line_text (json_line lines) };
 
     ghost next = { λ lines line. lines };
 
     #[tactic(auto, using(json_texts::proofs::Objects::objects_are_printed))]
     fn renew(&mut self, text: &mut Draft, line: &[u8]) -> Result<(), Memory> {
         text.clear();
-        push_line(text, self.keys, &mut self.finder, line)?;
+        push_line(text, &mut self.ready, &mut self.finder, line)?;
         text.push(b'\n')?;
         Ok(())
     }
@@ -141,12 +150,12 @@ fn lines_by<'a, C: Choose>(
     chooser: C,
 ) -> JsonLines<'a, C>
     requires { C.whole chooser ≡ decoding.now.database }
-    ensures { result.finder ≡ decoding.now }
+    ensures { result ≡ decoding.now }
 {
     let finder = remembering(alloc, decoding.decoding.finder(chooser));
     JsonLines {
         finder: JsonFinder::of(finder, decoding.texts.as_slice()),
-        keys: &decoding.keys,
+        ready: Ready::of(&decoding.keys),
     }
 }
 

@@ -77,6 +77,11 @@ three (a ∷ b ∷ []) long = absurd (omega (arith, long))
 three (a ∷ b ∷ c ∷ []) long = refl
 three (a ∷ b ∷ c ∷ d ∷ more) long = absurd (omega (arith, long))
 
+pub four : (bytes : List ℕ) → length bytes ≡ 4
+    → bytes ≡ slice_index_or bytes 0 0 ∷ slice_index_or bytes 1 0 ∷ slice_index_or bytes 2 0 ∷ slice_index_or bytes 3 0 ∷ []
+four [] long = absurd (omega (arith, long))
+four (a ∷ bytes) long = ap (λ (rest : List ℕ). a ∷ rest) (three bytes (omega (arith, long)))
+
 pub eight : (bytes : List ℕ) → length bytes ≡ 8
     → bytes ≡ slice_index_or bytes 0 0 ∷ slice_index_or bytes 1 0 ∷ slice_index_or bytes 2 0 ∷ slice_index_or bytes 3 0
     ∷ slice_index_or bytes 4 0 ∷ slice_index_or bytes 5 0 ∷ slice_index_or bytes 6 0 ∷ slice_index_or bytes 7 0 ∷ []
@@ -100,3 +105,14 @@ eight_more all text digits new eight rest behind pushed spelled so_far front bac
     (ap (flat_map pair_text) (sym front) ∙ sym spelled) (sym back))
     ∙ sym (append_assoc text digits (flat_map pair_text behind))
     ∙ ap (λ (text : List ℕ). text ++ flat_map pair_text behind) (sym pushed)
+
+-- four bytes, and the others
+pub four_first : (old digits middle new four rest bytes : List ℕ) → new ≡ middle ++ flat_map pair_text rest → middle ≡ old ++ digits
+    → digits ≡ flat_map pair_text four → four ≡ take 4 bytes → rest ≡ drop 4 bytes → new ≡ old ++ flat_map pair_text bytes
+four_first old digits middle new four rest bytes last begun spelled front back =
+    last ∙ ap (λ (text : List ℕ). text ++ flat_map pair_text rest) begun
+    ∙ append_assoc old digits (flat_map pair_text rest)
+    ∙ ap (λ (text : List ℕ). old ++ text)
+    (ap₂ (λ (one more : List ℕ). one ++ more) (spelled ∙ ap (flat_map pair_text) front) (ap (flat_map pair_text) back)
+    ∙ sym (flat_map-append pair_text (take 4 bytes) (drop 4 bytes))
+    ∙ ap (flat_map pair_text) (take-append-drop 4 bytes))

@@ -39,6 +39,19 @@ fn pairs_of_eight(bytes: &[u8; 8]) -> [u8; 16]
     [a, i, b, j, c, k, d, l, e, m, f, n, g, o, h, p]
 }
 
+// The digits of four bytes.
+#[inline(always)]
+fn pairs_of_four(bytes: &[u8; 4]) -> [u8; 8]
+    ensures { result ≡ flat_map pair_text bytes.now }
+{
+    let [a, b, c, d] = *bytes;
+    let (a, i) = pair_of(a);
+    let (b, j) = pair_of(b);
+    let (c, k) = pair_of(c);
+    let (d, l) = pair_of(d);
+    [a, i, b, j, c, k, d, l]
+}
+
 // The digits of bytes, as they stand in a string, one by one.
 fn push_few_pairs(text: &mut Draft, bytes: &[u8]) -> Result<(), Memory>
     ensures { OnOk result (text.new.items ≡ text.old.items ++ flat_map pair_text bytes.now) }
@@ -48,6 +61,21 @@ fn push_few_pairs(text: &mut Draft, bytes: &[u8]) -> Result<(), Memory>
         text.push_piece(&[high, low])?;
     }
     Ok(())
+}
+
+// The digits of bytes that are mostly fewer than eight: four at once, and the others one by one.
+#[tactic(auto, using(crate::proofs::Digits::four_first))]
+fn push_short_pairs(text: &mut Draft, bytes: &[u8]) -> Result<(), Memory>
+    ensures { OnOk result (text.new.items ≡ text.old.items ++ flat_map pair_text bytes.now) }
+{
+    match bytes.split_first_chunk::<4>() {
+        Some((four, behind)) => {
+            text.push_piece(&pairs_of_four(four))?;
+            push_few_pairs(text, behind)?;
+            Ok(())
+        }
+        None => push_few_pairs(text, bytes),
+    }
 }
 
 // The same, eight bytes at a time.
@@ -60,7 +88,7 @@ fn push_pairs(text: &mut Draft, bytes: &[u8]) -> Result<(), Memory>
         text.push_piece(&pairs_of_eight(eight))?;
         rest = behind;
     }
-    push_few_pairs(text, rest)
+    push_short_pairs(text, rest)
 }
 
 /// Appends a string of hexadecimal pairs in upper case, one for each byte.
