@@ -1,0 +1,16 @@
+//! Log lines in, rows of CSV out.
+//!
+//! [`csv_stream_by`] writes a row for each signal that is shown of each line of a log. [`header`] names the columns. A row tells
+//! what the object of the line in `json_lines` tells of that signal.
+#![tactic(auto)]
+
+mod field;
+pub mod laws;
+mod line;
+mod plan_texts;
+mod signals;
+mod stream;
+mod target;
+
+pub use plan_texts::{MessageTexts, RowTexts};
+pub use stream::{CsvDecoding, csv_stream_by, header};

@@ -1,0 +1,169 @@
+//! A log in, the rows of its lines out.
+ghost use Rattle.std.specs.Prelude.{◌≡◌, ◌<◌, ℕ, List, length, slice_get, option_map, Some, IfOk};
+ghost use Rattle.csv.specs.Writing.{default_writer, row_text};
+ghost use Rattle.can_layout.specs.Plans.{plan_of};
+ghost use Rattle.line_stream.specs.LineTexts.{StreamsTexts};
+ghost use Rattle.can_decode.specs.Counting.{counted};
+ghost use Rattle.csv_lines.specs.Rows.{csv_line, header};
+ghost use Rattle.csv_lines.specs.Prepared.{database_texts};
+
+use crate::line::{CsvFinder, push_line};
+use crate::plan_texts::MessageTexts;
+use byte_devices::{Sink, Source};
+use can_choice::{Choose, Finding, Remembered};
+use can_decode::{Decoding, remembering, stream_counted};
+use can_layout::{Meter, Plan};
+use dbc_records::Message;
+use dbc_values::Memory;
+use line_stream::{LineText, StreamFault};
+use ready_texts::Draft;
+use std::alloc::Global;
+use std::marker::Model;
+
+/// The row that names the columns.
+#[tactic(auto, unfolding(csv::specs::Writing::fields_text, csv::specs::Writing::is_blank))]
+pub fn header() -> &'static [u8]
+    ensures { result.now ≡ row_text default_writer header }
+{
+    b"time,interface,id,message,signal,value,unit,name\n"
+}
+
+/// A database with all that decoding its bus to CSV needs. Contracts see the bus.
+#[derive(Drop)]
+pub struct CsvDecoding<'a> {
+    decoding: &'a Decoding,
+    texts: Vec<MessageTexts>,
+}
+
+impl<'a> Model for CsvDecoding<'a> {
+    ghost use Rattle.std.specs.Prelude.{◌≡◌};
+    ghost use Rattle.can_decode.specs.DecodedLines.{Bus};
+    ghost use Rattle.csv_lines.specs.Prepared.{database_texts};
+
+    ghost Value = { Bus };
+
+    ghost view = { λ a. a.decoding.now };
+
+    ghost invariant = { λ a. a.texts.items ≡ database_texts a.decoding.now.database };
+}
+
+fn message_at(decoding: &Decoding, place: usize) -> &Message
+    requires { place < length decoding.now.database.messages }
+    ensures { Some result.now ≡ slice_get decoding.now.database.messages place }
+{
+    &decoding.database().messages.as_slice()[place]
+}
+
+fn plan_at(decoding: &Decoding, place: usize) -> &Plan
+    requires { place < length decoding.now.database.messages }
+    ensures { Some result.now ≡ option_map (plan_of decoding.now.database) (slice_get decoding.now.database.messages place) }
+{
+    &decoding.plans()[place]
+}
+
+// What is prepared of the message at a place.
+#[tactic(auto, using(crate::proofs::Prepared::texts_at))]
+fn message_texts(
+    alloc: Global,
+    text: &mut Draft,
+    decoding: &Decoding,
+    place: usize,
+) -> Result<MessageTexts, Memory>
+    requires { place < length decoding.now.database.messages }
+    ensures { IfOk result (λ texts. Some texts ≡ slice_get (database_texts decoding.now.database) place) }
+{
+    MessageTexts::of(
+        alloc,
+        text,
+        message_at(decoding, place),
+        plan_at(decoding, place),
+    )
+}
+
+// What is prepared of all messages, in order.
+fn all_texts(alloc: Global, decoding: &Decoding) -> Result<Vec<MessageTexts>, Memory>
+    ensures { IfOk result (λ texts. texts.items ≡ database_texts decoding.now.database) }
+{
+    let count = decoding.database().messages.len();
+    let mut text = Draft::new(alloc);
+    let mut texts = Vec::with_capacity(alloc, count)?;
+    for place in 0..count {
+        texts.push(message_texts(alloc, &mut text, decoding, place)?)?;
+    }
+    Ok(texts)
+}
+
+impl<'a> CsvDecoding<'a> {
+    /// That of a database, with the texts that are prepared of its messages.
+    pub fn of(alloc: Global, decoding: &'a Decoding) -> Result<CsvDecoding<'a>, Memory>
+        ensures { IfOk result (λ made. made ≡ decoding.now) }
+    {
+        let texts = all_texts(alloc, decoding)?;
+        Ok(CsvDecoding { decoding, texts })
+    }
+}
+
+// The rows of lines. What numbers went to is remembered. Contracts see the bus.
+#[derive(Drop)]
+struct CsvRows<'a, C: Choose> {
+    finder: CsvFinder<'a, Remembered<C>>,
+    // what stands first in each row of a line
+    came: Draft,
+}
+
+impl<'a, C: Choose> Model for CsvRows<'a, C> {
+    ghost use Rattle.can_decode.specs.DecodedLines.{Bus};
+
+    ghost Value = { Bus };
+
+    ghost view = { λ a. a.finder };
+}
+
+impl<'a, C: Choose> LineText for CsvRows<'a, C> {
+    ghost use Rattle.std.proofs.Common.{refl};
+    ghost use Rattle.csv_lines.specs.Rows.{csv_line};
+
+    ghost text_of = { λ rows. csv_line rows };
+
+    ghost next = { λ rows line. rows };
+
+    fn renew(&mut self, text: &mut Draft, line: &[u8]) -> Result<(), Memory> {
+        text.clear();
+        push_line(text, &mut self.came, &mut self.finder, line)
+    }
+
+    ghost same_texts = { λ rows line. refl };
+}
+
+// The rows of lines, by what finds the messages of numbers.
+fn rows_by<'a, C: Choose>(
+    alloc: Global,
+    decoding: &'a CsvDecoding<'a>,
+    chooser: C,
+) -> CsvRows<'a, C>
+    requires { C.whole chooser ≡ decoding.now.database }
+    ensures { result ≡ decoding.now }
+{
+    let finder = remembering(alloc, decoding.decoding.finder(chooser));
+    CsvRows {
+        finder: CsvFinder::of(finder, decoding.texts.as_slice()),
+        came: Draft::new(alloc),
+    }
+}
+
+/// As `decode_stream_by` of `can_decode`, with the rows of each line in place of its decoded line.
+pub fn csv_stream_by<R: Source, W: Sink>(
+    alloc: Global,
+    decoding: &CsvDecoding<'_>,
+    meter: &mut Meter,
+    source: &mut R,
+    sink: &mut W,
+) -> Result<u64, StreamFault>
+    ensures { (lines : List (List ℕ)) × StreamsTexts (csv_line decoding.now) (R.unread source.old) (R.unread source.new)
+        (W.written sink.old) (W.written sink.new) result lines
+        × (meter.new ≡ counted result lines meter.old) }
+{
+    let choices = decoding.decoding.choices();
+    let rows = rows_by(alloc, decoding, Finding { choices: &choices });
+    stream_counted(alloc, rows, meter, source, sink)
+}
