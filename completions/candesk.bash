@@ -9,7 +9,7 @@ _candesk() {
     fi
     case $command in
         check | dump | explain | print) options="--help" ;;
-        decode) options="--short --json --help" ;;
+        decode) options="--short --json --csv --help" ;;
         session) options="--short --keep --help" ;;
         help)
             mapfile -t COMPREPLY < <(compgen -W "check decode dump explain print session" -- "$word")

@@ -10,7 +10,8 @@ use Rattle.candesk_words.specs.declared.job.Job.{Job}
 use Rattle.candesk_words.specs.declared.job.Command.{Command}
 use Rattle.candesk_words.specs.declared.job.Command.TheVariants as commands
 use Rattle.candesk_runs.specs.Checking.{CheckingEndsWith}
-use Rattle.candesk_runs.specs.Decoding.{Runs, RunsToJson, DecodingEndsWith, JsonEndsWith}
+use Rattle.candesk_runs.specs.Decoding.{Runs, RunsToJson, RunsToCsv, DecodingEndsWith, JsonEndsWith}
+use Rattle.candesk_runs.specs.Decoding.{CsvEndsWith}
 use Rattle.candesk_runs.specs.declared.fault.RunFault.{RunFault}
 use Rattle.candesk_runs.specs.Dumping.{DumpingEndsWith}
 use Rattle.candesk_runs.specs.Explaining.{ExplainingEndsWith}
@@ -29,6 +30,7 @@ options_of job = record { short = short_of job.short; keep = job.keep }
 abbrev pub Decoded : Form → List ℕ → Short → Unread → Unread → Written → Written → Result ℕ RunFault → Type 0
 Decoded forms.Text text short before after old new outcome = Runs text short before after old new outcome
 Decoded forms.Json text short before after old new outcome = RunsToJson text short before after old new outcome
+Decoded forms.Csv text short before after old new outcome = RunsToCsv text short before after old new outcome
 
 -- the command ended so, and wrote this form; all but `decode` and `session` read nothing from the source
 abbrev pub EndsWith : Command → Form → Options → List ℕ → Unread → Unread → Written → Written → ℕ → Type 0
@@ -37,6 +39,8 @@ EndsWith commands.Decode forms.Text options text before after old new status =
     DecodingEndsWith text options.short before after old new status
 EndsWith commands.Decode forms.Json options text before after old new status =
     JsonEndsWith text options.short before after old new status
+EndsWith commands.Decode forms.Csv options text before after old new status =
+    CsvEndsWith text options.short before after old new status
 EndsWith commands.Dump form options text before after old new status = (after ≡ before) × DumpingEndsWith text old new status
 EndsWith commands.Explain form options text before after old new status = (after ≡ before) × ExplainingEndsWith text old new status
 EndsWith commands.Print form options text before after old new status = (after ≡ before) × PrintingEndsWith text old new status

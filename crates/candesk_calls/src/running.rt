@@ -5,8 +5,8 @@ ghost use Rattle.candesk_calls.specs.Run.{Decoded, EndsWith, options_of};
 
 use can_decode::Short;
 use candesk_runs::{
-    RunFault, check, decode_ended, decode_json_run, decode_run, dump, explain, print, report,
-    status, status_of_cause,
+    RunFault, check, decode_csv_run, decode_ended, decode_json_run, decode_run, dump, explain,
+    print, report, status, status_of_cause,
 };
 use candesk_words::{Command, Form, Job};
 use dbc_model::{Sink, Source};
@@ -71,6 +71,7 @@ fn decoded<R: Source, W: Sink>(
     match job.form {
         Form::Text => decode_run(alloc, text, short, source, sink),
         Form::Json => decode_json_run(alloc, text, short, source, sink),
+        Form::Csv => decode_csv_run(alloc, text, short, source, sink),
     }
 }
 

@@ -1,7 +1,7 @@
 -- From what is done with a database to what is done with the text that has it.
 use Rattle.std.proofs.Common.{◌≡◌, ℕ, List, Option, Some, None, Result, Ok, Err, refl, sym, ap, subst, ◌∙◌, inl, inr}
 use Rattle.std.specs.Option.{option_map, IfSome}
-use Rattle.byte_devices.specs.Device.{Unread, Written}
+use Rattle.byte_devices.specs.Device.{Unread, Written, Wrote}
 use Rattle.dbc_records.specs.Databases.{Database}
 use Rattle.dbc_tokens.specs.declared.fault.Cause.TheVariants as causes
 use Rattle.dbc_tokens.specs.declared.fault.ReadFault.{ReadFault}
@@ -21,7 +21,9 @@ use Rattle.candesk_runs.specs.declared.checking.Verdict.{Verdict}
 use Rattle.candesk_runs.specs.declared.fault.CheckFault.{CheckFault}
 use Rattle.candesk_runs.specs.declared.fault.CheckFault.TheVariants as check
 use Rattle.candesk_runs.specs.Explaining.{Explains, ExplainsFault, ExplainsText}
-use Rattle.candesk_runs.specs.Decoding.{Writes, RunsToTexts}
+use Rattle.can_decode.specs.declared.short.Short.{Short}
+use Rattle.can_decode.specs.DecodedLines.{Bus}
+use Rattle.candesk_runs.specs.Decoding.{Writes, WritesRows, WritesCsv, RunsToTexts, RunsToCsv, header_text}
 use Rattle.candesk_runs.specs.Printing.{Prints, PrintsText}
 
 module _ (text : List ℕ) (database : Database) (read : HasDatabase text database) where
@@ -31,6 +33,14 @@ module _ (text : List ℕ) (database : Database) (read : HasDatabase text databa
   written text_of before after old new (Err (run.Stream fault)) done = (database, read, done)
   written text_of before after old new (Err (run.Read fault)) done = absurd done
   written text_of before after old new (Err run.Memory) done = done
+
+  pub csv_written : (short : Short) (before after : Unread) (old new : Written) (result : Result ℕ RunFault)
+      → WritesCsv (record { database = database; short = short }) before after old new result
+      → RunsToCsv text short before after old new result
+  csv_written short before after old new (Ok count) done = (database, read, done)
+  csv_written short before after old new (Err (run.Stream fault)) done = (database, read, done)
+  csv_written short before after old new (Err (run.Read fault)) done = absurd done
+  csv_written short before after old new (Err run.Memory) done = done
 
   pub explained : (old new : Written) (result : Result Verdict CheckFault) → Explains text database old new result
       → ExplainsText text old new result
@@ -44,6 +54,14 @@ module _ (text : List ℕ) (database : Database) (read : HasDatabase text databa
   printed old new (Ok u) done = (database, read, done)
   printed old new (Err (print.Read fault)) done = absurd done
   printed old new (Err print.Write) done = (database, read, done)
+
+-- rows behind the names of the columns
+pub behind_header : (bus : Bus) (before after : Unread) (old begun new : Written) (result : Result ℕ RunFault)
+    → Wrote old begun header_text → WritesRows bus before after begun new result → WritesCsv bus before after old new result
+behind_header bus before after old begun new (Ok count) wrote rows = (begun, wrote, rows)
+behind_header bus before after old begun new (Err (run.Stream fault)) wrote rows = inr (begun, wrote, rows)
+behind_header bus before after old begun new (Err (run.Read fault)) wrote rows = rows
+behind_header bus before after old begun new (Err run.Memory) wrote rows = absurd rows
 
 -- a refusal for another cause than want of memory is for the first fault
 pub first_fault_of : (text : List ℕ) (fault : ReadFault) → IsRead text (Err fault) → (fault.cause ≡ causes.Memory → ⊥)

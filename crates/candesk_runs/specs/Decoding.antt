@@ -1,14 +1,17 @@
 -- What a run of `decode` has read and written when it ends, and its status.
-use Rattle.std.specs.Prelude.{◌≡◌, ℕ, List, Result, Ok, Err}
-use Rattle.byte_devices.specs.Device.{Unread, Written}
+use Rattle.std.specs.Prelude.{◌≡◌, ◌⊎◌, ℕ, List, Result, Ok, Err}
+use Rattle.byte_devices.specs.Device.{Unread, Written, Wrote, Broke}
+use Rattle.csv.specs.Writing.{row_text, default_writer}
 use Rattle.dbc_records.specs.Databases.{Database}
 use Rattle.dbc_reader.specs.Grammar as grammar
 use Rattle.dbc_reader.specs.Texts.{HasDatabase, HasFirstFault}
-use Rattle.line_stream.specs.LineTexts.{Streams}
+use Rattle.line_stream.specs.LineTexts.{StreamsTexts, Streams}
+use Rattle.line_stream.specs.declared.fault.StreamFault.{StreamFault}
 use Rattle.line_stream.specs.declared.fault.StreamFault.TheVariants as streams
 use Rattle.can_decode.specs.declared.short.Short.{Short}
 use Rattle.can_decode.specs.DecodedLines.{Bus, bus_line}
 use Rattle.json_lines.specs.Lines.{json_line}
+use Rattle.csv_lines.specs.Rows.{csv_line, header}
 use Rattle.candesk_runs.specs.declared.fault.RunFault.{RunFault}
 use Rattle.candesk_runs.specs.declared.fault.RunFault.TheVariants as faults
 use Rattle.candesk_runs.specs.Printing.{status_of_cause}
@@ -47,6 +50,55 @@ abbrev pub RunsToJson : List ℕ → Short → Unread → Unread → Written →
 RunsToJson text short before after old new outcome =
     RunsToTexts (λ database. json_line (record { database = database; short = short })) text before after old new outcome
 
+-- ---- rows of CSV
+
+-- the rows of the lines are written
+abbrev pub StreamsRows : Bus → Unread → Unread → Written → Written → Result ℕ StreamFault → Type 0
+StreamsRows bus before after old new result =
+    (lines : List (List ℕ)) × StreamsTexts (csv_line bus) before after old new result lines
+
+abbrev pub WritesRows : Bus → Unread → Unread → Written → Written → Result ℕ RunFault → Type 0
+WritesRows bus before after old new (Ok count) = StreamsRows bus before after old new (Ok count)
+WritesRows bus before after old new (Err (faults.Stream fault)) = StreamsRows bus before after old new (Err fault)
+WritesRows bus before after old new (Err (faults.Read fault)) = ⊥
+WritesRows bus before after old new (Err faults.Memory) = ⊥
+
+-- the names of the columns
+abbrev pub header_text : List ℕ
+header_text = row_text default_writer header
+
+-- a put failed in the names of the columns, and no line was read
+pub record BreaksInHeader (before after : Unread) (old new : Written) (fault : StreamFault) : Type 0 where
+  pub fault_is : fault ≡ streams.Write
+  pub unread : after ≡ before
+  pub broke : Broke old new header_text
+
+-- the names of the columns are written, and then the rows of the lines
+abbrev pub RowsBehindHeader : Bus → Unread → Unread → Written → Written → Result ℕ RunFault → Type 0
+RowsBehindHeader bus before after old new result =
+    (begun : Written) × Wrote old begun header_text × WritesRows bus before after begun new result
+
+-- So it is, or a put failed before. Or the log is untouched, and memory ran out.
+abbrev pub WritesCsv : Bus → Unread → Unread → Written → Written → Result ℕ RunFault → Type 0
+WritesCsv bus before after old new (Ok count) = RowsBehindHeader bus before after old new (Ok count)
+WritesCsv bus before after old new (Err (faults.Stream fault)) =
+    BreaksInHeader before after old new fault ⊎ RowsBehindHeader bus before after old new (Err (faults.Stream fault))
+WritesCsv bus before after old new (Err (faults.Read fault)) = ⊥
+WritesCsv bus before after old new (Err faults.Memory) = IsUntouched before after old new
+
+-- The text has a database, and the log is decoded by it to CSV. Or the log is untouched, and the fault is the first of the text, or
+-- memory ran out.
+abbrev pub RunsToCsv : List ℕ → Short → Unread → Unread → Written → Written → Result ℕ RunFault → Type 0
+RunsToCsv text short before after old new (Ok count) = (database : Database) × HasDatabase text database
+    × WritesCsv (record { database = database; short = short }) before after old new (Ok count)
+RunsToCsv text short before after old new (Err (faults.Stream fault)) = (database : Database) × HasDatabase text database
+    × WritesCsv (record { database = database; short = short }) before after old new (Err (faults.Stream fault))
+RunsToCsv text short before after old new (Err (faults.Read fault)) = IsUntouched before after old new
+    × HasFirstFault grammar.text text fault
+RunsToCsv text short before after old new (Err faults.Memory) = IsUntouched before after old new
+
+-- ---- statuses
+
 -- the exit status of an outcome
 abbrev pub status_of : Result ℕ RunFault → ℕ
 status_of (Ok count) = done
@@ -66,3 +118,8 @@ DecodingEndsWith text short before after old new status =
 abbrev pub JsonEndsWith : List ℕ → Short → Unread → Unread → Written → Written → ℕ → Type 0
 JsonEndsWith text short before after old new status =
     (outcome : Result ℕ RunFault) × RunsToJson text short before after old new outcome × (status ≡ status_of outcome)
+
+-- and of rows of CSV
+abbrev pub CsvEndsWith : List ℕ → Short → Unread → Unread → Written → Written → ℕ → Type 0
+CsvEndsWith text short before after old new status =
+    (outcome : Result ℕ RunFault) × RunsToCsv text short before after old new outcome × (status ≡ status_of outcome)

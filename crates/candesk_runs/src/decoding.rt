@@ -1,4 +1,4 @@
-//! A database text and a log in, decoded lines out.
+//! A database text and a log in, decoded lines or objects of JSON out.
 ghost use Rattle.can_decode.specs.DecodedLines.{bus_line};
 ghost use Rattle.json_lines.specs.Lines.{json_line};
 ghost use Rattle.candesk_runs.specs.Decoding.{Writes, Runs, RunsToJson, RunsToTexts};

@@ -1,8 +1,8 @@
 //! What each command but `session` does with a database and the standard streams.
 //!
-//! [`decode_run`], [`decode_json_run`], [`print_run`], [`dump_run`], [`check_run`] and [`explain_run`] say by their contracts what
-//! is written;
-//! [`check`], [`explain`], [`print`] and [`dump`] are the same with the line of a fault and an exit status.
+//! [`decode_run`], [`decode_json_run`], [`decode_csv_run`], [`print_run`], [`dump_run`], [`check_run`] and [`explain_run`] say by
+//! their contracts what is written; [`check`], [`explain`], [`print`] and [`dump`] are the same with the line of a fault and an
+//! exit status.
 #![tactic(auto)]
 
 mod checking;
@@ -12,6 +12,7 @@ mod ending;
 mod explaining;
 mod fault;
 mod printing;
+mod rows;
 
 pub use can_decode::Short;
 pub use checking::{Verdict, check_run};
@@ -22,3 +23,4 @@ pub use explaining::explain_run;
 pub use fault::{CheckFault, DumpFault, PrintFault, RunFault};
 pub use line_stream::StreamFault;
 pub use printing::print_run;
+pub use rows::decode_csv_run;

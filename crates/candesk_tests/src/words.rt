@@ -26,6 +26,19 @@ fn words(rt: HostRuntime) -> Result<(), Fail> {
             })
         )
     );
+    let job = job_of(rt.alloc(), ["decode", "--csv", "f"].as_slice());
+    assert!(rt;
+        matches!(
+            &job,
+            Ok(Job {
+                command: Command::Decode,
+                form: Form::Csv,
+                ..
+            })
+        )
+    );
+    let both = job_of(rt.alloc(), ["decode", "--csv", "--json", "f"].as_slice());
+    assert!(rt; matches!(&both, Err(NoJob::Usage)));
     let version = job_of(rt.alloc(), ["--version"].as_slice());
     assert!(rt;
         matches!(&version, Err(NoJob::Help(text)) if text.as_str().starts_with("candesk 1.0.0 ("))

@@ -73,19 +73,32 @@ module _ (m found : ArgMatches) (name : Text) (e : Some name ≡ subcommand_name
     none,
   ) refl
 
+  -- with two forms
+  pub no-form : (command : Command) (file : Text) (keep : Keep) → command_named name ≡ Some command
+      → first_value (found_of found) (codes "FILE") ≡ Some file → keep_found (rows_of (found_of found)) ≡ Some keep
+      → form_found (rows_of (found_of found)) ≡ None → job_found (subcommand_rows_of m) ≡ None
+  no-form command file keep is some kept none = rw (
+    rows-named m name (rows_of (found_of found)) e h,
+    is,
+    sym (first_value-rows (found_of found) (codes "FILE")),
+    some,
+    kept,
+    none,
+  ) refl
+
   pub job-found : (command : Command) (file : Text) (short : Bool) (keep : Keep) (form : Form) → command_named name ≡ Some command
       → first_value (found_of found) (codes "FILE") ≡ Some file
       → short ≡ has_flag (codes "short") (rows_of (found_of found)) → keep_found (rows_of (found_of found)) ≡ Some keep
-      → form ≡ form_found (rows_of (found_of found))
+      → form_found (rows_of (found_of found)) ≡ Some form
       → job_found (subcommand_rows_of m) ≡ Some (command, file, short, keep, form)
   job-found command file short keep form is some flag kept written = rw (
-    written,
     flag,
     rows-named m name (rows_of (found_of found)) e h,
     is,
     sym (first_value-rows (found_of found) (codes "FILE")),
     some,
     kept,
+    written,
   ) refl
 
 -- ---- a flag

@@ -1,12 +1,12 @@
 -- The definitions of words, computed on words that are written out.
-use Rattle.std.proofs.Common.{◌≡◌, true, false, [], ◌∷◌, Some, codes, refl}
+use Rattle.std.proofs.Common.{◌≡◌, true, false, [], ◌∷◌, Some, None, codes, refl}
 use Rattle.clap.specs.Words.{fault_of}
 use Rattle.clap.specs.declared.error.kind.ErrorKind.TheVariants.{ArgumentConflict, DisplayVersion, MissingRequiredArgument}
 use Rattle.clap.specs.declared.error.kind.ErrorKind.TheVariants.{UnknownArgument, ValueValidation}
 use Rattle.clap.proofs.OnLiterals.{clap_on_literals}
 use Rattle.candesk_words.proofs.OnLiterals.{words_on_literals}
 use Rattle.candesk_words.specs.declared.job.Command.TheVariants.{Check, Decode, Dump, Explain, Print, Session}
-use Rattle.candesk_words.specs.declared.job.Form.TheVariants.{Text, Json}
+use Rattle.candesk_words.specs.declared.job.Form.TheVariants.{Text, Json, Csv}
 use Rattle.kept_lines.specs.declared.keep.Keep.TheVariants.{All, Last}
 use Rattle.candesk_words.specs.Words.{command_line, job_named}
 
@@ -58,6 +58,14 @@ decode-json : job_named (codes "decode" ∷ codes "a" ∷ codes "--json" ∷ cod
     ≡ Some (Decode, codes "a", true, All, Json)
 unfolding clap_on_literals words_on_literals
 decode-json = refl
+
+decode-csv : job_named (codes "decode" ∷ codes "--csv" ∷ codes "a" ∷ []) ≡ Some (Decode, codes "a", false, All, Csv)
+unfolding clap_on_literals words_on_literals
+decode-csv = refl
+
+decode-both : job_named (codes "decode" ∷ codes "--csv" ∷ codes "--json" ∷ codes "a" ∷ []) ≡ None
+unfolding clap_on_literals words_on_literals
+decode-both = refl
 
 session-takes_no_json : fault_of command_line (codes "session" ∷ codes "--json" ∷ codes "a" ∷ []) ≡ UnknownArgument ∷ []
 unfolding clap_on_literals words_on_literals

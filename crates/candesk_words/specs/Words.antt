@@ -45,9 +45,13 @@ on_frames name = with_rule (on_file name) short_rule
 abbrev pub json_rule : Rule
 json_rule = record (new_rule (codes "json")) { long = Some (codes "json"); action = Some SetTrue }
 
--- `decode`, which takes `--json` too
+-- the flag `--csv`
+abbrev pub csv_rule : Rule
+csv_rule = record (new_rule (codes "csv")) { long = Some (codes "csv"); action = Some SetTrue }
+
+-- `decode`, which takes `--json` and `--csv` too
 unfoldable pub on_decode : App
-on_decode = with_rule (on_frames (codes "decode")) json_rule
+on_decode = with_rule (with_rule (on_frames (codes "decode")) json_rule) csv_rule
 
 -- `--keep` with a number of lines
 abbrev pub keep_rule : Rule
@@ -103,9 +107,16 @@ count_in text = if is_unsigned_in 1 most_lines text then Some (digits_value 10 (
 abbrev pub keep_found : List Row → Option Keep
 keep_found rows = option_map_or (λ text. option_map (λ count. Last count) (count_in text)) (one_of (codes "keep") rows) (Some All)
 
--- JSON where `--json` is there, and text where it isn't
-abbrev pub form_found : List Row → Form
-form_found rows = if has_flag (codes "json") rows then forms.Json else forms.Text
+-- text, or what a flag asks for; none where there are both
+abbrev pub form_by : Bool → Bool → Option Form
+form_by false false = Some forms.Text
+form_by true false = Some forms.Json
+form_by false true = Some forms.Csv
+form_by true true = None
+
+-- what `--json` or `--csv` asks for
+abbrev pub form_found : List Row → Option Form
+form_found rows = form_by (has_flag (codes "json") rows) (has_flag (codes "csv") rows)
 
 -- what a job says: the command, its FILE, whether `--short` is there, which lines are retained, and what is written
 abbrev pub Said : Type 0
@@ -116,7 +127,9 @@ abbrev pub job_found : Option (Text × List Row) → Option Said
 job_found None = None
 job_found (Some found) = option_and_then
     (λ command. option_and_then
-    (λ file. option_map (λ keep. (command, file, has_flag (codes "short") found.1, keep, form_found found.1)) (keep_found found.1))
+    (λ file. option_and_then
+    (λ keep. option_map (λ form. (command, file, has_flag (codes "short") found.1, keep, form)) (form_found found.1))
+    (keep_found found.1))
     (first_of (codes "FILE") found.1))
     (command_named found.0)
 

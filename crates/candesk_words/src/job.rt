@@ -34,6 +34,8 @@ pub enum Form {
     Text,
     /// An object of JSON for each.
     Json,
+    /// Rows of CSV.
+    Csv,
 }
 
 /// A job: a command, the path of its database, and what the options say.
@@ -48,7 +50,7 @@ pub struct Job {
     pub short: bool,
     /// Which lines are retained, as `--keep` asks for; all for commands without the option.
     pub keep: Keep,
-    /// What is written, as `--json` asks for; text for commands without the flag.
+    /// What is written, as `--json` or `--csv` asks for; text for commands without these flags.
     pub form: Form,
 }
 
@@ -120,14 +122,15 @@ fn keep_in(found: &ArgMatches<'_>) -> Option<Keep>
     }
 }
 
-// What is to be written.
-fn form_in(found: &ArgMatches<'_>) -> Form
+// What is to be written; none where the words ask for two forms.
+fn form_in(found: &ArgMatches<'_>) -> Option<Form>
     ensures { result ≡ form_found (rows_of (found_of found.now)) }
 {
-    if has_flag(found, "json") {
-        Form::Json
-    } else {
-        Form::Text
+    match (has_flag(found, "json"), has_flag(found, "csv")) {
+        (false, false) => Some(Form::Text),
+        (true, false) => Some(Form::Json),
+        (false, true) => Some(Form::Csv),
+        (true, true) => None,
     }
 }
 
@@ -149,6 +152,9 @@ fn job_in(alloc: Global, matches: &ArgMatches<'_>) -> Result<Job, NoJob>
     let Some(keep) = keep_in(found) else {
         return Err(NoJob::Usage);
     };
+    let Some(form) = form_in(found) else {
+        return Err(NoJob::Usage);
+    };
     let file = String::from_str(alloc, file)?;
     let short = has_flag(found, "short");
     Ok(Job {
@@ -156,13 +162,13 @@ fn job_in(alloc: Global, matches: &ArgMatches<'_>) -> Result<Job, NoJob>
         file,
         short,
         keep,
-        form: form_in(found),
+        form,
     })
 }
 
 /// Reads the words after the program's name. Options stand before or behind FILE, `--` ends them, `help` is the
 /// word for `--help`, and `--version` and `-V` stand before a command alone. `decode` and `session` alone take `--short`, `decode`
-/// alone takes `--json`, and `session` alone takes `--keep`, with a whole number from 1 to 1,048,576.
+/// alone takes `--json` or `--csv`, and `session` alone takes `--keep`, with a whole number from 1 to 1,048,576.
 pub fn job_of<'a>(alloc: Global, words: &'a [&'a str]) -> Result<Job, NoJob>
     ensures { IsJobOf (map (λ word. word.now) words.now) result }
 {

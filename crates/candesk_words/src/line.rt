@@ -63,7 +63,7 @@ fn on_frames<'a>(
     on_file(alloc, name, about, notes)?.arg(short)
 }
 
-// `decode`, which takes `--json` too.
+// `decode`, which takes `--json` and `--csv` too.
 #[tactic(auto, unfolding(crate::specs::Words::on_decode))]
 fn on_decode<'a>(alloc: Global, about: &'a str, notes: &'a str) -> Result<Command<'a>, AllocError>
     ensures app { IfOk result (λ command. app_of command ≡ on_decode) }
@@ -73,7 +73,13 @@ fn on_decode<'a>(alloc: Global, about: &'a str, notes: &'a str) -> Result<Comman
         .long("json")
         .action(ArgAction::SetTrue)
         .help("Write an object of JSON for each line");
-    on_frames(alloc, "decode", about, notes)?.arg(json)
+    let csv = Arg::new(alloc, "csv")
+        .long("csv")
+        .action(ArgAction::SetTrue)
+        .help("Write a row of CSV for each signal");
+    on_frames(alloc, "decode", about, notes)?
+        .arg(json)?
+        .arg(csv)
 }
 
 // `session`, which takes `--keep` too.
@@ -149,7 +155,7 @@ fn with_session<'a>(alloc: Global, line: Command<'a>) -> Result<Command<'a>, All
 }
 
 /// The command line: `candesk check FILE`, and so with `decode`, `dump`, `explain`, `print` and `session`, of which `decode`
-/// and `session` take `--short` too, `decode` takes `--json`, and `session` takes `--keep N`.
+/// and `session` take `--short` too, `decode` takes `--json` and `--csv`, and `session` takes `--keep N`.
 #[tactic(auto, unfolding(crate::specs::Words::command_line))]
 pub fn command_line<'a>(alloc: Global) -> Result<Command<'a>, AllocError>
     ensures { IfOk result (λ line. app_of line ≡ command_line) }

@@ -14,7 +14,8 @@ Example, of a message whose sender is no node:
 pub const DECODE: &str = "\
 Standard input is a log as `candump -L` writes it. Standard output has each of its lines, and behind a line with a data
 frame what the frame says by the database. A frame that is shorter than its message is refused; with `--short`, what of
-it is there is shown. With `--json`, each line is an object of JSON that says the same.
+it is there is shown. With `--json`, each line is an object of JSON that says the same. With `--csv`, each signal that is
+shown is a row of CSV.
 
 Example:
   $ candesk decode examples/wheel.dbc < examples/wheel.log

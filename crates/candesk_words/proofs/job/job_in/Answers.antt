@@ -15,4 +15,4 @@ returns-clause-ok c =
     let command : command_named c.in-Some.name.now ≡ Some c.in-Some-command_named.command = search rules in
     let file : first_value (found_of c.in-Some.found.now) (codes "FILE") ≡ Some c.in_ok-file.file.bytes.items = search rules in
     job-found _ _ _ c.in-Some.ensures.name c.in-Some.ensures.rows _ _ _ _ _ command file c.has_flag-short.ensures (search rules)
-    c.form_in.ensures
+    (search rules)
