@@ -1,5 +1,7 @@
-"""What the objects of `decode --json` say, in the words of `decode`."""
+"""What the objects of `decode --json` say, in the words of `decode`, and the rows of `decode --csv` that tell the same."""
 
+import csv
+import io
 import json
 import re
 from decimal import Decimal
@@ -84,3 +86,23 @@ def decoded(item, body):
     if data is not None and data != bytes.fromhex(re.sub(rb"^#.|\.", b"", frame.split(b"_")[0]).decode()):
         raise Wrong(f"{data!r} of {body!r}")
     return body + b" :: " + said(item)
+
+
+# ---- rows of CSV
+
+HEADER = ["time", "interface", "id", "message", "signal", "value", "unit", "name"]
+
+
+def rows_of(item):
+    """The rows that tell the signals of an object."""
+    rows = []
+    for name, told in item.get("signals", {}).items():
+        value = f"?{told['refused']}" if "refused" in told else number(told["value"]).decode()
+        came = [number(item["time"]).decode(), item["interface"], str(item["id"])]
+        rows.append([*came, item["message"], name, value, told.get("unit", ""), told.get("name", "")])
+    return rows
+
+
+def rows_in(text):
+    """The rows of a text of CSV, with the names of the columns."""
+    return list(csv.reader(io.StringIO(text.decode("utf-8"), newline="")))
