@@ -1,10 +1,13 @@
 """What the objects of `decode --json` say, in the words of `decode`, and the rows of `decode --csv` that tell the same."""
 
+from __future__ import annotations
+
 import csv
 import io
 import json
 import re
 from decimal import Decimal
+from typing import Any
 
 # a stamp, an interface, an identifier, the frame, and what follows it
 FRAME = re.compile(rb"\(([^ \t]*)\)[ \t]+([^ \t]+)[ \t]+([0-9A-Fa-f]+)#([^ \t]*)(?:[ \t]+(.*))?", re.DOTALL)
@@ -14,7 +17,7 @@ class Wrong(Exception):
     """An object that doesn't say what its line says."""
 
 
-def members_once(pairs):
+def members_once(pairs: list[tuple[str, Any]]) -> dict[str, Any]:
     """An object, of which each key stands once."""
     found = dict(pairs)
     if len(found) != len(pairs):
@@ -22,26 +25,26 @@ def members_once(pairs):
     return found
 
 
-def read(text):
+def read(text: bytes) -> dict[str, Any]:
     """The object of a line, its numbers exact."""
     return json.loads(text.decode("utf-8"), parse_float=Decimal, object_pairs_hook=members_once)
 
 
-def bytes_of(item, name):
+def bytes_of(item: dict[str, Any], name: str) -> bytes:
     """The bytes of a text that the object has."""
     return bytes.fromhex(item[f"{name}_hex"]) if f"{name}_hex" in item else item[name].encode()
 
 
-def number(value):
+def number(value: int | Decimal) -> bytes:
     return format(value, "f").encode() if isinstance(value, Decimal) else b"%d" % value
 
 
-def on_a_line(text):
+def on_a_line(text: bytes) -> bytes:
     """A text as `decode` writes it, with blanks for CR and LF."""
     return text.replace(b"\r", b" ").replace(b"\n", b" ")
 
 
-def signal_text(name, told):
+def signal_text(name: str, told: dict[str, Any]) -> bytes:
     """`Speed: 20.5 km/h`"""
     if "refused" in told:
         return b"%s: ?%s" % (name.encode(), told["refused"].encode())
@@ -51,7 +54,7 @@ def signal_text(name, told):
     return b"%s: %s%s" % (name.encode(), number(told["value"]), unit)
 
 
-def group_text(item):
+def group_text(item: dict[str, Any]) -> bytes:
     """`[p6 s49]`, of a J1939 message."""
     if "j1939" not in item:
         return b""
@@ -60,7 +63,7 @@ def group_text(item):
     return b"[p%d s%d%s]" % (group["priority"], group["source"], destination)
 
 
-def said(item):
+def said(item: dict[str, Any]) -> bytes:
     """What the frame says."""
     cause = item.get("not_decoded")
     if cause == "wrong size":
@@ -73,18 +76,44 @@ def said(item):
     return b"%s%s(%s)" % (item["message"].encode(), group_text(item), b", ".join(signals))
 
 
-def decoded(item, body):
+def kind_of(identifier: bytes, frame: bytes) -> str:
+    """The kind of a frame, by its word."""
+    if len(identifier) == 8 and int(identifier, 16) & 0x20000000:
+        return "error"
+    return {b"R": "remote", b"#": "fd"}.get(frame[:1], "data")
+
+
+def group_of(identifier: int) -> dict[str, int]:
+    """The fields of a J1939 identifier."""
+    form, specific = identifier >> 16 & 0xFF, identifier >> 8 & 0xFF
+    group = {"pgn": (identifier >> 24 & 3) << 16 | form << 8 | (specific if form >= 240 else 0)}
+    group |= {"priority": identifier >> 26 & 7, "source": identifier & 0xFF}
+    return group if form >= 240 else group | {"destination": specific}
+
+
+def decoded(item: dict[str, Any], body: bytes) -> bytes:
     """The decoded line that an object tells for a line of a log."""
     if "line" in item:
         return bytes_of(item, "line")
-    stamp, interface, identifier, frame, rest = FRAME.fullmatch(body).groups()
-    told = (number(item["time"]), bytes_of(item, "interface"), item["id"], bytes_of(item, "rest") if "rest" in item else b"")
-    wanted = (re.sub(rb"^0+(?=\d)", b"", stamp), interface, int(identifier, 16) & 0x1FFFFFFF, rest or b"")
+    found = FRAME.fullmatch(body)
+    if found is None:
+        raise Wrong(f"a frame of {body!r}")
+    stamp, interface, identifier, frame, rest = found.groups()
+    number_told = int(identifier, 16) & 0x1FFFFFFF
+    kind = kind_of(identifier, frame)
+    told = [number(item["time"]), bytes_of(item, "interface"), item["id"], bytes_of(item, "rest") if "rest" in item else b""]
+    wanted = [re.sub(rb"^0+(?=\d)", b"", stamp), interface, number_told, rest or b""]
+    told += [item["extended"], item["kind"], "data" in item]
+    wanted += [len(identifier) == 8, kind, kind in ("data", "fd")]
     if told != wanted:
         raise Wrong(f"{told} of {body!r}")
     data = bytes.fromhex(item["data"]) if "data" in item else None
     if data is not None and data != bytes.fromhex(re.sub(rb"^#.|\.", b"", frame.split(b"_")[0]).decode()):
         raise Wrong(f"{data!r} of {body!r}")
+    if "j1939" in item and item["j1939"] != group_of(number_told):
+        raise Wrong(f"{item['j1939']} of {body!r}")
+    if "number" in item and "j1939" not in item and item["number"] != number_told | item["extended"] << 31:
+        raise Wrong(f"message {item['number']} of {body!r}")
     return body + b" :: " + said(item)
 
 
@@ -93,7 +122,7 @@ def decoded(item, body):
 HEADER = ["time", "interface", "id", "message", "signal", "value", "unit", "name"]
 
 
-def rows_of(item):
+def rows_of(item: dict[str, Any]) -> list[list[str]]:
     """The rows that tell the signals of an object."""
     rows = []
     for name, told in item.get("signals", {}).items():
@@ -103,6 +132,6 @@ def rows_of(item):
     return rows
 
 
-def rows_in(text):
+def rows_in(text: bytes) -> list[list[str]]:
     """The rows of a text of CSV, with the names of the columns."""
     return list(csv.reader(io.StringIO(text.decode("utf-8"), newline="")))

@@ -4,7 +4,8 @@ from __future__ import annotations
 
 import random
 
-# group messages of both kinds of PDU, all causes, value descriptions, units that are UTF-8, Latin-1 and no text, and 64 bits
+# group messages of both kinds of PDU, all causes, value descriptions, units that are UTF-8 and Latin-1 and have control bytes,
+# and 64 bits
 TEXT = (
     b"BU_: E\n"
     b'BO_ 2566844672 CCVS: 8 E\n SG_ Speed : 8|16@1+ (0.00390625,0) [0|0] "km/h" E\n SG_ Brake : 28|2@1+ (1,0) [0|0] "" E\n'
