@@ -1,4 +1,4 @@
-//! Laws of the objects of lines. The functions do nothing but call the law of log lines: what they ensure is the law.
+//! Laws of the objects of lines. The functions do nothing, or call the law of log lines: what they ensure is the law.
 #![tactic(auto)]
 
 ghost use Rattle.json_laws.specs.Laws.{ParsesBack, KeysAreUnique, SaysNoLess, ObjectsAreLines, ValuesAreExact};
