@@ -127,6 +127,7 @@ fn push_short(text: &mut Draft, number: u32, places: u8) -> Result<(), Memory>
 }
 
 // A number of one word over ten to the number of places. Most values have at most eight digits.
+#[inline(always)]
 #[tactic(auto, unfolding(crate::specs::Values::fixed_text))]
 fn push_shortest_word(text: &mut Draft, number: u64, places: u8) -> Result<(), Memory>
     ensures { OnOk result (text.new.items ≡ text.old.items ++ fixed_text (fewest_places number places)) }
@@ -142,6 +143,7 @@ fn push_shortest_word(text: &mut Draft, number: u64, places: u8) -> Result<(), M
 }
 
 // A number over ten to the number of places.
+#[inline(always)]
 #[tactic(auto, unfolding(crate::specs::Values::fixed_text))]
 fn push_shortest(text: &mut Draft, number: u128, places: u8) -> Result<(), Memory>
     ensures { OnOk result (text.new.items ≡ text.old.items ++ fixed_text (fewest_places number places)) }
