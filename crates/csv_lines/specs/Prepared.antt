@@ -1,12 +1,10 @@
 -- Texts that are prepared with plans, and the pieces of a row.
-use Rattle.std.specs.Prelude.{◌==◌, ℕ, List, [], ◌∷◌, ◌++◌, map, codes, if◌then◌else◌}
+use Rattle.std.specs.Prelude.{◌==◌, ℕ, List, [], ◌∷◌, ◌++◌, codes, if◌then◌else◌}
 use Rattle.csv.specs.Writing.{default_writer, field_text, fields_text, row_body}
 use Rattle.json_texts.specs.Texts.{text_of}
-use Rattle.dbc_records.specs.Records.{Message}
-use Rattle.dbc_records.specs.Databases.{Database}
 use Rattle.can_bits.specs.Bits.{raw_value}
 use Rattle.can_layout.specs.Decoders.{first_entry}
-use Rattle.can_layout.specs.Plans.{Plan, plan_of}
+use Rattle.can_layout.specs.Plans.{Plan}
 use Rattle.can_layout.specs.Pictures.{cause_word}
 use Rattle.can_layout.specs.declared.row.Row.{Row}
 use Rattle.can_layout.specs.declared.row.Reading.{Reading}
@@ -64,16 +62,7 @@ behind_label bytes (Read decoder) =
 abbrev pub row_texts : List ℕ → Row → RowTexts
 row_texts message row = record { label = row_label message row; tail = row_tail row.reading }
 
--- ---- messages
-
-abbrev pub message_texts : Message → Plan → List RowTexts
-message_texts message plan = map (row_texts message.head.name) plan.rows
-
--- what is prepared of all messages, in order
-abbrev pub database_texts : Database → List (List RowTexts)
-database_texts database = map (λ message. message_texts message (plan_of database message)) database.messages
-
--- the signals of a message, behind what stands first in each of their rows
+-- the signals of a message, after what stands first in each of their rows
 pub record SignalRows : Type 0 where
   pub came : List ℕ
   pub message : List ℕ

@@ -75,7 +75,7 @@ line_rows bus line = rows_by bus (body_of line) (frame_of (body_of line))
 
 -- ---- texts
 
--- rows, each with an LF behind it
+-- rows, each with an LF after it
 abbrev pub rows_text : List (List (List ℕ)) → List ℕ
 rows_text rows = flat_map (row_text default_writer) rows
 

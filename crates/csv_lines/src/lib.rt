@@ -10,7 +10,6 @@ mod line;
 mod plan_texts;
 mod signals;
 mod stream;
-mod target;
 
-pub use plan_texts::{MessageTexts, RowTexts};
+pub use plan_texts::RowTexts;
 pub use stream::{CsvDecoding, csv_stream_by, header};

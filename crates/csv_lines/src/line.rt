@@ -1,21 +1,18 @@
 //! The rows of a line.
-ghost use Rattle.std.specs.Prelude.{◌≡◌, ◌∷◌, ◌++◌, [], IfOk, OnOk, decimal, option_map, slice_get};
+ghost use Rattle.std.specs.Prelude.{◌≡◌, ◌∷◌, ◌++◌, [], OnOk, decimal, option_map};
 ghost use Rattle.json_texts.specs.Texts.{text_of};
-ghost use Rattle.can_choice.specs.Choices.{choice_at};
-ghost use Rattle.can_decode.specs.DecodedLines.{target_of, chosen_target};
 ghost use Rattle.csv_lines.specs.Rows.{came_fields, message_rows, data_rows, frame_rows, rows_text, csv_line};
-ghost use Rattle.csv_lines.specs.Prepared.{body_text, database_texts};
+ghost use Rattle.csv_lines.specs.Prepared.{body_text};
 
 use crate::field::{push_field, push_further_number, push_further_text};
-use crate::plan_texts::MessageTexts;
-use crate::target::CsvTarget;
-use can_choice::{Choice, Choose};
-use can_decode::Finder;
+use crate::plan_texts::Columns;
+use crate::signals::{CsvTarget, push_signal_rows};
+use can_choice::Choose;
 use dbc_values::Memory;
 use json_lines::words_of;
 use log_frames::{Frame, body_of, fill_frame};
+use prepared_texts::PreparedFinder;
 use ready_texts::Draft;
-use std::marker::Model;
 
 // Time, interface and identifier, as the first fields of a row.
 fn push_words(
@@ -56,7 +53,7 @@ fn push_message(
     }
     came.clear();
     push_came(came, body, frame)?;
-    target.push_signals(text, came.as_slice(), frame.bytes.as_slice())?;
+    push_signal_rows(text, came.as_slice(), target, frame.bytes.as_slice())?;
     Ok(())
 }
 
@@ -95,71 +92,12 @@ fn push_frame(
     }
 }
 
-/// What finds the messages of frames, with what is prepared of each message.
-#[derive(Drop)]
-pub(crate) struct CsvFinder<'a, C: Choose> {
-    finder: Finder<'a, C>,
-    texts: &'a [MessageTexts],
-}
-
-impl<'a, C: Choose> Model for CsvFinder<'a, C> {
-    ghost use Rattle.std.specs.Prelude.{◌≡◌};
-    ghost use Rattle.can_decode.specs.DecodedLines.{Bus};
-    ghost use Rattle.csv_lines.specs.Prepared.{database_texts};
-
-    ghost Value = { Bus };
-
-    ghost view = { λ a. a.finder };
-
-    ghost invariant = { λ a. a.texts.now ≡ database_texts a.finder.database };
-}
-
-fn texts_at(texts: &[MessageTexts], place: usize) -> Option<&MessageTexts>
-    ensures { option_map (λ texts. texts.now) result ≡ slice_get texts.now place }
-{
-    texts.get(place)
-}
-
-impl<'a, C: Choose> CsvFinder<'a, C> {
-    /// A finder, with what is prepared of its messages.
-    pub fn of(finder: Finder<'a, C>, texts: &'a [MessageTexts]) -> CsvFinder<'a, C>
-        requires { texts.now ≡ database_texts finder.database }
-        ensures { result ≡ finder.entry }
-    {
-        CsvFinder { finder, texts }
-    }
-
-    // The message of a choice.
-    #[tactic(auto, using(crate::proofs::Prepared::texts_of_target))]
-    fn target_at(&self, choice: Choice) -> Option<CsvTarget<'a>>
-        requires { choice ≡ choice_at self.now.database choice.place }
-        ensures { result ≡ option_map (target_of self.now.short self.now.database) (slice_get self.now.database.messages
-            choice.place) }
-    {
-        let target = self.finder.target_at(choice)?;
-        let texts = texts_at(self.texts, choice.place)?;
-        Some(CsvTarget::of(target, texts))
-    }
-
-    // What a frame goes to.
-    #[tactic(auto, unfolding(can_decode::specs::DecodedLines::chosen_target, can_choice::specs::Choices::chosen_place, can_choice::specs::Choices::frame_choice, can_choice::specs::Choices::choice_of))]
-    fn target_of(&mut self, frame: &Frame) -> Result<Option<CsvTarget<'a>>, Memory>
-        ensures target { IfOk result (λ target. target ≡ chosen_target self.old.short self.old.database frame.now) }
-        ensures same { self.new ≡ self.old }
-    {
-        match self.finder.choose(frame)? {
-            Some(choice) => Ok(self.target_at(choice)),
-            None => Ok(None),
-        }
-    }
-}
-
 /// Appends the rows of a line. What stands first in each is made in `came`, whatever that holds before.
 #[tactic(auto, unfolding(crate::specs::Rows::line_rows))]
 pub(crate) fn push_line<C: Choose>(
     text: &mut Draft,
     came: &mut Draft,
-    finder: &mut CsvFinder<'_, C>,
+    finder: &mut PreparedFinder<'_, C, Columns>,
     line: &[u8],
 ) -> Result<(), Memory>
     ensures text { OnOk result (text.new.items ≡ text.old.items ++ csv_line finder.old line.now) }

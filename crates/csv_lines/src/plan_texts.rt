@@ -1,17 +1,16 @@
-//! Texts that are prepared with plans.
-ghost use Rattle.std.specs.Prelude.{◌≡◌, ◌∷◌, ◌++◌, [], IfOk, OnOk, codes, map};
+//! Texts that are prepared with messages.
+ghost use Rattle.std.specs.Prelude.{◌≡◌, ◌∷◌, ◌++◌, [], IfOk, OnOk, codes};
 ghost use Rattle.can_layout.specs.Pictures.{cause_word};
 ghost use Rattle.json_texts.specs.Texts.{text_of};
 ghost use Rattle.can_layout.specs.declared.row.Reading.TheVariants.{Refused};
-ghost use Rattle.csv_lines.specs.Prepared.{further_field, rest_text, value_label, row_label, row_tail, row_texts, message_texts};
+ghost use Rattle.csv_lines.specs.Prepared.{further_field, rest_text, value_label, row_label, row_tail, row_texts};
 
 use crate::field::{push_further, push_further_text};
-use can_layout::{Cause, Plan, Reading, Row};
+use can_layout::{Cause, Reading, Row};
 use dbc_records::Message;
 use dbc_values::Memory;
+use prepared_texts::Prepare;
 use ready_texts::{Draft, ReadyText, push_bytes};
-use std::alloc::Global;
-use std::marker::Model;
 
 /// What is written of a signal before and after its value.
 #[derive(Drop)]
@@ -100,55 +99,26 @@ fn row_texts(text: &mut Draft, message: &[u8], row: &Row) -> Result<RowTexts, Me
     Ok(RowTexts { label, tail })
 }
 
-// The texts of a plan's signals, in order.
-fn plan_texts(
-    alloc: Global,
-    text: &mut Draft,
-    message: &[u8],
-    plan: &Plan,
-) -> Result<Vec<RowTexts>, Memory>
-    ensures { IfOk result (λ texts. texts.items ≡ map (row_texts message.now) plan.now.rows) }
-{
-    let mut texts = Vec::with_capacity(alloc, plan.signals())?;
-    for place in 0..plan.signals() {
-        texts.push(row_texts(text, message, plan.row(place))?)?;
-    }
-    Ok(texts)
-}
-
-/// What is prepared of the signals of a message, in order.
+/// What is prepared of each signal: what is written before and after its value.
 #[derive(Drop)]
-pub struct MessageTexts {
-    rows: Vec<RowTexts>,
-}
+pub(crate) struct Columns;
 
-impl Model for MessageTexts {
-    ghost use Rattle.std.specs.Prelude.{List};
-    ghost use Rattle.csv_lines.specs.declared.plan_texts.RowTexts as declared;
+impl Prepare for Columns {
+    ghost use Rattle.csv_lines.specs.Prepared.{row_texts};
 
-    ghost Value = { List declared.RowTexts };
+    type Head = ();
 
-    ghost view = { λ texts. texts.rows.items };
-}
+    type Signal = RowTexts;
 
-impl MessageTexts {
-    /// That of a message, by its plan. It is made in a draft, whatever that holds before.
-    pub(crate) fn of(
-        alloc: Global,
-        text: &mut Draft,
-        message: &Message,
-        plan: &Plan,
-    ) -> Result<MessageTexts, Memory>
-        ensures { IfOk result (λ texts. texts ≡ message_texts message.now plan.now) }
-    {
-        let rows = plan_texts(alloc, text, message.head.name.as_bytes(), plan)?;
-        Ok(MessageTexts { rows })
+    ghost head_of = { λ message. tt };
+
+    ghost signal_of = { λ message row. row_texts message.head.name row };
+
+    fn head(&self, _text: &mut Draft, _message: &Message) -> Result<(), Memory> {
+        Ok(())
     }
 
-    /// The texts, in order.
-    pub(crate) fn rows(&self) -> &[RowTexts]
-        ensures { result.now ≡ self.now }
-    {
-        self.rows.as_slice()
+    fn signal(&self, text: &mut Draft, message: &Message, row: &Row) -> Result<RowTexts, Memory> {
+        row_texts(text, message.head.name.as_bytes(), row)
     }
 }

@@ -1,42 +1,44 @@
 //! The signals of a message, a row each.
-ghost use Rattle.std.specs.Prelude.{◌≡◌, ◌≤◌, ◌<◌, ◌^◌, ◌∷◌, ◌++◌, [], OnOk, length, map, slice_get, unsigned_abs, Some};
+ghost use Rattle.std.specs.Prelude.{◌≡◌, ◌≤◌, ◌^◌, ◌∷◌, ◌++◌, [], OnOk, unsigned_abs};
 ghost use Rattle.std.specs.List.{flat_map};
 ghost use Rattle.csv.specs.Writing.{default_writer, field_text};
 ghost use Rattle.can_layout.specs.Decoders.{first_entry};
 ghost use Rattle.can_layout.specs.declared.row.Reading.TheVariants.{Read};
-ghost use Rattle.can_layout.specs.declared.row.Row.{Row as PlainRow};
 ghost use Rattle.can_decode.specs.DecodedLines.{shown_rows};
 ghost use Rattle.json_texts.specs.Texts.{text_of};
 ghost use Rattle.json_lines.specs.Signals.{value_text};
 ghost use Rattle.csv_lines.specs.Rows.{told_fields};
-ghost use Rattle.csv_lines.specs.Prepared.{rest_text, row_tail, row_texts, behind_label, said_text};
+ghost use Rattle.csv_lines.specs.Prepared.{rest_text, row_tail, behind_label, said_text};
 
 use crate::field::{push_decimal, push_further_text};
-use crate::plan_texts::RowTexts;
+use crate::plan_texts::{Columns, RowTexts};
 use can_decode::{SignalText, push_signals};
 use can_layout::{Decoder, Plan, Reading};
 use dbc_values::Memory;
+use prepared_texts::PreparedTarget;
 use ready_texts::{Draft, push_bytes};
 use std::marker::Model;
+
+/// The message that a frame goes to, with the texts that are prepared of it.
+pub(crate) type CsvTarget<'a> = PreparedTarget<'a, Columns>;
 
 /// The signals of a message, with the texts that are prepared for them, and what stands first in each of their rows.
 #[derive(Drop)]
 pub(crate) struct CsvSignals<'a, 'c> {
     came: &'c [u8],
-    message: &'a [u8],
-    plan: &'a Plan,
-    texts: &'a [RowTexts],
+    target: &'a CsvTarget<'a>,
 }
 
 impl<'a, 'c> Model for CsvSignals<'a, 'c> {
-    ghost use Rattle.std.specs.Prelude.{◌≡◌, map};
-    ghost use Rattle.csv_lines.specs.Prepared.{SignalRows, row_texts};
+    ghost use Rattle.csv_lines.specs.Prepared.{SignalRows};
 
     ghost Value = { SignalRows };
 
-    ghost view = { λ a. record { came = a.came.now; message = a.message.now; plan = a.plan.now } };
-
-    ghost invariant = { λ a. a.texts.now ≡ map (row_texts a.message.now) a.plan.now.rows };
+    ghost view = { λ a. record {
+      came = a.came.now;
+      message = a.target.now.message.head.name;
+      plan = a.target.now.plan;
+    } };
 }
 
 // The name of a value, and the end of the row.
@@ -98,24 +100,6 @@ fn push_behind_label(
     }
 }
 
-fn texts_at(texts: &[RowTexts], place: usize) -> &RowTexts
-    requires { place < length texts.now }
-    ensures { Some result.now ≡ slice_get texts.now place }
-{
-    &texts[place]
-}
-
-impl<'a, 'c> CsvSignals<'a, 'c> {
-    // What is prepared of the signal at a place.
-    #[tactic(auto, using(crate::proofs::Taken::mapped_at))]
-    fn texts_at(&self, place: usize) -> &RowTexts
-        requires { place < length self.now.plan.rows }
-        ensures { (row : PlainRow) → Some row ≡ slice_get self.now.plan.rows place → result.now ≡ row_texts self.now.message row }
-    {
-        texts_at(self.texts, place)
-    }
-}
-
 impl<'a, 'c> SignalText for CsvSignals<'a, 'c> {
     ghost use Rattle.std.specs.Prelude.{◌++◌};
     ghost use Rattle.csv_lines.specs.Prepared.{said_text};
@@ -128,7 +112,7 @@ impl<'a, 'c> SignalText for CsvSignals<'a, 'c> {
 
     #[inline(always)]
     fn plan(&self) -> &Plan {
-        self.plan
+        self.target.plan()
     }
 
     #[inline(always)]
@@ -139,8 +123,9 @@ impl<'a, 'c> SignalText for CsvSignals<'a, 'c> {
         place: usize,
         bytes: &[u8],
     ) -> Result<(), Memory> {
-        let row = self.plan.row(place);
-        let texts = self.texts_at(place);
+        let target: &CsvTarget<'_> = self.target;
+        let row = target.plan().row(place);
+        let texts = target.signal(place);
         push_bytes(text, self.came)?;
         texts.label.push_to(text)?;
         push_behind_label(text, texts, &row.reading, bytes)?;
@@ -148,31 +133,16 @@ impl<'a, 'c> SignalText for CsvSignals<'a, 'c> {
     }
 }
 
-impl<'a, 'c> CsvSignals<'a, 'c> {
-    /// Those of a message by its plan, with the texts that are prepared for it.
-    pub fn of(
-        came: &'c [u8],
-        message: &'a [u8],
-        plan: &'a Plan,
-        texts: &'a [RowTexts],
-    ) -> CsvSignals<'a, 'c>
-        requires { texts.now ≡ map (row_texts message.now) plan.now.rows }
-        ensures { result ≡ record { came = came.now; message = message.now; plan = plan.now } }
-    {
-        CsvSignals {
-            came,
-            message,
-            plan,
-            texts,
-        }
-    }
-
-    /// Appends a row for each signal that is shown.
-    #[tactic(auto, using(crate::proofs::Rows::listed_rows))]
-    pub fn push_to(&self, text: &mut Draft, bytes: &[u8]) -> Result<(), Memory>
-        ensures { OnOk result (text.new.items ≡ text.old.items ++ flat_map (λ row. self.now.came
-            ++ said_text self.now.message bytes.now row) (shown_rows bytes.now self.now.plan self.now.plan.rows)) }
-    {
-        push_signals(text, self, bytes)
-    }
+/// Appends a row for each signal of a message that is shown, each after what stands first in it.
+#[tactic(auto, using(crate::proofs::Rows::listed_rows))]
+pub(crate) fn push_signal_rows(
+    text: &mut Draft,
+    came: &[u8],
+    target: &CsvTarget<'_>,
+    bytes: &[u8],
+) -> Result<(), Memory>
+    ensures { OnOk result (text.new.items ≡ text.old.items ++ flat_map (λ row. came.now
+        ++ said_text target.now.message.head.name bytes.now row) (shown_rows bytes.now target.now.plan target.now.plan.rows)) }
+{
+    push_signals(text, &CsvSignals { came, target }, bytes)
 }

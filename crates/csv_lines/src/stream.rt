@@ -1,21 +1,19 @@
 //! A log in, the rows of its lines out.
-ghost use Rattle.std.specs.Prelude.{◌≡◌, ◌<◌, ℕ, List, length, slice_get, option_map, Some, IfOk};
+ghost use Rattle.std.specs.Prelude.{◌≡◌, ℕ, List, IfOk};
 ghost use Rattle.csv.specs.Writing.{default_writer, row_text};
-ghost use Rattle.can_layout.specs.Plans.{plan_of};
 ghost use Rattle.line_stream.specs.LineTexts.{StreamsTexts};
 ghost use Rattle.can_decode.specs.Counting.{counted};
 ghost use Rattle.csv_lines.specs.Rows.{csv_line, header};
-ghost use Rattle.csv_lines.specs.Prepared.{database_texts};
 
-use crate::line::{CsvFinder, push_line};
-use crate::plan_texts::MessageTexts;
+use crate::line::push_line;
+use crate::plan_texts::Columns;
 use byte_devices::{Sink, Source};
 use can_choice::{Choose, Finding, Remembered};
-use can_decode::{Decoding, remembering, stream_counted};
-use can_layout::{Meter, Plan};
-use dbc_records::Message;
+use can_decode::{Decoding, stream_counted};
+use can_layout::Meter;
 use dbc_values::Memory;
 use line_stream::{LineText, StreamFault};
+use prepared_texts::{Prepared, PreparedFinder, prepared_finder};
 use ready_texts::Draft;
 use std::alloc::Global;
 use std::marker::Model;
@@ -31,66 +29,15 @@ pub fn header() -> &'static [u8]
 /// A database with all that decoding its bus to CSV needs. Contracts see the bus.
 #[derive(Drop)]
 pub struct CsvDecoding<'a> {
-    decoding: &'a Decoding,
-    texts: Vec<MessageTexts>,
+    prepared: Prepared<'a, Columns>,
 }
 
 impl<'a> Model for CsvDecoding<'a> {
-    ghost use Rattle.std.specs.Prelude.{◌≡◌};
     ghost use Rattle.can_decode.specs.DecodedLines.{Bus};
-    ghost use Rattle.csv_lines.specs.Prepared.{database_texts};
 
     ghost Value = { Bus };
 
-    ghost view = { λ a. a.decoding.now };
-
-    ghost invariant = { λ a. a.texts.items ≡ database_texts a.decoding.now.database };
-}
-
-fn message_at(decoding: &Decoding, place: usize) -> &Message
-    requires { place < length decoding.now.database.messages }
-    ensures { Some result.now ≡ slice_get decoding.now.database.messages place }
-{
-    &decoding.database().messages.as_slice()[place]
-}
-
-fn plan_at(decoding: &Decoding, place: usize) -> &Plan
-    requires { place < length decoding.now.database.messages }
-    ensures { Some result.now ≡ option_map (plan_of decoding.now.database) (slice_get decoding.now.database.messages place) }
-{
-    &decoding.plans()[place]
-}
-
-// What is prepared of the message at a place.
-#[tactic(auto, using(crate::proofs::Prepared::texts_at))]
-fn message_texts(
-    alloc: Global,
-    text: &mut Draft,
-    decoding: &Decoding,
-    place: usize,
-) -> Result<MessageTexts, Memory>
-    requires { place < length decoding.now.database.messages }
-    ensures { IfOk result (λ texts. Some texts ≡ slice_get (database_texts decoding.now.database) place) }
-{
-    MessageTexts::of(
-        alloc,
-        text,
-        message_at(decoding, place),
-        plan_at(decoding, place),
-    )
-}
-
-// What is prepared of all messages, in order.
-fn all_texts(alloc: Global, decoding: &Decoding) -> Result<Vec<MessageTexts>, Memory>
-    ensures { IfOk result (λ texts. texts.items ≡ database_texts decoding.now.database) }
-{
-    let count = decoding.database().messages.len();
-    let mut text = Draft::new(alloc);
-    let mut texts = Vec::with_capacity(alloc, count)?;
-    for place in 0..count {
-        texts.push(message_texts(alloc, &mut text, decoding, place)?)?;
-    }
-    Ok(texts)
+    ghost view = { λ a. a.prepared };
 }
 
 impl<'a> CsvDecoding<'a> {
@@ -98,15 +45,15 @@ impl<'a> CsvDecoding<'a> {
     pub fn of(alloc: Global, decoding: &'a Decoding) -> Result<CsvDecoding<'a>, Memory>
         ensures { IfOk result (λ made. made ≡ decoding.now) }
     {
-        let texts = all_texts(alloc, decoding)?;
-        Ok(CsvDecoding { decoding, texts })
+        let prepared = Prepared::of(alloc, decoding, Columns)?;
+        Ok(CsvDecoding { prepared })
     }
 }
 
 // The rows of lines. What numbers went to is remembered. Contracts see the bus.
 #[derive(Drop)]
 struct CsvRows<'a, C: Choose> {
-    finder: CsvFinder<'a, Remembered<C>>,
+    finder: PreparedFinder<'a, Remembered<C>, Columns>,
     // what stands first in each row of a line
     came: Draft,
 }
@@ -144,9 +91,8 @@ fn rows_by<'a, C: Choose>(
     requires { C.whole chooser ≡ decoding.now.database }
     ensures { result ≡ decoding.now }
 {
-    let finder = remembering(alloc, decoding.decoding.finder(chooser));
     CsvRows {
-        finder: CsvFinder::of(finder, decoding.texts.as_slice()),
+        finder: prepared_finder(alloc, &decoding.prepared, chooser),
         came: Draft::new(alloc),
     }
 }
@@ -163,7 +109,7 @@ pub fn csv_stream_by<R: Source, W: Sink>(
         (W.written sink.old) (W.written sink.new) result lines
         × (meter.new ≡ counted result lines meter.old) }
 {
-    let choices = decoding.decoding.choices();
+    let choices = decoding.prepared.choices();
     let rows = rows_by(alloc, decoding, Finding { choices: &choices });
     stream_counted(alloc, rows, meter, source, sink)
 }

@@ -1,11 +1,9 @@
 -- Texts that are prepared with plans.
-use Rattle.std.specs.Prelude.{◌≡◌, ℕ, List, [], ◌∷◌, ◌++◌, map, codes, decimal}
+use Rattle.std.specs.Prelude.{◌≡◌, ℕ, List, [], ◌∷◌, ◌++◌, codes, decimal}
 use Rattle.json.specs.Json.{string}
 use Rattle.json.specs.Print.{quoted}
 use Rattle.json_texts.specs.Members.{Member, further_members, object_text}
 use Rattle.dbc_records.specs.Records.{Message}
-use Rattle.dbc_records.specs.Databases.{Database}
-use Rattle.can_layout.specs.Plans.{Plan, plan_of}
 use Rattle.can_layout.specs.Pictures.{cause_word}
 use Rattle.can_layout.specs.declared.row.Row.{Row}
 use Rattle.can_layout.specs.declared.row.Reading.{Reading}
@@ -48,15 +46,3 @@ row_texts row = record { label = row_label row; next = next_label row; tail = ro
 abbrev pub message_text : Message → List ℕ
 message_text message = further_members ((codes "message", string message.head.name)
     ∷ number_member (codes "number") message.head.number ∷ [])
-
--- what is prepared of a message
-pub record MessageTexts : Type 0 where
-  pub head : List ℕ
-  pub rows : List RowTexts
-
-abbrev pub texts_of : Message → Plan → MessageTexts
-texts_of message plan = record { head = message_text message; rows = map row_texts plan.rows }
-
--- what is prepared of all messages, in order
-abbrev pub database_texts : Database → List MessageTexts
-database_texts database = map (λ message. texts_of message (plan_of database message)) database.messages

@@ -13,15 +13,15 @@ use std::alloc::Global;
 
 /// The keys of the width and the kind.
 #[derive(Drop)]
-pub(crate) struct FlagKeys<'a> {
-    extended: Key<'a>,
-    kind: Key<'a>,
+pub(crate) struct FlagKeys {
+    extended: Key,
+    kind: Key,
     ghost is_extended: { extended ≡ record { mark = 44; name = codes "extended" } },
     ghost is_kind: { kind ≡ record { mark = 44; name = codes "kind" } },
 }
 
-impl<'a> FlagKeys<'a> {
-    fn of(alloc: Global) -> Result<FlagKeys<'a>, Memory> {
+impl FlagKeys {
+    fn of(alloc: Global) -> Result<FlagKeys, Memory> {
         Ok(FlagKeys {
             extended: Key::further(alloc, b"extended")?,
             kind: Key::further(alloc, b"kind")?,
@@ -39,7 +39,7 @@ fn push_flag(text: &mut Draft, flag: bool) -> Result<(), Memory>
     }
 }
 
-fn push_flag_member(text: &mut Draft, key: &Key<'_>, flag: bool) -> Result<(), Memory>
+fn push_flag_member(text: &mut Draft, key: &Key, flag: bool) -> Result<(), Memory>
     ensures { OnOk result (text.new.items ≡ text.old.items ++ keyed key.now (boolean flag)) }
 {
     key.push_to(text)?;
@@ -59,12 +59,7 @@ fn kind_word(kind: Kind) -> &'static [u8]
 }
 
 #[tactic(auto, using(crate::proofs::Labels::two_further))]
-fn push_flags(
-    text: &mut Draft,
-    keys: &FlagKeys<'_>,
-    extended: bool,
-    kind: Kind,
-) -> Result<(), Memory>
+fn push_flags(text: &mut Draft, keys: &FlagKeys, extended: bool, kind: Kind) -> Result<(), Memory>
     ensures { OnOk result (text.new.items ≡ text.old.items ++ further_members (flag_members extended kind)) }
 {
     push_flag_member(text, &keys.extended, extended)?;
@@ -73,7 +68,7 @@ fn push_flags(
 
 fn ready_flags(
     alloc: Global,
-    keys: &FlagKeys<'_>,
+    keys: &FlagKeys,
     extended: bool,
     kind: Kind,
 ) -> Result<ReadyText, Memory>
@@ -99,7 +94,7 @@ struct KindFlags {
 }
 
 impl KindFlags {
-    fn of(alloc: Global, keys: &FlagKeys<'_>, extended: bool) -> Result<KindFlags, Memory>
+    fn of(alloc: Global, keys: &FlagKeys, extended: bool) -> Result<KindFlags, Memory>
         ensures { IfOk result (λ flags. flags.extended ≡ extended) }
     {
         Ok(KindFlags {

@@ -11,7 +11,7 @@ ghost use Rattle.json_lines.specs.Lines.{data_said};
 ghost use Rattle.json_lines.specs.Lines.{said_members};
 
 use crate::keys::{GroupKeys, Keys, LineKeys, SaidKeys};
-use crate::target::JsonTarget;
+use crate::signals::{JsonTarget, push_signal_object};
 use can_decode::{J1939, group_number, push_number};
 use dbc_values::Memory;
 use json_texts::Key;
@@ -21,7 +21,7 @@ use ready_texts::{Draft, push_small_number};
 // From this PDU format on an identifier has no destination.
 const FIRST_BROADCAST_FORMAT: u8 = 240;
 
-fn push_number_member(text: &mut Draft, key: &Key<'_>, n: u64) -> Result<(), Memory>
+fn push_number_member(text: &mut Draft, key: &Key, n: u64) -> Result<(), Memory>
     ensures { OnOk result (text.new.items ≡ text.old.items ++ keyed key.now (number (decimal n))) }
 {
     key.push_to(text)?;
@@ -30,7 +30,7 @@ fn push_number_member(text: &mut Draft, key: &Key<'_>, n: u64) -> Result<(), Mem
 }
 
 #[inline(always)]
-fn push_byte_member(text: &mut Draft, key: &Key<'_>, n: u8) -> Result<(), Memory>
+fn push_byte_member(text: &mut Draft, key: &Key, n: u8) -> Result<(), Memory>
     ensures { OnOk result (text.new.items ≡ text.old.items ++ keyed key.now (number (decimal n))) }
 {
     key.push_to(text)?;
@@ -39,7 +39,7 @@ fn push_byte_member(text: &mut Draft, key: &Key<'_>, n: u8) -> Result<(), Memory
 }
 
 // The bytes of a data frame.
-fn push_data(text: &mut Draft, keys: &LineKeys<'_>, frame: &Frame) -> Result<(), Memory>
+fn push_data(text: &mut Draft, keys: &LineKeys, frame: &Frame) -> Result<(), Memory>
     ensures { OnOk result (text.new.items ≡ text.old.items ++ further_members (data_members frame.now)) }
 {
     if frame.is_data() {
@@ -51,7 +51,7 @@ fn push_data(text: &mut Draft, keys: &LineKeys<'_>, frame: &Frame) -> Result<(),
 
 // The width, the kind, and the bytes of a data frame.
 #[tactic(auto, using(crate::proofs::Told::both_further))]
-fn push_behind_id(text: &mut Draft, keys: &LineKeys<'_>, frame: &Frame) -> Result<(), Memory>
+fn push_behind_id(text: &mut Draft, keys: &LineKeys, frame: &Frame) -> Result<(), Memory>
     ensures { OnOk result (text.new.items ≡ text.old.items ++ further_members (flag_members frame.now.extended frame.now.kind
         ++ data_members frame.now)) }
 {
@@ -61,7 +61,7 @@ fn push_behind_id(text: &mut Draft, keys: &LineKeys<'_>, frame: &Frame) -> Resul
 }
 
 /// The identifier, its width, the kind, and the bytes of a data frame.
-pub(crate) fn push_frame(text: &mut Draft, keys: &LineKeys<'_>, frame: &Frame) -> Result<(), Memory>
+pub(crate) fn push_frame(text: &mut Draft, keys: &LineKeys, frame: &Frame) -> Result<(), Memory>
     ensures { OnOk result (text.new.items ≡ text.old.items ++ further_members (frame_members frame.now)) }
 {
     push_number_member(text, &keys.id, u64::from(frame.identifier))?;
@@ -69,7 +69,7 @@ pub(crate) fn push_frame(text: &mut Draft, keys: &LineKeys<'_>, frame: &Frame) -
     Ok(())
 }
 
-fn push_destination(text: &mut Draft, keys: &GroupKeys<'_>, identifier: u32) -> Result<(), Memory>
+fn push_destination(text: &mut Draft, keys: &GroupKeys, identifier: u32) -> Result<(), Memory>
     ensures { OnOk result (text.new.items ≡ text.old.items ++ further_members (destination_members identifier)) }
 {
     let fields = J1939::of(identifier);
@@ -80,7 +80,7 @@ fn push_destination(text: &mut Draft, keys: &GroupKeys<'_>, identifier: u32) -> 
 }
 
 // Priority, source and destination.
-fn push_addresses(text: &mut Draft, keys: &GroupKeys<'_>, identifier: u32) -> Result<(), Memory>
+fn push_addresses(text: &mut Draft, keys: &GroupKeys, identifier: u32) -> Result<(), Memory>
     ensures { OnOk result (text.new.items ≡ text.old.items ++ (further_member (number_member (codes "priority")
         (priority_of identifier)) ++ (further_member (number_member (codes "source") (source_of identifier))
         ++ further_members (destination_members identifier)))) }
@@ -93,7 +93,7 @@ fn push_addresses(text: &mut Draft, keys: &GroupKeys<'_>, identifier: u32) -> Re
 }
 
 // What an identifier says, as an object.
-fn push_group(text: &mut Draft, keys: &GroupKeys<'_>, identifier: u32) -> Result<(), Memory>
+fn push_group(text: &mut Draft, keys: &GroupKeys, identifier: u32) -> Result<(), Memory>
     ensures { OnOk result (text.new.items ≡ text.old.items ++ object_text (group_members identifier)) }
 {
     push_number_member(text, &keys.pgn, u64::from(group_number(identifier)))?;
@@ -102,7 +102,7 @@ fn push_group(text: &mut Draft, keys: &GroupKeys<'_>, identifier: u32) -> Result
     Ok(())
 }
 
-fn push_j1939(text: &mut Draft, keys: &SaidKeys<'_>, identifier: u32) -> Result<(), Memory>
+fn push_j1939(text: &mut Draft, keys: &SaidKeys, identifier: u32) -> Result<(), Memory>
     ensures { OnOk result (text.new.items ≡ text.old.items ++ further_members (j1939_members identifier true)) }
 {
     keys.j1939.push_to(text)?;
@@ -112,7 +112,7 @@ fn push_j1939(text: &mut Draft, keys: &SaidKeys<'_>, identifier: u32) -> Result<
 
 fn push_j1939_if(
     text: &mut Draft,
-    keys: &SaidKeys<'_>,
+    keys: &SaidKeys,
     identifier: u32,
     group: bool,
 ) -> Result<(), Memory>
@@ -128,18 +128,18 @@ fn push_j1939_if(
 // The message that a frame goes to.
 fn push_message(
     text: &mut Draft,
-    keys: &SaidKeys<'_>,
+    keys: &SaidKeys,
     frame: &Frame,
     target: &JsonTarget<'_>,
 ) -> Result<(), Memory>
     ensures { OnOk result (text.new.items ≡ text.old.items ++ further_members (message_members frame.now target.now)) }
 {
-    target.push_head(text)?;
+    target.head().push_to(text)?;
     push_j1939_if(text, keys, frame.identifier, target.is_group())?;
     Ok(())
 }
 
-fn push_wrong_size(text: &mut Draft, keys: &SaidKeys<'_>, wanted: u16) -> Result<(), Memory>
+fn push_wrong_size(text: &mut Draft, keys: &SaidKeys, wanted: u16) -> Result<(), Memory>
     ensures { OnOk result (text.new.items ≡ text.old.items ++ further_members (wrong_size_members wanted)) }
 {
     keys.not_decoded.push_quoted(text, b"wrong size")?;
@@ -150,7 +150,7 @@ fn push_wrong_size(text: &mut Draft, keys: &SaidKeys<'_>, wanted: u16) -> Result
 // The signals as a member.
 fn push_signals(
     text: &mut Draft,
-    keys: &Keys<'_>,
+    keys: &Keys,
     bytes: &[u8],
     target: &JsonTarget<'_>,
 ) -> Result<(), Memory>
@@ -161,21 +161,21 @@ fn push_signals(
     ) ∷ [])) }
 {
     keys.said.signals.push_to(text)?;
-    target.push_signals(text, &keys.signal, bytes)?;
+    push_signal_object(text, &keys.signal, target, bytes)?;
     Ok(())
 }
 
 // The signals, or that the data has the wrong size.
 fn push_values(
     text: &mut Draft,
-    keys: &Keys<'_>,
+    keys: &Keys,
     frame: &Frame,
     target: &JsonTarget<'_>,
 ) -> Result<(), Memory>
     ensures { OnOk result (text.new.items ≡ text.old.items ++ further_members (values_members frame.now target.now)) }
 {
     if target.refuses(frame.bytes.len()) {
-        push_wrong_size(text, &keys.said, target.size())
+        push_wrong_size(text, &keys.said, target.plan().size())
     } else {
         push_signals(text, keys, frame.bytes.as_slice(), target)
     }
@@ -185,7 +185,7 @@ fn push_values(
 #[tactic(auto, using(crate::proofs::Told::both_further))]
 fn push_told(
     text: &mut Draft,
-    keys: &Keys<'_>,
+    keys: &Keys,
     frame: &Frame,
     target: &JsonTarget<'_>,
 ) -> Result<(), Memory>
@@ -197,7 +197,7 @@ fn push_told(
 }
 
 // Why a frame isn't decoded.
-fn push_cause(text: &mut Draft, keys: &SaidKeys<'_>, cause: &[u8]) -> Result<(), Memory>
+fn push_cause(text: &mut Draft, keys: &SaidKeys, cause: &[u8]) -> Result<(), Memory>
     ensures { OnOk result (text.new.items ≡ text.old.items ++ further_members (not_decoded cause.now ∷ [])) }
 {
     keys.not_decoded.push_quoted(text, cause)
@@ -205,7 +205,7 @@ fn push_cause(text: &mut Draft, keys: &SaidKeys<'_>, cause: &[u8]) -> Result<(),
 
 fn push_data_said(
     text: &mut Draft,
-    keys: &Keys<'_>,
+    keys: &Keys,
     frame: &Frame,
     target: Option<&JsonTarget<'_>>,
 ) -> Result<(), Memory>
@@ -221,7 +221,7 @@ fn push_data_said(
 /// What a frame says, by what it goes to.
 pub(crate) fn push_said(
     text: &mut Draft,
-    keys: &Keys<'_>,
+    keys: &Keys,
     frame: &Frame,
     target: Option<&JsonTarget<'_>>,
 ) -> Result<(), Memory>

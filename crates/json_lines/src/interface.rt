@@ -27,7 +27,7 @@ impl Model for Interface {
 }
 
 impl Interface {
-    fn of(alloc: Global, keys: &LineKeys<'_>, bytes: &[u8]) -> Result<Interface, Memory>
+    fn of(alloc: Global, keys: &LineKeys, bytes: &[u8]) -> Result<Interface, Memory>
         ensures { IfOk result (λ interface. interface ≡ bytes.now) }
     {
         let mut text = Draft::new(alloc);
@@ -55,13 +55,13 @@ impl Interface {
 #[derive(Drop)]
 pub(crate) struct Ready<'a> {
     /// The keys.
-    pub keys: &'a Keys<'a>,
+    pub keys: &'a Keys,
     first: Option<Interface>,
 }
 
 impl<'a> Ready<'a> {
     /// Those of a log of which no line was read.
-    pub fn of(keys: &'a Keys<'a>) -> Ready<'a> {
+    pub fn of(keys: &'a Keys) -> Ready<'a> {
         Ready { keys, first: None }
     }
 

@@ -9,23 +9,23 @@ use std::alloc::Global;
 
 /// The keys of a signal's object.
 #[derive(Drop)]
-pub(crate) struct SignalKeys<'a> {
+pub(crate) struct SignalKeys {
     /// The value.
-    pub value: Key<'a>,
+    pub value: Key,
     /// Why there is none.
-    pub refused: Key<'a>,
+    pub refused: Key,
     /// The unit.
-    pub unit: Key<'a>,
+    pub unit: Key,
     /// The name of the value.
-    pub name: Key<'a>,
+    pub name: Key,
     ghost is_value: { value ≡ record { mark = 123; name = codes "value" } },
     ghost is_refused: { refused ≡ record { mark = 123; name = codes "refused" } },
     ghost is_unit: { unit ≡ record { mark = 44; name = codes "unit" } },
     ghost is_name: { name ≡ record { mark = 44; name = codes "name" } },
 }
 
-impl<'a> SignalKeys<'a> {
-    pub fn of(alloc: Global) -> Result<SignalKeys<'a>, Memory> {
+impl SignalKeys {
+    pub fn of(alloc: Global) -> Result<SignalKeys, Memory> {
         Ok(SignalKeys {
             value: Key::first(alloc, b"value")?,
             refused: Key::first(alloc, b"refused")?,
@@ -37,23 +37,23 @@ impl<'a> SignalKeys<'a> {
 
 /// The keys of a J1939 message.
 #[derive(Drop)]
-pub(crate) struct GroupKeys<'a> {
+pub(crate) struct GroupKeys {
     /// The parameter group.
-    pub pgn: Key<'a>,
+    pub pgn: Key,
     /// The priority.
-    pub priority: Key<'a>,
+    pub priority: Key,
     /// The source address.
-    pub source: Key<'a>,
+    pub source: Key,
     /// The destination address.
-    pub destination: Key<'a>,
+    pub destination: Key,
     ghost is_pgn: { pgn ≡ record { mark = 123; name = codes "pgn" } },
     ghost is_priority: { priority ≡ record { mark = 44; name = codes "priority" } },
     ghost is_source: { source ≡ record { mark = 44; name = codes "source" } },
     ghost is_destination: { destination ≡ record { mark = 44; name = codes "destination" } },
 }
 
-impl<'a> GroupKeys<'a> {
-    pub fn of(alloc: Global) -> Result<GroupKeys<'a>, Memory> {
+impl GroupKeys {
+    pub fn of(alloc: Global) -> Result<GroupKeys, Memory> {
         Ok(GroupKeys {
             pgn: Key::first(alloc, b"pgn")?,
             priority: Key::further(alloc, b"priority")?,
@@ -65,21 +65,21 @@ impl<'a> GroupKeys<'a> {
 
 /// The keys of what a frame says.
 #[derive(Drop)]
-pub(crate) struct SaidKeys<'a> {
+pub(crate) struct SaidKeys {
     /// The message.
-    pub message: Key<'a>,
+    pub message: Key,
     /// Its number.
-    pub number: Key<'a>,
+    pub number: Key,
     /// What its identifier says, of a J1939 message.
-    pub j1939: Key<'a>,
+    pub j1939: Key,
     /// The signals.
-    pub signals: Key<'a>,
+    pub signals: Key,
     /// Why they aren't decoded.
-    pub not_decoded: Key<'a>,
+    pub not_decoded: Key,
     /// The size that data should have.
-    pub size: Key<'a>,
+    pub size: Key,
     /// The keys of a J1939 message.
-    pub group: GroupKeys<'a>,
+    pub group: GroupKeys,
     ghost is_message: { message ≡ record { mark = 44; name = codes "message" } },
     ghost is_number: { number ≡ record { mark = 44; name = codes "number" } },
     ghost is_j1939: { j1939 ≡ record { mark = 44; name = codes "j1939" } },
@@ -88,8 +88,8 @@ pub(crate) struct SaidKeys<'a> {
     ghost is_size: { size ≡ record { mark = 44; name = codes "size" } },
 }
 
-impl<'a> SaidKeys<'a> {
-    pub fn of(alloc: Global) -> Result<SaidKeys<'a>, Memory> {
+impl SaidKeys {
+    pub fn of(alloc: Global) -> Result<SaidKeys, Memory> {
         Ok(SaidKeys {
             message: Key::further(alloc, b"message")?,
             number: Key::further(alloc, b"number")?,
@@ -104,21 +104,21 @@ impl<'a> SaidKeys<'a> {
 
 /// The keys of a line.
 #[derive(Drop)]
-pub(crate) struct LineKeys<'a> {
+pub(crate) struct LineKeys {
     /// The line, if it has no frame.
-    pub line: Key<'a>,
+    pub line: Key,
     /// When the frame came.
-    pub time: Key<'a>,
+    pub time: Key,
     /// Where it came.
-    pub interface: Key<'a>,
+    pub interface: Key,
     /// Its identifier.
-    pub id: Key<'a>,
+    pub id: Key,
     /// Whether that has 29 bits, and what the frame is.
     pub flags: Flags,
     /// Its bytes.
-    pub bytes: Key<'a>,
+    pub bytes: Key,
     /// What follows it.
-    pub rest: Key<'a>,
+    pub rest: Key,
     ghost is_line: { line ≡ record { mark = 123; name = codes "line" } },
     ghost is_time: { time ≡ record { mark = 123; name = codes "time" } },
     ghost is_interface: { interface ≡ record { mark = 44; name = codes "interface" } },
@@ -127,8 +127,8 @@ pub(crate) struct LineKeys<'a> {
     ghost is_rest: { rest ≡ record { mark = 44; name = codes "rest" } },
 }
 
-impl<'a> LineKeys<'a> {
-    pub fn of(alloc: Global) -> Result<LineKeys<'a>, Memory> {
+impl LineKeys {
+    pub fn of(alloc: Global) -> Result<LineKeys, Memory> {
         Ok(LineKeys {
             line: Key::first(alloc, b"line")?,
             time: Key::first(alloc, b"time")?,
@@ -143,18 +143,18 @@ impl<'a> LineKeys<'a> {
 
 /// All keys.
 #[derive(Drop)]
-pub(crate) struct Keys<'a> {
+pub(crate) struct Keys {
     /// Those of a line.
-    pub line: LineKeys<'a>,
+    pub line: LineKeys,
     /// Those of what a frame says.
-    pub said: SaidKeys<'a>,
+    pub said: SaidKeys,
     /// Those of a signal.
-    pub signal: SignalKeys<'a>,
+    pub signal: SignalKeys,
 }
 
-impl<'a> Keys<'a> {
+impl Keys {
     /// All keys, kept ready.
-    pub fn of(alloc: Global) -> Result<Keys<'a>, Memory> {
+    pub fn of(alloc: Global) -> Result<Keys, Memory> {
         Ok(Keys {
             line: LineKeys::of(alloc)?,
             said: SaidKeys::of(alloc)?,

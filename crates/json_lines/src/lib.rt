@@ -11,9 +11,8 @@ mod line;
 mod plan_texts;
 mod signals;
 mod stream;
-mod target;
 mod words;
 
-pub use plan_texts::{MessageTexts, RowTexts};
+pub use plan_texts::RowTexts;
 pub use stream::{JsonDecoding, json_stream_by};
 pub use words::{Words, words_of};

@@ -1,24 +1,19 @@
 //! The object of a line.
-ghost use Rattle.std.specs.Prelude.{◌≡◌, ◌++◌, IfOk, OnOk, codes, option_map, slice_get, Some};
+ghost use Rattle.std.specs.Prelude.{◌≡◌, ◌++◌, OnOk, codes, option_map};
 ghost use Rattle.json.specs.Json.{number};
 ghost use Rattle.json_texts.specs.Members.{Key as PlainKey, keyed, further_members, object_text, text_members};
-ghost use Rattle.can_choice.specs.Choices.{choice_at};
-ghost use Rattle.can_decode.specs.DecodedLines.{target_of, chosen_target};
 ghost use Rattle.json_lines.specs.Lines.{frame_members, said_members, rest_members, known_members, line_members};
-ghost use Rattle.json_lines.specs.Prepared.{database_texts};
 
 use crate::frame::{push_frame, push_said};
 use crate::interface::Ready;
 use crate::keys::{Keys, LineKeys};
-use crate::plan_texts::MessageTexts;
-use crate::target::JsonTarget;
+use crate::signals::JsonTarget;
 use crate::words::{Words, words_of};
-use can_choice::{Choice, Choose};
-use can_decode::Finder;
+use can_choice::Choose;
 use dbc_values::Memory;
 use log_frames::{Frame, body_of, fill_frame};
+use prepared_texts::PreparedFinder;
 use ready_texts::Draft;
-use std::marker::Model;
 
 // When and where a frame came.
 #[tactic(auto, using(crate::proofs::Pushing::pushed_then))]
@@ -32,7 +27,7 @@ fn push_came(text: &mut Draft, ready: &mut Ready<'_>, words: &Words<'_>) -> Resu
 }
 
 // What follows the frame, if anything does.
-fn push_rest(text: &mut Draft, keys: &LineKeys<'_>, rest: &[u8]) -> Result<(), Memory>
+fn push_rest(text: &mut Draft, keys: &LineKeys, rest: &[u8]) -> Result<(), Memory>
     ensures { OnOk result (text.new.items ≡ text.old.items ++ further_members (rest_members rest.now)) }
 {
     match rest {
@@ -45,7 +40,7 @@ fn push_rest(text: &mut Draft, keys: &LineKeys<'_>, rest: &[u8]) -> Result<(), M
 #[tactic(auto, using(crate::proofs::Pushing::pushed_then))]
 fn push_behind_came(
     text: &mut Draft,
-    keys: &Keys<'_>,
+    keys: &Keys,
     frame: &Frame,
     target: Option<&JsonTarget<'_>>,
     rest: &[u8],
@@ -79,7 +74,7 @@ fn push_known(
 }
 
 // A line without a frame.
-fn push_unread(text: &mut Draft, keys: &LineKeys<'_>, body: &[u8]) -> Result<(), Memory>
+fn push_unread(text: &mut Draft, keys: &LineKeys, body: &[u8]) -> Result<(), Memory>
     ensures { OnOk result (text.new.items ≡ text.old.items ++ object_text (text_members (codes "line") body.now)) }
 {
     keys.line.push_texts(text, body)?;
@@ -87,71 +82,12 @@ fn push_unread(text: &mut Draft, keys: &LineKeys<'_>, body: &[u8]) -> Result<(),
     Ok(())
 }
 
-/// What finds the messages of frames, with what is prepared of each message.
-#[derive(Drop)]
-pub(crate) struct JsonFinder<'a, C: Choose> {
-    finder: Finder<'a, C>,
-    texts: &'a [MessageTexts],
-}
-
-impl<'a, C: Choose> Model for JsonFinder<'a, C> {
-    ghost use Rattle.std.specs.Prelude.{◌≡◌};
-    ghost use Rattle.can_decode.specs.DecodedLines.{Bus};
-    ghost use Rattle.json_lines.specs.Prepared.{database_texts};
-
-    ghost Value = { Bus };
-
-    ghost view = { λ a. a.finder };
-
-    ghost invariant = { λ a. a.texts.now ≡ database_texts a.finder.database };
-}
-
-fn texts_at(texts: &[MessageTexts], place: usize) -> Option<&MessageTexts>
-    ensures { option_map (λ texts. texts.now) result ≡ slice_get texts.now place }
-{
-    texts.get(place)
-}
-
-impl<'a, C: Choose> JsonFinder<'a, C> {
-    /// A finder, with what is prepared of its messages.
-    pub fn of(finder: Finder<'a, C>, texts: &'a [MessageTexts]) -> JsonFinder<'a, C>
-        requires { texts.now ≡ database_texts finder.database }
-        ensures { result ≡ finder.entry }
-    {
-        JsonFinder { finder, texts }
-    }
-
-    // The message of a choice.
-    #[tactic(auto, using(crate::proofs::Prepared::texts_of_target))]
-    fn target_at(&self, choice: Choice) -> Option<JsonTarget<'a>>
-        requires { choice ≡ choice_at self.now.database choice.place }
-        ensures { result ≡ option_map (target_of self.now.short self.now.database) (slice_get self.now.database.messages
-            choice.place) }
-    {
-        let target = self.finder.target_at(choice)?;
-        let texts = texts_at(self.texts, choice.place)?;
-        Some(JsonTarget::of(target, texts))
-    }
-
-    // What a frame goes to.
-    #[tactic(auto, unfolding(can_decode::specs::DecodedLines::chosen_target, can_choice::specs::Choices::chosen_place, can_choice::specs::Choices::frame_choice, can_choice::specs::Choices::choice_of))]
-    fn target_of(&mut self, frame: &Frame) -> Result<Option<JsonTarget<'a>>, Memory>
-        ensures target { IfOk result (λ target. target ≡ chosen_target self.old.short self.old.database frame.now) }
-        ensures same { self.new ≡ self.old }
-    {
-        match self.finder.choose(frame)? {
-            Some(choice) => Ok(self.target_at(choice)),
-            None => Ok(None),
-        }
-    }
-}
-
 /// Appends the object of a line.
 #[tactic(auto, unfolding(crate::specs::Lines::line_members))]
 pub(crate) fn push_line<C: Choose>(
     text: &mut Draft,
     ready: &mut Ready<'_>,
-    finder: &mut JsonFinder<'_, C>,
+    finder: &mut PreparedFinder<'_, C, Keys>,
     line: &[u8],
 ) -> Result<(), Memory>
     ensures text { OnOk result (text.new.items ≡ text.old.items ++ object_text (line_members finder.old line.now)) }

@@ -1,18 +1,17 @@
-//! Texts that are prepared with a plan.
-ghost use Rattle.std.specs.Prelude.{◌≡◌, ◌++◌, IfOk, OnOk, codes, map};
+//! Texts that are prepared with messages.
+ghost use Rattle.std.specs.Prelude.{◌≡◌, ◌++◌, IfOk, OnOk, codes};
 ghost use Rattle.json_texts.specs.Members.{further_members};
 ghost use Rattle.json_lines.specs.Signals.{unit_members};
-ghost use Rattle.json_lines.specs.Prepared.{value_label, row_label, next_label, row_tail, row_texts, message_text, texts_of};
+ghost use Rattle.json_lines.specs.Prepared.{value_label, row_label, next_label, row_tail, row_texts, message_text};
 
 use crate::keys::{Keys, SaidKeys, SignalKeys};
-use can_layout::{Decoder, Plan, Reading, Row};
+use can_layout::{Decoder, Reading, Row};
 use dbc_records::Message;
 use dbc_values::Memory;
 use itoa::Buffer;
 use json_texts::push_quoted;
+use prepared_texts::Prepare;
 use ready_texts::{Draft, ReadyText};
-use std::alloc::Global;
-use std::marker::Model;
 
 /// What is written of a signal before and after its value.
 #[derive(Drop)]
@@ -27,11 +26,7 @@ pub struct RowTexts {
 
 // `{"value":`, or the object of a signal that can't be decoded.
 #[tactic(auto, using(crate::proofs::Labels::refused_object))]
-fn push_value_label(
-    text: &mut Draft,
-    keys: &SignalKeys<'_>,
-    reading: &Reading,
-) -> Result<(), Memory>
+fn push_value_label(text: &mut Draft, keys: &SignalKeys, reading: &Reading) -> Result<(), Memory>
     ensures { OnOk result (text.new.items ≡ text.old.items ++ value_label reading.now) }
 {
     match reading {
@@ -45,7 +40,7 @@ fn push_value_label(
 }
 
 #[tactic(auto, using(crate::proofs::Pushing::pushed_then))]
-fn push_row_label(text: &mut Draft, keys: &SignalKeys<'_>, row: &Row) -> Result<(), Memory>
+fn push_row_label(text: &mut Draft, keys: &SignalKeys, row: &Row) -> Result<(), Memory>
     ensures { OnOk result (text.new.items ≡ text.old.items ++ row_label row.now) }
 {
     push_quoted(text, row.name.as_bytes())?;
@@ -55,7 +50,7 @@ fn push_row_label(text: &mut Draft, keys: &SignalKeys<'_>, row: &Row) -> Result<
 }
 
 // The unit, if there is one.
-fn push_unit(text: &mut Draft, keys: &SignalKeys<'_>, unit: &[u8]) -> Result<(), Memory>
+fn push_unit(text: &mut Draft, keys: &SignalKeys, unit: &[u8]) -> Result<(), Memory>
     ensures { OnOk result (text.new.items ≡ text.old.items ++ further_members (unit_members unit.now)) }
 {
     match unit {
@@ -65,11 +60,7 @@ fn push_unit(text: &mut Draft, keys: &SignalKeys<'_>, unit: &[u8]) -> Result<(),
 }
 
 #[tactic(auto, using(crate::proofs::Pushing::pushed_then))]
-fn push_decoder_tail(
-    text: &mut Draft,
-    keys: &SignalKeys<'_>,
-    decoder: &Decoder,
-) -> Result<(), Memory>
+fn push_decoder_tail(text: &mut Draft, keys: &SignalKeys, decoder: &Decoder) -> Result<(), Memory>
     ensures { OnOk result (text.new.items ≡ text.old.items ++ (further_members (unit_members decoder.now.unit) ++ codes "}")) }
 {
     push_unit(text, keys, decoder.unit.as_bytes())?;
@@ -77,7 +68,7 @@ fn push_decoder_tail(
     Ok(())
 }
 
-fn push_row_tail(text: &mut Draft, keys: &SignalKeys<'_>, reading: &Reading) -> Result<(), Memory>
+fn push_row_tail(text: &mut Draft, keys: &SignalKeys, reading: &Reading) -> Result<(), Memory>
     ensures { OnOk result (text.new.items ≡ text.old.items ++ row_tail reading.now) }
 {
     match reading {
@@ -87,7 +78,7 @@ fn push_row_tail(text: &mut Draft, keys: &SignalKeys<'_>, reading: &Reading) -> 
 }
 
 // (Each is made in a draft, whatever it holds before.)
-fn ready_label(text: &mut Draft, keys: &SignalKeys<'_>, row: &Row) -> Result<ReadyText, Memory>
+fn ready_label(text: &mut Draft, keys: &SignalKeys, row: &Row) -> Result<ReadyText, Memory>
     ensures { IfOk result (λ ready. ready ≡ row_label row.now) }
 {
     text.clear();
@@ -95,7 +86,7 @@ fn ready_label(text: &mut Draft, keys: &SignalKeys<'_>, row: &Row) -> Result<Rea
     ReadyText::of(text.allocator(), text.as_slice())
 }
 
-fn ready_next(text: &mut Draft, keys: &SignalKeys<'_>, row: &Row) -> Result<ReadyText, Memory>
+fn ready_next(text: &mut Draft, keys: &SignalKeys, row: &Row) -> Result<ReadyText, Memory>
     ensures { IfOk result (λ ready. ready ≡ next_label row.now) }
 {
     text.clear();
@@ -104,7 +95,7 @@ fn ready_next(text: &mut Draft, keys: &SignalKeys<'_>, row: &Row) -> Result<Read
     ReadyText::of(text.allocator(), text.as_slice())
 }
 
-fn ready_tail(text: &mut Draft, keys: &SignalKeys<'_>, row: &Row) -> Result<ReadyText, Memory>
+fn ready_tail(text: &mut Draft, keys: &SignalKeys, row: &Row) -> Result<ReadyText, Memory>
     ensures { IfOk result (λ ready. ready ≡ row_tail row.now.reading) }
 {
     text.clear();
@@ -112,7 +103,7 @@ fn ready_tail(text: &mut Draft, keys: &SignalKeys<'_>, row: &Row) -> Result<Read
     ReadyText::of(text.allocator(), text.as_slice())
 }
 
-fn row_texts(text: &mut Draft, keys: &SignalKeys<'_>, row: &Row) -> Result<RowTexts, Memory>
+fn row_texts(text: &mut Draft, keys: &SignalKeys, row: &Row) -> Result<RowTexts, Memory>
     ensures { IfOk result (λ texts. texts ≡ row_texts row.now) }
 {
     let label = ready_label(text, keys, row)?;
@@ -121,24 +112,8 @@ fn row_texts(text: &mut Draft, keys: &SignalKeys<'_>, row: &Row) -> Result<RowTe
     Ok(RowTexts { label, next, tail })
 }
 
-/// The texts of a plan's signals, in order.
-pub(crate) fn plan_texts(
-    alloc: Global,
-    text: &mut Draft,
-    keys: &SignalKeys<'_>,
-    plan: &Plan,
-) -> Result<Vec<RowTexts>, Memory>
-    ensures { IfOk result (λ texts. texts.items ≡ map row_texts plan.now.rows) }
-{
-    let mut texts = Vec::with_capacity(alloc, plan.signals())?;
-    for place in 0..plan.signals() {
-        texts.push(row_texts(text, keys, plan.row(place))?)?;
-    }
-    Ok(texts)
-}
-
 // The message's name and number, after other members.
-fn push_message(text: &mut Draft, keys: &SaidKeys<'_>, message: &Message) -> Result<(), Memory>
+fn push_message(text: &mut Draft, keys: &SaidKeys, message: &Message) -> Result<(), Memory>
     ensures { OnOk result (text.new.items ≡ text.old.items ++ message_text message.now) }
 {
     keys.message
@@ -148,12 +123,7 @@ fn push_message(text: &mut Draft, keys: &SaidKeys<'_>, message: &Message) -> Res
     Ok(())
 }
 
-/// The text of a message, kept ready.
-pub(crate) fn ready_message(
-    text: &mut Draft,
-    keys: &SaidKeys<'_>,
-    message: &Message,
-) -> Result<ReadyText, Memory>
+fn ready_head(text: &mut Draft, keys: &SaidKeys, message: &Message) -> Result<ReadyText, Memory>
     ensures { IfOk result (λ ready. ready ≡ message_text message.now) }
 {
     text.clear();
@@ -161,48 +131,23 @@ pub(crate) fn ready_message(
     ReadyText::of(text.allocator(), text.as_slice())
 }
 
-/// What is prepared of a message: its name and number, and the texts of its signals.
-#[derive(Drop)]
-pub struct MessageTexts {
-    head: ReadyText,
-    rows: Vec<RowTexts>,
-}
+/// The message's name and number, and what is written of each signal before and after its value.
+impl Prepare for Keys {
+    ghost use Rattle.json_lines.specs.Prepared.{message_text, row_texts};
 
-impl Model for MessageTexts {
-    ghost use Rattle.json_lines.specs.Prepared as prepared;
+    type Head = ReadyText;
 
-    ghost Value = { prepared.MessageTexts };
+    type Signal = RowTexts;
 
-    ghost view = { λ texts. record { head = texts.head; rows = texts.rows.items } };
-}
+    ghost head_of = { message_text };
 
-impl MessageTexts {
-    /// That of a message, by its plan. It is made in a draft, whatever that holds before.
-    pub(crate) fn of(
-        alloc: Global,
-        text: &mut Draft,
-        keys: &Keys<'_>,
-        message: &Message,
-        plan: &Plan,
-    ) -> Result<MessageTexts, Memory>
-        ensures { IfOk result (λ texts. texts ≡ texts_of message.now plan.now) }
-    {
-        let head = ready_message(text, &keys.said, message)?;
-        let rows = plan_texts(alloc, text, &keys.signal, plan)?;
-        Ok(MessageTexts { head, rows })
+    ghost signal_of = { λ message row. row_texts row };
+
+    fn head(&self, text: &mut Draft, message: &Message) -> Result<ReadyText, Memory> {
+        ready_head(text, &self.said, message)
     }
 
-    /// The message's name and number, as members after others.
-    pub(crate) fn head(&self) -> &ReadyText
-        ensures { result.now ≡ self.now.head }
-    {
-        &self.head
-    }
-
-    /// The texts of its signals, in order.
-    pub(crate) fn rows(&self) -> &[RowTexts]
-        ensures { result.now ≡ self.now.rows }
-    {
-        self.rows.as_slice()
+    fn signal(&self, text: &mut Draft, _message: &Message, row: &Row) -> Result<RowTexts, Memory> {
+        row_texts(text, &self.signal, row)
     }
 }

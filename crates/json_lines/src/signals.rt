@@ -1,39 +1,37 @@
 //! The signals of a message as an object.
-ghost use Rattle.std.specs.Prelude.{◌≡◌, ◌≤◌, ◌<◌, ◌^◌, ◌++◌, OnOk, codes, map, unsigned_abs, length, slice_get, Some};
+ghost use Rattle.std.specs.Prelude.{◌≡◌, ◌≤◌, ◌^◌, ◌++◌, OnOk, codes, unsigned_abs};
 ghost use Rattle.std.specs.Prelude.{if◌then◌else◌};
 ghost use Rattle.can_layout.specs.Decoders.{first_entry};
 ghost use Rattle.json_texts.specs.Members.{further_members, object_text};
 ghost use Rattle.json_lines.specs.Signals.{value_text, told_members, signal_members};
-ghost use Rattle.json_lines.specs.Prepared.{row_tail, row_texts, behind_label};
+ghost use Rattle.json_lines.specs.Prepared.{row_tail, behind_label};
 ghost use Rattle.can_layout.specs.declared.row.Reading.TheVariants.{Read};
-ghost use Rattle.can_layout.specs.declared.row.Row.{Row as PlainRow};
 
-use crate::keys::SignalKeys;
+use crate::keys::{Keys, SignalKeys};
 use crate::plan_texts::RowTexts;
 use can_decode::{SignalText, push_scaled, push_signals};
 use can_layout::{Decoder, Plan, Reading};
 use dbc_values::Memory;
+use prepared_texts::PreparedTarget;
 use ready_texts::Draft;
 use std::marker::Model;
+
+/// The message that a frame goes to, with the texts that are prepared of it.
+pub(crate) type JsonTarget<'a> = PreparedTarget<'a, Keys>;
 
 /// The signals of a message, with the texts that are prepared for them.
 #[derive(Drop)]
 pub(crate) struct JsonSignals<'a> {
-    plan: &'a Plan,
-    texts: &'a [RowTexts],
-    keys: &'a SignalKeys<'a>,
+    target: &'a JsonTarget<'a>,
+    keys: &'a SignalKeys,
 }
 
 impl<'a> Model for JsonSignals<'a> {
-    ghost use Rattle.std.specs.Prelude.{◌≡◌, map};
     ghost use Rattle.can_layout.specs.Plans as plans;
-    ghost use Rattle.json_lines.specs.Prepared.{row_texts};
 
     ghost Value = { plans.Plan };
 
-    ghost view = { λ signals. signals.plan.now };
-
-    ghost invariant = { λ signals. signals.texts.now ≡ map row_texts signals.plan.now.rows };
+    ghost view = { λ signals. signals.target.now.plan };
 }
 
 // What is told of a raw value after its number, and the end of the object.
@@ -41,7 +39,7 @@ impl<'a> Model for JsonSignals<'a> {
 #[tactic(auto, using(crate::proofs::Pushing::pushed_then))]
 fn push_told(
     text: &mut Draft,
-    keys: &SignalKeys<'_>,
+    keys: &SignalKeys,
     texts: &RowTexts,
     decoder: &Decoder,
     raw: i128,
@@ -65,7 +63,7 @@ fn push_told(
 #[tactic(auto, using(crate::proofs::Pushing::pushed_then))]
 fn push_value(
     text: &mut Draft,
-    keys: &SignalKeys<'_>,
+    keys: &SignalKeys,
     texts: &RowTexts,
     decoder: &Decoder,
     raw: i128,
@@ -84,7 +82,7 @@ fn push_value(
 #[inline(always)]
 fn push_behind_label(
     text: &mut Draft,
-    keys: &SignalKeys<'_>,
+    keys: &SignalKeys,
     texts: &RowTexts,
     reading: &Reading,
     bytes: &[u8],
@@ -107,25 +105,6 @@ fn push_label(text: &mut Draft, texts: &RowTexts, some: bool) -> Result<(), Memo
     label.push_to(text)
 }
 
-fn texts_at(texts: &[RowTexts], place: usize) -> &RowTexts
-    requires { place < length texts.now }
-    ensures { Some result.now ≡ slice_get texts.now place }
-{
-    &texts[place]
-}
-
-impl<'a> JsonSignals<'a> {
-    // What is prepared of the signal at a place.
-    #[inline(always)]
-    #[tactic(auto, using(crate::proofs::Taken::mapped_at))]
-    fn texts_at(&self, place: usize) -> &RowTexts
-        requires { place < length self.now.rows }
-        ensures { (row : PlainRow) → Some row ≡ slice_get self.now.rows place → result.now ≡ row_texts row }
-    {
-        texts_at(self.texts, place)
-    }
-}
-
 impl<'a> SignalText for JsonSignals<'a> {
     ghost use Rattle.json_texts.specs.Members.{member_text, further_member};
     ghost use Rattle.json_lines.specs.Signals.{signal_member};
@@ -138,35 +117,31 @@ impl<'a> SignalText for JsonSignals<'a> {
 
     #[inline(always)]
     fn plan(&self) -> &Plan {
-        self.plan
+        self.target.plan()
     }
 
     #[inline(always)]
     fn push(&self, text: &mut Draft, some: bool, place: usize, bytes: &[u8]) -> Result<(), Memory> {
-        let row = self.plan.row(place);
-        let texts = self.texts_at(place);
+        let target: &JsonTarget<'_> = self.target;
+        let row = target.plan().row(place);
+        let texts = target.signal(place);
         push_label(text, texts, some)?;
         push_behind_label(text, self.keys, texts, &row.reading, bytes)?;
         Ok(())
     }
 }
 
-impl<'a> JsonSignals<'a> {
-    /// Those of a plan, by the texts that are prepared for it.
-    pub fn of(plan: &'a Plan, texts: &'a [RowTexts], keys: &'a SignalKeys<'a>) -> JsonSignals<'a>
-        requires { texts.now ≡ map row_texts plan.now.rows }
-        ensures { result ≡ plan.now }
-    {
-        JsonSignals { plan, texts, keys }
-    }
-
-    /// Appends the signals that are shown, as an object.
-    pub fn push_to(&self, text: &mut Draft, bytes: &[u8]) -> Result<(), Memory>
-        ensures { OnOk result (text.new.items ≡ text.old.items ++ object_text (signal_members bytes.now self.now)) }
-    {
-        text.push(b'{')?;
-        push_signals(text, self, bytes)?;
-        text.push(b'}')?;
-        Ok(())
-    }
+/// Appends the signals of a message that are shown, as an object.
+pub(crate) fn push_signal_object<'a>(
+    text: &mut Draft,
+    keys: &'a SignalKeys,
+    target: &'a JsonTarget<'a>,
+    bytes: &[u8],
+) -> Result<(), Memory>
+    ensures { OnOk result (text.new.items ≡ text.old.items ++ object_text (signal_members bytes.now target.now.plan)) }
+{
+    text.push(b'{')?;
+    push_signals(text, &JsonSignals { target, keys }, bytes)?;
+    text.push(b'}')?;
+    Ok(())
 }

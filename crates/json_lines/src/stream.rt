@@ -1,22 +1,19 @@
 //! A log in, the objects of its lines out.
-ghost use Rattle.std.specs.Prelude.{◌≡◌, ◌<◌, ℕ, List, length, slice_get, option_map, Some, IfOk};
-ghost use Rattle.can_layout.specs.Plans.{plan_of};
+ghost use Rattle.std.specs.Prelude.{◌≡◌, ℕ, List, IfOk};
 ghost use Rattle.line_stream.specs.LineTexts.{StreamsLines};
 ghost use Rattle.can_decode.specs.Counting.{counted};
 ghost use Rattle.json_lines.specs.Lines.{json_line};
-ghost use Rattle.json_lines.specs.Prepared.{database_texts};
 
 use crate::interface::Ready;
 use crate::keys::Keys;
-use crate::line::{JsonFinder, push_line};
-use crate::plan_texts::MessageTexts;
+use crate::line::push_line;
 use byte_devices::{Sink, Source};
 use can_choice::{Choose, Finding, Remembered};
-use can_decode::{Decoding, remembering, stream_counted};
-use can_layout::{Meter, Plan};
-use dbc_records::Message;
+use can_decode::{Decoding, stream_counted};
+use can_layout::Meter;
 use dbc_values::Memory;
 use line_stream::{LineText, StreamFault};
+use prepared_texts::{Prepared, PreparedFinder, prepared_finder};
 use ready_texts::Draft;
 use std::alloc::Global;
 use std::marker::Model;
@@ -24,73 +21,15 @@ use std::marker::Model;
 /// A database with all that decoding its bus to JSON needs. Contracts see the bus.
 #[derive(Drop)]
 pub struct JsonDecoding<'a> {
-    decoding: &'a Decoding,
-    texts: Vec<MessageTexts>,
-    keys: Keys<'a>,
+    prepared: Prepared<'a, Keys>,
 }
 
 impl<'a> Model for JsonDecoding<'a> {
-    ghost use Rattle.std.specs.Prelude.{◌≡◌};
     ghost use Rattle.can_decode.specs.DecodedLines.{Bus};
-    ghost use Rattle.json_lines.specs.Prepared.{database_texts};
 
     ghost Value = { Bus };
 
-    ghost view = { λ a. a.decoding.now };
-
-    ghost invariant = { λ a. a.texts.items ≡ database_texts a.decoding.now.database };
-}
-
-fn message_at(decoding: &Decoding, place: usize) -> &Message
-    requires { place < length decoding.now.database.messages }
-    ensures { Some result.now ≡ slice_get decoding.now.database.messages place }
-{
-    &decoding.database().messages.as_slice()[place]
-}
-
-fn plan_at(decoding: &Decoding, place: usize) -> &Plan
-    requires { place < length decoding.now.database.messages }
-    ensures { Some result.now ≡ option_map (plan_of decoding.now.database) (slice_get decoding.now.database.messages place) }
-{
-    &decoding.plans()[place]
-}
-
-// What is prepared of the message at a place.
-#[tactic(auto, using(crate::proofs::Prepared::texts_at))]
-fn message_texts(
-    alloc: Global,
-    text: &mut Draft,
-    keys: &Keys<'_>,
-    decoding: &Decoding,
-    place: usize,
-) -> Result<MessageTexts, Memory>
-    requires { place < length decoding.now.database.messages }
-    ensures { IfOk result (λ texts. Some texts ≡ slice_get (database_texts decoding.now.database) place) }
-{
-    MessageTexts::of(
-        alloc,
-        text,
-        keys,
-        message_at(decoding, place),
-        plan_at(decoding, place),
-    )
-}
-
-// What is prepared of all messages, in order.
-fn all_texts(
-    alloc: Global,
-    keys: &Keys<'_>,
-    decoding: &Decoding,
-) -> Result<Vec<MessageTexts>, Memory>
-    ensures { IfOk result (λ texts. texts.items ≡ database_texts decoding.now.database) }
-{
-    let count = decoding.database().messages.len();
-    let mut text = Draft::new(alloc);
-    let mut texts = Vec::with_capacity(alloc, count)?;
-    for place in 0..count {
-        texts.push(message_texts(alloc, &mut text, keys, decoding, place)?)?;
-    }
-    Ok(texts)
+    ghost view = { λ a. a.prepared };
 }
 
 impl<'a> JsonDecoding<'a> {
@@ -98,20 +37,15 @@ impl<'a> JsonDecoding<'a> {
     pub fn of(alloc: Global, decoding: &'a Decoding) -> Result<JsonDecoding<'a>, Memory>
         ensures { IfOk result (λ made. made ≡ decoding.now) }
     {
-        let keys = Keys::of(alloc)?;
-        let texts = all_texts(alloc, &keys, decoding)?;
-        Ok(JsonDecoding {
-            decoding,
-            texts,
-            keys,
-        })
+        let prepared = Prepared::of(alloc, decoding, Keys::of(alloc)?)?;
+        Ok(JsonDecoding { prepared })
     }
 }
 
 // The objects of lines. What numbers went to is remembered. Contracts see the bus.
 #[derive(Drop)]
 struct JsonLines<'a, C: Choose> {
-    finder: JsonFinder<'a, Remembered<C>>,
+    finder: PreparedFinder<'a, Remembered<C>, Keys>,
     ready: Ready<'a>,
 }
 
@@ -152,10 +86,9 @@ fn lines_by<'a, C: Choose>(
     requires { C.whole chooser ≡ decoding.now.database }
     ensures { result ≡ decoding.now }
 {
-    let finder = remembering(alloc, decoding.decoding.finder(chooser));
     JsonLines {
-        finder: JsonFinder::of(finder, decoding.texts.as_slice()),
-        ready: Ready::of(&decoding.keys),
+        finder: prepared_finder(alloc, &decoding.prepared, chooser),
+        ready: Ready::of(decoding.prepared.preparer()),
     }
 }
 
@@ -171,7 +104,7 @@ pub fn json_stream_by<R: Source, W: Sink>(
         (W.written sink.old) (W.written sink.new) result lines
         × (meter.new ≡ counted result lines meter.old) }
 {
-    let choices = decoding.decoding.choices();
+    let choices = decoding.prepared.choices();
     let lines = lines_by(alloc, decoding, Finding { choices: &choices });
     stream_counted(alloc, lines, meter, source, sink)
 }

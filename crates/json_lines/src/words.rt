@@ -4,7 +4,7 @@ ghost use Rattle.json_lines.specs.Lines.{has_leading_zero, without_leading_zeros
 
 use log_frames::split_word;
 
-/// The words of a line with a frame, but for its frame.
+/// The words of a line with a frame, without the frame itself.
 #[derive(Drop)]
 pub struct Words<'l> {
     /// The digits of the stamp, without leading zeros.

@@ -21,11 +21,11 @@ pub text_of_characters : (bytes : List ℕ) → (IsUtf8 bytes → ⊥) → text_
 unfolding text_of
 text_of_characters bytes isnt = other (is_utf8 bytes) bytes (characters bytes) (λ is. isnt (IsUtf8-from_is_utf8 bytes is))
 
-nothing_beside : (bytes : List ℕ) → IsUtf8 bytes → hex_beside bytes ≡ None
+pub nothing_beside : (bytes : List ℕ) → IsUtf8 bytes → hex_beside bytes ≡ None
 unfolding hex_beside
 nothing_beside bytes is = ap (λ (b : Bool). if b then None else Some (encode_upper bytes)) (is_utf8-from_IsUtf8 bytes is)
 
-pairs_beside : (bytes : List ℕ) → (IsUtf8 bytes → ⊥) → hex_beside bytes ≡ Some (encode_upper bytes)
+pub pairs_beside : (bytes : List ℕ) → (IsUtf8 bytes → ⊥) → hex_beside bytes ≡ Some (encode_upper bytes)
 unfolding hex_beside
 pairs_beside bytes isnt = other (is_utf8 bytes) None (Some (encode_upper bytes)) (λ is. isnt (IsUtf8-from_is_utf8 bytes is))
 

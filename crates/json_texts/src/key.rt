@@ -17,22 +17,22 @@ use std::marker::Model;
 
 /// A key, kept ready with what stands before and after it.
 #[derive(Drop)]
-pub struct Key<'a> {
+pub struct Key {
     mark: u8,
-    name: &'a [u8],
+    name: Vec<u8>,
     // `,"key":`
     label: ReadyText,
 }
 
-impl<'a> Model for Key<'a> {
+impl Model for Key {
     ghost use Rattle.std.specs.Prelude.{◌≡◌};
     ghost use Rattle.json_texts.specs.Members as members;
 
     ghost Value = { members.Key };
 
-    ghost view = { λ key. record { mark = key.mark; name = key.name.now } };
+    ghost view = { λ key. record { mark = key.mark; name = key.name.items } };
 
-    ghost invariant = { λ key. key.label ≡ members.key_text (record { mark = key.mark; name = key.name.now }) };
+    ghost invariant = { λ key. key.label ≡ members.key_text (record { mark = key.mark; name = key.name.items }) };
 }
 
 // `,"key":`
@@ -100,25 +100,26 @@ fn push_texts(text: &mut Draft, name: &[u8], bytes: &[u8]) -> Result<(), Memory>
     }
 }
 
-impl<'a> Key<'a> {
-    fn by(alloc: Global, mark: u8, name: &'a [u8]) -> Result<Key<'a>, Memory>
+impl Key {
+    fn by(alloc: Global, mark: u8, name: &[u8]) -> Result<Key, Memory>
         ensures { IfOk result (λ key. key ≡ record { mark = mark; name = name.now }) }
     {
         let mut text = Draft::new(alloc);
         push_key(&mut text, mark, name)?;
         let label = ReadyText::of(alloc, text.as_slice())?;
+        let name = Vec::from_slice(alloc, name)?;
         Ok(Key { mark, name, label })
     }
 
     /// A key that begins an object.
-    pub fn first(alloc: Global, name: &'a [u8]) -> Result<Key<'a>, Memory>
+    pub fn first(alloc: Global, name: &[u8]) -> Result<Key, Memory>
         ensures { IfOk result (λ key. key ≡ record { mark = 123; name = name.now }) }
     {
         Key::by(alloc, b'{', name)
     }
 
     /// A key after other members.
-    pub fn further(alloc: Global, name: &'a [u8]) -> Result<Key<'a>, Memory>
+    pub fn further(alloc: Global, name: &[u8]) -> Result<Key, Memory>
         ensures { IfOk result (λ key. key ≡ record { mark = 44; name = name.now }) }
     {
         Key::by(alloc, b',', name)
@@ -164,7 +165,7 @@ impl<'a> Key<'a> {
         ensures { OnOk result (text.new.items ≡ text.old.items ++ keyed_texts self.now bytes.now) }
     {
         self.push_to(text)?;
-        push_texts(text, self.name, bytes)?;
+        push_texts(text, self.name.as_slice(), bytes)?;
         Ok(())
     }
 }

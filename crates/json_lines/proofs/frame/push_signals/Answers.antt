@@ -6,5 +6,5 @@ use Rattle.json_lines.proofs.frame.push_signals.Goals as goal
 
 pub returns : goal.returns
 returns c =
-    object_pushed c.args.text.now.items c.push_to.new.text.items c.push_signals.new.text.items (codes "signals")
+    object_pushed c.args.text.now.items c.push_to.new.text.items c.push_signal_object.new.text.items (codes "signals")
     (signal_members c.args.bytes.now c.args.target.now.plan) (search rules) (search rules)

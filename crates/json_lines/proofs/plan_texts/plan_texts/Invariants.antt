@@ -1,7 +1,0 @@
-use Rattle.std.proofs.Common.{◌≡◌, map, take}
-use Rattle.json_lines.specs.Prepared.{row_texts}
-use Rattle.json_lines.proofs.plan_texts.plan_texts.Given as goal
-
--- the signals so far
-abbrev pub invariant-loop-place : goal.invariant-loop-place
-invariant-loop-place l = l.texts.items ≡ map row_texts (take l.place l.plan.rows)

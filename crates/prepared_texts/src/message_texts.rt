@@ -1,0 +1,74 @@
+//! What is prepared of a message.
+ghost use Rattle.std.specs.Prelude.{◌≡◌, IfOk, map};
+ghost use Rattle.prepared_texts.specs.Texts.{texts_by};
+
+use crate::prepare::Prepare;
+use can_layout::Plan;
+use dbc_records::Message;
+use dbc_values::Memory;
+use ready_texts::Draft;
+use std::alloc::Global;
+use std::marker::Model;
+
+/// What is prepared of a message, and of its signals in order.
+#[derive(Drop)]
+pub struct MessageTexts<P: Prepare> {
+    head: P::Head,
+    signals: Vec<P::Signal>,
+}
+
+impl<P: Prepare> Model for MessageTexts<P> {
+    ghost use Rattle.prepared_texts.specs.Texts as texts;
+
+    ghost Value = { texts.MessageTexts P.Head P.Signal };
+
+    ghost view = { λ a. record { head = a.head; signals = a.signals.items } };
+}
+
+// What is prepared of the signals of a plan, in order.
+fn signal_texts<P: Prepare>(
+    alloc: Global,
+    text: &mut Draft,
+    preparer: &P,
+    message: &Message,
+    plan: &Plan,
+) -> Result<Vec<P::Signal>, Memory>
+    ensures { IfOk result (λ signals. signals.items ≡ map (P.signal_of message.now) plan.now.rows) }
+{
+    let mut signals = Vec::with_capacity(alloc, plan.signals())?;
+    for place in 0..plan.signals() {
+        signals.push(preparer.signal(text, message, plan.row(place))?)?;
+    }
+    Ok(signals)
+}
+
+impl<P: Prepare> MessageTexts<P> {
+    /// That of a message by its plan.
+    pub(crate) fn of(
+        alloc: Global,
+        text: &mut Draft,
+        preparer: &P,
+        message: &Message,
+        plan: &Plan,
+    ) -> Result<MessageTexts<P>, Memory>
+        ensures { IfOk result (λ texts. texts ≡ texts_by P.head_of P.signal_of message.now plan.now) }
+    {
+        let head = preparer.head(text, message)?;
+        let signals = signal_texts(alloc, text, preparer, message, plan)?;
+        Ok(MessageTexts { head, signals })
+    }
+
+    /// That of the message.
+    pub(crate) fn head(&self) -> &P::Head
+        ensures { result.now ≡ self.now.head }
+    {
+        &self.head
+    }
+
+    /// That of its signals.
+    pub(crate) fn signals(&self) -> &[P::Signal]
+        ensures { result.now ≡ self.now.signals }
+    {
+        self.signals.as_slice()
+    }
+}
