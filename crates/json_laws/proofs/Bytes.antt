@@ -1,4 +1,4 @@
--- Which bytes are UTF-8: names, pairs of hexadecimal digits, and texts of any bytes.
+-- Which bytes are UTF-8: pairs of hexadecimal digits, and texts of any bytes.
 use Rattle.std.proofs.Common.{◌≡◌, ℕ, zero, suc, ◌<◌, ◌≤◌, ◌/◌, ◌%◌, ◌==◌, ◌&&◌}
 use Rattle.std.proofs.Common.{◌||◌, Bool, true, false, not, List, [], ◌∷◌, ◌++◌, length}
 use Rattle.std.proofs.Common.{take, drop, if◌then◌else◌, refl, sym, subst, arith, inl, inr}
@@ -12,8 +12,7 @@ use Rattle.std.proofs.Math.Utf8.{scalar}
 use Rattle.hex.specs.Hex.{IsBytes, upper_digits, encode_with, encode_upper}
 use Rattle.json.proofs.Printed.Utf8.{are_ascii, IsUtf8-are_ascii}
 use Rattle.json_texts.specs.Texts.{characters, text_of}
-use Rattle.dbc_values.specs.Lexical.{carriage_return, is_letter, is_digit, is_word_byte, is_word, is_keyword, is_name}
-use Rattle.dbc_values.specs.Names.{IsName}
+use Rattle.dbc_values.specs.Lexical.{carriage_return}
 use Rattle.json_laws.proofs.OneLine.{holds_below, held}
 use Rattle.log_frames.specs.LogLines.{is_log_blank, first_word, behind_first_word, body_of}
 
@@ -100,27 +99,3 @@ pairs_ascii (b ∷ bytes) =
 
 pub hex_utf8 : (bytes : List ℕ) → IsUtf8 (encode_upper bytes)
 hex_utf8 bytes = IsUtf8-are_ascii (encode_upper bytes) (pairs_ascii bytes)
-
--- ---- names
-
-letter_small : (b : ℕ) → is_letter b ≡ true → b < 128
-letter_small b is = grind (arith, is)
-
-word_byte_small : (b : ℕ) → is_word_byte b ≡ true → b < 128
-word_byte_small b is = grind (arith, is)
-
-word_bytes_ascii : (bytes : List ℕ) → list_all is_word_byte bytes ≡ true → are_ascii bytes ≡ true
-word_bytes_ascii [] all = refl
-word_bytes_ascii (b ∷ bytes) all =
-    let parts = and_parts (is_word_byte b) (list_all is_word_byte bytes) all in
-    rw (lt-ltb b 128 (word_byte_small b parts.0)) (word_bytes_ascii bytes parts.1)
-
-word_ascii : (word : List ℕ) → is_word word ≡ true → are_ascii word ≡ true
-word_ascii [] is = refl
-word_ascii (b ∷ bytes) is =
-    let parts = and_parts (is_letter b) (list_all is_word_byte bytes) is in
-    rw (lt-ltb b 128 (letter_small b parts.0)) (word_bytes_ascii bytes parts.1)
-
-pub name_utf8 : (name : List ℕ) → IsName name → IsUtf8 name
-unfolding is_name
-name_utf8 name is = IsUtf8-are_ascii name (word_ascii name (and_parts (is_word name) (not (is_keyword name)) is).0)

@@ -41,7 +41,8 @@ use Rattle.json_lines.specs.Lines.{known_members, members_by, line_members, line
 use Rattle.json_laws.specs.OneLine.{HasTexts, MembersHaveTexts}
 use Rattle.json_laws.specs.Laws.{ShowsBytes, ObjectsAreLines}
 use Rattle.json_laws.proofs.OneLine.{printed_line}
-use Rattle.json_laws.proofs.Bytes.{AreBytes, are_bytes, body_bytes, word_bytes, behind_bytes, text_is_utf8, hex_utf8, name_utf8}
+use Rattle.json_laws.proofs.Bytes.{AreBytes, are_bytes, body_bytes, word_bytes, behind_bytes, text_is_utf8, hex_utf8}
+use Rattle.json_records.proofs.Names.{name_utf8}
 use Rattle.json_laws.proofs.Stamps.{LinesAreTold}
 use Rattle.json_laws.proofs.Targets.{IsKnown, known, all_at}
 use Rattle.json_laws.proofs.SaidSignals.{EntryBytes, ReadingBytes, RowBytes, find_all, shown_bytes}

@@ -1,0 +1,4 @@
+pub mod Filtered
+pub mod Found
+pub mod Lines
+pub mod Planned

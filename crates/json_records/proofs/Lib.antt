@@ -1,0 +1,5 @@
+pub mod Appended
+pub mod Names
+pub mod Numbers
+pub mod Texts
+pub mod Tokens
