@@ -10,10 +10,9 @@ use Rattle.candesk_words.specs.declared.job.Job.{Job}
 use Rattle.candesk_words.specs.declared.job.Command.{Command}
 use Rattle.candesk_words.specs.declared.job.Command.TheVariants as commands
 use Rattle.candesk_runs.specs.Checking.{CheckingEndsWith}
-use Rattle.candesk_runs.specs.Decoding.{Runs, RunsToJson, RunsToCsv, DecodingEndsWith, JsonEndsWith}
-use Rattle.candesk_runs.specs.Decoding.{CsvEndsWith}
+use Rattle.candesk_runs.specs.Decoding.{Runs, RunsToJson, RunsToCsv, DecodingEndsWith, JsonEndsWith, CsvEndsWith}
 use Rattle.candesk_runs.specs.declared.fault.RunFault.{RunFault}
-use Rattle.candesk_runs.specs.Dumping.{DumpingEndsWith}
+use Rattle.candesk_runs.specs.Dumping.{DumpingEndsWith, ObjectsEndWith}
 use Rattle.candesk_runs.specs.Explaining.{ExplainingEndsWith}
 use Rattle.candesk_runs.specs.Printing.{PrintingEndsWith}
 use Rattle.candesk_calls.specs.Scripting.{SessionEndsWith}
@@ -32,6 +31,12 @@ Decoded forms.Text text short before after old new outcome = Runs text short bef
 Decoded forms.Json text short before after old new outcome = RunsToJson text short before after old new outcome
 Decoded forms.Csv text short before after old new outcome = RunsToCsv text short before after old new outcome
 
+-- a database was written in this form; no words ask for its rows, so there its messages are drawn
+abbrev pub DumpedSo : Form → List ℕ → Written → Written → ℕ → Type 0
+DumpedSo forms.Text text old new status = DumpingEndsWith text old new status
+DumpedSo forms.Json text old new status = ObjectsEndWith text old new status
+DumpedSo forms.Csv text old new status = DumpingEndsWith text old new status
+
 -- the command ended so, and wrote this form; all but `decode` and `session` read nothing from the source
 abbrev pub EndsWith : Command → Form → Options → List ℕ → Unread → Unread → Written → Written → ℕ → Type 0
 EndsWith commands.Check form options text before after old new status = (after ≡ before) × CheckingEndsWith text old new status
@@ -41,7 +46,7 @@ EndsWith commands.Decode forms.Json options text before after old new status =
     JsonEndsWith text options.short before after old new status
 EndsWith commands.Decode forms.Csv options text before after old new status =
     CsvEndsWith text options.short before after old new status
-EndsWith commands.Dump form options text before after old new status = (after ≡ before) × DumpingEndsWith text old new status
+EndsWith commands.Dump form options text before after old new status = (after ≡ before) × DumpedSo form text old new status
 EndsWith commands.Explain form options text before after old new status = (after ≡ before) × ExplainingEndsWith text old new status
 EndsWith commands.Print form options text before after old new status = (after ≡ before) × PrintingEndsWith text old new status
 EndsWith commands.Session form options text before after old new status = SessionEndsWith text options before after old new status

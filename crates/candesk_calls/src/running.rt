@@ -1,12 +1,12 @@
 //! A job on a file's bytes, the standard streams and an exit status.
 ghost use Rattle.std.specs.Prelude.{◌≡◌, Err};
 ghost use Rattle.candesk_calls.specs.Scripting.{session_status_of};
-ghost use Rattle.candesk_calls.specs.Run.{Decoded, EndsWith, options_of};
+ghost use Rattle.candesk_calls.specs.Run.{Decoded, DumpedSo, EndsWith, options_of};
 
 use can_decode::Short;
 use candesk_runs::{
-    RunFault, check, decode_csv_run, decode_ended, decode_json_run, decode_run, dump, explain,
-    print, report, status, status_of_cause,
+    RunFault, check, decode_csv_run, decode_ended, decode_json_run, decode_run, dump, dump_json,
+    explain, print, report, status, status_of_cause,
 };
 use candesk_words::{Command, Form, Job};
 use dbc_model::{Sink, Source};
@@ -75,6 +75,22 @@ fn decoded<R: Source, W: Sink>(
     }
 }
 
+// Draws the messages of a database, or writes objects of JSON.
+fn dumped<W: Sink, E: Sink>(
+    alloc: Global,
+    job: &Job,
+    text: &[u8],
+    sink: &mut W,
+    errors: &mut E,
+) -> u8
+    ensures { DumpedSo job.now.form text.now (W.written sink.old) (W.written sink.new) result }
+{
+    match job.form {
+        Form::Json => dump_json(alloc, text, sink, errors),
+        Form::Text | Form::Csv => dump(alloc, text, sink, errors),
+    }
+}
+
 /// Does the job on the bytes of its file: writes the output to `sink` and a fault's line to `errors`, and answers the
 /// exit status. `source` is standard input, which only `decode` and `session` read. That `errors` fails doesn't change the status.
 pub fn run<R: Source, W: Sink, E: Sink>(
@@ -108,7 +124,7 @@ pub fn run_keyed<R: Source, W: Sink, E: Sink>(
     match job.command {
         Command::Check => check(alloc, text, sink, errors),
         Command::Decode => decode_ended(decoded(alloc, job, text, source, sink), errors),
-        Command::Dump => dump(alloc, text, sink, errors),
+        Command::Dump => dumped(alloc, job, text, sink, errors),
         Command::Explain => explain(alloc, text, sink, errors),
         Command::Print => print(alloc, text, sink, errors),
         Command::Session => {

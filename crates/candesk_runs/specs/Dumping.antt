@@ -6,6 +6,7 @@ use Rattle.dbc_records.specs.Databases.{Database}
 use Rattle.byte_devices.specs.Device.{Written, Wrote, Broke}
 use Rattle.dbc_reader.specs.Texts.{HasDatabase, IsRead}
 use Rattle.can_layout.specs.Pictures.{picture_of}
+use Rattle.json_dump.specs.Dumps.{dump_lines}
 use Rattle.candesk_runs.specs.declared.fault.DumpFault.{DumpFault}
 use Rattle.candesk_runs.specs.declared.fault.DumpFault.TheVariants as faults
 use Rattle.candesk_runs.specs.Printing.{status_of_cause}
@@ -34,6 +35,32 @@ DumpsPictures text old new (Err faults.Write) = (database : Database) × HasData
 DumpsPictures text old new (Err faults.Memory) = (database : Database) × HasDatabase text database
     × Draws database database.messages old new (Err faults.Memory)
 
+-- ---- objects of JSON
+
+abbrev pub lines_text : List (List ℕ) → List ℕ
+lines_text lines = flat_map (λ line. line) lines
+
+-- All lines were written, or a beginning of them and then a put failed. Or some first ones were, each whole, and then memory ran
+-- out.
+abbrev pub WritesLines : List (List ℕ) → Written → Written → Result (Unit {0}) DumpFault → Type 0
+WritesLines lines old new (Ok u) = Wrote old new (lines_text lines)
+WritesLines lines old new (Err (faults.Read fault)) = ⊥
+WritesLines lines old new (Err faults.Write) = Broke old new (lines_text lines)
+WritesLines lines old new (Err faults.Memory) = (count : ℕ) × Wrote old new (lines_text (take count lines))
+
+-- The text has a database whose objects were so written. Or nothing was written, and the fault is the first of the text, or says
+-- that memory ran out.
+abbrev pub DumpsObjects : List ℕ → Written → Written → Result (Unit {0}) DumpFault → Type 0
+DumpsObjects text old new (Ok u) = (database : Database) × HasDatabase text database
+    × WritesLines (dump_lines database) old new (Ok u)
+DumpsObjects text old new (Err (faults.Read fault)) = (new ≡ old) × IsRead text (Err fault)
+DumpsObjects text old new (Err faults.Write) = (database : Database) × HasDatabase text database
+    × WritesLines (dump_lines database) old new (Err faults.Write)
+DumpsObjects text old new (Err faults.Memory) = (database : Database) × HasDatabase text database
+    × WritesLines (dump_lines database) old new (Err faults.Memory)
+
+-- ---- statuses
+
 -- the exit status of an outcome
 abbrev pub dump_status_of : Result (Unit {0}) DumpFault → ℕ
 dump_status_of (Ok u) = done
@@ -44,4 +71,9 @@ dump_status_of (Err faults.Memory) = memory
 -- the status is that of an outcome with which the pictures were so written
 abbrev pub DumpingEndsWith : List ℕ → Written → Written → ℕ → Type 0
 DumpingEndsWith text old new status = (outcome : Result (Unit {0}) DumpFault) × DumpsPictures text old new outcome
+    × (status ≡ dump_status_of outcome)
+
+-- and with which the objects were
+abbrev pub ObjectsEndWith : List ℕ → Written → Written → ℕ → Type 0
+ObjectsEndWith text old new status = (outcome : Result (Unit {0}) DumpFault) × DumpsObjects text old new outcome
     × (status ≡ dump_status_of outcome)

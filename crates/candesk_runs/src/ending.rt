@@ -2,7 +2,7 @@
 ghost use Rattle.std.specs.Prelude.{◌≡◌, Err};
 ghost use Rattle.candesk_runs.specs.Checking.{check_status_of, CheckingEndsWith};
 ghost use Rattle.candesk_runs.specs.Decoding.{status_of};
-ghost use Rattle.candesk_runs.specs.Dumping.{dump_status_of, DumpingEndsWith};
+ghost use Rattle.candesk_runs.specs.Dumping.{dump_status_of, DumpingEndsWith, ObjectsEndWith};
 ghost use Rattle.candesk_runs.specs.Explaining.{ExplainingEndsWith};
 ghost use Rattle.candesk_runs.specs.Printing.{status_of_cause, print_status_of, PrintingEndsWith};
 
@@ -10,6 +10,7 @@ use crate::checking::{Verdict, check_run};
 use crate::dumping::dump_run;
 use crate::explaining::explain_run;
 use crate::fault::{CheckFault, DumpFault, PrintFault, RunFault};
+use crate::objects::dump_json_run;
 use crate::printing::print_run;
 use arrayvec::ArrayString;
 use dbc_model::{Sink, put_all};
@@ -150,15 +151,29 @@ pub fn print<W: Sink, E: Sink>(alloc: Global, text: &[u8], sink: &mut W, errors:
     }
 }
 
-/// Draws, and says the fault.
-pub fn dump<W: Sink, E: Sink>(alloc: Global, text: &[u8], sink: &mut W, errors: &mut E) -> u8
-    ensures { DumpingEndsWith text.now (W.written sink.old) (W.written sink.new) result }
+// Says the fault of `dump`, if there is one.
+fn dump_ended<E: Sink>(outcome: Result<(), DumpFault>, errors: &mut E) -> u8
+    ensures { result ≡ dump_status_of outcome }
 {
-    match dump_run(alloc, text, sink) {
+    match outcome {
         Ok(()) => status::DONE,
         Err(fault) => {
             report(errors, fault);
             dump_status_of(fault)
         }
     }
+}
+
+/// Draws, and says the fault.
+pub fn dump<W: Sink, E: Sink>(alloc: Global, text: &[u8], sink: &mut W, errors: &mut E) -> u8
+    ensures { DumpingEndsWith text.now (W.written sink.old) (W.written sink.new) result }
+{
+    dump_ended(dump_run(alloc, text, sink), errors)
+}
+
+/// Writes the database as objects of JSON, and says the fault.
+pub fn dump_json<W: Sink, E: Sink>(alloc: Global, text: &[u8], sink: &mut W, errors: &mut E) -> u8
+    ensures { ObjectsEndWith text.now (W.written sink.old) (W.written sink.new) result }
+{
+    dump_ended(dump_json_run(alloc, text, sink), errors)
 }

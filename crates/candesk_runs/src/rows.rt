@@ -29,7 +29,7 @@ fn stream_rows<R: Source, W: Sink>(
     }
 }
 
-// The same, behind the names of the columns.
+// The same, after the names of the columns.
 fn write_csv<R: Source, W: Sink>(
     alloc: Global,
     decoding: &CsvDecoding<'_>,

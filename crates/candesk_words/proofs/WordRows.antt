@@ -30,6 +30,18 @@ dump-job : job_named (codes "dump" ∷ codes "a" ∷ []) ≡ Some (Dump, codes "
 unfolding clap_on_literals words_on_literals
 dump-job = refl
 
+dump-json : job_named (codes "dump" ∷ codes "--json" ∷ codes "a" ∷ []) ≡ Some (Dump, codes "a", false, All, Json)
+unfolding clap_on_literals words_on_literals
+dump-json = refl
+
+dump-json-has_no_fault : fault_of command_line (codes "dump" ∷ codes "--json" ∷ codes "a" ∷ []) ≡ []
+unfolding clap_on_literals words_on_literals
+dump-json-has_no_fault = refl
+
+dump-takes_no_csv : fault_of command_line (codes "dump" ∷ codes "--csv" ∷ codes "a" ∷ []) ≡ UnknownArgument ∷ []
+unfolding clap_on_literals words_on_literals
+dump-takes_no_csv = refl
+
 explain-job : job_named (codes "explain" ∷ codes "a" ∷ []) ≡ Some (Explain, codes "a", false, All, Text)
 unfolding clap_on_literals words_on_literals
 explain-job = refl

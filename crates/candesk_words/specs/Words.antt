@@ -53,6 +53,10 @@ csv_rule = record (new_rule (codes "csv")) { long = Some (codes "csv"); action =
 unfoldable pub on_decode : App
 on_decode = with_rule (with_rule (on_frames (codes "decode")) json_rule) csv_rule
 
+-- `dump`, which takes `--json` too
+unfoldable pub on_dump : App
+on_dump = with_rule (on_file (codes "dump")) json_rule
+
 -- `--keep` with a number of lines
 abbrev pub keep_rule : Rule
 keep_rule = record (new_rule (codes "keep")) {
@@ -79,7 +83,7 @@ unfoldable pub command_line : App
 command_line =
     let check = with_command before_command (on_file (codes "check")) in
     let decode = with_command check on_decode in
-    let dump = with_command decode (on_file (codes "dump")) in
+    let dump = with_command decode on_dump in
     let explain = with_command dump (on_file (codes "explain")) in
     let print = with_command explain (on_file (codes "print")) in
     with_command print on_session

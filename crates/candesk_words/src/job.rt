@@ -27,12 +27,12 @@ pub enum Command {
     Session,
 }
 
-/// What lines and databases are written as.
+/// What is written of a log or a database.
 #[derive(Clone, Copy, Debug, PartialEq, Eq)]
 pub enum Form {
     /// Text to be read by people.
     Text,
-    /// An object of JSON for each.
+    /// Objects of JSON.
     Json,
     /// Rows of CSV.
     Csv,
@@ -168,7 +168,7 @@ fn job_in(alloc: Global, matches: &ArgMatches<'_>) -> Result<Job, NoJob>
 
 /// Reads the words after the program's name. Options stand before or behind FILE, `--` ends them, `help` is the
 /// word for `--help`, and `--version` and `-V` stand before a command alone. `decode` and `session` alone take `--short`, `decode`
-/// alone takes `--json` or `--csv`, and `session` alone takes `--keep`, with a whole number from 1 to 1,048,576.
+/// takes `--json` or `--csv`, `dump` takes `--json`, and `session` alone takes `--keep`, with a whole number from 1 to 1,048,576.
 pub fn job_of<'a>(alloc: Global, words: &'a [&'a str]) -> Result<Job, NoJob>
     ensures { IsJobOf (map (λ word. word.now) words.now) result }
 {

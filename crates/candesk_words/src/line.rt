@@ -2,7 +2,8 @@
 ghost use Rattle.std.specs.Prelude.{◌≡◌, false, codes, IfOk};
 ghost use Rattle.clap.specs.Words.{app_of};
 ghost use Rattle.clap.specs.declared.builder.command.Command.TheViews.{out-Command};
-ghost use Rattle.candesk_words.specs.Words.{before_command, on_file, on_frames, on_decode, on_session, with_command, command_line};
+ghost use Rattle.candesk_words.specs.Words.{before_command, on_file, on_frames, on_decode, on_dump, on_session, with_command};
+ghost use Rattle.candesk_words.specs.Words.{command_line};
 
 use crate::notes;
 use crate::version::VERSION;
@@ -82,6 +83,19 @@ fn on_decode<'a>(alloc: Global, about: &'a str, notes: &'a str) -> Result<Comman
         .arg(csv)
 }
 
+// `dump`, which takes `--json` too.
+#[tactic(auto, unfolding(crate::specs::Words::on_dump))]
+fn on_dump<'a>(alloc: Global, about: &'a str, notes: &'a str) -> Result<Command<'a>, AllocError>
+    ensures app { IfOk result (λ command. app_of command ≡ on_dump) }
+    ensures local { IfOk result (λ command. (out-Command command).has_globals ≡ false) }
+{
+    let json = Arg::new(alloc, "json")
+        .long("json")
+        .action(ArgAction::SetTrue)
+        .help("Write an object of JSON for each message, and one for the rest");
+    on_file(alloc, "dump", about, notes)?.arg(json)
+}
+
 // `session`, which takes `--keep` too.
 #[tactic(auto, unfolding(crate::specs::Words::on_session))]
 fn on_session<'a>(alloc: Global, about: &'a str, notes: &'a str) -> Result<Command<'a>, AllocError>
@@ -123,10 +137,10 @@ fn with_decode<'a>(alloc: Global, line: Command<'a>) -> Result<Command<'a>, Allo
 }
 
 fn with_dump<'a>(alloc: Global, line: Command<'a>) -> Result<Command<'a>, AllocError>
-    ensures { IfOk result (λ longer. app_of longer ≡ with_command (app_of line.entry) (on_file (codes "dump"))) }
+    ensures { IfOk result (λ longer. app_of longer ≡ with_command (app_of line.entry) on_dump) }
 {
     let about = "Draws the messages of a database, bit by bit, on standard output";
-    let command = on_file(alloc, "dump", about, notes::DUMP)?;
+    let command = on_dump(alloc, about, notes::DUMP)?;
     with_command(line, command)
 }
 
@@ -155,7 +169,7 @@ fn with_session<'a>(alloc: Global, line: Command<'a>) -> Result<Command<'a>, All
 }
 
 /// The command line: `candesk check FILE`, and so with `decode`, `dump`, `explain`, `print` and `session`, of which `decode`
-/// and `session` take `--short` too, `decode` takes `--json` and `--csv`, and `session` takes `--keep N`.
+/// and `session` take `--short` too, `decode` takes `--json` and `--csv`, `dump` takes `--json`, and `session` takes `--keep N`.
 #[tactic(auto, unfolding(crate::specs::Words::command_line))]
 pub fn command_line<'a>(alloc: Global) -> Result<Command<'a>, AllocError>
     ensures { IfOk result (λ line. app_of line ≡ command_line) }

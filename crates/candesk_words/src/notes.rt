@@ -24,7 +24,8 @@ Example:
 /// Of `dump`.
 pub const DUMP: &str = "\
 Standard input is not read. Standard output is a picture of each message: its name, number and size, then a line for
-each byte with a cell for each bit, then a line for each signal, by whose number the cells name it.
+each byte with a cell for each bit, then a line for each signal, by whose number the cells name it. With `--json`, each
+message is an object of JSON with its signals, and a last object has everything that belongs to no message.
 
 Example:
   $ candesk dump examples/wheel.dbc
