@@ -8,8 +8,9 @@ _candesk() {
         return
     fi
     case $command in
-        check | dump | explain | print) options="--help" ;;
+        check | explain | print) options="--help" ;;
         decode) options="--short --json --csv --help" ;;
+        dump) options="--json --help" ;;
         session) options="--short --keep --help" ;;
         help)
             mapfile -t COMPREPLY < <(compgen -W "check decode dump explain print session" -- "$word")
