@@ -1,3 +1,4 @@
 pub mod Device
 pub mod Outs
 pub mod Views
+pub mod Waiting

@@ -4,9 +4,11 @@
 
 mod device;
 mod from_std;
+mod held;
 pub mod limp;
 mod sending;
 
 pub use device::{Broken, Sink, Source, WriteFault, put_all};
 pub use from_std::{FromRead, FromWrite};
+pub use held::Held;
 pub use sending::Out;

@@ -5,9 +5,7 @@ ghost use Rattle.byte_devices.specs.Device.{Prints};
 ghost use Rattle.byte_devices.specs.Outs.{SameSink, Sends};
 
 use crate::device::{Sink, WriteFault, put_all};
-use arrayvec::ArrayVec;
-
-const ROOM: usize = 16_384;
+use crate::held::Held;
 
 /// A sink, and the bytes that wait before they are put to it, so that many short texts cost one call. What waits is lost where it
 /// isn't [flushed](Out::flush).
@@ -16,7 +14,7 @@ pub struct Out<'w, W: Sink> {
     /// The sink.
     pub sink: &'w mut W,
     /// The bytes that wait.
-    pub held: ArrayVec<u8, ROOM>,
+    pub held: Held,
 }
 
 impl<'w, W: Sink> Out<'w, W> {
@@ -28,7 +26,7 @@ impl<'w, W: Sink> Out<'w, W> {
     {
         Out {
             sink,
-            held: ArrayVec::new(),
+            held: Held::new(),
         }
     }
 
@@ -48,7 +46,7 @@ impl<'w, W: Sink> Out<'w, W> {
     pub fn send(&mut self, bytes: &[u8]) -> Result<(), WriteFault>
         ensures { Sends W.written self.old self.new result bytes.now }
     {
-        if self.held.try_extend_from_slice(bytes).is_ok() {
+        if self.held.try_push(bytes) {
             return Ok(());
         }
         self.make_room(bytes)
@@ -59,7 +57,7 @@ impl<'w, W: Sink> Out<'w, W> {
         ensures { Sends W.written self.old self.new result bytes.now }
     {
         self.flush()?;
-        if self.held.try_extend_from_slice(bytes).is_err() {
+        if !self.held.try_push(bytes) {
             put_all(self.sink, bytes)?;
         }
         Ok(())

@@ -52,6 +52,7 @@ impl<'a, C: Choose, P: Prepare> PreparedFinder<'a, C, P> {
 
     // The message of a choice.
     #[tactic(auto, using(crate::proofs::Places::texts_of_target))]
+    #[inline(always)]
     fn target_at(&self, choice: Choice) -> Option<PreparedTarget<'a, P>>
         requires { choice ≡ choice_at self.now.database choice.place }
         ensures { result ≡ option_map (target_of self.now.short self.now.database) (slice_get self.now.database.messages
@@ -64,6 +65,7 @@ impl<'a, C: Choose, P: Prepare> PreparedFinder<'a, C, P> {
 
     /// What a frame goes to. Only what remembers takes memory.
     #[tactic(auto, unfolding(can_decode::specs::DecodedLines::chosen_target, can_choice::specs::Choices::chosen_place, can_choice::specs::Choices::frame_choice, can_choice::specs::Choices::choice_of))]
+    #[inline(always)]
     pub fn target_of(&mut self, frame: &Frame) -> Result<Option<PreparedTarget<'a, P>>, Memory>
         ensures target { IfOk result (λ target. target ≡ chosen_target self.old.short self.old.database frame.now) }
         ensures same { self.new ≡ self.old }

@@ -23,7 +23,7 @@ returns-in_err-put_all g c =
 
 pub returns-in_ok-put_all : goal.returns-in_ok-put_all
 returns-in_ok-put_all g c =
-    let none : c.try_extend_from_slice.new.self.items ≡ [] = search rules in
+    let none : c.try_push.new.self.items ≡ [] = search rules in
     record {
       same = c.in_ok-flush.ensures.same;
       passes = rw none (Passes-all _ _ _ c.args.self.now.held.items c.args.bytes.now
