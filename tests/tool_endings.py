@@ -16,15 +16,18 @@ from tool_trying import (
     PATIENCE, Ran, Tries, by_shell, example, has_package, is_fault, outputs_in, path_of, ran, read, tool, written,
 )
 
-TOOLS = ("candesk-table", "candesk-format", "candesk-shell", "candesk-plot", "candesk-decode-many", "candesk-decode-dask")
+TOOLS = (
+    "candesk-table", "candesk-stats", "candesk-diff", "candesk-format", "candesk-shell", "candesk-plot", "candesk-decode-many",
+    "candesk-decode-dask",
+)
 INTERRUPTED = 130
 BAD_OUTPUT, BAD_INPUT = b": standard output: Bad file descriptor\n", b": standard input: Bad file descriptor\n"
 # a program that stays, one that has no memory, and one that has none once it decodes
 SLOW = b'#!/bin/sh\nexec sleep 3\n'
 EMPTY = b'#!/bin/sh\necho "candesk: 90 Memory" >&2\nexit 4\n'
-EMPTY_LATER = b'#!/bin/sh\nif [ "$1" = print ]; then exec "%s" "$@"; fi\necho "candesk: 90 Memory" >&2\nexit 4\n'
+EMPTY_LATER = b'#!/bin/sh\ncase $1 in print | dump | --version) exec "%s" "$@" ;; esac\necho "candesk: 90 Memory" >&2\nexit 4\n'
 # how many seconds behind its start a tool is interrupted
-DELAYS = (0, 0.02, 0.04, 0.06, 0.08, 0.1, 0.15, 0.25, 0.5)
+DELAYS = (0, 0.02, 0.04, 0.06, 0.08, 0.1, 0.15, 0.25, 0.5, 1, 2)
 # a Python in which a signal comes as soon as a file or folder of this folder is made
 INTERRUPTING = b"""import os, signal
 def interrupting(make):
@@ -61,6 +64,8 @@ def words_of(name: str, folder: str) -> list[str]:
     out = os.path.join(folder, "out")
     return {
         "candesk-table": ["--database", car, "--long", log],
+        "candesk-stats": [car, log],
+        "candesk-diff": ["--log", log, car, example("car.print")],
         "candesk-format": ["--check", car],
         "candesk-shell": [car],
         "candesk-plot": ["--output", out + ".svg", "EngineSpeed.Speed"],
@@ -178,9 +183,10 @@ def try_interrupts(tries: Tries, folder: str, name: str) -> None:
     temporary, work = tempfile.mkdtemp(dir=folder), tempfile.mkdtemp(dir=folder)
     slow = script(work, "slow", SLOW)
     words = [path_of(name), *words_of(name, work)]
-    if name == "candesk-table":
+    reads_input = name in ("candesk-table", "candesk-stats", "candesk-shell")
+    if reads_input and words[-1] == example("car.log"):
         words.pop()
-    surroundings = {"TMPDIR": temporary, **({} if name in ("candesk-table", "candesk-shell") else {"CANDESK": slow})}
+    surroundings = {"TMPDIR": temporary, **({} if reads_input else {"CANDESK": slow})}
     line, faults, lines = name.encode() + b": interrupted\n", [], 0
     for delay in DELAYS:
         for is_group in (False, True):
@@ -199,8 +205,6 @@ def try_interrupted_making(tries: Tries, folder: str) -> None:
     # (where temporary files may be is found by making one)
     known = b"import tempfile\ntempfile.tempdir = os.environ['TMPDIR']\n"
     for temporary, python, words in (
-        ("", b"", ["candesk-table", "--database", database, "--long", log]),
-        ("", known, ["candesk-table", "--database", database, "--long", log]),
         (elsewhere, b"", ["candesk-table", "--database", database, "--folder", ".", log]),
         ("", b"", ["candesk-format", "--check", "wheel.dbc"]),
         ("", known, ["candesk-format", "--check", "wheel.dbc"]),
@@ -223,8 +227,8 @@ def try_interrupted_decoding(tries: Tries, folder: str, name: str) -> None:
     """Interrupted while it decodes, a tool leaves no output, and ends its jobs. (A program that a worker of Dask ran ends by
     itself, as the worker that fed it is gone, but this one here doesn't read.)"""
     work = tempfile.mkdtemp(dir=folder)
-    later = b'#!/bin/sh\nif [ "$1" = print ]; then exec "%s" "$@"; fi\nexec sleep 40.%d\n' % (tries.program.encode(), os.getpid())
-    slow = script(work, "slow", later)
+    later = b'#!/bin/sh\ncase $1 in print | dump | --version) exec "%s" "$@" ;; esac\nexec sleep 40.%d\n'
+    slow = script(work, "slow", later % (tries.program.encode(), os.getpid()))
     for is_group in (False, True):
         got = interrupted([path_of(name), *words_of(name, work)], 4 if name.endswith("dask") else 1, is_group, CANDESK=slow)
         is_right = (got.status, got.errors) == (INTERRUPTED, name.encode() + b": interrupted\n")

@@ -15,7 +15,7 @@ TOOLS = os.path.join(ROOT, "tools")
 EXAMPLES = os.path.join(ROOT, "examples")
 PYTHONS = (sys.executable, "/usr/bin/python3")
 # the longest that anything here may take, and the longest line of a log, in seconds and bytes
-PATIENCE = 60
+PATIENCE = 180
 LONGEST_LINE = 4096
 
 
@@ -96,4 +96,4 @@ def is_fault(got: tuple[int, bytes, bytes], status: int, *parts: bytes) -> bool:
 
 
 def rows_of(table: bytes) -> list[dict[str, str]]:
-    return list(csv.DictReader(io.StringIO(table.decode("latin-1"), newline="")))
+    return list(csv.DictReader(io.StringIO(table.decode(), newline="")))

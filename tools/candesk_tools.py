@@ -1,4 +1,5 @@
-"""What the tools share: where the program is, how it is called, how its texts are cut, how files are replaced and faults are told.
+"""What the tools share: where the program is, how it is called, how its texts are cut, how files are replaced and faults are told,
+and databases as the Python package `candesk` has them.
 
 Nothing here knows what a database means. A text of a database is cut into its quoted texts and what stands between them, and of the
 canonical text, which `candesk print` writes, the lines of messages and signals are found, for their names.
@@ -21,12 +22,18 @@ import subprocess
 import sys
 import tempfile
 import threading
+import time
 from collections.abc import Callable, Iterable, Iterator
 from typing import IO, BinaryIO, NamedTuple, NoReturn
 
+HERE = os.path.dirname(os.path.realpath(__file__))
+# (installed, the package stands beside this file; in a checkout it has a folder of its own)
+sys.path.append(os.path.join(os.path.dirname(HERE), "python"))
+
+import candesk  # noqa: E402
+
 __all__ = ["BAD_FILES", "BAD_WORDS", "INTERRUPTED", "NO_MEMORY", "REFUSED", "TOOL", "Fault", "lacks_memory", "tell"]
 
-HERE = os.path.dirname(os.path.realpath(__file__))
 # the largest exit status that a program may have of its own (a checkout without a program has 70)
 LARGEST_STATUS = 99
 
@@ -42,17 +49,18 @@ QUOTED = rb'"[^"]*(?:(?<=\\)"[^"]*)*(?<!\\)"'
 PIECES = re.compile(rb'(?P<quoted>%s)|(?P<comment>//[^\n]*)|(?P<plain>[^"/]+|/)|(?P<open>"[^\0]*)' % QUOTED, re.DOTALL)
 # the pieces of a canonical text, in which a line feed that isn't quoted ends a statement
 CANONICAL = re.compile(rb'%s|\n|[^"\n]+' % QUOTED)
-MESSAGE = re.compile(rb"BO_ (\d+) (\w+)(?=: )")
+MESSAGE = re.compile(rb"BO_ (\d+) (\w+): (\d+) ")
 SIGNAL = re.compile(rb" SG_ (\w+) ")
 
 
 class Message(NamedTuple):
-    """A message of a canonical text: its place, number and name, and the names of its signals."""
+    """A message of a database: its place, number and name, the names of its signals, and its size in bytes."""
 
     place: int
     number: int | None
     name: str
     signals: list[str]
+    size: int = 0
 
 
 class Words(argparse.ArgumentParser):
@@ -137,6 +145,57 @@ def printed(path: str) -> bytes:
     return done.stdout
 
 
+@contextlib.contextmanager
+def as_faults() -> Iterator[None]:
+    """Turns the package's exceptions into faults, with the program's own words and statuses."""
+    try:
+        yield
+    except candesk.Rejected as error:
+        raise Fault(str(error), REFUSED) from error
+    except candesk.ProgramFailed as error:
+        raise Fault(str(error), status_of(error.status)) from error
+    except candesk.Error as error:
+        raise Fault(str(error), BAD_FILES) from error
+
+
+def database(path: str) -> candesk.Database:
+    """A database as objects. One that is rejected is a fault with the program's own words."""
+    if not os.path.exists(path):
+        raise Fault(f"{path}: no such file", BAD_FILES)
+    os.environ["CANDESK"] = program()
+    with as_faults():
+        return candesk.load(path)
+
+
+class Progress:
+    """How much of a file was read, as it is shown on a terminal where nothing else is."""
+
+    # how often, in seconds
+    EVERY = 0.5
+
+    def __init__(self, source: IO[bytes]) -> None:
+        kind = os.fstat(source.fileno())
+        self.size = kind.st_size if stat.S_ISREG(kind.st_mode) else 0
+        self.is_shown = sys.stderr.isatty() and not sys.stdout.isatty()
+        self.read, self.next, self.width = 0, time.monotonic() + self.EVERY, 0
+
+    def show(self, count: int) -> None:
+        self.read += count
+        if self.is_shown and time.monotonic() >= self.next:
+            self.next = time.monotonic() + self.EVERY
+            part = f"{100 * self.read // self.size} %" if self.size else f"{self.read / 1e6:,.0f} MB"
+            text = f"{TOOL}: {part}"
+            sys.stderr.write(f"\r{text}")
+            sys.stderr.flush()
+            self.width = len(text)
+
+    def end(self) -> None:
+        """Takes away what is shown."""
+        if self.width:
+            sys.stderr.write("\r" + " " * self.width + "\r")
+            sys.stderr.flush()
+
+
 # ---- packages of Python
 
 DEBIAN_PYTHON = "/usr/bin/python3"
@@ -157,12 +216,20 @@ def has_package(name: str) -> bool:
     os.execve(DEBIAN_PYTHON, [DEBIAN_PYTHON, *sys.argv], dict(os.environ, CANDESK_PYTHON=DEBIAN_PYTHON))
 
 
-def need_package(name: str, debian: str) -> None:
+def need_package(name: str, source: str) -> None:
     if not has_package(name):
-        raise Fault(f"this tool needs the Python package {name} (Debian's {debian})", BAD_FILES)
+        raise Fault(f"this tool needs the Python package {name} ({source})", BAD_FILES)
 
 
 # ---- texts of databases
+
+
+def shown(text: bytes) -> str:
+    """A text as the program's objects have it: UTF-8, or else each byte a character of Latin-1."""
+    try:
+        return text.decode()
+    except UnicodeDecodeError:
+        return text.decode("latin-1")
 
 
 def pieces(text: bytes) -> Iterator[tuple[str | None, int, bytes]]:
@@ -198,7 +265,7 @@ def messages_of(canonical: bytes) -> list[Message]:
         message = MESSAGE.match(line[0]) if line else None
         signal_line = SIGNAL.match(line[0]) if line else None
         if message:
-            found.append(Message(len(found), int(message[1]), message[2].decode(), []))
+            found.append(Message(len(found), int(message[1]), message[2].decode(), [], int(message[3])))
         elif signal_line and found:
             found[-1].signals.append(signal_line[1].decode())
     return found

@@ -1,113 +1,74 @@
-"""Rows of decoded frames: which signals a frame showed, with each value, unit and name as bytes of their own.
+"""Rows of decoded frames: which signals a frame showed, with each value, unit and value description.
 
-A unit and a named value are free texts: they may hold `, X: 1)` or ` :: `, so a decoded line can't be cut by what stands in it.
-`Exact` has the program decode the log by two copies of the database's canonical text. In both each unit is spelled in hexadecimal
-digits. The messages are called N0, N1, .. in the one, which names no values, and V0, V1, .. in the other, in which each named value
-is an `n` and the hexadecimal digits of its name. So
-
-- a line is the same in both where it shows no message, whatever stands in it: what is written of a message differs in its name;
-- where it does, nothing of it but the log's own line holds ` :: `, so its last one is where the decoded text begins;
-- that text has only words, decimals, hexadecimal digits and marks, so each `, ` and `: ` in it is the program's own.
-
-Only texts that are shown and names of messages differ from the database, so which signals are there and what they are worth is the
-same.
+`Decoded` runs `candesk decode` over a log. It gives rows of `--csv` in pieces, which are written as they come, and frames of
+`--json`, for tables with a column for each signal. Floats, which the program leaves out, are decoded here from the bits that the
+program names. `Plain` cuts decoded lines at their commas, where no database is at hand.
 """
 
 from __future__ import annotations
 
 import contextlib
-import itertools
+import json
+import math
 import os
 import queue
 import re
 import subprocess
 import threading
 from collections.abc import Iterator
-from typing import IO, NamedTuple
+from decimal import Decimal
+from typing import IO, Any, NamedTuple
 
 import candesk_tools as tools
+import csv_pieces
 
 
 class Reading(NamedTuple):
-    """A signal that is shown: its name, value, unit and named value."""
+    """A signal that is shown: its name, value, unit and value description."""
 
-    signal: bytes
-    value: bytes
-    unit: bytes
-    name: bytes | None
+    signal: str
+    value: str
+    unit: str
+    name: str | None
 
 
 class Row(NamedTuple):
-    """A frame that showed a message: the message's place, and its signals."""
+    """A frame that showed a message: the message's index, and its signals."""
 
-    time: bytes
-    interface: bytes
-    identifier: bytes
+    time: str
+    interface: str
+    identifier: str
     place: int
     readings: list[Reading]
 
 
-
-NUMBERS, NAMES = b"N", b"V"
-BEHIND = b" :: "
-SHOWN = re.compile(rb"[NV](\d+)(?:\[[^\]]*\])?\((.*)\)")
-BLANKS = re.compile(rb"[ \t]+")
-FRAME = re.compile(rb"\(([^)]*)\)[ \t]+([^ \t]+)[ \t]+([^ \t#]+)#")
-# (a blank and anything may follow a frame's data, such as the R or T that some loggers write)
-PLAIN = re.compile(rb"(\(\d+\.\d{1,9}\)[ \t]+[^ \t]+[ \t]+[^ \t#]+#\S*(?:[ \t].*?)?) :: (\w+)(?:\[[^\]]*\])?\((.*)\)")
-PLAIN_PIECE = re.compile(rb"(\w+): (.*)")
-DECIMAL = re.compile(rb"(-?\d+(?:\.\d+)?)(?: (.*))?")
-CHUNK = 65536
-# how many chunks of a log may wait for each of the two programs
+# a line that has a frame, and what a decoded line has after it
+FRAME = re.compile(rb"\(\d+\.\d{1,9}\)[ \t]+[^ \t]+[ \t]+[^ \t#]+#")
+PLAIN = re.compile(r"\((\d+\.\d{1,9})\)[ \t]+([^ \t]+)[ \t]+([^ \t#]+)#\S*(?:[ \t].*?)? :: (\w+)(?:\[[^\]]*\])?\((.*)\)")
+PLAIN_PIECE = re.compile(r"(\w+): (.*)")
+DECIMAL = re.compile(r"(-?\d+(?:\.\d+)?)(?: (.*))?")
+# the most bytes of a line of a log, and a line that is longer
+MOST_BYTES = 4096
+LONG = re.compile(rb"[^\n]{%d}" % (MOST_BYTES + 1))
+# how many bytes are read at once, and how many such chunks of a log may wait for each program
+CHUNK = 1 << 16
 WAITING = 16
+JSON, CSV = "--json", "--csv"
 
 
-def on_one_line(text: bytes) -> bytes:
-    """A text as the program shows it: CR and LF as blanks."""
-    return text.replace(b"\r", b" ").replace(b"\n", b" ")
-
-
-def spelled(piece: bytes, sign: bytes = b"") -> bytes:
-    """A quoted text in hexadecimal digits, behind a sign; the empty one stays empty where there is no sign."""
-    return b'"%s%s"' % (sign, on_one_line(piece[1:-1]).hex().encode())
-
-
-def copy_of(canonical: bytes, kind: bytes) -> bytes:
-    """A canonical text in which units, named values and names of messages are spelled so that they can't be taken for others."""
-    made: list[bytes] = []
-    count = 0
-    for line in tools.canonical_lines(canonical):
-        head = line[0] if line else b""
-        if tools.MESSAGE.match(head):
-            line[0] = tools.MESSAGE.sub(rb"BO_ \1 %s%d" % (kind, count), head, count=1)
-            count += 1
-        elif tools.SIGNAL.match(head):
-            line = [spelled(it) if it.startswith(b'"') else it for it in line]
-        elif re.match(rb"VAL_ \d", head):
-            if kind == NUMBERS:
-                continue
-            line = [spelled(it, b"n") if it.startswith(b'"') else it for it in line]
-        made.append(b"".join(line) + b"\n")
-    return b"".join(made)
-
-
-class Texts(dict[bytes, bytes]):
-    """Texts by their hexadecimal digits, each found once."""
-
-    def __missing__(self, digits: bytes) -> bytes:
-        self[digits] = bytes.fromhex(digits.decode())
-        return self[digits]
-
-
-class Fork:
-    """Hands a stream to two programs, each through a thread and a queue of its own. It waits only where both have enough to do, so
-    neither can keep the other from its share."""
+class Feed:
+    """Hands a log to programs, each through a thread and a queue of its own, and counts its lines. It waits only where all have
+    enough to do, so none can keep another from its share."""
 
     def __init__(self, source: IO[bytes], name: str, sinks: list[IO[bytes]]) -> None:
         self.name = name
         self.queues: list[queue.SimpleQueue[bytes]] = [queue.SimpleQueue() for _ in sinks]
         self.room = threading.Condition()
         self.fault: OSError | None = None
+        # how many lines were read, whether one has a frame, the first that is too long, and the bytes of one that hasn't ended
+        self.lines, self.has_frames, self.last = 0, False, b""
+        self.long_line: int | None = None
+        self.progress = tools.Progress(source)
         for sink, waiting in zip(sinks, self.queues):
             threading.Thread(target=self.hand_on, args=(waiting, sink), daemon=True).start()
         # (a descriptor of its own, since whoever has the source may close it)
@@ -118,6 +79,7 @@ class Fork:
             for chunk in iter(lambda: os.read(number, CHUNK), b""):
                 with self.room:
                     self.room.wait_for(lambda: min(it.qsize() for it in self.queues) < WAITING)
+                self.count(chunk)
                 for waiting in self.queues:
                     waiting.put(chunk)
         except OSError as error:
@@ -126,8 +88,21 @@ class Fork:
         for waiting in self.queues:
             waiting.put(b"")
 
+    def count(self, chunk: bytes) -> None:
+        self.progress.show(len(chunk))
+        chunk = self.last + chunk
+        self.has_frames = self.has_frames or FRAME.search(chunk) is not None
+        # (such a line covers a whole stretch of half its length)
+        half = MOST_BYTES // 2
+        may_be_long = self.long_line is None and any(chunk.find(b"\n", at, at + half) < 0 for at in range(0, len(chunk), half))
+        found = LONG.search(chunk) if may_be_long and len(chunk) > MOST_BYTES else None
+        if found:
+            self.long_line = self.lines + chunk.count(b"\n", 0, found.start()) + 1
+        self.lines += chunk.count(b"\n")
+        self.last = chunk[chunk.rfind(b"\n") + 1 :] if self.long_line is None else b""
+
     def hand_on(self, waiting: queue.SimpleQueue[bytes], sink: IO[bytes]) -> None:
-        """What comes for a program that ended is taken and let go, so that the other isn't kept waiting."""
+        """What comes for a program that ended is taken and let go, so that another isn't kept waiting."""
         is_open = True
         for chunk in iter(waiting.get, b""):
             try:
@@ -141,109 +116,150 @@ class Fork:
         with contextlib.suppress(OSError):
             sink.close()
 
+    def end(self) -> None:
+        """What is to be said once all is decoded: why the log ended early, or that no line has a frame."""
+        self.progress.end()
+        if self.fault:
+            raise self.fault
+        lines = self.lines + (self.last != b"")
+        if lines and not self.has_frames:
+            of = "its one line isn't a frame" if lines == 1 else f"0 of {lines:,} lines are frames"
+            tools.tell(f"{self.name}: {of}: is this ASC, or candump without -L?")
 
-class Exact:
-    """The rows of a log, decoded by a database."""
+
+class Decoded:
+    """A log, decoded by a database."""
 
     names_and_numbers = True
 
     def __init__(self, database: str, short: bool, log: IO[bytes], name: str) -> None:
-        canonical = tools.printed(database)
-        self.messages = tools.messages_of(canonical)
-        self.units = units_of(canonical)
-        self.database, self.name = database, name
+        self.database = tools.database(database)
+        self.messages = [
+            tools.Message(it.index, it.number, it.name, [signal.name for signal in it.signals]) for it in self.database.messages
+        ]
+        self.by_number = {it.number: it for it in reversed(self.database.messages)}
+        self.signals = {it.index: {signal.name: signal for signal in it.signals} for it in self.database.messages}
+        self.units = {
+            (it.index, signal.name): signal.unit or "" for it in self.database.messages for signal in it.signals
+        }
+        self.has_floats = any(signal.is_float for it in self.database.messages for signal in it.signals)
+        self.short, self.log, self.name = short, log, name
         self.only: int | None = None
         self.is_live = not os.path.isfile(f"/proc/self/fd/{log.fileno()}")
-        self.folder = tools.Folder(prefix="candesk-")
         self.programs: list[subprocess.Popen[bytes]] = []
-        self.texts = Texts()
-        try:
-            for kind in (NUMBERS, NAMES):
-                self.programs.append(self.start(kind, copy_of(canonical, kind), short))
-            self.fork = Fork(log, name, [it.stdin for it in self.programs if it.stdin])
-        except BaseException:
-            self.close()
-            raise
 
-    def start(self, kind: bytes, text: bytes, short: bool) -> subprocess.Popen[bytes]:
-        path = os.path.join(self.folder.name, kind.decode() + ".dbc")
-        with open(path, "wb") as file:
-            file.write(text)
-        words = [tools.program(), "decode", *(["--short"] if short else []), path]
-        return subprocess.Popen(words, stdin=subprocess.PIPE, stdout=subprocess.PIPE, stderr=subprocess.PIPE, bufsize=-1)
-
-    def __enter__(self) -> Exact:
+    def __enter__(self) -> Decoded:
         return self
 
     def __exit__(self, *_: object) -> None:
-        self.close()
-
-    def close(self) -> None:
         with tools.uninterrupted():
             for it in self.programs:
                 it.kill()
                 it.wait()
-            self.folder.cleanup()
+
+    def start(self, *forms: str) -> list[IO[bytes]]:
+        """Begins to decode the log, into each of these forms at once."""
+        for form in forms:
+            words = [tools.program(), "decode", *(["--short"] if self.short else []), form, "--", self.database.path]
+            with tools.uninterrupted():
+                self.programs.append(
+                    subprocess.Popen(words, stdin=subprocess.PIPE, stdout=subprocess.PIPE, stderr=subprocess.PIPE, bufsize=-1)
+                )
+        self.feed = Feed(self.log, self.name, [it.stdin for it in self.programs if it.stdin])
+        return [it.stdout for it in self.programs if it.stdout]
+
+    # ---- frames
+
+    def objects(self) -> Iterator[bytes]:
+        """The object of each line."""
+        (answers,) = self.start(JSON)
+        yield from answers
+        self.judge_end()
 
     def __iter__(self) -> Iterator[Row]:
-        numbers, names = (it.stdout for it in self.programs)
-        assert numbers and names
-        # (what is looked for may stand in the log's own line too, so whoever wants one message looks at the row's place as well)
-        wanted = BEHIND if self.only is None else b"%s%s%d" % (BEHIND, NUMBERS, self.only)
-        read, both = itertools.count(), 0
-        for first, _, second in zip(numbers, read, names):
-            both += 1
-            if first != second and wanted in first:
-                yield self.row(first.rstrip(b"\n"), second.rstrip(b"\n"))
-        self.judge_end((next(read), both))
+        # (a quote within a text of an object stands after a backslash, so no text can hold this)
+        mark = b'"number":' if self.only is None else b'"number":%d,' % (self.messages[self.only].number or 0)
+        for line in self.objects():
+            if mark in line and b'"signals":' in line:
+                row = self.row(line)
+                if self.only is None or row.place == self.only:
+                    yield row
 
-    def row(self, first: bytes, second: bytes) -> Row:
-        body, _, shown = first.rpartition(BEHIND)
-        named = second.rpartition(BEHIND)[2]
-        one_shown, other_shown, frame = SHOWN.fullmatch(shown), SHOWN.fullmatch(named), FRAME.match(body)
-        assert one_shown and other_shown and frame
-        place, signals = one_shown.groups()
-        named_signals = other_shown[2]
-        readings = []
-        if signals:
-            for one, other in zip(signals.split(b", "), named_signals.split(b", ")):
-                name, _, reading = one.partition(b": ")
-                value, _, unit = reading.partition(b" ")
-                text = other.partition(b": ")[2]
-                readings.append(Reading(name, value, self.texts[unit], self.texts[text[1:]] if text.startswith(b"n") else None))
-        return Row(frame[1], frame[2], frame[3], int(place), readings)
+    def row(self, line: bytes) -> Row:
+        """A frame of a message, from its object. Numbers with a point stay the digits that they are."""
+        frame = json.loads(line, parse_float=str)
+        message = self.by_number[frame["number"]]
+        readings = [self.reading(name, it, message.index, frame["data"]) for name, it in frame["signals"].items()]
+        identifier = f"{frame['id']:08X}" if frame["extended"] else f"{frame['id']:03X}"
+        return Row(frame["time"], frame["interface"], identifier, message.index, readings)
 
-    def judge_end(self, read: tuple[int, int]) -> None:
-        """The log is at its end, or a program ended early: then its own words say why. Before a line that is too long it writes all
-        lines, so their count gives that line's number. `read` has how many were read from each program so far."""
-        for it, count in zip(self.programs, read):
+    def reading(self, name: str, shown: dict[str, Any], place: int, data: str) -> Reading:
+        refused = shown.get("refused")
+        if refused == "float":
+            value = self.signals[place][name].float_value(bytes.fromhex(data))
+            return Reading(name, spelled(value), self.units[place, name], None)
+        return Reading(name, str(shown["value"]) if refused is None else f"?{refused}", shown.get("unit", ""), shown.get("name"))
+
+    # ---- rows of CSV
+
+    def rows(self) -> Iterator[bytes]:
+        """The rows of `--csv` in pieces, as the program writes them, header included. Only where there are floats is a piece whole
+        rows."""
+        answers = self.start(CSV, JSON) if self.has_floats else self.start(CSV)
+        pieces: Iterator[bytes] = iter(lambda: os.read(answers[0].fileno(), CHUNK), b"")
+        if self.has_floats:
+            floats = self.read_floats(answers[1])
+            pieces = (csv_pieces.with_floats(it, floats) for it in csv_pieces.whole_rows(pieces))
+        yield from pieces
+        self.judge_end()
+
+    def read_floats(self, answers: IO[bytes]) -> Iterator[Reading]:
+        """All floats of a log, in order. A thread takes what is decoded, so that the program never waits for them."""
+        waiting: queue.SimpleQueue[Reading | None] = queue.SimpleQueue()
+
+        def read() -> None:
+            try:
+                for it in self.floats(answers):
+                    waiting.put(it)
+            finally:
+                waiting.put(None)
+
+        threading.Thread(target=read, daemon=True).start()
+        return iter(waiting.get, None)
+
+    def floats(self, answers: IO[bytes]) -> Iterator[Reading]:
+        """All floats of a log, in order."""
+        mark, kept = b'"refused":"float"', b""
+        for chunk in iter(lambda: os.read(answers.fileno(), CHUNK), b""):
+            whole, _, kept = (kept + chunk).rpartition(b"\n")
+            for line in whole.split(b"\n") if mark in whole else ():
+                if mark in line:
+                    row = self.row(line)
+                    yield from (it for it in row.readings if self.signals[row.place][it.signal].is_float)
+
+    def judge_end(self) -> None:
+        """The log is at its end, or a program ended early: then its own words say why."""
+        for it in self.programs:
             assert it.stdout and it.stderr
-            count += sum(1 for _ in it.stdout)
             status, errors = it.wait(), it.stderr.read()
             said = tools.said_by(errors) if status else ""
             if said == tools.LONG_LINE:
-                raise tools.Fault(f"{self.name}: line {count + 1}: {said}", tools.status_of(status))
+                raise tools.Fault(f"{self.name}: line {self.feed.long_line}: {said}", tools.status_of(status))
             if status:
-                raise tools.Fault(f"{self.database}: {said}", tools.status_of(status))
-        if self.fork.fault:
-            raise self.fork.fault
+                raise tools.Fault(f"{self.database.path}: {said}", tools.status_of(status))
+        self.feed.end()
 
 
-def units_of(canonical: bytes) -> dict[tuple[int, bytes], bytes]:
-    """The unit of each signal of each message, by place and name, as the program shows it."""
-    units: dict[tuple[int, bytes], bytes] = {}
-    place = -1
-    for line in tools.canonical_lines(canonical):
-        head = line[0] if line else b""
-        place += 1 if tools.MESSAGE.match(head) else 0
-        signal = tools.SIGNAL.match(head)
-        if signal:
-            units[place, signal[1]] = on_one_line(line[1][1:-1])
-    return units
+def spelled(value: float | None) -> str:
+    """A float as a table has it: the shortest decimal that is this double, or `nan`, `inf`, `-inf`. One that isn't all there stays
+    what the program says."""
+    if value is None:
+        return "?float"
+    return f"{Decimal(repr(value)):f}".removesuffix(".0") if math.isfinite(value) else repr(value)
 
 
 class Plain:
-    """The rows of decoded lines whose units and named values are taken on trust to have no comma."""
+    """The rows of decoded lines whose units and value descriptions are taken on trust to have no comma."""
 
     names_and_numbers = False
 
@@ -252,8 +268,8 @@ class Plain:
         self.only: int | None = None
         self.is_live = not os.path.isfile(f"/proc/self/fd/{log.fileno()}")
         self.messages: list[tools.Message] = []
-        self.units: dict[tuple[int, bytes], bytes] = {}
-        self.places: dict[bytes, int] = {}
+        self.units: dict[tuple[int, str], str] = {}
+        self.places: dict[str, int] = {}
 
     def __enter__(self) -> Plain:
         return self
@@ -263,27 +279,25 @@ class Plain:
 
     def __iter__(self) -> Iterator[Row]:
         for at, line in enumerate(tools.lines_of(self.log, self.name), 1):
-            found = PLAIN.fullmatch(line.rstrip(b"\r\n"))
+            found = PLAIN.fullmatch(tools.shown(line.rstrip(b"\r\n")))
             if found:
-                readings = [self.reading(it, at) for it in found[3].split(b", ")] if found[3] else []
-                place = self.places.setdefault(found[2], len(self.places))
+                readings = [self.reading(it, at) for it in found[5].split(", ")] if found[5] else []
+                place = self.places.setdefault(found[4], len(self.places))
                 if place == len(self.messages):
-                    self.messages.append(tools.Message(place, None, found[2].decode(), []))
-                self.know(self.messages[place], [it.signal.decode() for it in readings], at)
-                frame = FRAME.match(found[1])
-                assert frame
-                yield Row(frame[1], frame[2], frame[3], place, readings)
+                    self.messages.append(tools.Message(place, None, found[4], []))
+                self.know(self.messages[place], [it.signal for it in readings], at)
+                yield Row(found[1], found[2], found[3], place, readings)
 
-    def reading(self, piece: bytes, at: int) -> Reading:
+    def reading(self, piece: str, at: int) -> Reading:
         found = PLAIN_PIECE.fullmatch(piece)
-        if not found or b": " in found[2]:
+        if not found or ": " in found[2]:
             raise tools.Fault(f"line {at}: a name or unit has a comma or a colon in it: give --database FILE", tools.REFUSED)
         decimal = DECIMAL.fullmatch(found[2])
         if decimal:
-            return Reading(found[1], decimal[1], decimal[2] or b"", None)
-        if re.fullmatch(rb"\?(outside|float|long|scale)", found[2]):
-            return Reading(found[1], found[2], b"", None)
-        return Reading(found[1], b"", b"", found[2])
+            return Reading(found[1], decimal[1], decimal[2] or "", None)
+        if re.fullmatch(r"\?(outside|float|long|scale)", found[2]):
+            return Reading(found[1], found[2], "", None)
+        return Reading(found[1], "", "", found[2])
 
     def know(self, message: tools.Message, names: list[str], at: int) -> None:
         if len(set(names)) < len(names):

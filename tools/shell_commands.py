@@ -15,6 +15,7 @@ from typing import Union
 
 import candesk_tools as tools
 import shell_session
+import vector_order
 
 HELP = """\
 MESSAGE is a name, a number as in BO_ (0x.. too; without bit 31 where that is meant), or @P for the place P.
@@ -49,6 +50,9 @@ OWN = ("list", "show", "print", "log", "undo", "save", "help", "quit")
 BIT_31 = 1 << 31
 # the statements kept verbatim that may name signals: groups, and others in which the signal follows its message's number
 GROUPS, NAMING = b"SIG_GROUP_", (b"SIG_TYPE_REF_", b"BA_REL_")
+# the statement of a session's command; and what has to stand before one of a signal
+STATEMENT = re.compile(r"(?<= )(BO_|SG_MUL_VAL_|SG_|VAL_TABLE_|VAL_|BA_) .*")
+MESSAGE_BEFORE = "BO_ 0 M: 8 E\n "
 Say = Callable[[Union[str, bytes]], None]
 # how many databases of before are kept for undo, and how many diagnostics that came or went are shown
 UNDONE = 100
@@ -70,6 +74,19 @@ def whole_number(word: str) -> int | None:
 
 def raw(text: str) -> bytes:
     return text.encode("utf-8", "surrogateescape")
+
+
+def explained(command: str) -> list[str]:
+    """What `candesk explain` says of the statement of a command: the line with a mark, what was found, and what may stand there."""
+    found = STATEMENT.search(command)
+    if not found:
+        return []
+    with tools.temporary_database() as file:
+        file.write(raw((MESSAGE_BEFORE if found[1] == "SG_" else "") + found.group() + "\n"))
+        file.flush()
+        done = subprocess.run([tools.program(), "explain", file.name], stdin=subprocess.DEVNULL, capture_output=True, check=False)
+    # (a text that isn't rejected has no line on standard error)
+    return done.stdout.decode("utf-8", "surrogateescape").removesuffix("\n").split("\n")[1:] if done.stderr else []
 
 
 class Shell:
@@ -196,7 +213,7 @@ class Shell:
             reply = self.session.ask(raw(command))[0]
             if reply != b"ok":
                 told = "bad command: a statement has a fault, or a word is none that it takes"
-                raise refused(told if reply == b"bad command" else reply.decode())
+                raise refused("\n".join([told, *explained(command)]) if reply == b"bad command" else reply.decode())
             self.before.append(self.text)
             self.look()
         self.tell_change("ok")
@@ -219,7 +236,7 @@ class Shell:
         for it in self.messages:
             number = it.number or 0
             hexadecimal = f"0x{number & ~BIT_31:X}" + (" (29 bits)" if number & BIT_31 else "")
-            self.say(f"@{it.place} {it.name} {it.number} {hexadecimal}: {' '.join(it.signals)}")
+            self.say(f"@{it.place} {it.name} {it.number} {hexadecimal}, {tools.counted(it.size, 'byte')}: {' '.join(it.signals)}")
 
     def do_show(self, rest: str) -> None:
         what, _, word = rest.partition(" ")
@@ -248,9 +265,9 @@ class Shell:
         with tools.temporary_database() as file, self.changing:
             file.write(self.before[-1])
             file.flush()
-            opened = shell_session.Session(file.name, self.session.is_short, self.session.keep)
+            opened = shell_session.Session(file.name, self.session.short, self.session.keep)
             opened.path = self.path
-            opened.log(list(self.session.retained))
+            opened.log(list(self.session.kept))
             old, self.session = self.session, opened
             old.close()
         self.before.pop()
@@ -274,10 +291,14 @@ class Shell:
             raise refused(f"{path} is there, and has // comments: save to another file, or --drop-comments lets them go")
         if is_own and tools.comment_line(there) and not drops:
             raise refused(f"{path} has // comments, which are not printed: save to another file, or --drop-comments lets them go")
+        written = self.text
+        if is_own and vector_order.is_vector(self.read_text):
+            # (edits leave statements that are kept verbatim alone, so those of the file are still all that there are)
+            written = vector_order.vector_text(self.text, self.read_text)
         with tools.replacing(path) as file:
-            file.write(self.text)
+            file.write(written)
         if is_own:
-            self.read_text = self.text
+            self.read_text = written
         self.saved = self.text
         self.say(f"saved {path}")
 
@@ -313,7 +334,7 @@ class Shell:
         self.tell_log(all_taken, first_refusal)
 
     def tell_log(self, taken: int, refusal: bytes) -> None:
-        text = f"{tools.counted(taken, 'line')}; {len(self.session.retained)} retained"
+        text = f"{tools.counted(taken, 'line')}; {len(self.session.kept)} retained"
         self.say(text + (f"; others: {refusal.decode()}" if refusal else ""))
 
     def listen(self, command: str) -> None:
@@ -340,7 +361,7 @@ class Shell:
                 os.killpg(self.listening.pid, signal.SIGTERM)
             self.listening.wait()
             self.listening = None
-            self.say(f"{len(self.session.retained)} retained")
+            self.say(f"{len(self.session.kept)} retained")
 
 
 # ---- statements kept verbatim
