@@ -16,5 +16,7 @@ complete -c candesk -n "__fish_seen_subcommand_from check dump explain print dec
 complete -c candesk -n "__fish_seen_subcommand_from check dump explain print decode session" \
     -a "(__fish_complete_suffix .dbc | string match -r '.*(?:\.dbc|/)(?:\t.*)?\$')"
 complete -c candesk -n "__fish_seen_subcommand_from decode session" -l short -d 'Show what is there of short frames'
+complete -c candesk -n "__fish_seen_subcommand_from decode" -l json -d 'Write an object of JSON for each line'
+complete -c candesk -n "__fish_seen_subcommand_from decode" -l csv -d 'Write a row of CSV for each signal'
 complete -c candesk -n "__fish_seen_subcommand_from dump" -l json -d 'Write an object of JSON for each message'
 complete -c candesk -n "__fish_seen_subcommand_from session" -l keep -x -d 'Retain the last N lines'
