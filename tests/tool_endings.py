@@ -214,9 +214,9 @@ def try_interrupted_making(tries: Tries, folder: str) -> None:
             work, modules = tempfile.mkdtemp(dir=folder), tempfile.mkdtemp(dir=folder)
             written(work, "wheel.dbc", read(database) + b"\n")
             written(modules, "sitecustomize.py", INTERRUPTING + python)
-            surroundings = {"TMPDIR": temporary or work, "PYTHONPATH": modules, "INTERRUPTED_FOLDER": work}
             line = f'cd "{work}" && exec "$@"'
-            got = by_shell(line, path_of(words[0]), *words[1:], **surroundings, INTERRUPT=f"{number:d}")
+            got = by_shell(line, path_of(words[0]), *words[1:], TMPDIR=temporary or work, PYTHONPATH=modules,
+                           INTERRUPTED_FOLDER=work, INTERRUPT=f"{number:d}")
             said = words[0].encode() + b": interrupted\n" if number == signal.SIGINT else b""
             is_right = got == (128 + number, b"", said) and os.listdir(work) == ["wheel.dbc"]
             what = f"{words[0]} {words[-2] if len(words) > 2 else 'in place'}: {number.name} as it makes a file"
