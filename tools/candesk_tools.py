@@ -277,7 +277,10 @@ def messages_of(canonical: bytes) -> list[Message]:
 @contextlib.contextmanager
 def uninterrupted() -> Iterator[None]:
     """Holds back interrupts until what stands here is done, whichever thread they come to. (A mask would hold them back from this
-    thread alone, and another would take them for it.)"""
+    thread alone, and another would take them for it.) Only the main thread is interrupted: others have nothing to hold back."""
+    if threading.current_thread() is not threading.main_thread():
+        yield
+        return
     came: list[int] = []
     try:
         with contextlib.ExitStack() as before:

@@ -1,0 +1,313 @@
+"use strict";
+// The page asks the server by wishes, each with a number, and is told what changed. All text of a database or a log is only ever
+// text: nothing is put into the page as HTML, and names are keys of Maps alone.
+const by = id => document.getElementById(id);
+const LINE = 18, MOST_HEIGHT = 8e6, HISTORY = 120;
+const page = { state: null, place: 0, message: null, counts: new Map(), remedies: new Map(), before: new Set(), total: 0, first: 0,
+  history: new Map(), historyOf: "", branch: new Map(), asked: 0, waiting: new Map(), editedAt: 0 };
+
+function made(tag, text, properties = {}) {
+  const element = document.createElement(tag);
+  if (text !== undefined && text !== null) element.textContent = text;
+  for (const [name, value] of Object.entries(properties)) {
+    if (name.includes("-") || name === "role") element.setAttribute(name, value); else element[name] = value;
+  }
+  return element;
+}
+const colour = index => `hsl(${(index * 137.5) % 360} 65% var(--light))`;
+const hex = message => (message.number >= 2 ** 31 ? (message.number % 2 ** 31).toString(16).toUpperCase().padStart(8, "0")
+  : message.number.toString(16).toUpperCase().padStart(3, "0"));
+const say = text => { by("said").textContent = text; };
+
+// ---- talking
+
+const socket = new WebSocket(`ws://${location.host}/talk`);
+function wish(want, words = {}) {
+  return new Promise((done, refused) => {
+    const id = ++page.asked;
+    page.waiting.set(id, { done, refused });
+    socket.send(JSON.stringify({ id, want, ...words }));
+  });
+}
+async function edit(want, words) {
+  page.editedAt = performance.now();
+  try {
+    await wish(want, words);
+    say(want === "save" ? "saved" : "ok");
+  } catch (error) {
+    say(error.message);
+  }
+}
+socket.onmessage = event => {
+  const told = JSON.parse(event.data);
+  if (told.id !== undefined) {
+    const { done, refused } = page.waiting.get(told.id);
+    page.waiting.delete(told.id);
+    if (told.refused !== undefined) refused(new Error(told.refused)); else done(told.answer);
+  }
+  if (told.state) showState(told.state);
+  if (told.counts) showCounts(told.counts);
+  if (told.log) showTotal(told.log.total);
+};
+socket.onclose = () => { say("the server has ended"); document.body.inert = true; };
+document.addEventListener("visibilitychange", () => wish("hidden", { hidden: document.hidden }));
+
+// ---- messages
+
+async function showState(state) {
+  const old = page.state;
+  page.state = state;
+  document.title = `${state.isSaved ? "" : "• "}${state.file} – candesk`;
+  by("title").textContent = `${state.file}${state.isSaved ? "" : " (edited)"}`;
+  by("undo").disabled = !state.undo; by("redo").disabled = !state.redo;
+  by("undo").textContent = `Undo ${state.undo || ""}`; by("redo").textContent = `Redo ${state.redo || ""}`;
+  page.place = Math.min(page.place, state.messages.length - 1);
+  page.before = new Set(old ? old.diagnostics : state.diagnostics);
+  showMessages(); showFound(); showChoices();
+  await showMessage();
+  await showLines(page.first, true);
+  by("said").dataset.version = state.version;
+  for (const [words, remedy] of Object.entries(await wish("remedies"))) page.remedies.set(words, remedy);
+  showFound();
+}
+function showMessages() {
+  const sought = by("search").value.toLowerCase();
+  by("messages").replaceChildren(...page.state.messages
+    .filter(it => it.name.toLowerCase().includes(sought) || hex(it).toLowerCase().includes(sought))
+    .map(it => {
+      const came = page.counts.get(String(it.number));
+      const button = made("button", null, { onclick: () => openMessage(it.place) });
+      if (it.place === page.place) button.setAttribute("aria-current", "true");
+      button.append(made("span", it.name), made("code", hex(it)),
+        made("small", came ? `${came.count.toLocaleString()} frames` : "no frames"),
+        made("small", came && came.cycle !== null ? `${(came.cycle * 1000).toFixed(1)} ms` : ""));
+      const item = made("li"); item.append(button); return item;
+    }));
+}
+function openMessage(place) {
+  page.place = place; page.branch.clear();
+  showMessages(); showMessage();
+}
+function showCounts(counts) {
+  page.counts = new Map(Object.entries(counts));
+  if (page.state) showMessages();
+  showValues();
+}
+function showFound() {
+  by("amount").textContent = page.state.diagnostics.length;
+  by("found").replaceChildren(...page.state.diagnostics.map(words => {
+    const item = made("li", words, { className: page.before.has(words) ? "" : "new" });
+    if (page.remedies.has(words)) { item.append(made("br"), made("small", page.remedies.get(words))); }
+    return item;
+  }));
+  const first = by("found").querySelector(".new");
+  if (first) first.scrollIntoView({ block: "nearest" });
+}
+
+// ---- layout
+
+async function showMessage() {
+  if (page.place < 0) { by("name").textContent = "no messages"; return; }
+  page.message = JSON.parse(await wish("message", { place: page.place }));
+  const message = page.message;
+  const size = `${message.size} ${message.size === 1 ? "byte" : "bytes"}`;
+  by("name").textContent = `${message.name}  ${hex(message)}  ${size}  ${message.sender}`;
+  showBranches(); showGrid(); showSignals(); showValues();
+}
+const signals = () => Object.entries(page.message.signals);
+function isThere(signal) {
+  if (signal.chain === null) return false;
+  return signal.chain.every(level => !page.branch.has(level.switch) ||
+    level.ranges.some(([low, high]) => low <= page.branch.get(level.switch) && page.branch.get(level.switch) <= high));
+}
+function showBranches() {
+  const values = new Map();
+  for (const [, signal] of signals()) {
+    for (const level of signal.chain || []) {
+      if (!values.has(level.switch)) values.set(level.switch, new Set());
+      for (const [low] of level.ranges) values.get(level.switch).add(low);
+    }
+  }
+  by("branches").replaceChildren(...[...values].map(([name, found]) => {
+    const choice = made("select", null, { onchange: () => {
+      if (choice.value === "") page.branch.delete(name); else page.branch.set(name, Number(choice.value));
+      showGrid();
+    } });
+    const sorted = [...found].sort((a, b) => a - b);
+    choice.append(made("option", "any", { value: "" }), ...sorted.map(it => made("option", it, { value: it })));
+    choice.value = page.branch.has(name) ? page.branch.get(name) : "";
+    const label = made("label", `${name} `); label.append(choice); return label;
+  }));
+}
+function showGrid() {
+  const owners = new Map();
+  signals().forEach(([name, signal], index) => {
+    if (isThere(signal)) for (const at of signal.positions) owners.set(at, [...(owners.get(at) || []), { name, signal, index }]);
+  });
+  const bytes = Math.max(page.message.size, ...[...owners.keys()].map(at => Math.floor(at / 8) + 1));
+  const rows = [];
+  for (let byte = 0; byte < Math.min(bytes, 256); byte++) {
+    const row = made("tr"); row.append(made("th", byte));
+    for (let bit = 7; bit >= 0; bit--) {
+      const at = byte * 8 + bit, found = owners.get(at) || [];
+      const mark = found.length > 1 ? "*" : found.length ? found[0].index : "";
+      const cell = made("td", mark, { title: found.map(it => it.name).join(", ") });
+      cell.dataset.at = at;
+      if (found.length) { cell.style.background = found.length > 1 ? "" : colour(found[0].index); cell.draggable = true; }
+      if (found.length > 1) cell.className = "two";
+      if (found.length && byte >= page.message.size) cell.className += " outside";
+      row.append(cell);
+    }
+    rows.push(row);
+  }
+  by("grid").replaceChildren(...rows);
+}
+const along = (signal, at) => signal.order === "intel" ? at : Math.floor(at / 8) * 8 + 7 - at % 8;
+let dragged = null;
+by("grid").ondragstart = event => {
+  const at = Number(event.target.dataset.at);
+  const found = signals().find(([, it]) => isThere(it) && it.positions.includes(at));
+  dragged = found ? { name: found[0], signal: found[1], at } : null;
+};
+by("grid").ondragover = event => event.preventDefault();
+by("grid").ondrop = event => {
+  event.preventDefault();
+  if (!dragged || event.target.dataset.at === undefined) return;
+  const { name, signal, at } = dragged, by8 = along(signal, Number(event.target.dataset.at)) - along(signal, at);
+  const start = along(signal, Math.max(0, along(signal, signal.start) + by8));
+  edit("move", { place: page.place, signal: name, start, length: signal.length });
+};
+function showSignals() {
+  const head = made("tr");
+  head.append(...["", "Signal", "Start", "Length", "Order", "Scale", "Value", ""].map(it => made("th", it)));
+  by("signals").replaceChildren(head, ...signals().map(([name, signal], index) => {
+    const row = made("tr"), swatch = made("span", "", { className: "swatch" });
+    swatch.style.background = colour(index);
+    const number = (value, label) => made("input", null, { type: "number", value, min: 0, "aria-label": `${label} of ${name}` });
+    const start = number(signal.start, "start"), length = number(signal.length, "length");
+    const move = () => edit("move", { place: page.place, signal: name, start: Number(start.value), length: Number(length.value) });
+    start.onchange = move; length.onchange = move;
+    const cells = [swatch, made("span", `${index} ${name}${signal.refused ? ` ?${signal.refused}` : ""}`), start, length,
+      made("span", `${signal.order}${signal.signed ? " signed" : ""}`),
+      made("span", `× ${signal.factor}${signal.offset ? ` + ${signal.offset}` : ""} ${signal.unit}`),
+      made("output", ""), made("canvas", null, { width: 120, height: 28 })];
+    cells[6].dataset.value = index; cells[7].dataset.plot = index;
+    cells[1].title = signal.values.map(it => `${it.value} ${it.name}`).join("\n");
+    row.append(...cells.map(it => { const cell = made("td"); cell.append(it); return cell; }));
+    return row;
+  }));
+}
+// the last values of the message that is looked at; all that the server keeps where it is new or was edited
+async function showValues() {
+  if (!page.message || document.hidden) return;
+  const number = page.message.number, key = `${number} ${page.state.version}`, all = page.historyOf !== key;
+  const frames = (await wish("values", { number, all })).map(it => JSON.parse(it));
+  if (!frames.length || number !== page.message.number) return;
+  if (all) { page.history.clear(); page.historyOf = key; }
+  const last = new Map(Object.entries(frames[frames.length - 1].signals || {}));
+  signals().forEach(([name], index) => {
+    const it = last.get(name), output = document.querySelector(`[data-value="${index}"]`);
+    if (!output) return;
+    output.textContent = it === undefined ? "" : it.refused ? `?${it.refused}` : it.name ?? `${it.value} ${it.unit || ""}`;
+    const past = page.history.get(name) || [];
+    for (const frame of frames) {
+      const shown = new Map(Object.entries(frame.signals || {})).get(name);
+      const isNew = all || !past.length || past[past.length - 1][0] !== frame.time;
+      if (shown && shown.value !== undefined && isNew) past.push([frame.time, shown.value]);
+    }
+    page.history.set(name, past.slice(-HISTORY));
+    plot(document.querySelector(`canvas[data-plot="${index}"]`), page.history.get(name));
+  });
+}
+function plot(canvas, past) {
+  const pen = canvas.getContext("2d"), { width, height } = canvas;
+  pen.clearRect(0, 0, width, height);
+  if (past.length < 2) return;
+  const values = past.map(it => it[1]), low = Math.min(...values), high = Math.max(...values);
+  pen.strokeStyle = getComputedStyle(document.body).color;
+  pen.beginPath();
+  past.forEach(([, value], at) => {
+    const part = high > low ? (value - low) / (high - low) : .5;
+    pen.lineTo(at * width / (past.length - 1), height - 2 - part * (height - 4));
+  });
+  pen.stroke();
+}
+
+// ---- the log
+
+function showTotal(total) {
+  page.total = total;
+  by("total").textContent = `${total.toLocaleString()} lines`;
+  by("space").style.height = `${Math.min(total * LINE, MOST_HEIGHT)}px`;
+  showLines(by("follow").checked ? total : page.first, true);
+}
+const visible = () => Math.ceil(by("log").clientHeight / LINE) + 1;
+let isAsking = false, wanted = null;
+async function showLines(first, isForced = false) {
+  if (document.hidden) return;
+  wanted = { first, isForced };
+  if (isAsking) return;
+  isAsking = true;
+  while (wanted) {
+    const { first: from } = wanted; wanted = null;
+    const got = await wish("lines", { first: Math.max(0, Math.round(from)), count: visible() });
+    page.first = got.first; page.total = got.total;
+    by("lines").replaceChildren(...got.items.map(([number, text]) => {
+      const line = made("div"); line.append(made("span", number), text);
+      if (page.message && text.includes(` :: ${page.message.name}(`)) line.className = "shown";
+      return line;
+    }));
+  }
+  isAsking = false;
+  by("said").dataset.shown = by("said").dataset.version;
+}
+const scale = () => Math.max(1, page.total - visible() + 1) / Math.max(1, by("log").scrollHeight - by("log").clientHeight);
+by("log").onscroll = () => { if (!by("follow").checked) showLines(by("log").scrollTop * scale()); };
+by("log").onkeydown = event => {
+  const steps = { ArrowDown: 1, ArrowUp: -1, PageDown: visible() - 2, PageUp: 2 - visible(), Home: -Infinity, End: Infinity };
+  if (!(event.key in steps)) return;
+  event.preventDefault(); by("follow").checked = false;
+  const first = Math.min(Math.max(0, page.first + steps[event.key]), Math.max(0, page.total - visible() + 1));
+  by("log").scrollTop = first / scale(); showLines(first);
+};
+by("follow").onchange = () => showTotal(page.total);
+by("jump").onchange = () => {
+  const first = by("jump").value - 1;
+  by("follow").checked = false; by("log").scrollTop = first / scale();
+  showLines(first);
+};
+function showChoices() {
+  const chosen = by("only").value;
+  const names = page.state.messages.map(it => made("option", it.name, { value: it.name }));
+  by("only").replaceChildren(made("option", "all", { value: "" }), ...names);
+  by("only").value = chosen;
+}
+async function filter() {
+  say("filtering"); await edit("filter", { message: by("only").value, signal: by("onlySignal").value });
+}
+by("only").onchange = async () => {
+  by("onlySignal").replaceChildren(made("option", "all", { value: "" }));
+  const found = page.state.messages.find(it => it.name === by("only").value);
+  await filter();
+  if (found) {
+    const message = JSON.parse(await wish("message", { place: found.place }));
+    by("onlySignal").append(...Object.keys(message.signals).map(it => made("option", it, { value: it })));
+  }
+};
+by("onlySignal").onchange = filter;
+
+// ---- commands
+
+by("form").onsubmit = event => { event.preventDefault(); edit("edit", { command: by("command").value }); };
+by("undo").onclick = () => edit("undo"); by("redo").onclick = () => edit("redo"); by("save").onclick = () => edit("save");
+by("changes").onclick = async () => {
+  by("differences").textContent = (await wish("differences")).join("\n") || "none";
+  by("dialog").showModal();
+};
+by("search").oninput = showMessages;
+document.addEventListener("keydown", event => {
+  const key = event.key.toLowerCase(), isTyping = /INPUT|SELECT/.test(document.activeElement.tagName);
+  const commands = { z: "undo", y: "redo", s: "save" };
+  if (event.ctrlKey && key in commands && !(isTyping && key !== "s")) { event.preventDefault(); edit(commands[key]); }
+  if (key === "/" && !isTyping) { event.preventDefault(); by("search").focus(); }
+});

@@ -1,0 +1,388 @@
+"""What a live page shows: a database that is edited, with the window of its log that is looked at.
+
+One `candesk session --keep` holds the database and the lines of the window, so that every answer is the program's. The log itself
+never goes through the session: it stays in its file, behind an index, or comes live and is kept in a ring.
+"""
+
+from __future__ import annotations
+
+import array
+import collections
+import contextlib
+import os
+import re
+import subprocess
+import tempfile
+import threading
+from collections.abc import Iterator
+from typing import IO, Any, BinaryIO, Union
+
+import candesk_tools as tools
+import compared_databases
+import shell_session
+import vector_order
+
+# the most lines of a window, and of a log that comes live, and the most bytes of a line
+WINDOW = 200
+RING = 200_000
+MOST_BYTES = 4096
+# how many of the last objects of a message are kept, for its plots
+RECENT = 120
+# how many live lines are counted at once (all their objects have room in a pipe)
+BATCH = 100
+# how many texts of before and after are kept
+UNDONE = 100
+# every so many lines the index of a file has the place of one
+STEP = 64
+CHUNK = 1 << 20
+# the start and length of a signal's statement
+PLACE = re.compile(rb"( SG_ \w+(?: m\d+M?| M)? : )(\d+)\|(\d+)@")
+SIGNAL = re.compile(rb" SG_ (\w+) ")
+
+
+class Refused(Exception):
+    """An edit or a wish that is refused, with the words for the page."""
+
+
+class FileLog:
+    """A log in a file, whose lines are found by an index."""
+
+    is_live = False
+
+    def __init__(self, path: str) -> None:
+        self.path = path
+        self.offsets = array.array("Q", [0])
+        self.count = 0
+        with open(path, "rb") as file:
+            self.read(file)
+
+    def read(self, file: BinaryIO) -> None:
+        base, last = 0, b"\n"
+        for chunk in iter(lambda: file.read(CHUNK), b""):
+            at = -1
+            while (at := chunk.find(b"\n", at + 1)) >= 0:
+                self.count += 1
+                if self.count % STEP == 0:
+                    self.offsets.append(base + at + 1)
+            base, last = base + len(chunk), chunk[-1:]
+        self.count += last != b"\n"
+
+    def lines(self, first: int, count: int) -> list[bytes]:
+        with open(self.path, "rb") as file:
+            file.seek(self.offsets[min(first // STEP, len(self.offsets) - 1)])
+            for _ in range(first % STEP):
+                file.readline()
+            return [line.rstrip(b"\n") for _ in range(min(count, self.count - first)) if (line := file.readline())]
+
+    def pieces(self) -> Iterator[bytes]:
+        with open(self.path, "rb") as file:
+            yield from iter(lambda: file.read(CHUNK), b"")
+
+
+class LiveLog:
+    """A log that comes live: the last lines of it."""
+
+    is_live = True
+
+    def __init__(self, most: int = RING) -> None:
+        self.kept: collections.deque[bytes] = collections.deque(maxlen=most)
+        self.came = 0
+        self.lock = threading.Lock()
+
+    @property
+    def count(self) -> int:
+        return len(self.kept)
+
+    def put(self, lines: list[bytes]) -> None:
+        with self.lock:
+            self.kept.extend(lines)
+            self.came += len(lines)
+
+    def lines(self, first: int, count: int) -> list[bytes]:
+        with self.lock:
+            return [self.kept[at] for at in range(max(first, 0), min(first + count, len(self.kept)))]
+
+    def pieces(self) -> Iterator[bytes]:
+        with self.lock:
+            lines = list(self.kept)
+        for at in range(0, len(lines), WINDOW):
+            yield b"".join(it + b"\n" for it in lines[at : at + WINDOW])
+
+
+Log = Union[FileLog, LiveLog]
+
+
+class Came:
+    """What came of a message: how often, the first and last time, and the last objects."""
+
+    def __init__(self, time: float) -> None:
+        self.frames, self.first, self.last = 0, time, time
+        self.recent: collections.deque[bytes] = collections.deque(maxlen=RECENT)
+
+    def put(self, time: float, line: bytes) -> None:
+        self.frames += 1
+        self.last = time
+        self.recent.append(line)
+
+
+class Desk:
+    """A database that is edited. Calls may come from several threads; one is done after another."""
+
+    def __init__(self, path: str, short: bool, log: Log) -> None:
+        self.path, self.short, self.log = path, short, log
+        self.lock = threading.RLock()
+        with open(path, "rb") as file:
+            self.read_text = file.read()
+        self.session = shell_session.Session(path, short, WINDOW)
+        self.before: collections.deque[bytes] = collections.deque(maxlen=UNDONE)
+        self.after: list[bytes] = []
+        self.version = 0
+        self.text = self.saved = self.session.text()
+        self.filter: tuple[str, str] | None = None
+        self.matches: array.array[int] | None = None
+
+    def close(self) -> None:
+        self.session.close()
+
+    # ---- what is shown
+
+    def state(self) -> dict[str, Any]:
+        """The messages, the diagnostics, and what can be undone."""
+        with self.lock:
+            messages = tools.messages_of(self.text)
+            return {
+                "version": self.version, "file": os.path.basename(self.path), "isSaved": self.text == self.saved,
+                "messages": [{"place": it.place, "number": it.number, "name": it.name, "size": it.size} for it in messages],
+                "diagnostics": [tools.shown(it) for it in self.session.diagnostics()],
+                "undo": len(self.before), "redo": len(self.after), "live": self.log.is_live,
+            }
+
+    @contextlib.contextmanager
+    def printed(self) -> Iterator[str]:
+        """A file of the database as it is now."""
+        with tools.temporary_database() as file:
+            file.write(self.text)
+            file.flush()
+            yield file.name
+
+    def said(self, *words: str) -> bytes:
+        """What the program writes of the database as it is now."""
+        with self.lock, self.printed() as path:
+            done = subprocess.run([tools.program(), *words, "--", path], stdin=subprocess.DEVNULL, capture_output=True, check=False)
+        return done.stdout
+
+    def message(self, place: int) -> str:
+        """The object of a message, as the program writes it."""
+        lines = self.said("dump", "--json").split(b"\n")
+        if not 0 <= place < len(lines) - 2:
+            raise Refused(f"there is no message {place}")
+        return lines[place].decode()
+
+    def remedies(self) -> dict[str, str]:
+        """The remedy of each diagnostic, by its words."""
+        found: dict[str, str] = {}
+        words = ""
+        for line in tools.shown(self.said("explain")).split("\n"):
+            if line.startswith(("line ", "lines ")):
+                words = line.partition(": ")[2]
+            elif line.startswith("  remedy: "):
+                found.setdefault(words, line.removeprefix("  remedy: "))
+        return found
+
+    def lines(self, first: int, count: int) -> dict[str, Any]:
+        """A window of the log, decoded; of the lines that a filter leaves, if there is one."""
+        with self.lock:
+            count = max(0, min(count, WINDOW))
+            total = self.log.count if self.matches is None else len(self.matches)
+            first = max(0, min(first, total - count))
+            if self.matches is None:
+                lines = self.log.lines(first, count)
+            else:
+                lines = [line for at in self.matches[first : first + count] for line in self.log.lines(at, 1)]
+            shown = self.decoded(lines)
+            numbers = range(first, first + len(lines)) if self.matches is None else self.matches[first : first + len(lines)]
+            return {"first": first, "total": total, "items": [[at + 1, text] for at, text in zip(numbers, shown)]}
+
+    def decoded(self, lines: list[bytes]) -> list[str]:
+        """Lines as the session shows them. (One that it refuses, as it is too long, is shown as it is.)"""
+        kept = [it for it in lines if len(it) <= MOST_BYTES]
+        self.session.log(kept)
+        shown = iter(self.session.shown_lines()[-len(kept) :] if kept else [])
+        return [tools.shown(next(shown) if len(it) <= MOST_BYTES else it[: MOST_BYTES]) for it in lines]
+
+    def differences(self) -> list[str]:
+        """What differs from the file as it was read or saved."""
+        with self.lock, tools.temporary_database() as old, self.printed() as new:
+            old.write(self.read_text)
+            old.flush()
+            return list(compared_databases.differences(tools.database(old.name), tools.database(new)))
+
+    # ---- edits
+
+    def edit(self, command: str) -> None:
+        """Does an edit as it is in a script. One that is refused raises, and changes nothing."""
+        with self.lock:
+            reply = self.session.ask(command.encode("utf-8", "surrogateescape"))[0]
+            if reply != b"ok":
+                raise Refused(reply.decode())
+            self.before.append(self.text)
+            self.after.clear()
+            self.changed(self.session.text())
+
+    def move(self, place: int, signal: str, start: int, length: int) -> None:
+        """Gives a signal another start or length, by its statement as it is printed."""
+        with self.lock:
+            at = -1
+            for pieces in tools.canonical_lines(self.text):
+                line = b"".join(pieces)
+                at += tools.MESSAGE.match(line) is not None
+                found = SIGNAL.match(line)
+                if at == place and found and found[1].decode() == signal:
+                    moved = PLACE.sub(rb"\g<1>%d|%d@" % (start, length), line, count=1)
+                    self.edit(f"change-signal {place} " + moved.lstrip().decode("utf-8", "surrogateescape"))
+                    return
+            raise Refused(f"there is no signal {signal}")
+
+    def changed(self, text: bytes) -> None:
+        self.text = text
+        self.version += 1
+
+    def open_text(self, text: bytes) -> None:
+        """Opens a text of before or after in a session of its own."""
+        with tools.temporary_database() as file:
+            file.write(text)
+            file.flush()
+            opened = shell_session.Session(file.name, self.short, WINDOW)
+        opened.path = self.path
+        self.session.close()
+        self.session = opened
+        self.changed(text)
+
+    def undo(self) -> None:
+        with self.lock:
+            if not self.before:
+                raise Refused("there is nothing to undo")
+            self.after.append(self.text)
+            self.open_text(self.before.pop())
+
+    def redo(self) -> None:
+        with self.lock:
+            if not self.after:
+                raise Refused("there is nothing to redo")
+            self.before.append(self.text)
+            self.open_text(self.after.pop())
+
+    def save(self) -> None:
+        """Writes the database into its file, whole; not over what another changed in the meantime, nor over // comments."""
+        with self.lock:
+            with open(self.path, "rb") as file:
+                if file.read() != self.read_text:
+                    raise Refused("the file was changed by another since it was read")
+            if tools.comment_line(self.read_text):
+                raise Refused("the file has // comments, which are not printed: remove them, or save by candesk-shell")
+            written = self.text
+            if vector_order.is_vector(self.read_text):
+                written = vector_order.vector_text(self.text, self.read_text)
+            with tools.replacing(self.path) as new:
+                new.write(written)
+            self.read_text, self.saved = written, self.text
+
+    # ---- the whole log
+
+    def decoder(self, text: bytes) -> subprocess.Popen[bytes]:
+        """A program that decodes lines into objects by a database."""
+        with tools.temporary_database() as file:
+            file.write(text)
+            file.flush()
+            words = [tools.program(), "decode", *(["--short"] if self.short else []), "--json", "--", file.name]
+            running = subprocess.Popen(words, start_new_session=True, stdin=subprocess.PIPE, stdout=subprocess.PIPE,
+                                       stderr=subprocess.DEVNULL)
+            assert running.stdin and running.stdout
+            # (the database was read once a line is answered)
+            running.stdin.write(b"\n")
+            running.stdin.flush()
+            running.stdout.readline()
+        return running
+
+    def objects(self) -> Iterator[bytes]:
+        """The objects of all lines of the log, by the database as it is now."""
+        with self.decoder(self.text) as running:
+            assert running.stdin and running.stdout
+            feeder = threading.Thread(target=self.feed, args=(running.stdin,), daemon=True)
+            feeder.start()
+            try:
+                yield from running.stdout
+            finally:
+                running.kill()
+                feeder.join()
+
+    def feed(self, sink: IO[bytes]) -> None:
+        with contextlib.suppress(OSError):
+            for piece in self.log.pieces():
+                sink.write(piece)
+        with contextlib.suppress(OSError):
+            sink.close()
+
+    def set_filter(self, message: str, signal: str) -> None:
+        """Leaves only the lines that show a message, or a signal of it; all lines, if both are empty."""
+        wanted = b'"message":"%s"' % message.encode() if message else b'"signals":{'
+        shown = b'"%s":{' % signal.encode() if signal else b""
+        found = None
+        if message or signal:
+            found = array.array("Q", (at for at, line in enumerate(self.objects()) if wanted in line and shown in line))
+        with self.lock:
+            self.filter, self.matches = (message, signal) if found is not None else None, found
+
+
+class Counts:
+    """What came of each message, by its number."""
+
+    def __init__(self) -> None:
+        self.found: dict[int, Came] = {}
+
+    def put(self, line: bytes) -> None:
+        """Counts the object of a line."""
+        at = line.find(b',"number":')
+        if at < 0:
+            return
+        end = at + len(b',"number":')
+        number = int(line[end : end + 11].split(b",", 1)[0].rstrip(b"}\n"))
+        time = float(line[8 : line.index(b",")])
+        came = self.found.get(number)
+        if came is None:
+            came = self.found[number] = Came(time)
+        came.put(time, line)
+
+    def shown(self) -> dict[str, dict[str, Any]]:
+        return {
+            str(number): {"count": it.frames, "cycle": (it.last - it.first) / (it.frames - 1) if it.frames > 1 else None}
+            for number, it in list(self.found.items())
+        }
+
+
+class LiveCounts(Counts):
+    """Counts of a log that comes live, by a program that is kept open."""
+
+    def __init__(self, desk: Desk) -> None:
+        super().__init__()
+        self.desk, self.version = desk, desk.version
+        self.running = desk.decoder(desk.text)
+
+    def close(self) -> None:
+        self.running.kill()
+        self.running.wait()
+
+    def count(self, lines: list[bytes]) -> None:
+        """Counts lines, by the database as it is now: after an edit all that is kept is counted anew."""
+        if self.version != self.desk.version:
+            self.close()
+            self.version, self.found = self.desk.version, {}
+            self.running = self.desk.decoder(self.desk.text)
+            lines = list(self.desk.log.lines(0, self.desk.log.count))
+        assert self.running.stdin and self.running.stdout
+        for at in range(0, len(lines), BATCH):
+            batch = [it[:MOST_BYTES] for it in lines[at : at + BATCH]]
+            self.running.stdin.write(b"".join(it + b"\n" for it in batch))
+            self.running.stdin.flush()
+            for _ in batch:
+                self.put(self.running.stdout.readline())
