@@ -276,12 +276,8 @@ async def try_long_log(tries: Tries, folder: str) -> None:
 
 async def try_live_log(tries: Tries, folder: str) -> None:
     """Under a live log of 5,000 lines a second an edit of 1,000 messages is soon seen."""
-    signals = ' SG_ A : 0|16@1+ (0.5,1) [0|0] "V" E\n SG_ B : 16|16@1- (1,0) [0|0] "" E\n'
-    messages = "".join(f"BO_ {at} M{at}: 8 E\n{signals}" for at in range(1000))
-    path = written(folder, "many.dbc", messages.encode())
-    feeding = "import sys, time\nfor at in range(60000):\n    sys.stdout.write('(%d.%06d) can0 %03X#0102030405060708\\n' % "
-    feeding += "(at // 5000, at % 5000 * 200, at % 1000))\n    if at % 50 == 0: sys.stdout.flush(); time.sleep(0.01)\n"
-    with subprocess.Popen([sys.executable, "-c", feeding], stdout=subprocess.PIPE) as feeder:
+    path, feeder = page_browser.many_messages(folder)
+    with feeder:
         with page("--keep", "20000", path, log=feeder.stdout) as it:
             async with it.talk() as talk:
                 await talk.until(lambda told: told.get("log", {}).get("total", 0) > 5000)

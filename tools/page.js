@@ -2,9 +2,16 @@
 // The page asks the server by wishes, each with a number, and is told what changed. All text of a database or a log is only ever
 // text: nothing is put into the page as HTML, and names are keys of Maps alone.
 const by = id => document.getElementById(id);
-const LINE = 18, MOST_HEIGHT = 8e6, HISTORY = 120;
-const page = { state: null, place: 0, message: null, counts: new Map(), remedies: new Map(), before: new Set(), total: 0, first: 0,
-  history: new Map(), historyOf: "", branch: new Map(), asked: 0, waiting: new Map(), editedAt: 0 };
+const LINE = 18, MOST_HEIGHT = 8e6, HISTORY = 120, MOST_FOUND = 200;
+const page = {
+  state: null, place: 0, message: null, branch: new Map(), counts: new Map(), remedies: new Map(), before: new Set(),
+  // the window of the log, and the last values of a message
+  total: 0, first: 0, history: new Map(), historyOf: "",
+  // wishes that wait for their answers; when an edit began; which version the log shows
+  asked: 0, waiting: new Map(), editedAt: 0, shownVersion: 0,
+  // what the lists were made of
+  items: [], listed: null, offered: null, found: null,
+};
 
 function made(tag, text, properties = {}) {
   const element = document.createElement(tag);
@@ -66,23 +73,38 @@ async function showState(state) {
   showMessages(); showFound(); showChoices();
   await showMessage();
   await showLines(page.first, true);
-  by("said").dataset.version = state.version;
   for (const [words, remedy] of Object.entries(await wish("remedies"))) page.remedies.set(words, remedy);
   showFound();
 }
+// the list of messages is made anew only where it differs; what came of each is put into it
 function showMessages() {
   const sought = by("search").value.toLowerCase();
-  by("messages").replaceChildren(...page.state.messages
-    .filter(it => it.name.toLowerCase().includes(sought) || hex(it).toLowerCase().includes(sought))
-    .map(it => {
-      const came = page.counts.get(String(it.number));
+  const list = page.state.messages.filter(it => it.name.toLowerCase().includes(sought) || hex(it).toLowerCase().includes(sought));
+  const key = list.map(it => `${it.place} ${it.number} ${it.name}`).join();
+  if (page.listed !== key) {
+    page.listed = key;
+    page.items = list.map(it => {
       const button = made("button", null, { onclick: () => openMessage(it.place) });
-      if (it.place === page.place) button.setAttribute("aria-current", "true");
-      button.append(made("span", it.name), made("code", hex(it)),
-        made("small", came ? `${came.count.toLocaleString()} frames` : "no frames"),
-        made("small", came && came.cycle !== null ? `${(came.cycle * 1000).toFixed(1)} ms` : ""));
-      const item = made("li"); item.append(button); return item;
-    }));
+      const frames = made("small"), cycle = made("small");
+      button.append(made("span", it.name), made("code", hex(it)), frames, cycle);
+      return { message: it, button, frames, cycle };
+    });
+    by("messages").replaceChildren(...page.items.map(it => { const item = made("li"); item.append(it.button); return item; }));
+  }
+  for (const { message, button, frames, cycle } of page.items) {
+    const came = page.counts.get(String(message.number));
+    put(frames, came ? `${came.count} frames` : "no frames");
+    put(cycle, came && came.cycle !== null ? `${(came.cycle * 1000).toFixed(1)} ms` : "");
+    const current = message.place === page.place ? "true" : null;
+    if (button.ariaCurrent !== current) button.ariaCurrent = current;
+  }
+}
+// puts a text into an element, if it isn't there already
+const texts = new WeakMap();
+function put(element, text) {
+  if (texts.get(element) === text) return;
+  texts.set(element, text);
+  element.textContent = text;
 }
 function openMessage(place) {
   page.place = place; page.branch.clear();
@@ -93,15 +115,20 @@ function showCounts(counts) {
   if (page.state) showMessages();
   showValues();
 }
+// the diagnostics, those that are new first; of very many the first ones
 function showFound() {
-  by("amount").textContent = page.state.diagnostics.length;
-  by("found").replaceChildren(...page.state.diagnostics.map(words => {
-    const item = made("li", words, { className: page.before.has(words) ? "" : "new" });
-    if (page.remedies.has(words)) { item.append(made("br"), made("small", page.remedies.get(words))); }
+  const isNew = it => !page.before.has(it), all = page.state.diagnostics;
+  const shown = [...all.filter(isNew), ...all.filter(it => !isNew(it))].slice(0, MOST_FOUND);
+  const key = JSON.stringify(shown.map(it => [it, isNew(it), page.remedies.get(it)]));
+  put(by("amount"), String(all.length));
+  if (page.found === key) return;
+  page.found = key;
+  by("found").replaceChildren(...shown.map(words => {
+    const item = made("li", words, { className: isNew(words) ? "new" : "" });
+    if (page.remedies.has(words)) item.append(made("br"), made("small", page.remedies.get(words)));
     return item;
   }));
-  const first = by("found").querySelector(".new");
-  if (first) first.scrollIntoView({ block: "nearest" });
+  if (all.length > shown.length) by("found").append(made("li", `and ${(all.length - shown.length).toLocaleString()} more`));
 }
 
 // ---- layout
@@ -259,7 +286,12 @@ async function showLines(first, isForced = false) {
     }));
   }
   isAsking = false;
-  by("said").dataset.shown = by("said").dataset.version;
+  if (page.editedAt && page.shownVersion !== page.state.version) {
+    // how long the edit took until grid and log show it, in milliseconds
+    by("said").dataset.took = performance.now() - page.editedAt;
+    page.editedAt = 0;
+  }
+  page.shownVersion = page.state.version;
 }
 const scale = () => Math.max(1, page.total - visible() + 1) / Math.max(1, by("log").scrollHeight - by("log").clientHeight);
 by("log").onscroll = () => { if (!by("follow").checked) showLines(by("log").scrollTop * scale()); };
@@ -277,7 +309,9 @@ by("jump").onchange = () => {
   showLines(first);
 };
 function showChoices() {
-  const chosen = by("only").value;
+  const chosen = by("only").value, key = page.state.messages.map(it => it.name).join();
+  if (page.offered === key) return;
+  page.offered = key;
   const names = page.state.messages.map(it => made("option", it.name, { value: it.name }));
   by("only").replaceChildren(made("option", "all", { value: "" }), ...names);
   by("only").value = chosen;

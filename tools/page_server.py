@@ -21,9 +21,11 @@ from page_desk import Counts, Desk, LiveCounts, LiveLog, Refused
 
 LOOPBACK = "127.0.0.1"
 TOKEN_BYTES = 24
-# the most bytes of a message, how often a live log is shown, and how long a page may be gone, in seconds
+# the most bytes of a message; how often a live log is shown, and how long a page may be gone, in seconds
 MOST_BYTES = 1 << 17
 EVERY = 0.1
+# how often what came of each message is shown
+COUNTED = 1
 GONE = 5
 POLICY = (
     "default-src 'none'; script-src 'nonce-{0}'; style-src 'nonce-{0}'; connect-src 'self'; base-uri 'none'; form-action 'none';"
@@ -209,11 +211,16 @@ class Server:
         assert isinstance(log, LiveLog)
         counts = LiveCounts(self.desk)
         self.counts = counts
+        loop = asyncio.get_running_loop()
+        shown = loop.time() - COUNTED
         try:
             while (lines := await self.run(read)) is not None:
                 log.put(lines)
                 await self.run(lambda: counts.count(lines or []))
-                await self.push_all({"log": {"total": self.total()}, "counts": counts.shown()})
+                told: dict[str, Any] = {"log": {"total": self.total()}}
+                if loop.time() >= shown + COUNTED:
+                    shown, told["counts"] = loop.time(), counts.shown()
+                await self.push_all(told)
                 await asyncio.sleep(EVERY)
         finally:
             counts.close()
