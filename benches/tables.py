@@ -24,6 +24,8 @@ sys.path.insert(0, os.path.join(ROOT, "python"))
 
 import candesk  # noqa: E402
 
+os.environ.setdefault("CANDESK", os.path.join(ROOT, "candesk"))
+
 CAR, DRIVE = (os.path.join(ROOT, "examples", it) for it in ("car.dbc", "drive.log"))
 LINES = 1_000_000
 # how many lines there are for each that canmatrix decodes, as it takes so much longer
