@@ -70,6 +70,21 @@ class Look:
         script = "[...document.querySelectorAll('#messages button')].find(it => it.textContent.startsWith(arguments[0])).click()"
         self.driver.execute_script(script, message)
 
+    def drag(self, old: int, new: int) -> None:
+        """Drags a bit of the grid to another."""
+        script = "const at = it => document.querySelector(`#grid [data-at='${it}']`), told = { bubbles: true, cancelable: true };"
+        script += "at(arguments[0]).dispatchEvent(new DragEvent('dragstart', told));"
+        script += "at(arguments[1]).dispatchEvent(new DragEvent('drop', told))"
+        self.driver.execute_script(script, old, new)
+
+    def start_of(self, signal: str) -> str:
+        script = "return document.querySelector(`#signals [aria-label='start of ${arguments[0]}']`).value"
+        return str(self.driver.execute_script(script, signal))
+
+    def set_start(self, signal: str, start: str) -> None:
+        script = "const it = document.querySelector(`#signals [aria-label='start of ${arguments[0]}']`); it.value = arguments[1];"
+        self.driver.execute_script(script + "it.dispatchEvent(new Event('change'))", signal, start)
+
     def choose(self, name: str, value: str) -> None:
         script = "const it = document.getElementById(arguments[0]); it.value = arguments[1]; it.dispatchEvent(new Event('change'))"
         self.driver.execute_script(script, name, value)
@@ -138,6 +153,10 @@ def try_browser(tries: Tries, folder: str, page: Callable[..., Any], picture: st
             look.wait("shared bits, marked", lambda: driver.execute_script(shared) == 2)
             look.by("undo").click()
             look.wait("undone", lambda: "6 Overlap 769" not in look.text("found"))
+            look.drag(1, 5)
+            look.wait("a signal is dragged", lambda: look.start_of("Main") == "5")
+            look.set_start("Main", "1")
+            look.wait("a start is typed", lambda: look.start_of("Main") == "1" and look.text("undo") == "Undo 3")
             look.do("frob")
             look.wait("a bad command", lambda: look.text("said") == "bad command")
             look.by("save").click()
