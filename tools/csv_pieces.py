@@ -19,7 +19,7 @@ TO_QUOTE = re.compile(r'[,"\r\n]')
 
 
 def whole_rows(pieces: Iterator[bytes]) -> Iterator[bytes]:
-    """The same bytes, cut behind the ends of rows: a line feed within quotes ends none."""
+    """The same bytes, cut after the ends of rows: a line feed within quotes ends none."""
     kept = b""
     for piece in pieces:
         kept += piece

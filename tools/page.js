@@ -2,13 +2,13 @@
 // The page asks the server by wishes, each with a number, and is told what changed. All text of a database or a log is only ever
 // text: nothing is put into the page as HTML, and names are keys of Maps alone.
 const by = id => document.getElementById(id);
-const LINE = 18, MOST_HEIGHT = 8e6, HISTORY = 120, MOST_FOUND = 200;
+const LINE = 18, MOST_HEIGHT = 8e6, HISTORY = 120, MOST_FOUND = 50;
 const page = {
   state: null, place: 0, message: null, branch: new Map(), counts: new Map(), remedies: new Map(), before: new Set(),
   // the window of the log, and the last values of a message
   total: 0, first: 0, history: new Map(), historyOf: "",
-  // wishes that wait for their answers; when an edit began; which version the log shows
-  asked: 0, waiting: new Map(), editedAt: 0, shownVersion: 0,
+  // wishes that wait for their answers, and when an edit began
+  asked: 0, waiting: new Map(), editedAt: 0,
   // what the lists were made of
   items: [], listed: null, offered: null, found: null,
 };
@@ -39,7 +39,9 @@ function wish(want, words = {}) {
 async function edit(want, words) {
   page.editedAt = performance.now();
   try {
-    await wish(want, words);
+    // (the answer has all that this page shows)
+    const look = { place: page.place, first: Math.max(0, Math.round(page.first)), count: visible() };
+    await showState(await wish(want, { ...words, look }));
     say(want === "save" ? "saved" : "ok");
   } catch (error) {
     say(error.message);
@@ -52,7 +54,7 @@ socket.onmessage = event => {
     page.waiting.delete(told.id);
     if (told.refused !== undefined) refused(new Error(told.refused)); else done(told.answer);
   }
-  if (told.state) showState(told.state);
+  if (told.state) showState(told);
   if (told.counts) showCounts(told.counts);
   if (told.log) showTotal(told.log.total);
 };
@@ -61,8 +63,9 @@ document.addEventListener("visibilitychange", () => wish("hidden", { hidden: doc
 
 // ---- messages
 
-async function showState(state) {
+async function showState({ state, message, lines }) {
   const old = page.state;
+  if (old && state.version < old.version) return;
   page.state = state;
   document.title = `${state.isSaved ? "" : "• "}${state.file} – candesk`;
   by("title").textContent = `${state.file}${state.isSaved ? "" : " (edited)"}`;
@@ -70,9 +73,22 @@ async function showState(state) {
   by("undo").textContent = `Undo ${state.undo || ""}`; by("redo").textContent = `Redo ${state.redo || ""}`;
   page.place = Math.min(page.place, state.messages.length - 1);
   page.before = new Set(old ? old.diagnostics : state.diagnostics);
-  showMessages(); showFound(); showChoices();
-  await showMessage();
-  await showLines(page.first, true);
+  if (message && lines) {
+    putMessage(JSON.parse(message));
+    putLines(lines);
+    showMessages(); showFound();
+  } else {
+    showMessages(); showFound(); showChoices();
+    await showMessage();
+    await showLines(page.first);
+  }
+  if (page.editedAt) {
+    // how long the edit took until the next picture of the page has all of it, in milliseconds
+    const began = page.editedAt;
+    page.editedAt = 0;
+    requestAnimationFrame(() => { document.body.getBoundingClientRect(); by("said").dataset.took = performance.now() - began; });
+  }
+  showChoices();
   for (const [words, remedy] of Object.entries(await wish("remedies"))) page.remedies.set(words, remedy);
   showFound();
 }
@@ -128,6 +144,7 @@ function showFound() {
     if (page.remedies.has(words)) item.append(made("br"), made("small", page.remedies.get(words)));
     return item;
   }));
+  if (shown.some(isNew)) by("found").closest("aside").scrollTop = 0;
   if (all.length > shown.length) by("found").append(made("li", `and ${(all.length - shown.length).toLocaleString()} more`));
 }
 
@@ -135,8 +152,10 @@ function showFound() {
 
 async function showMessage() {
   if (page.place < 0) { by("name").textContent = "no messages"; return; }
-  page.message = JSON.parse(await wish("message", { place: page.place }));
-  const message = page.message;
+  putMessage(JSON.parse(await wish("message", { place: page.place })));
+}
+function putMessage(message) {
+  page.message = message;
   const size = `${message.size} ${message.size === 1 ? "byte" : "bytes"}`;
   by("name").textContent = `${message.name}  ${hex(message)}  ${size}  ${message.sender}`;
   showBranches(); showGrid(); showSignals(); showValues();
@@ -266,32 +285,28 @@ function showTotal(total) {
   page.total = total;
   by("total").textContent = `${total.toLocaleString()} lines`;
   by("space").style.height = `${Math.min(total * LINE, MOST_HEIGHT)}px`;
-  showLines(by("follow").checked ? total : page.first, true);
+  showLines(by("follow").checked ? total : page.first);
 }
 const visible = () => Math.ceil(by("log").clientHeight / LINE) + 1;
 let isAsking = false, wanted = null;
-async function showLines(first, isForced = false) {
+async function showLines(first) {
   if (document.hidden) return;
-  wanted = { first, isForced };
+  wanted = { first };
   if (isAsking) return;
   isAsking = true;
   while (wanted) {
     const { first: from } = wanted; wanted = null;
-    const got = await wish("lines", { first: Math.max(0, Math.round(from)), count: visible() });
-    page.first = got.first; page.total = got.total;
-    by("lines").replaceChildren(...got.items.map(([number, text]) => {
-      const line = made("div"); line.append(made("span", number), text);
-      if (page.message && text.includes(` :: ${page.message.name}(`)) line.className = "shown";
-      return line;
-    }));
+    putLines(await wish("lines", { first: Math.max(0, Math.round(from)), count: visible() }));
   }
   isAsking = false;
-  if (page.editedAt && page.shownVersion !== page.state.version) {
-    // how long the edit took until grid and log show it, in milliseconds
-    by("said").dataset.took = performance.now() - page.editedAt;
-    page.editedAt = 0;
-  }
-  page.shownVersion = page.state.version;
+}
+function putLines(got) {
+  page.first = got.first; page.total = got.total;
+  by("lines").replaceChildren(...got.items.map(([number, text]) => {
+    const line = made("div"); line.append(made("span", number), text);
+    if (page.message && text.includes(` :: ${page.message.name}(`)) line.className = "shown";
+    return line;
+  }));
 }
 const scale = () => Math.max(1, page.total - visible() + 1) / Math.max(1, by("log").scrollHeight - by("log").clientHeight);
 by("log").onscroll = () => { if (!by("follow").checked) showLines(by("log").scrollTop * scale()); };

@@ -1,7 +1,7 @@
 """What a live page shows: a database that is edited, with the window of its log that is looked at.
 
 One `candesk session --keep` holds the database and the lines of the window, so that every answer is the program's. The log itself
-never goes through the session: it stays in its file, behind an index, or comes live and is kept in a ring.
+never goes through the session: it stays in its file, found by an index, or comes live and is kept in a ring.
 """
 
 from __future__ import annotations
@@ -167,7 +167,7 @@ class Desk:
 
     def said(self, *words: str) -> bytes:
         """What the program writes of the database as it is now."""
-        with self.lock, self.printed() as path:
+        with self.printed() as path:
             done = subprocess.run([tools.program(), *words, "--", path], stdin=subprocess.DEVNULL, capture_output=True, check=False)
         return done.stdout
 

@@ -151,8 +151,8 @@ class Server:
                 answer: Any = None
             elif wish in self.edits:
                 await self.run(lambda: self.edits[wish](asked))
-                await self.changed()
-                answer = None
+                answer = await self.looked_at(asked.get("look"))
+                await self.changed(answer["state"], socket)
             elif wish in self.wishes:
                 answer = await self.run(lambda: self.wishes[wish](asked))
             else:
@@ -166,9 +166,25 @@ class Server:
             told = {"id": asked.get("id"), "refused": f"{error.filename or 'a file'}: {error.strerror or error}"}
         await self.push(socket, told)
 
-    async def changed(self) -> None:
-        """After an edit: all that look see it. What takes the whole log follows behind."""
-        await self.push_all({"state": await self.run(self.desk.state), "log": {"total": self.total()}})
+    async def looked_at(self, look: Any) -> dict[str, Any]:
+        """The state, and what a page looks at: a message and a window of the log."""
+        calls: dict[str, Callable[[], Any]] = {"state": self.desk.state}
+        if isinstance(look, dict):
+            place, first, count = (int(look[it]) for it in ("place", "first", "count"))
+            calls["lines"] = lambda: self.desk.lines(first, count)
+            calls["message"] = lambda: self.desk.message(place)
+        answers = await asyncio.gather(*map(self.run, calls.values()), return_exceptions=True)
+        for it in answers:
+            # (the message that was looked at may have been removed)
+            if isinstance(it, BaseException) and not isinstance(it, Refused):
+                raise it
+        return {name: it for name, it in zip(calls, answers) if not isinstance(it, Refused)}
+
+    async def changed(self, state: dict[str, Any], editor: web.WebSocketResponse) -> None:
+        """After an edit: all others that look see it too. What takes the whole log follows."""
+        for it in self.lookers - self.hidden - {editor}:
+            await self.push(it, {"state": state, "log": {"total": self.total()}})
+        await self.push(editor, {"log": {"total": self.total()}})
         if self.desk.version != self.counted_version:
             self.later = asyncio.get_running_loop().create_task(self.recount())
 

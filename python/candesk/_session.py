@@ -152,7 +152,7 @@ class SessionTalk:
 
 
 class _Quotes:
-    """Whether a quote is open behind some lines. The closing quote is the first that doesn't stand right after a backslash."""
+    """Whether a quote is open after some lines. The closing quote is the first that doesn't stand right after a backslash."""
 
     def __init__(self) -> None:
         self.is_open = False
