@@ -292,6 +292,12 @@ async def try_live_log(tries: Tries, folder: str) -> None:
                     pushes += "log" in await talk.next()
                 tries.note("page: pushes of a live log", 1 <= pushes <= 11, pushes)
                 tries.note("page: an edit under a live log", min(taken) < SOON, taken)
+                await talk.until(lambda told: told.get("log", {}).get("total", 0) == 20_000)
+                await talk.wish("filter", message="M7", signal="")
+                items = (await talk.wish("lines", first=0, count=5))["items"]
+                # (message 7 has every 1,000th line, the first of them line 8)
+                is_right = len(items) == 5 and all(" :: M7(" in text and at % 1000 == 8 for at, text in items)
+                tries.note("page: a filter of a live log that is full", is_right, items)
                 middle, best = (1000 * it for it in (sorted(taken)[4], min(taken)))
                 print(f"page: an edit of 1,000 messages under a live log: {middle:.0f} ms, at best {best:.0f}")
         feeder.kill()

@@ -18,7 +18,6 @@ NUMBERS = 6
 # times are whole nanoseconds
 SECOND = 10**9
 CYCLE_UNIT = SECOND // 1000
-CYCLE = "GenMsgCycleTime"
 # from SOF to the pause after a frame: without data, and how many of these bits can need stuff bits, of 11 and 29 bits
 CLASSIC = {False: (47, 34), True: (67, 54)}
 # of CAN FD: the bits at the bitrate, and those at the data bitrate but data and CRC; the CRC, its stuff count and fixed stuff bits

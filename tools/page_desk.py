@@ -12,7 +12,6 @@ import contextlib
 import os
 import re
 import subprocess
-import tempfile
 import threading
 from collections.abc import Iterator
 from typing import IO, Any, BinaryIO, Union
@@ -67,6 +66,9 @@ class FileLog:
             base, last = base + len(chunk), chunk[-1:]
         self.count += last != b"\n"
 
+    # the number of the first line that is there
+    first = 0
+
     def lines(self, first: int, count: int) -> list[bytes]:
         with open(self.path, "rb") as file:
             file.seek(self.offsets[min(first // STEP, len(self.offsets) - 1)])
@@ -74,7 +76,11 @@ class FileLog:
                 file.readline()
             return [line.rstrip(b"\n") for _ in range(min(count, self.count - first)) if (line := file.readline())]
 
-    def pieces(self) -> Iterator[bytes]:
+    def pieces(self) -> tuple[int, Iterator[bytes]]:
+        """The number of the first line, and all lines in pieces."""
+        return 0, self.chunks()
+
+    def chunks(self) -> Iterator[bytes]:
         with open(self.path, "rb") as file:
             yield from iter(lambda: file.read(CHUNK), b"")
 
@@ -93,6 +99,11 @@ class LiveLog:
     def count(self) -> int:
         return len(self.kept)
 
+    @property
+    def first(self) -> int:
+        """The number of the first line that is there; those before it went for later ones."""
+        return self.came - len(self.kept)
+
     def put(self, lines: list[bytes]) -> None:
         with self.lock:
             self.kept.extend(lines)
@@ -100,13 +111,14 @@ class LiveLog:
 
     def lines(self, first: int, count: int) -> list[bytes]:
         with self.lock:
-            return [self.kept[at] for at in range(max(first, 0), min(first + count, len(self.kept)))]
+            at = first - self.first
+            return [self.kept[it] for it in range(max(at, 0), min(at + count, len(self.kept)))]
 
-    def pieces(self) -> Iterator[bytes]:
+    def pieces(self) -> tuple[int, Iterator[bytes]]:
         with self.lock:
-            lines = list(self.kept)
-        for at in range(0, len(lines), WINDOW):
-            yield b"".join(it + b"\n" for it in lines[at : at + WINDOW])
+            first, lines = self.first, list(self.kept)
+        parts = (lines[at : at + WINDOW] for at in range(0, len(lines), WINDOW))
+        return first, (b"".join(it + b"\n" for it in part) for part in parts)
 
 
 Log = Union[FileLog, LiveLog]
@@ -193,15 +205,21 @@ class Desk:
         """A window of the log, decoded; of the lines that a filter leaves, if there is one."""
         with self.lock:
             count = max(0, min(count, WINDOW))
-            total = self.log.count if self.matches is None else len(self.matches)
+            total = self.total
             first = max(0, min(first, total - count))
             if self.matches is None:
-                lines = self.log.lines(first, count)
+                begin = self.log.first + first
+                lines = [(begin + at, line) for at, line in enumerate(self.log.lines(begin, count))]
             else:
-                lines = [line for at in self.matches[first : first + count] for line in self.log.lines(at, 1)]
-            shown = self.decoded(lines)
-            numbers = range(first, first + len(lines)) if self.matches is None else self.matches[first : first + len(lines)]
-            return {"first": first, "total": total, "items": [[at + 1, text] for at, text in zip(numbers, shown)]}
+                wanted = self.matches[first : first + count]
+                lines = [(at, line) for at in wanted if at >= self.log.first for line in self.log.lines(at, 1)]
+            shown = self.decoded([line for _, line in lines])
+            return {"first": first, "total": total, "items": [[at + 1, text] for (at, _), text in zip(lines, shown)]}
+
+    @property
+    def total(self) -> int:
+        """How many lines there are, or how many a filter leaves."""
+        return self.log.count if self.matches is None else len(self.matches)
 
     def decoded(self, lines: list[bytes]) -> list[str]:
         """Lines as the session shows them. (One that it refuses, as it is too long, is shown as it is.)"""
@@ -280,9 +298,7 @@ class Desk:
                     raise Refused("the file was changed by another since it was read")
             if tools.comment_line(self.read_text):
                 raise Refused("the file has // comments, which are not printed: remove them, or save by candesk-shell")
-            written = self.text
-            if vector_order.is_vector(self.read_text):
-                written = vector_order.vector_text(self.text, self.read_text)
+            written = vector_order.written_like(self.text, self.read_text)
             with tools.replacing(self.path) as new:
                 new.write(written)
             self.read_text, self.saved = written, self.text
@@ -304,21 +320,23 @@ class Desk:
             running.stdout.readline()
         return running
 
-    def objects(self) -> Iterator[bytes]:
-        """The objects of all lines of the log, by the database as it is now."""
+    def objects(self) -> Iterator[tuple[int, bytes]]:
+        """The objects of all lines of the log with their numbers, by the database as it is now."""
         with self.decoder(self.text) as running:
             assert running.stdin and running.stdout
-            feeder = threading.Thread(target=self.feed, args=(running.stdin,), daemon=True)
+            first, pieces = self.log.pieces()
+            feeder = threading.Thread(target=self.feed, args=(running.stdin, pieces), daemon=True)
             feeder.start()
             try:
-                yield from running.stdout
+                yield from enumerate(running.stdout, first)
             finally:
                 running.kill()
                 feeder.join()
 
-    def feed(self, sink: IO[bytes]) -> None:
+    @staticmethod
+    def feed(sink: IO[bytes], pieces: Iterator[bytes]) -> None:
         with contextlib.suppress(OSError):
-            for piece in self.log.pieces():
+            for piece in pieces:
                 sink.write(piece)
         with contextlib.suppress(OSError):
             sink.close()
@@ -329,7 +347,7 @@ class Desk:
         shown = b'"%s":{' % signal.encode() if signal else b""
         found = None
         if message or signal:
-            found = array.array("Q", (at for at, line in enumerate(self.objects()) if wanted in line and shown in line))
+            found = array.array("Q", (at for at, line in self.objects() if wanted in line and shown in line))
         with self.lock:
             self.filter, self.matches = (message, signal) if found is not None else None, found
 
@@ -378,7 +396,7 @@ class LiveCounts(Counts):
             self.close()
             self.version, self.found = self.desk.version, {}
             self.running = self.desk.decoder(self.desk.text)
-            lines = list(self.desk.log.lines(0, self.desk.log.count))
+            lines = self.desk.log.lines(self.desk.log.first, self.desk.log.count)
         assert self.running.stdin and self.running.stdout
         for at in range(0, len(lines), BATCH):
             batch = [it[:MOST_BYTES] for it in lines[at : at + BATCH]]

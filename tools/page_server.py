@@ -58,7 +58,6 @@ class Server:
             "lines": lambda it: desk.lines(int(it["first"]), int(it["count"])),
             "remedies": lambda _: desk.remedies(),
             "values": lambda it: self.values(int(it["number"]), bool(it.get("all"))),
-            "counts": lambda _: self.counts.shown(),
             "differences": lambda _: self.differences(),
             "text": lambda _: desk.text.decode("latin-1"),
             "layout": lambda it: tools.shown(b"\n".join(desk.session.ask(b"show layout %d" % int(it["place"]))[1])),
@@ -107,7 +106,7 @@ class Server:
         socket = web.WebSocketResponse(max_msg_size=MOST_BYTES, heartbeat=20)
         await socket.prepare(request)
         state = await self.run(self.desk.state)
-        await self.push(socket, {"state": state, "counts": self.counts.shown(), "log": {"total": self.total()}})
+        await self.push(socket, {"state": state, "counts": self.counts.shown(), "log": {"total": self.desk.total}})
         self.lookers.add(socket)
         try:
             if state["version"] != self.desk.version:
@@ -183,21 +182,23 @@ class Server:
     async def changed(self, state: dict[str, Any], editor: web.WebSocketResponse) -> None:
         """After an edit: all others that look see it too. What takes the whole log follows."""
         for it in self.lookers - self.hidden - {editor}:
-            await self.push(it, {"state": state, "log": {"total": self.total()}})
-        await self.push(editor, {"log": {"total": self.total()}})
+            await self.push(it, {"state": state, "log": {"total": self.desk.total}})
+        await self.push(editor, {"log": {"total": self.desk.total}})
         if self.desk.version != self.counted_version:
             self.later = asyncio.get_running_loop().create_task(self.recount())
 
     async def recount(self) -> None:
         """Filters and counts the whole log anew."""
-        if self.desk.filter:
-            await self.run(lambda: self.desk.set_filter(*(self.desk.filter or ("", ""))))
-            await self.push_all({"log": {"total": self.total()}})
+        await self.refilter()
+        await self.push_all({"log": {"total": self.desk.total}})
         if not self.desk.log.is_live:
             await self.count_file()
 
-    def total(self) -> int:
-        return self.desk.log.count if self.desk.matches is None else len(self.desk.matches)
+    async def refilter(self) -> None:
+        """Looks anew for the lines that the filter leaves."""
+        if self.desk.filter:
+            message, signal = self.desk.filter
+            await self.run(lambda: self.desk.set_filter(message, signal))
 
     async def count_file(self) -> None:
         """Counts what came of each message of a log in a file. An edit in the meantime makes this void."""
@@ -208,7 +209,7 @@ class Server:
 
         def count() -> Counts:
             counts = Counts()
-            for line in self.desk.objects():
+            for _, line in self.desk.objects():
                 counts.put(line)
                 if self.desk.version != version:
                     break
@@ -233,9 +234,11 @@ class Server:
             while (lines := await self.run(read)) is not None:
                 log.put(lines)
                 await self.run(lambda: counts.count(lines or []))
-                told: dict[str, Any] = {"log": {"total": self.total()}}
+                told: dict[str, Any] = {}
                 if loop.time() >= shown + COUNTED:
                     shown, told["counts"] = loop.time(), counts.shown()
+                    await self.refilter()
+                told["log"] = {"total": self.desk.total}
                 await self.push_all(told)
                 await asyncio.sleep(EVERY)
         finally:

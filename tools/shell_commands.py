@@ -291,10 +291,8 @@ class Shell:
             raise refused(f"{path} is there, and has // comments: save to another file, or --drop-comments lets them go")
         if is_own and tools.comment_line(there) and not drops:
             raise refused(f"{path} has // comments, which are not printed: save to another file, or --drop-comments lets them go")
-        written = self.text
-        if is_own and vector_order.is_vector(self.read_text):
-            # (edits leave statements that are kept verbatim alone, so those of the file are still all that there are)
-            written = vector_order.vector_text(self.text, self.read_text)
+        # (edits leave statements that are kept verbatim alone, so those of the file are still all that there are)
+        written = vector_order.written_like(self.text, self.read_text) if is_own else self.text
         with tools.replacing(path) as file:
             file.write(written)
         if is_own:

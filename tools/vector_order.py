@@ -98,6 +98,11 @@ def blocks(canonical: bytes, original: bytes) -> list[tuple[int, list[bytes]]]:
     return sorted(found, key=lambda it: it[0])
 
 
+def written_like(canonical: bytes, original: bytes) -> bytes:
+    """A database as it is saved: its canonical text, or where the text that it was read from is written so, in Vector's order."""
+    return vector_text(canonical, original) if is_vector(original) else canonical
+
+
 def vector_text(canonical: bytes, original: bytes) -> bytes:
     """A database by its canonical text, with what is kept verbatim and the line ends of the text that it was read from."""
     end = b"\r\n" if has_long_lines(original) else b"\n"

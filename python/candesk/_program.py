@@ -68,7 +68,7 @@ def raise_failure(path: str, status: int, errors: bytes, lines: int = 0) -> NoRe
     if said == _LONG_LINE:
         raise LineTooLong(lines + 1)
     if status == _BAD_WORDS:
-        raise WrongVersion(f"{program()} has no such command or option; this package needs candesk {VERSION} or later: {said}")
+        raise WrongVersion(f"{program()} is too old: this package needs decode --json and dump --json: {said}")
     if status < 0:
         raise ProgramFailed(f"{path}: candesk was killed by {signal.Signals(-status).name}", status)
     raise ProgramFailed(f"{path}: {said}", status)
