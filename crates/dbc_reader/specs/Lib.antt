@@ -2,6 +2,7 @@ pub mod Classes
 pub mod Pattern
 pub mod Grammar
 pub mod Forms
+pub mod Kinds
 pub mod Spelling
 pub mod Texts
 -- how the code goes through tokens: a middle step

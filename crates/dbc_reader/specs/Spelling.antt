@@ -21,6 +21,7 @@ use Rattle.dbc_records.specs.CanonicalText.{float_key, mux_layout, kept_layout}
 use Rattle.dbc_reader.specs.declared.statement.Statement.{Statement}
 use Rattle.dbc_reader.specs.declared.statement.Statement.TheVariants as statements
 use Rattle.dbc_tokens.specs.Tokens.{Token}
+use Rattle.dbc_reader.specs.Kinds.{Kind, RowOf, with_lists, empty_database, Tables, Messages, Comments, Definitions, Defaults, Attributes, ValueRows, FloatRows, MuxRows, KeptOnes}
 use Rattle.dbc_reader.specs.Forms.{Part, Is, Perhaps, Unsigned, Spelled, of_layout}
 
 -- ---- statements
@@ -29,16 +30,37 @@ pub data AnyStatement : Type 0 where
   Symbols : List (List ℕ) → AnyStatement
   Timing : Option (Decimal × Decimal × Decimal) → AnyStatement
   Nodes : List (List ℕ) → AnyStatement
-  Table : TableRow → AnyStatement
-  OfMessage : Message → AnyStatement
-  OfComment : Comment → AnyStatement
-  Definition : AttrDef → AnyStatement
-  Default : AttrDefault → AnyStatement
-  Attribute : AttrRow → AnyStatement
-  Values : ValueRow → AnyStatement
-  Float : FloatRow → AnyStatement
-  Mux : MuxRow → AnyStatement
-  OfKept : Kept → AnyStatement
+  Row : (kind : Kind) → RowOf kind → AnyStatement
+
+pattern abbrev pub Table : TableRow → AnyStatement
+Table row = Row Tables row
+
+pattern abbrev pub OfMessage : Message → AnyStatement
+OfMessage message = Row Messages message
+
+pattern abbrev pub OfComment : Comment → AnyStatement
+OfComment comment = Row Comments comment
+
+pattern abbrev pub Definition : AttrDef → AnyStatement
+Definition definition = Row Definitions definition
+
+pattern abbrev pub Default : AttrDefault → AnyStatement
+Default row = Row Defaults row
+
+pattern abbrev pub Attribute : AttrRow → AnyStatement
+Attribute row = Row Attributes row
+
+pattern abbrev pub Values : ValueRow → AnyStatement
+Values row = Row ValueRows row
+
+pattern abbrev pub Float : FloatRow → AnyStatement
+Float row = Row FloatRows row
+
+pattern abbrev pub Mux : MuxRow → AnyStatement
+Mux row = Row MuxRows row
+
+pattern abbrev pub OfKept : Kept → AnyStatement
+OfKept statement = Row KeptOnes statement
 
 -- `BS_ :`, and perhaps three numbers without signs
 abbrev pub timing_form : Option (Decimal × Decimal × Decimal) → List Part
@@ -108,45 +130,23 @@ abbrev pub nodes_of : AnyStatement → List (List ℕ)
 nodes_of (Nodes nodes) = nodes
 nodes_of statement = []
 
-abbrev pub tables_of : AnyStatement → List TableRow
-tables_of (Table row) = row ∷ []
-tables_of statement = []
+-- the row, where it is one of this kind
+abbrev pub if_kind : (kind other : Kind) → RowOf other → List (RowOf kind)
+if_kind Tables Tables row = row ∷ []
+if_kind Messages Messages row = row ∷ []
+if_kind Comments Comments row = row ∷ []
+if_kind Definitions Definitions row = row ∷ []
+if_kind Defaults Defaults row = row ∷ []
+if_kind Attributes Attributes row = row ∷ []
+if_kind ValueRows ValueRows row = row ∷ []
+if_kind FloatRows FloatRows row = row ∷ []
+if_kind MuxRows MuxRows row = row ∷ []
+if_kind KeptOnes KeptOnes row = row ∷ []
+if_kind kind other row = []
 
-abbrev pub messages_of : AnyStatement → List Message
-messages_of (OfMessage message) = message ∷ []
-messages_of statement = []
-
-abbrev pub comments_of : AnyStatement → List Comment
-comments_of (OfComment comment) = comment ∷ []
-comments_of statement = []
-
-abbrev pub definitions_of : AnyStatement → List AttrDef
-definitions_of (Definition definition) = definition ∷ []
-definitions_of statement = []
-
-abbrev pub defaults_of : AnyStatement → List AttrDefault
-defaults_of (Default row) = row ∷ []
-defaults_of statement = []
-
-abbrev pub attributes_of : AnyStatement → List AttrRow
-attributes_of (Attribute row) = row ∷ []
-attributes_of statement = []
-
-abbrev pub values_of : AnyStatement → List ValueRow
-values_of (Values row) = row ∷ []
-values_of statement = []
-
-abbrev pub floats_of : AnyStatement → List FloatRow
-floats_of (Float row) = row ∷ []
-floats_of statement = []
-
-abbrev pub muxes_of : AnyStatement → List MuxRow
-muxes_of (Mux row) = row ∷ []
-muxes_of statement = []
-
-abbrev pub kept_of : AnyStatement → List Kept
-kept_of (OfKept statement) = statement ∷ []
-kept_of statement = []
+abbrev pub rows_of : (kind : Kind) → AnyStatement → List (RowOf kind)
+rows_of kind (Row other row) = if_kind kind other row
+rows_of kind statement = []
 
 -- the bit timing of at most one statement
 abbrev pub timing_of : List (Option (Decimal × Decimal × Decimal)) → Option (List Decimal)
@@ -165,22 +165,11 @@ version_text (Some version) = version
 
 -- the database of a version and statements
 abbrev pub gather : Option (List ℕ) → List AnyStatement → Database
-gather version statements = record {
-  version = version_text version;
+gather version statements = with_lists (record (empty_database (version_text version)) {
   symbols = flat_map symbols_of statements;
   bit_timing = timing_of (flat_map timings_of statements);
   nodes = flat_map nodes_of statements;
-  tables = flat_map tables_of statements;
-  messages = flat_map messages_of statements;
-  comments = flat_map comments_of statements;
-  definitions = flat_map definitions_of statements;
-  defaults = flat_map defaults_of statements;
-  attributes = flat_map attributes_of statements;
-  values = flat_map values_of statements;
-  floats = flat_map floats_of statements;
-  muxes = flat_map muxes_of statements;
-  kept = flat_map kept_of statements;
-}
+}) (λ kind. flat_map (rows_of kind) statements)
 
 -- The tokens spell the database: perhaps a version, and then statements in their places, at most one of them a bit
 -- timing; and the database is within all bounds.

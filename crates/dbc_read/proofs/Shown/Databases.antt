@@ -55,7 +55,7 @@ rows_form d =
     (put_form (λ comment. OfComment comment) d.comments _ _ (put_form (λ definition. Definition definition) d.definitions _ _
     (put_form (λ row. Default row) d.defaults _ _ (put_form (λ row. Attribute row) d.attributes _ _
     (put_form (λ row. Values row) d.values _ _ (put_form (λ row. Float row) d.floats _ _ (put_form (λ row. Mux row) d.muxes _ _
-    (put_last (λ row. OfKept row) d.kept)))))))))
+    (put_form (λ row. OfKept row) d.kept [] [] refl ∙ append-nil _)))))))))
 
 -- the kinds as they are laid out, in groups, and one after another
 regroup : (v s t n a m c d e f r : List Part) → (v ++ (s ++ (t ++ (n ++ a)))) ++ (m ++ (c ++ ((d ++ (e ++ f)) ++ r))) ≡ v

@@ -19,21 +19,22 @@ use Rattle.dbc_records.specs.CanonicalText.{default_key, default_layout, attribu
 use Rattle.dbc_records.specs.CanonicalText.{statement_end}
 use Rattle.dbc_tokens.specs.declared.fault.ReadFault.{ReadFault}
 use Rattle.dbc_tokens.specs.Tokens.{Token, Cut, End, Fault, ◌▸◌}
+use Rattle.dbc_reader.specs.Reading.Databases.{row_into}
 use Rattle.dbc_reader.specs.Classes.{has_word, has_name, has_string, has_symbol, has_kept_word}
 use Rattle.dbc_reader.specs.Reading.Cursors.{behind}
 use Rattle.dbc_reader.specs.Forms.{Part, Is, ◌▸▸◌}
 use Rattle.dbc_reader.specs.Reading.Readers.{Reader, and_then, ◌>>=◌, value, starts, size, turns, repeated, choose, choose_by}
 use Rattle.dbc_reader.specs.Spelling.{AnyStatement, Symbols, Nodes, Table, OfMessage, OfComment, Definition, Default, Attribute}
 use Rattle.dbc_reader.specs.Spelling.{Values, Float, Mux, OfKept, form, EndsSymbols, FollowOn, symbols_of, timings_of, nodes_of}
-use Rattle.dbc_reader.specs.Spelling.{tables_of, messages_of, comments_of, definitions_of, defaults_of, attributes_of, values_of}
-use Rattle.dbc_reader.specs.Spelling.{floats_of, muxes_of, kept_of}
+use Rattle.dbc_reader.specs.Spelling.{Row, rows_of}
+use Rattle.dbc_reader.specs.Kinds.{Kind, RowOf, list_of, with_list, with_lists, Tables, Messages, Comments, Definitions, Defaults, Attributes, ValueRows, FloatRows, MuxRows, KeptOnes}
+use mathlib.Core.Path.{fun_ext, Path}
 use Rattle.dbc_reader.specs.Reading.Parts.{word_at, mark_at, names_from, symbols_from}
 use Rattle.dbc_reader.proofs.Facts.KeptBeginnings.{kept_by_tokens}
 use Rattle.dbc_reader.proofs.Turns.{and_then_ok, Shrinks, bind_shrinks, value_keeps}
 use Rattle.dbc_reader.proofs.Turns.Lists.{symbol_shrinks}
-use Rattle.dbc_reader.specs.Reading.Databases.{symbols_into, nodes_into, begins_kept, kept_at, kept_into, message_into, table_into}
-use Rattle.dbc_reader.specs.Reading.Databases.{values_into, float_into, mux_into, comment_into, definition_into, default_into}
-use Rattle.dbc_reader.specs.Reading.Databases.{attribute_into, object_into, value_row_into, attribute_row_into, statement_into}
+use Rattle.dbc_reader.specs.Reading.Databases.{symbols_into, nodes_into, begins_kept, kept_at}
+use Rattle.dbc_reader.specs.Reading.Databases.{object_into, value_row_into, attribute_row_into, statement_into}
 use Rattle.dbc_reader.proofs.Sound.Kinds.{symbol_sound, name_sound, pieces_sound, mark_sound, word_sound}
 use Rattle.dbc_reader.proofs.Sound.Rows.{of_layout-append, of_layout-items, table_sound, values_sound, float_sound, mux_sound}
 use Rattle.dbc_reader.proofs.Sound.Notes.{comment_sound, definition_sound, default_sound, attribute_sound}
@@ -45,61 +46,73 @@ use Rattle.dbc_reader.proofs.Sound.{sound_value}
 -- ---- a database and statements more
 
 abbrev pub joined : Database → List AnyStatement → Database
-joined d statements = record {
-  version = d.version;
+joined d statements = with_lists (record d {
   symbols = d.symbols ++ flat_map symbols_of statements;
-  bit_timing = d.bit_timing;
   nodes = d.nodes ++ flat_map nodes_of statements;
-  tables = d.tables ++ flat_map tables_of statements;
-  messages = d.messages ++ flat_map messages_of statements;
-  comments = d.comments ++ flat_map comments_of statements;
-  definitions = d.definitions ++ flat_map definitions_of statements;
-  defaults = d.defaults ++ flat_map defaults_of statements;
-  attributes = d.attributes ++ flat_map attributes_of statements;
-  values = d.values ++ flat_map values_of statements;
-  floats = d.floats ++ flat_map floats_of statements;
-  muxes = d.muxes ++ flat_map muxes_of statements;
-  kept = d.kept ++ flat_map kept_of statements;
-}
+}) (λ kind. list_of kind d ++ flat_map (rows_of kind) statements)
 
 pub joined_none : (d : Database) → joined d [] ≡ d
-joined_none d =
-    rw (
-      append-nil d.symbols,
-      append-nil d.nodes,
-      append-nil d.tables,
-      append-nil d.messages,
-      append-nil d.comments,
-      append-nil d.definitions,
-      append-nil d.defaults,
-      append-nil d.attributes,
-      append-nil d.values,
-      append-nil d.floats,
-      append-nil d.muxes,
-      append-nil d.kept,
-    ) refl
+joined_none d = rw (append-nil d.symbols, append-nil d.nodes)
+    (ap (with_lists d) (fun_ext (λ (kind : Kind). append-nil (list_of kind d))))
 
-behind_both : {X : Type 0} (f : AnyStatement → List X) (list : List X) (xs ys : List AnyStatement) → (list ++ flat_map f xs)
+pub behind_both : {X : Type 0} (f : AnyStatement → List X) (list : List X) (xs ys : List AnyStatement) → (list ++ flat_map f xs)
     ++ flat_map f ys ≡ list ++ flat_map f (xs ++ ys)
 behind_both f list xs ys = append_assoc list (flat_map f xs) (flat_map f ys)
     ∙ ap (λ more. list ++ more) (sym (flat_map-append f xs ys))
 
+pub listed : (kind : Kind) (d : Database) (lists : (kind : Kind) → List (RowOf kind))
+    → list_of kind (with_lists d lists) ≡ lists kind
+listed Tables d lists = refl
+listed Messages d lists = refl
+listed Comments d lists = refl
+listed Definitions d lists = refl
+listed Defaults d lists = refl
+listed Attributes d lists = refl
+listed ValueRows d lists = refl
+listed FloatRows d lists = refl
+listed MuxRows d lists = refl
+listed KeptOnes d lists = refl
+
+-- the list of a kind in a database that is joined
+pub joined_list : (kind : Kind) (d : Database) (xs : List AnyStatement)
+    → list_of kind (joined d xs) ≡ list_of kind d ++ flat_map (rows_of kind) xs
+joined_list kind d xs = listed kind (record d {
+  symbols = d.symbols ++ flat_map symbols_of xs;
+  nodes = d.nodes ++ flat_map nodes_of xs;
+}) (λ kind. list_of kind d ++ flat_map (rows_of kind) xs)
+
+-- and where it is joined again
+pub lists_twice : (d : Database) (xs ys : List AnyStatement)
+    → Path ((kind : Kind) → List (RowOf kind)) (λ kind. list_of kind (joined d xs) ++ flat_map (rows_of kind) ys)
+    (λ kind. list_of kind d ++ flat_map (rows_of kind) (xs ++ ys))
+lists_twice d xs ys = fun_ext (λ (kind : Kind). ap (λ (l : List (RowOf kind)). l ++ flat_map (rows_of kind) ys)
+    (joined_list kind d xs) ∙ behind_both (rows_of kind) (list_of kind d) xs ys)
+
 pub joined_twice : (d : Database) (xs ys : List AnyStatement) → joined (joined d xs) ys ≡ joined d (xs ++ ys)
-joined_twice d xs ys =
-    rw (
-      behind_both symbols_of d.symbols xs ys,
-      behind_both nodes_of d.nodes xs ys,
-      behind_both tables_of d.tables xs ys,
-      behind_both messages_of d.messages xs ys,
-      behind_both comments_of d.comments xs ys,
-      behind_both definitions_of d.definitions xs ys,
-      behind_both defaults_of d.defaults xs ys,
-      behind_both attributes_of d.attributes xs ys,
-      behind_both values_of d.values xs ys,
-      behind_both floats_of d.floats xs ys,
-      behind_both muxes_of d.muxes xs ys,
-      behind_both kept_of d.kept xs ys,
-    ) refl
+joined_twice d xs ys = rw (behind_both symbols_of d.symbols xs ys, behind_both nodes_of d.nodes xs ys)
+    (ap (with_lists (record d {
+      symbols = d.symbols ++ flat_map symbols_of (xs ++ ys);
+      nodes = d.nodes ++ flat_map nodes_of (xs ++ ys);
+    })) (lists_twice d xs ys))
+
+-- a row is put behind those of its kind
+row_put : (kind : Kind) (d : Database) (row : RowOf kind)
+    → with_list kind (joined d []) (list_of kind d ++ row ∷ []) ≡ joined d (Row kind row ∷ [])
+row_put Tables d row = refl
+row_put Messages d row = refl
+row_put Comments d row = refl
+row_put Definitions d row = refl
+row_put Defaults d row = refl
+row_put Attributes d row = refl
+row_put ValueRows d row = refl
+row_put FloatRows d row = refl
+row_put MuxRows d row = refl
+row_put KeptOnes d row = refl
+
+pub row_joined : (kind : Kind) (d : Database) (row : RowOf kind) → with_list kind d (list_of kind d ++ row ∷ [])
+    ≡ joined d (Row kind row ∷ [])
+row_joined kind d row = ap (λ (e : Database). with_list kind e (list_of kind d ++ row ∷ [])) (sym (joined_none d))
+    ∙ row_put kind d row
 
 -- ---- what one statement more is
 
@@ -157,71 +170,63 @@ no_first word parts cut rest is h none =
 
 -- ---- statements of a value each
 
-table_adds : (d : Database) → Adds d (table_into d)
-unfolding table_into table_layout table_key word_layout items_of is_symbol
+table_adds : (d : Database) → Adds d (row_into Tables d)
+unfolding row_into table_layout table_key word_layout items_of is_symbol
 table_adds d =
-    adds_one (λ row. Table row) table_sound (λ row. ap (λ (e : Database). record e { tables = d.tables ++ row ∷ [] })
-    (sym (joined_none d))) (λ row. refl) (λ row behind. tt)
+    adds_one (λ row. Table row) table_sound (row_joined Tables d) (λ row. refl) (λ row behind. tt)
     (λ row cut rest behind spelt none. absurd (no_first (codes "VAL_TABLE_") _ cut rest refl spelt none))
 
-values_adds : (d : Database) → Adds d (values_into d)
-unfolding values_into values_layout values_key word_layout items_of is_symbol
+values_adds : (d : Database) → Adds d (row_into ValueRows d)
+unfolding row_into values_layout values_key word_layout items_of is_symbol
 values_adds d =
-    adds_one (λ row. Values row) values_sound (λ row. ap (λ (e : Database). record e { values = d.values ++ row ∷ [] })
-    (sym (joined_none d))) (λ row. refl) (λ row behind. tt)
+    adds_one (λ row. Values row) values_sound (row_joined ValueRows d) (λ row. refl) (λ row behind. tt)
     (λ row cut rest behind spelt none. absurd (no_first (codes "VAL_") _ cut rest refl spelt none))
 
-float_adds : (d : Database) → Adds d (float_into d)
-unfolding float_into float_key word_layout items_of is_symbol
+float_adds : (d : Database) → Adds d (row_into FloatRows d)
+unfolding row_into float_key word_layout items_of is_symbol
 float_adds d =
-    adds_one (λ row. Float row) float_sound (λ row. ap (λ (e : Database). record e { floats = d.floats ++ row ∷ [] })
-    (sym (joined_none d))) (λ row. refl) (λ row behind. tt)
+    adds_one (λ row. Float row) float_sound (row_joined FloatRows d) (λ row. refl) (λ row behind. tt)
     (λ row cut rest behind spelt none. absurd (no_first (codes "SIG_VALTYPE_") _ cut rest refl spelt none))
 
-mux_adds : (d : Database) → Adds d (mux_into d)
-unfolding mux_into mux_layout mux_key word_layout items_of is_symbol
+mux_adds : (d : Database) → Adds d (row_into MuxRows d)
+unfolding row_into mux_layout mux_key word_layout items_of is_symbol
 mux_adds d =
-    adds_one (λ row. Mux row) mux_sound (λ row. ap (λ (e : Database). record e { muxes = d.muxes ++ row ∷ [] })
-    (sym (joined_none d))) (λ row. refl) (λ row behind. tt)
+    adds_one (λ row. Mux row) mux_sound (row_joined MuxRows d) (λ row. refl) (λ row behind. tt)
     (λ row cut rest behind spelt none. absurd (no_first (codes "SG_MUL_VAL_") _ cut rest refl spelt none))
 
-comment_adds : (d : Database) → Adds d (comment_into d)
-unfolding comment_into comment_layout comment_key word_layout items_of is_symbol
+comment_adds : (d : Database) → Adds d (row_into Comments d)
+unfolding row_into comment_layout comment_key word_layout items_of is_symbol
 comment_adds d =
     adds_one (λ comment. OfComment comment) comment_sound
-    (λ comment. ap (λ (e : Database). record e { comments = d.comments ++ comment ∷ [] }) (sym (joined_none d)))
+    (row_joined Comments d)
     (λ comment. refl) (λ comment behind. tt)
     (λ comment cut rest behind spelt none. absurd (no_first (codes "CM_") _ cut rest refl spelt none))
 
-definition_adds : (d : Database) → Adds d (definition_into d)
-unfolding definition_into definition_layout definition_key word_layout items_of is_symbol
+definition_adds : (d : Database) → Adds d (row_into Definitions d)
+unfolding row_into definition_layout definition_key word_layout items_of is_symbol
 definition_adds d =
     adds_one (λ definition. Definition definition) definition_sound
-    (λ definition. ap (λ (e : Database). record e { definitions = d.definitions ++ definition ∷ [] }) (sym (joined_none d)))
+    (row_joined Definitions d)
     (λ definition. refl) (λ definition behind. tt)
     (λ definition cut rest behind spelt none. absurd (no_first (codes "BA_DEF_") _ cut rest refl spelt none))
 
-default_adds : (d : Database) → Adds d (default_into d)
-unfolding default_into default_layout default_key word_layout items_of is_symbol
+default_adds : (d : Database) → Adds d (row_into Defaults d)
+unfolding row_into default_layout default_key word_layout items_of is_symbol
 default_adds d =
-    adds_one (λ row. Default row) default_sound (λ row. ap (λ (e : Database). record e { defaults = d.defaults ++ row ∷ [] })
-    (sym (joined_none d))) (λ row. refl) (λ row behind. tt)
+    adds_one (λ row. Default row) default_sound (row_joined Defaults d) (λ row. refl) (λ row behind. tt)
     (λ row cut rest behind spelt none. absurd (no_first (codes "BA_DEF_DEF_") _ cut rest refl spelt none))
 
-attribute_adds : (d : Database) → Adds d (attribute_into d)
-unfolding attribute_into attribute_layout attribute_key word_layout items_of is_symbol
+attribute_adds : (d : Database) → Adds d (row_into Attributes d)
+unfolding row_into attribute_layout attribute_key word_layout items_of is_symbol
 attribute_adds d =
-    adds_one (λ row. Attribute row) attribute_sound (λ row. ap (λ (e : Database). record e {
-      attributes = d.attributes ++ row
-          ∷ [];
-    }) (sym (joined_none d))) (λ row. refl) (λ row behind. tt)
+    adds_one (λ row. Attribute row) attribute_sound (row_joined Attributes d) (λ row. refl) (λ row behind. tt)
     (λ row cut rest behind spelt none. absurd (no_first (codes "BA_") _ cut rest refl spelt none))
 
-message_adds : (d : Database) → Adds d (message_into d)
-unfolding message_into
+message_adds : (d : Database) → Adds d (row_into Messages d)
+unfolding row_into
 message_adds d =
     adds_one (λ message. OfMessage message) (message_sound (length d.messages))
-    (λ message. ap (λ (e : Database). record e { messages = d.messages ++ message ∷ [] }) (sym (joined_none d)))
+    (row_joined Messages d)
     (λ message. refl)
     (λ message behind. tt) (λ message cut rest behind spelt none. tt)
 
@@ -389,8 +394,8 @@ begins_as_symbol (t ▸ cut) e =
     (starts (has_word (codes "EV_")) (behind (t ▸ cut))) (starts has_string (behind (t ▸ cut)) && starts (has_word (codes "EV_"))
     (behind (behind (t ▸ cut)))) (sym (kept_by_tokens (t ▸ cut)) ∙ e))
 
-kept_adding : (d : Database) (cut : Cut) (x : Database × Cut) → begins_kept cut ≡ true → kept_into d cut ≡ Ok x → Adding d cut x
-unfolding kept_into
+kept_adding : (d : Database) (cut : Cut) (x : Database × Cut) → begins_kept cut ≡ true → row_into KeptOnes d cut ≡ Ok x → Adding d cut x
+unfolding row_into
 kept_adding d cut x begins e =
     let y = and_then_ok (kept_at cut) _ x e in
     let add = λ (row : Kept). record d { kept = d.kept ++ row ∷ [] } in
@@ -398,7 +403,7 @@ kept_adding d cut x begins e =
     (record {
       statement = OfKept y.0.0;
       spelt = kept_sound.spelt cut y.0 y.1;
-      joins = ap (λ (e : Database). record e { kept = d.kept ++ y.0.0 ∷ [] }) (sym (joined_none d));
+      joins = row_joined KeptOnes d y.0.0;
       no_timing = refl;
       before = λ behind h. tt;
       ends = λ behind none. (let both : true ≡ false = sym (begins_as_symbol cut begins) ∙ none in absurd cc);
@@ -406,10 +411,10 @@ kept_adding d cut x begins e =
 
 -- ---- any statement
 
-adds_kept : (d : Database) {r : Reader Database} → Adds d r → Adds d (choose_by begins_kept (kept_into d) r)
+adds_kept : (d : Database) {r : Reader Database} → Adds d r → Adds d (choose_by begins_kept (row_into KeptOnes d) r)
 adds_kept d {r} h = record { adds = λ cut x e. by_test (begins_kept cut) cut x refl e }
   where
-    by_test : (b : Bool) (cut : Cut) (x : Database × Cut) → begins_kept cut ≡ b → cond b (kept_into d cut) (r cut) ≡ Ok x
+    by_test : (b : Bool) (cut : Cut) (x : Database × Cut) → begins_kept cut ≡ b → cond b (row_into KeptOnes d cut) (r cut) ≡ Ok x
         → Adding d cut x
     by_test true cut x is e = kept_adding d cut x is e
     by_test false cut x is e = h.adds cut x e

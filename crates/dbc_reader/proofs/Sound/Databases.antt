@@ -16,12 +16,12 @@ use Rattle.dbc_reader.specs.Reading.Parts.{word_at, text_at}
 use Rattle.dbc_reader.specs.Reading.Databases.{begins_statement, statement_into, statements_into, version_at, timing_numbers_at}
 use Rattle.dbc_reader.specs.Reading.Databases.{timing_at, timed_into, empty_database, database_at}
 use Rattle.dbc_reader.specs.Spelling.{AnyStatement, Timing, form, timing_form, EndsSymbols, ArePlaced, symbols_of, timings_of}
-use Rattle.dbc_reader.specs.Spelling.{nodes_of, tables_of, messages_of, comments_of, definitions_of, defaults_of, attributes_of}
-use Rattle.dbc_reader.specs.Spelling.{values_of, floats_of, muxes_of, kept_of, timing_of, version_form, version_text, gather}
-use Rattle.dbc_reader.specs.Spelling.{Spells}
+use Rattle.dbc_reader.specs.Spelling.{nodes_of, rows_of, timing_of, version_form, version_text, gather, Spells}
+use Rattle.dbc_reader.specs.Kinds.{Kind, RowOf, list_of, with_lists}
+use mathlib.Core.Path.{fun_ext}
 use Rattle.dbc_reader.proofs.Turns.{and_then_ok}
 use Rattle.dbc_reader.proofs.Sound.Kinds.{mark_sound, word_sound, text_sound, unsigned_sound}
-use Rattle.dbc_reader.proofs.Sound.Adding.{joined, joined_none, joined_twice, Adding, statement_adds}
+use Rattle.dbc_reader.proofs.Sound.Adding.{joined, joined_none, joined_list, behind_both, joined_twice, Adding, statement_adds}
 use Rattle.dbc_reader.proofs.Turns.{ok_is}
 use Rattle.dbc_reader.proofs.Sound.{Spelt, spelt_both, spelt_none, Sound, sound_start, sound_then, sound_value, sound_choose}
 use Rattle.dbc_reader.proofs.Sound.{sound_end}
@@ -157,24 +157,21 @@ pub gather_timed : (version : Option (List ℕ)) (xs ys : List AnyStatement) (nu
     ≡ gather version (xs ++ Timing numbers ∷ ys)
 gather_timed version xs ys numbers timing before behind is =
     let all : List AnyStatement = Timing numbers ∷ ys in
+    let d : Database = empty_database (version_text version) in
+    let lists = fun_ext (λ (kind : Kind). ap (λ (l : List (RowOf kind)). l ++ flat_map (rows_of kind) ys) (joined_list kind d xs)
+    ∙ behind_both (rows_of kind) (list_of kind d) xs all) in
     rw (
       flat_map-append symbols_of xs all,
       flat_map-append timings_of xs all,
       flat_map-append nodes_of xs all,
-      flat_map-append tables_of xs all,
-      flat_map-append messages_of xs all,
-      flat_map-append comments_of xs all,
-      flat_map-append definitions_of xs all,
-      flat_map-append defaults_of xs all,
-      flat_map-append attributes_of xs all,
-      flat_map-append values_of xs all,
-      flat_map-append floats_of xs all,
-      flat_map-append muxes_of xs all,
-      flat_map-append kept_of xs all,
       before,
       behind,
       is,
-    ) refl
+    ) (ap (with_lists (record d {
+      symbols = flat_map symbols_of xs ++ flat_map symbols_of ys;
+      bit_timing = timing;
+      nodes = flat_map nodes_of xs ++ flat_map nodes_of ys;
+    })) lists)
 
 record Gathered (version : Option (List ℕ)) (cut : Cut) (x : Database × Cut) : Type 0 where
   statements : List AnyStatement

@@ -4,6 +4,7 @@ use Rattle.std.specs.Prelude.{codes, nat_lt}
 use Rattle.dbc_records.specs.Databases.{Database}
 use Rattle.dbc_tokens.specs.declared.fault.Cause.TheVariants as causes
 use Rattle.dbc_tokens.specs.declared.fault.ReadFault.{ReadFault}
+use Rattle.dbc_reader.specs.Reading.Databases.{row_into}
 use Rattle.dbc_reader.specs.declared.stopped.Stopped.{Stopped}
 use Rattle.dbc_tokens.specs.Tokens.{Cut}
 use Rattle.dbc_reader.specs.Classes.{has_word}
@@ -13,8 +14,7 @@ use Rattle.dbc_reader.specs.Reading.Tables.{table_at, values_at, colon_at, float
 use Rattle.dbc_reader.specs.Reading.Attributes.{node_target_at, message_target_at, signal_target_at, target_at, comment_at}
 use Rattle.dbc_reader.specs.Reading.Attributes.{object_at, limits_at, string_form_at, enumeration_at, form_at, definition_at}
 use Rattle.dbc_reader.specs.Reading.Attributes.{value_at, default_at, attribute_at}
-use Rattle.dbc_reader.specs.Reading.Databases.{symbols_into, nodes_into, message_into, kept_at, kept_into, table_into, values_into}
-use Rattle.dbc_reader.specs.Reading.Databases.{float_into, mux_into, comment_into, definition_into, default_into, attribute_into}
+use Rattle.dbc_reader.specs.Reading.Databases.{symbols_into, nodes_into, kept_at}
 use Rattle.dbc_reader.specs.Reading.Databases.{object_into, value_row_into, attribute_row_into, begins_statement, statement_into}
 use Rattle.dbc_reader.specs.Reading.Databases.{statements_into}
 use Rattle.dbc_reader.specs.Reading.Keywords.{keyword_at}
@@ -165,7 +165,7 @@ unfolding kept_at
 kept_shrinks = after_shrinks (pieces_keep []) λ tokens. bind_shrinks (mark_shrinks 59) λ _. value_keeps _
 
 object_shrinks : (d : Database) → Shrinks (object_into d)
-unfolding object_into symbols_into nodes_into message_into
+unfolding object_into symbols_into nodes_into row_into
 object_shrinks d =
     choose_shrinks _ (bind_shrinks (word_shrinks _) λ _. bind_keeps (keeps (mark_shrinks 58)) λ _. bind_keeps (symbols_keep _)
     λ symbols. value_keeps _)
@@ -174,21 +174,21 @@ object_shrinks d =
     (bind_shrinks (message_shrinks _) λ message. value_keeps _))
 
 value_row_shrinks : (d : Database) → Shrinks (value_row_into d)
-unfolding value_row_into table_into values_into float_into mux_into
+unfolding value_row_into row_into
 value_row_shrinks d =
     choose_shrinks _ (bind_shrinks table_shrinks λ row. value_keeps _)
     (choose_shrinks _ (bind_shrinks values_shrinks λ row. value_keeps _)
     (choose_shrinks _ (bind_shrinks float_shrinks λ row. value_keeps _) (bind_shrinks mux_shrinks λ row. value_keeps _)))
 
 attribute_row_shrinks : (d : Database) → Shrinks (attribute_row_into d)
-unfolding attribute_row_into comment_into definition_into default_into attribute_into
+unfolding attribute_row_into row_into
 attribute_row_shrinks d =
     choose_shrinks _ (bind_shrinks comment_shrinks λ row. value_keeps _)
     (choose_shrinks _ (bind_shrinks definition_shrinks λ row. value_keeps _)
     (choose_shrinks _ (bind_shrinks default_shrinks λ row. value_keeps _) (bind_shrinks attribute_shrinks λ row. value_keeps _)))
 
 pub statement_shrinks : (d : Database) → Shrinks (statement_into d)
-unfolding statement_into kept_into
+unfolding statement_into row_into
 statement_shrinks d =
     choose_by_shrinks _ (bind_shrinks kept_shrinks λ row. value_keeps _) (choose_shrinks _ (object_shrinks d)
     (choose_shrinks _ (value_row_shrinks d) (attribute_row_shrinks d)))

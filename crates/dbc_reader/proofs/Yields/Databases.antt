@@ -12,14 +12,15 @@ use Rattle.dbc_records.specs.Comments.{IsComment}
 use Rattle.dbc_records.specs.Attributes.{IsAttrDef, IsAttrDefault, IsAttrRow}
 use Rattle.dbc_records.specs.Kept.{IsKept}
 use Rattle.dbc_records.specs.Databases.{Database, IsBitTiming, IsDatabase, timing_fits, database_fits}
+use Rattle.dbc_reader.specs.Reading.Databases.{row_into}
+use Rattle.dbc_reader.specs.Kinds.{Attributes, Comments, Defaults, Definitions, FloatRows, KeptOnes, Messages, MuxRows, Tables, ValueRows}
 use Rattle.dbc_reader.specs.declared.statement.Statement.{Statement}
 use Rattle.dbc_tokens.specs.Tokens.{Cut}
 use Rattle.dbc_reader.specs.Spelling.{IsStatement}
 use Rattle.dbc_reader.specs.Reading.Readers.{end_at}
 use Rattle.dbc_reader.specs.Reading.Parts.{word_at, mark_at}
-use Rattle.dbc_reader.specs.Reading.Databases.{symbols_into, nodes_into, begins_kept, kept_into, message_into, table_into}
-use Rattle.dbc_reader.specs.Reading.Databases.{values_into, float_into, mux_into, comment_into, definition_into, default_into}
-use Rattle.dbc_reader.specs.Reading.Databases.{attribute_into, object_into, value_row_into, attribute_row_into, statement_into}
+use Rattle.dbc_reader.specs.Reading.Databases.{symbols_into, nodes_into, begins_kept}
+use Rattle.dbc_reader.specs.Reading.Databases.{object_into, value_row_into, attribute_row_into, statement_into}
 use Rattle.dbc_reader.specs.Reading.Databases.{statements_into, version_at, timing_numbers_at, timing_at, timed_into}
 use Rattle.dbc_reader.specs.Reading.Databases.{empty_database, database_at, one_of_six_at, statement_at}
 use Rattle.dbc_reader.proofs.Yields.{Yields, YieldsWhere, yields_then, yields_after, yields_value, yields_choose, yields_choose_by}
@@ -81,74 +82,74 @@ one_message_more timing messages message room fits =
     (grind (arith, room)) in
     and_from (timing_fits timing) (nat_le (length (messages ++ message ∷ [])) 65535) timed.0 count
 
-message_keeps : (d : Database) → IsDatabase d → Yields (message_into d) (λ d. IsDatabase d)
-unfolding message_into
+message_keeps : (d : Database) → IsDatabase d → Yields (row_into Messages d) (λ d. IsDatabase d)
+unfolding row_into
 message_keeps d is =
     yields_then (message_proper (length d.messages)) λ message is_message.
     yields_value (of_parts _ is.version is.symbols is.bit_timing is.nodes is.tables (All-push IsMessage d.messages message
     is.messages is_message.proper) is.comments is.definitions is.defaults is.attributes is.values is.floats is.muxes is.kept
     (one_message_more d.bit_timing d.messages message is_message.room is.fits))
 
-table_keeps : (d : Database) → IsDatabase d → Yields (table_into d) (λ d. IsDatabase d)
-unfolding table_into
+table_keeps : (d : Database) → IsDatabase d → Yields (row_into Tables d) (λ d. IsDatabase d)
+unfolding row_into
 table_keeps d is =
     yields_then table_proper λ row is_proper.
     yields_value (of_parts _ is.version is.symbols is.bit_timing is.nodes (All-push IsTableRow d.tables row is.tables is_proper)
     is.messages is.comments is.definitions is.defaults is.attributes is.values is.floats is.muxes is.kept is.fits)
 
-values_keep : (d : Database) → IsDatabase d → Yields (values_into d) (λ d. IsDatabase d)
-unfolding values_into
+values_keep : (d : Database) → IsDatabase d → Yields (row_into ValueRows d) (λ d. IsDatabase d)
+unfolding row_into
 values_keep d is =
     yields_then values_proper λ row is_proper.
     yields_value (of_parts _ is.version is.symbols is.bit_timing is.nodes is.tables is.messages is.comments is.definitions
     is.defaults is.attributes (All-push IsValueRow d.values row is.values is_proper) is.floats is.muxes is.kept is.fits)
 
-float_keeps : (d : Database) → IsDatabase d → Yields (float_into d) (λ d. IsDatabase d)
-unfolding float_into
+float_keeps : (d : Database) → IsDatabase d → Yields (row_into FloatRows d) (λ d. IsDatabase d)
+unfolding row_into
 float_keeps d is =
     yields_then float_proper λ row is_proper.
     yields_value (of_parts _ is.version is.symbols is.bit_timing is.nodes is.tables is.messages is.comments is.definitions
     is.defaults is.attributes is.values (All-push IsFloatRow d.floats row is.floats is_proper) is.muxes is.kept is.fits)
 
-mux_keeps : (d : Database) → IsDatabase d → Yields (mux_into d) (λ d. IsDatabase d)
-unfolding mux_into
+mux_keeps : (d : Database) → IsDatabase d → Yields (row_into MuxRows d) (λ d. IsDatabase d)
+unfolding row_into
 mux_keeps d is =
     yields_then mux_proper λ row is_proper.
     yields_value (of_parts _ is.version is.symbols is.bit_timing is.nodes is.tables is.messages is.comments is.definitions
     is.defaults is.attributes is.values is.floats (All-push IsMuxRow d.muxes row is.muxes is_proper) is.kept is.fits)
 
-comment_keeps : (d : Database) → IsDatabase d → Yields (comment_into d) (λ d. IsDatabase d)
-unfolding comment_into
+comment_keeps : (d : Database) → IsDatabase d → Yields (row_into Comments d) (λ d. IsDatabase d)
+unfolding row_into
 comment_keeps d is =
     yields_then comment_proper λ comment is_proper.
     yields_value (of_parts _ is.version is.symbols is.bit_timing is.nodes is.tables is.messages
     (All-push IsComment d.comments comment is.comments is_proper) is.definitions is.defaults is.attributes is.values is.floats
     is.muxes is.kept is.fits)
 
-definition_keeps : (d : Database) → IsDatabase d → Yields (definition_into d) (λ d. IsDatabase d)
-unfolding definition_into
+definition_keeps : (d : Database) → IsDatabase d → Yields (row_into Definitions d) (λ d. IsDatabase d)
+unfolding row_into
 definition_keeps d is =
     yields_then definition_proper λ definition is_proper.
     yields_value (of_parts _ is.version is.symbols is.bit_timing is.nodes is.tables is.messages is.comments
     (All-push IsAttrDef d.definitions definition is.definitions is_proper) is.defaults is.attributes is.values is.floats
     is.muxes is.kept is.fits)
 
-default_keeps : (d : Database) → IsDatabase d → Yields (default_into d) (λ d. IsDatabase d)
-unfolding default_into
+default_keeps : (d : Database) → IsDatabase d → Yields (row_into Defaults d) (λ d. IsDatabase d)
+unfolding row_into
 default_keeps d is =
     yields_then default_proper λ row is_proper.
     yields_value (of_parts _ is.version is.symbols is.bit_timing is.nodes is.tables is.messages is.comments is.definitions
     (All-push IsAttrDefault d.defaults row is.defaults is_proper) is.attributes is.values is.floats is.muxes is.kept is.fits)
 
-attribute_keeps : (d : Database) → IsDatabase d → Yields (attribute_into d) (λ d. IsDatabase d)
-unfolding attribute_into
+attribute_keeps : (d : Database) → IsDatabase d → Yields (row_into Attributes d) (λ d. IsDatabase d)
+unfolding row_into
 attribute_keeps d is =
     yields_then attribute_proper λ row is_proper.
     yields_value (of_parts _ is.version is.symbols is.bit_timing is.nodes is.tables is.messages is.comments is.definitions
     is.defaults (All-push IsAttrRow d.attributes row is.attributes is_proper) is.values is.floats is.muxes is.kept is.fits)
 
-kept_keeps : (d : Database) → IsDatabase d → YieldsWhere begins_kept (kept_into d) (λ d. IsDatabase d)
-unfolding kept_into
+kept_keeps : (d : Database) → IsDatabase d → YieldsWhere begins_kept (row_into KeptOnes d) (λ d. IsDatabase d)
+unfolding row_into
 kept_keeps d is =
     yields_then_where kept_proper λ row is_proper.
     yields_value (of_parts _ is.version is.symbols is.bit_timing is.nodes is.tables is.messages is.comments is.definitions

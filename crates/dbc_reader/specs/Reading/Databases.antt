@@ -12,6 +12,8 @@ use Rattle.dbc_records.specs.Databases.{Database}
 use Rattle.dbc_reader.specs.declared.statement.Statement.{Statement}
 use Rattle.dbc_reader.specs.declared.statement.Statement.TheVariants as statements
 use Rattle.dbc_tokens.specs.Tokens.{Token, Cut, End, Fault, ◌▸◌}
+pub use Rattle.dbc_reader.specs.Kinds.{empty_database}
+use Rattle.dbc_reader.specs.Kinds.{Kind, RowOf, list_of, with_list, Tables, Messages, Comments, Definitions, Defaults, Attributes, ValueRows, FloatRows, MuxRows, KeptOnes}
 use Rattle.dbc_reader.specs.Classes.{has_word, has_number, has_kept_word}
 use Rattle.dbc_reader.specs.Reading.Readers.{Reader, ◌>>=◌, value, choose, choose_by, repeated, end_at}
 use Rattle.dbc_reader.specs.Reading.Parts.{word_at, mark_at, text_at, number_at, names_from, symbols_from, pieces_from}
@@ -59,75 +61,44 @@ kept_at = do
 
 -- ---- a database and one statement more
 
-unfoldable pub kept_into : Database → Reader Database
-kept_into d = do
-  row ← kept_at
-  value (record d { kept = d.kept ++ row ∷ [] })
+-- a row of each kind; a message is bounded by those that are there
+abbrev pub row_at : (kind : Kind) → Database → Reader (RowOf kind)
+row_at Tables d = table_at
+row_at Messages d = message_at (length d.messages)
+row_at Comments d = comment_at
+row_at Definitions d = definition_at
+row_at Defaults d = default_at
+row_at Attributes d = attribute_at
+row_at ValueRows d = values_at
+row_at FloatRows d = float_at
+row_at MuxRows d = mux_at
+row_at KeptOnes d = kept_at
 
-unfoldable pub message_into : Database → Reader Database
-message_into d = do
-  message ← message_at (length d.messages)
-  value (record d { messages = d.messages ++ message ∷ [] })
-
-unfoldable pub table_into : Database → Reader Database
-table_into d = do
-  row ← table_at
-  value (record d { tables = d.tables ++ row ∷ [] })
-
-unfoldable pub values_into : Database → Reader Database
-values_into d = do
-  row ← values_at
-  value (record d { values = d.values ++ row ∷ [] })
-
-unfoldable pub float_into : Database → Reader Database
-float_into d = do
-  row ← float_at
-  value (record d { floats = d.floats ++ row ∷ [] })
-
-unfoldable pub mux_into : Database → Reader Database
-mux_into d = do
-  row ← mux_at
-  value (record d { muxes = d.muxes ++ row ∷ [] })
-
-unfoldable pub comment_into : Database → Reader Database
-comment_into d = do
-  comment ← comment_at
-  value (record d { comments = d.comments ++ comment ∷ [] })
-
-unfoldable pub definition_into : Database → Reader Database
-definition_into d = do
-  definition ← definition_at
-  value (record d { definitions = d.definitions ++ definition ∷ [] })
-
-unfoldable pub default_into : Database → Reader Database
-default_into d = do
-  row ← default_at
-  value (record d { defaults = d.defaults ++ row ∷ [] })
-
-unfoldable pub attribute_into : Database → Reader Database
-attribute_into d = do
-  row ← attribute_at
-  value (record d { attributes = d.attributes ++ row ∷ [] })
+-- a row is put behind those of its kind
+unfoldable pub row_into : Kind → Database → Reader Database
+row_into kind d = do
+  row ← row_at kind d
+  value (with_list kind d (list_of kind d ++ row ∷ []))
 
 -- what stands for objects of the bus: nodes, messages and symbols
 unfoldable pub object_into : Database → Reader Database
 object_into d =
     choose (has_word (codes "NS_")) (symbols_into d)
-    (choose (has_word (codes "BU_")) (nodes_into d) (message_into d))
+    (choose (has_word (codes "BU_")) (nodes_into d) (row_into Messages d))
 
 -- a row that speaks of values
 unfoldable pub value_row_into : Database → Reader Database
 value_row_into d =
-    choose (has_word (codes "VAL_TABLE_")) (table_into d)
-    (choose (has_word (codes "VAL_")) (values_into d)
-    (choose (has_word (codes "SIG_VALTYPE_")) (float_into d) (mux_into d)))
+    choose (has_word (codes "VAL_TABLE_")) (row_into Tables d)
+    (choose (has_word (codes "VAL_")) (row_into ValueRows d)
+    (choose (has_word (codes "SIG_VALTYPE_")) (row_into FloatRows d) (row_into MuxRows d)))
 
 -- a comment or a row of attributes
 unfoldable pub attribute_row_into : Database → Reader Database
 attribute_row_into d =
-    choose (has_word (codes "CM_")) (comment_into d)
-    (choose (has_word (codes "BA_DEF_")) (definition_into d)
-    (choose (has_word (codes "BA_DEF_DEF_")) (default_into d) (attribute_into d)))
+    choose (has_word (codes "CM_")) (row_into Comments d)
+    (choose (has_word (codes "BA_DEF_")) (row_into Definitions d)
+    (choose (has_word (codes "BA_DEF_DEF_")) (row_into Defaults d) (row_into Attributes d)))
 
 abbrev pub object_words : List (List ℕ)
 object_words = codes "NS_" ∷ codes "BU_" ∷ codes "BO_" ∷ []
@@ -154,7 +125,7 @@ begins_statement t = has_object_word t || (has_value_word t || (has_attribute_wo
 -- a statement of any kind that may be repeated
 unfoldable pub statement_into : Database → Reader Database
 statement_into d =
-    choose_by begins_kept (kept_into d)
+    choose_by begins_kept (row_into KeptOnes d)
     (choose has_object_word (object_into d)
     (choose has_value_word (value_row_into d) (attribute_row_into d)))
 
@@ -192,24 +163,6 @@ unfoldable pub timed_into : Database → Reader Database
 timed_into d = choose (has_word (codes "BS_")) (do
   timing ← timing_at
   statements_into (record d { bit_timing = timing })) (value d)
-
-abbrev pub empty_database : List ℕ → Database
-empty_database version = record {
-  version = version;
-  symbols = [];
-  bit_timing = None;
-  nodes = [];
-  tables = [];
-  messages = [];
-  comments = [];
-  definitions = [];
-  defaults = [];
-  attributes = [];
-  values = [];
-  floats = [];
-  muxes = [];
-  kept = [];
-}
 
 -- a whole text
 unfoldable pub database_at : Reader Database

@@ -1,0 +1,93 @@
+-- The kinds of row, in the order in which they are printed, and the list that a database has of each.
+use Rattle.std.specs.Prelude.{ℕ, List, [], ◌∷◌, None}
+use Rattle.dbc_records.specs.Records.{Message, TableRow, ValueRow, FloatRow, MuxRow}
+use Rattle.dbc_records.specs.Comments.{Comment}
+use Rattle.dbc_records.specs.Attributes.{AttrDef, AttrDefault, AttrRow}
+use Rattle.dbc_records.specs.Kept.{Kept}
+use Rattle.dbc_records.specs.Databases.{Database}
+
+pub data Kind : Type 0 where
+  Tables : Kind
+  Messages : Kind
+  Comments : Kind
+  Definitions : Kind
+  Defaults : Kind
+  Attributes : Kind
+  ValueRows : Kind
+  FloatRows : Kind
+  MuxRows : Kind
+  KeptOnes : Kind
+
+abbrev pub all_kinds : List Kind
+all_kinds =
+    Tables ∷ Messages ∷ Comments ∷ Definitions ∷ Defaults ∷ Attributes ∷ ValueRows ∷ FloatRows ∷ MuxRows ∷ KeptOnes ∷ []
+
+abbrev pub RowOf : Kind → Type 0
+RowOf Tables = TableRow
+RowOf Messages = Message
+RowOf Comments = Comment
+RowOf Definitions = AttrDef
+RowOf Defaults = AttrDefault
+RowOf Attributes = AttrRow
+RowOf ValueRows = ValueRow
+RowOf FloatRows = FloatRow
+RowOf MuxRows = MuxRow
+RowOf KeptOnes = Kept
+
+abbrev pub list_of : (kind : Kind) → Database → List (RowOf kind)
+list_of Tables d = d.tables
+list_of Messages d = d.messages
+list_of Comments d = d.comments
+list_of Definitions d = d.definitions
+list_of Defaults d = d.defaults
+list_of Attributes d = d.attributes
+list_of ValueRows d = d.values
+list_of FloatRows d = d.floats
+list_of MuxRows d = d.muxes
+list_of KeptOnes d = d.kept
+
+-- the database with this list of the kind
+abbrev pub with_list : (kind : Kind) → Database → List (RowOf kind) → Database
+with_list Tables d rows = record d { tables = rows }
+with_list Messages d rows = record d { messages = rows }
+with_list Comments d rows = record d { comments = rows }
+with_list Definitions d rows = record d { definitions = rows }
+with_list Defaults d rows = record d { defaults = rows }
+with_list Attributes d rows = record d { attributes = rows }
+with_list ValueRows d rows = record d { values = rows }
+with_list FloatRows d rows = record d { floats = rows }
+with_list MuxRows d rows = record d { muxes = rows }
+with_list KeptOnes d rows = record d { kept = rows }
+
+-- the database with these lists of all kinds
+abbrev pub with_lists : Database → ((kind : Kind) → List (RowOf kind)) → Database
+with_lists d lists = record d {
+  tables = lists Tables;
+  messages = lists Messages;
+  comments = lists Comments;
+  definitions = lists Definitions;
+  defaults = lists Defaults;
+  attributes = lists Attributes;
+  values = lists ValueRows;
+  floats = lists FloatRows;
+  muxes = lists MuxRows;
+  kept = lists KeptOnes;
+}
+
+abbrev pub empty_database : List ℕ → Database
+empty_database version = record {
+  version = version;
+  symbols = [];
+  bit_timing = None;
+  nodes = [];
+  tables = [];
+  messages = [];
+  comments = [];
+  definitions = [];
+  defaults = [];
+  attributes = [];
+  values = [];
+  floats = [];
+  muxes = [];
+  kept = [];
+}
