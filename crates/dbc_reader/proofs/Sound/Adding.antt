@@ -19,7 +19,7 @@ use Rattle.dbc_records.specs.CanonicalText.{default_key, default_layout, attribu
 use Rattle.dbc_records.specs.CanonicalText.{statement_end}
 use Rattle.dbc_tokens.specs.declared.fault.ReadFault.{ReadFault}
 use Rattle.dbc_tokens.specs.Tokens.{Token, Cut, End, Fault, ◌▸◌}
-use Rattle.dbc_reader.specs.Reading.Databases.{row_into}
+use Rattle.dbc_reader.specs.Reading.Databases.{row_at, row_into}
 use Rattle.dbc_reader.specs.Classes.{has_word, has_name, has_string, has_symbol, has_kept_word}
 use Rattle.dbc_reader.specs.Reading.Cursors.{behind}
 use Rattle.dbc_reader.specs.Forms.{Part, Is, ◌▸▸◌}
@@ -135,26 +135,6 @@ adds_choose {d} test {r} {s} h k = record { adds = λ cut x e. by_test (starts t
     by_test true cut x e = h.adds cut x e
     by_test false cut x e = k.adds cut x e
 
--- a value that is read makes a statement
-adds_one : {A : Type 0} {d : Database} {r : Reader A} (put : A → AnyStatement) {add : A → Database} → Sound r (λ a. form (put a))
-    → ((a : A) → add a ≡ joined d (put a ∷ []))
-    → ((a : A) → timings_of (put a) ≡ []) → ((a : A) (behind : List AnyStatement) → FollowOn (put a) behind)
-    → ((a : A) (cut rest : Cut) (behind : List AnyStatement) → Spelt (form (put a)) cut rest → starts has_symbol cut ≡ false
-    → EndsSymbols (put a ∷ behind)) → Adds d (r >>= λ a. value (add a))
-adds_one {A} {d} {r} put {add} sound joins no_timing before ends = record {
-  adds = λ cut x e. (
-      let y = and_then_ok (r cut) _ x e in
-      subst (λ (z : Database × Cut). Adding d cut z) (ok_is (add y.0.0, y.0.1) x y.2)
-      (record {
-        statement = put y.0.0;
-        spelt = sound.spelt cut y.0 y.1;
-        joins = joins y.0.0;
-        no_timing = no_timing y.0.0;
-        before = λ behind h. before y.0.0 behind;
-        ends = λ behind none. ends y.0.0 cut y.0.1 behind (sound.spelt cut y.0 y.1) none;
-      }));
-}
-
 -- a statement whose form begins with a word that may be a symbol stands behind no list of symbols
 no_first : (word : List ℕ) (parts : List Part) (cut rest : Cut) → is_symbol word ≡ true → Spelt (Is (Word word) ∷ parts) cut rest
     → starts has_symbol cut ≡ false → ⊥
@@ -167,68 +147,6 @@ no_first word parts cut rest is h none =
     let test : starts has_symbol cut ≡ is_symbol token.0.bytes = ap (starts has_symbol) stands in
     let both : true ≡ false = sym is ∙ ap is_symbol (sym token.2) ∙ sym test ∙ none in
     absurd cc
-
--- ---- statements of a value each
-
-table_adds : (d : Database) → Adds d (row_into Tables d)
-unfolding row_into table_layout table_key word_layout items_of is_symbol
-table_adds d =
-    adds_one (λ row. Table row) table_sound (row_joined Tables d) (λ row. refl) (λ row behind. tt)
-    (λ row cut rest behind spelt none. absurd (no_first (codes "VAL_TABLE_") _ cut rest refl spelt none))
-
-values_adds : (d : Database) → Adds d (row_into ValueRows d)
-unfolding row_into values_layout values_key word_layout items_of is_symbol
-values_adds d =
-    adds_one (λ row. Values row) values_sound (row_joined ValueRows d) (λ row. refl) (λ row behind. tt)
-    (λ row cut rest behind spelt none. absurd (no_first (codes "VAL_") _ cut rest refl spelt none))
-
-float_adds : (d : Database) → Adds d (row_into FloatRows d)
-unfolding row_into float_key word_layout items_of is_symbol
-float_adds d =
-    adds_one (λ row. Float row) float_sound (row_joined FloatRows d) (λ row. refl) (λ row behind. tt)
-    (λ row cut rest behind spelt none. absurd (no_first (codes "SIG_VALTYPE_") _ cut rest refl spelt none))
-
-mux_adds : (d : Database) → Adds d (row_into MuxRows d)
-unfolding row_into mux_layout mux_key word_layout items_of is_symbol
-mux_adds d =
-    adds_one (λ row. Mux row) mux_sound (row_joined MuxRows d) (λ row. refl) (λ row behind. tt)
-    (λ row cut rest behind spelt none. absurd (no_first (codes "SG_MUL_VAL_") _ cut rest refl spelt none))
-
-comment_adds : (d : Database) → Adds d (row_into Comments d)
-unfolding row_into comment_layout comment_key word_layout items_of is_symbol
-comment_adds d =
-    adds_one (λ comment. OfComment comment) comment_sound
-    (row_joined Comments d)
-    (λ comment. refl) (λ comment behind. tt)
-    (λ comment cut rest behind spelt none. absurd (no_first (codes "CM_") _ cut rest refl spelt none))
-
-definition_adds : (d : Database) → Adds d (row_into Definitions d)
-unfolding row_into definition_layout definition_key word_layout items_of is_symbol
-definition_adds d =
-    adds_one (λ definition. Definition definition) definition_sound
-    (row_joined Definitions d)
-    (λ definition. refl) (λ definition behind. tt)
-    (λ definition cut rest behind spelt none. absurd (no_first (codes "BA_DEF_") _ cut rest refl spelt none))
-
-default_adds : (d : Database) → Adds d (row_into Defaults d)
-unfolding row_into default_layout default_key word_layout items_of is_symbol
-default_adds d =
-    adds_one (λ row. Default row) default_sound (row_joined Defaults d) (λ row. refl) (λ row behind. tt)
-    (λ row cut rest behind spelt none. absurd (no_first (codes "BA_DEF_DEF_") _ cut rest refl spelt none))
-
-attribute_adds : (d : Database) → Adds d (row_into Attributes d)
-unfolding row_into attribute_layout attribute_key word_layout items_of is_symbol
-attribute_adds d =
-    adds_one (λ row. Attribute row) attribute_sound (row_joined Attributes d) (λ row. refl) (λ row behind. tt)
-    (λ row cut rest behind spelt none. absurd (no_first (codes "BA_") _ cut rest refl spelt none))
-
-message_adds : (d : Database) → Adds d (row_into Messages d)
-unfolding row_into
-message_adds d =
-    adds_one (λ message. OfMessage message) (message_sound (length d.messages))
-    (row_joined Messages d)
-    (λ message. refl)
-    (λ message behind. tt) (λ message cut rest behind spelt none. tt)
 
 -- ---- lists of words
 
@@ -394,34 +312,76 @@ begins_as_symbol (t ▸ cut) e =
     (starts (has_word (codes "EV_")) (behind (t ▸ cut))) (starts has_string (behind (t ▸ cut)) && starts (has_word (codes "EV_"))
     (behind (behind (t ▸ cut)))) (sym (kept_by_tokens (t ▸ cut)) ∙ e))
 
-kept_adding : (d : Database) (cut : Cut) (x : Database × Cut) → begins_kept cut ≡ true → row_into KeptOnes d cut ≡ Ok x → Adding d cut x
+-- ---- a row of any kind
+
+row_sound : (kind : Kind) (d : Database) → Sound (row_at kind d) (λ row. form (Row kind row))
+row_sound Tables d = table_sound
+row_sound Messages d = message_sound (length d.messages)
+row_sound Comments d = comment_sound
+row_sound Definitions d = definition_sound
+row_sound Defaults d = default_sound
+row_sound Attributes d = attribute_sound
+row_sound ValueRows d = values_sound
+row_sound FloatRows d = float_sound
+row_sound MuxRows d = mux_sound
+row_sound KeptOnes d = kept_sound
+
+-- what is known of where a row of the kind was read
+Begins : Kind → Cut → Type 0
+Begins KeptOnes cut = begins_kept cut ≡ true
+Begins kind cut = Unit {0}
+
+row_ends : (kind : Kind) (row : RowOf kind) (cut rest : Cut) (behind : List AnyStatement) → Begins kind cut
+    → Spelt (form (Row kind row)) cut rest → starts has_symbol cut ≡ false → EndsSymbols (Row kind row ∷ behind)
+unfolding Begins table_layout table_key values_layout values_key float_key mux_layout mux_key comment_layout comment_key
+    definition_layout definition_key default_layout default_key attribute_layout attribute_key word_layout items_of is_symbol
+row_ends Tables row cut rest behind begins spelt none = absurd (no_first (codes "VAL_TABLE_") _ cut rest refl spelt none)
+row_ends Messages row cut rest behind begins spelt none = tt
+row_ends Comments row cut rest behind begins spelt none = absurd (no_first (codes "CM_") _ cut rest refl spelt none)
+row_ends Definitions row cut rest behind begins spelt none = absurd (no_first (codes "BA_DEF_") _ cut rest refl spelt none)
+row_ends Defaults row cut rest behind begins spelt none = absurd (no_first (codes "BA_DEF_DEF_") _ cut rest refl spelt none)
+row_ends Attributes row cut rest behind begins spelt none = absurd (no_first (codes "BA_") _ cut rest refl spelt none)
+row_ends ValueRows row cut rest behind begins spelt none = absurd (no_first (codes "VAL_") _ cut rest refl spelt none)
+row_ends FloatRows row cut rest behind begins spelt none = absurd (no_first (codes "SIG_VALTYPE_") _ cut rest refl spelt none)
+row_ends MuxRows row cut rest behind begins spelt none = absurd (no_first (codes "SG_MUL_VAL_") _ cut rest refl spelt none)
+row_ends KeptOnes row cut rest behind begins spelt none = let both : true ≡ false = sym (begins_as_symbol cut begins) ∙ none in
+    absurd cc
+
+row_adding : (kind : Kind) (d : Database) (cut : Cut) (x : Database × Cut) → Begins kind cut → row_into kind d cut ≡ Ok x
+    → Adding d cut x
 unfolding row_into
-kept_adding d cut x begins e =
-    let y = and_then_ok (kept_at cut) _ x e in
-    let add = λ (row : Kept). record d { kept = d.kept ++ row ∷ [] } in
-    subst (λ (z : Database × Cut). Adding d cut z) (ok_is (add y.0.0, y.0.1) x y.2)
+row_adding kind d cut x begins e =
+    let y = and_then_ok (row_at kind d cut) _ x e in
+    let spelt = (row_sound kind d).spelt cut y.0 y.1 in
+    subst (λ (z : Database × Cut). Adding d cut z) (ok_is (with_list kind d (list_of kind d ++ y.0.0 ∷ []), y.0.1) x y.2)
     (record {
-      statement = OfKept y.0.0;
-      spelt = kept_sound.spelt cut y.0 y.1;
-      joins = row_joined KeptOnes d y.0.0;
+      statement = Row kind y.0.0;
+      spelt = spelt;
+      joins = row_joined kind d y.0.0;
       no_timing = refl;
       before = λ behind h. tt;
-      ends = λ behind none. (let both : true ≡ false = sym (begins_as_symbol cut begins) ∙ none in absurd cc);
+      ends = λ behind none. row_ends kind y.0.0 cut y.0.1 behind begins spelt none;
     })
+
+row_adds : (kind : Kind) (d : Database) → ((cut : Cut) → Begins kind cut) → Adds d (row_into kind d)
+row_adds kind d begins = record { adds = λ cut x e. row_adding kind d cut x (begins cut) e }
 
 -- ---- any statement
 
 adds_kept : (d : Database) {r : Reader Database} → Adds d r → Adds d (choose_by begins_kept (row_into KeptOnes d) r)
+unfolding Begins
 adds_kept d {r} h = record { adds = λ cut x e. by_test (begins_kept cut) cut x refl e }
   where
     by_test : (b : Bool) (cut : Cut) (x : Database × Cut) → begins_kept cut ≡ b → cond b (row_into KeptOnes d cut) (r cut) ≡ Ok x
         → Adding d cut x
-    by_test true cut x is e = kept_adding d cut x is e
+    by_test true cut x is e = row_adding KeptOnes d cut x is e
     by_test false cut x is e = h.adds cut x e
 
 pub statement_adds : (d : Database) → Adds d (statement_into d)
-unfolding statement_into object_into value_row_into attribute_row_into
+unfolding statement_into object_into value_row_into attribute_row_into Begins
 statement_adds d =
-    adds_kept d (adds_choose _ (adds_choose _ (symbols_adds d) (adds_choose _ (nodes_adds d) (message_adds d)))
-    (adds_choose _ (adds_choose _ (table_adds d) (adds_choose _ (values_adds d) (adds_choose _ (float_adds d) (mux_adds d))))
-    (adds_choose _ (comment_adds d) (adds_choose _ (definition_adds d) (adds_choose _ (default_adds d) (attribute_adds d))))))
+    adds_kept d (adds_choose _ (adds_choose _ (symbols_adds d) (adds_choose _ (nodes_adds d) (row_adds Messages d (λ cut. tt))))
+    (adds_choose _ (adds_choose _ (row_adds Tables d (λ cut. tt)) (adds_choose _ (row_adds ValueRows d (λ cut. tt))
+    (adds_choose _ (row_adds FloatRows d (λ cut. tt)) (row_adds MuxRows d (λ cut. tt)))))
+    (adds_choose _ (row_adds Comments d (λ cut. tt)) (adds_choose _ (row_adds Definitions d (λ cut. tt))
+    (adds_choose _ (row_adds Defaults d (λ cut. tt)) (row_adds Attributes d (λ cut. tt)))))))
