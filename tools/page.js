@@ -2,15 +2,15 @@
 // The page asks the server by wishes, each with a number, and is told what changed. All text of a database or a log is only ever
 // text: nothing is put into the page as HTML, and names are keys of Maps alone.
 const by = id => document.getElementById(id);
-const LINE = 18, MOST_HEIGHT = 8e6, HISTORY = 120, MOST_FOUND = 50;
+const LINE = 18, MOST_HEIGHT = 8e6, HISTORY = 120;
 const page = {
-  state: null, place: 0, message: null, branch: new Map(), counts: new Map(), remedies: new Map(), before: new Set(),
+  state: null, place: 0, message: null, branch: new Map(), counts: new Map(), remedies: new Map(),
   // the window of the log, and the last values of a message
   total: 0, first: 0, history: new Map(), historyOf: "",
   // wishes that wait for their answers, and when an edit began
   asked: 0, waiting: new Map(), editedAt: 0,
   // what the lists were made of
-  items: [], listed: null, offered: null, found: null,
+  items: [], listed: null, offered: -1, found: null,
 };
 
 function made(tag, text, properties = {}) {
@@ -66,13 +66,13 @@ document.addEventListener("visibilitychange", () => wish("hidden", { hidden: doc
 async function showState({ state, message, lines }) {
   const old = page.state;
   if (old && state.version < old.version) return;
-  page.state = state;
+  // (the messages are left out if they are the same)
+  page.state = { ...state, messages: state.messages || old.messages };
   document.title = `${state.isSaved ? "" : "• "}${state.file} – candesk`;
   by("title").textContent = `${state.file}${state.isSaved ? "" : " (edited)"}`;
   by("undo").disabled = !state.undo; by("redo").disabled = !state.redo;
   by("undo").textContent = `Undo ${state.undo || ""}`; by("redo").textContent = `Redo ${state.redo || ""}`;
-  page.place = Math.min(page.place, state.messages.length - 1);
-  page.before = new Set(old ? old.diagnostics : state.diagnostics);
+  page.place = Math.min(page.place, page.state.messages.length - 1);
   if (message && lines) {
     putMessage(JSON.parse(message));
     putLines(lines);
@@ -94,11 +94,11 @@ async function showState({ state, message, lines }) {
 }
 // the list of messages is made anew only where it differs; what came of each is put into it
 function showMessages() {
-  const sought = by("search").value.toLowerCase();
-  const list = page.state.messages.filter(it => it.name.toLowerCase().includes(sought) || hex(it).toLowerCase().includes(sought));
-  const key = list.map(it => `${it.place} ${it.number} ${it.name}`).join();
+  const sought = by("search").value.toLowerCase(), key = `${page.state.edition} ${sought}`;
   if (page.listed !== key) {
     page.listed = key;
+    const isSought = it => it.name.toLowerCase().includes(sought) || hex(it).toLowerCase().includes(sought);
+    const list = page.state.messages.filter(isSought);
     page.items = list.map(it => {
       const button = made("button", null, { onclick: () => openMessage(it.place) });
       const frames = made("small"), cycle = made("small");
@@ -133,19 +133,18 @@ function showCounts(counts) {
 }
 // the diagnostics, those that are new first; of very many the first ones
 function showFound() {
-  const isNew = it => !page.before.has(it), all = page.state.diagnostics;
-  const shown = [...all.filter(isNew), ...all.filter(it => !isNew(it))].slice(0, MOST_FOUND);
-  const key = JSON.stringify(shown.map(it => [it, isNew(it), page.remedies.get(it)]));
-  put(by("amount"), String(all.length));
+  const { amount, found } = page.state;
+  const key = JSON.stringify(found.map(([words, isNew]) => [words, isNew, page.remedies.get(words)]));
+  put(by("amount"), String(amount));
   if (page.found === key) return;
   page.found = key;
-  by("found").replaceChildren(...shown.map(words => {
-    const item = made("li", words, { className: isNew(words) ? "new" : "" });
+  by("found").replaceChildren(...found.map(([words, isNew]) => {
+    const item = made("li", words, { className: isNew ? "new" : "" });
     if (page.remedies.has(words)) item.append(made("br"), made("small", page.remedies.get(words)));
     return item;
   }));
-  if (shown.some(isNew)) by("found").closest("aside").scrollTop = 0;
-  if (all.length > shown.length) by("found").append(made("li", `and ${(all.length - shown.length).toLocaleString()} more`));
+  if (found.some(([, isNew]) => isNew)) by("found").closest("aside").scrollTop = 0;
+  if (amount > found.length) by("found").append(made("li", `and ${(amount - found.length).toLocaleString()} more`));
 }
 
 // ---- layout
@@ -324,9 +323,9 @@ by("jump").onchange = () => {
   showLines(first);
 };
 function showChoices() {
-  const chosen = by("only").value, key = page.state.messages.map(it => it.name).join();
-  if (page.offered === key) return;
-  page.offered = key;
+  if (page.offered === page.state.edition) return;
+  page.offered = page.state.edition;
+  const chosen = by("only").value;
   const names = page.state.messages.map(it => made("option", it.name, { value: it.name }));
   by("only").replaceChildren(made("option", "all", { value: "" }), ...names);
   by("only").value = chosen;

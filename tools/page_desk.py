@@ -31,6 +31,8 @@ RECENT = 120
 BATCH = 100
 # how many texts of before and after are kept
 UNDONE = 100
+# how many diagnostics a page shows
+MOST_FOUND = 50
 # every so many lines the index of a file has the place of one
 STEP = 64
 CHUNK = 1 << 20
@@ -148,8 +150,12 @@ class Desk:
         self.session = shell_session.Session(path, short, WINDOW)
         self.before: collections.deque[bytes] = collections.deque(maxlen=UNDONE)
         self.after: list[bytes] = []
-        self.version = 0
+        # `version` rises with every edit, and `edition` if the list of messages changes
+        self.version = self.edition = 0
         self.text = self.saved = self.session.text()
+        self.messages = self.listed()
+        self.diagnostics = [tools.shown(it) for it in self.session.diagnostics()]
+        self.found = [(it, False) for it in self.diagnostics[:MOST_FOUND]]
         self.filter: tuple[str, str] | None = None
         self.matches: array.array[int] | None = None
 
@@ -158,16 +164,28 @@ class Desk:
 
     # ---- what is shown
 
+    def listed(self) -> list[dict[str, Any]]:
+        """The messages as a page lists them."""
+        found = tools.messages_of(self.text)
+        return [{"place": it.place, "number": it.number, "name": it.name, "size": it.size} for it in found]
+
+    def summary(self) -> dict[str, Any]:
+        return {
+            "version": self.version, "edition": self.edition, "file": os.path.basename(self.path),
+            "isSaved": self.text == self.saved, "undo": len(self.before), "redo": len(self.after), "live": self.log.is_live,
+        }
+
     def state(self) -> dict[str, Any]:
         """The messages, the diagnostics, and what can be undone."""
         with self.lock:
-            messages = tools.messages_of(self.text)
-            return {
-                "version": self.version, "file": os.path.basename(self.path), "isSaved": self.text == self.saved,
-                "messages": [{"place": it.place, "number": it.number, "name": it.name, "size": it.size} for it in messages],
-                "diagnostics": [tools.shown(it) for it in self.session.diagnostics()],
-                "undo": len(self.before), "redo": len(self.after), "live": self.log.is_live,
-            }
+            return {**self.summary(), "messages": self.messages, "diagnostics": self.diagnostics}
+
+    def glance(self, edition: int) -> dict[str, Any]:
+        """The same for a page: how many diagnostics there are, and the first of them, each with whether it is new. The messages
+        are left out if the page has those of this edition already."""
+        with self.lock:
+            messages = {} if edition == self.edition else {"messages": self.messages}
+            return {**self.summary(), **messages, "amount": len(self.diagnostics), "found": self.found}
 
     @contextlib.contextmanager
     def printed(self) -> Iterator[str]:
@@ -191,13 +209,14 @@ class Desk:
         return lines[place].decode()
 
     def remedies(self) -> dict[str, str]:
-        """The remedy of each diagnostic, by its words."""
+        """The remedy of each diagnostic that a page shows, by its words."""
+        shown = {words for words, _ in self.found}
         found: dict[str, str] = {}
         words = ""
         for line in tools.shown(self.said("explain")).split("\n"):
             if line.startswith(("line ", "lines ")):
                 words = line.partition(": ")[2]
-            elif line.startswith("  remedy: "):
+            elif words in shown and line.startswith("  remedy: "):
                 found.setdefault(words, line.removeprefix("  remedy: "))
         return found
 
@@ -262,8 +281,16 @@ class Desk:
             raise Refused(f"there is no signal {signal}")
 
     def changed(self, text: bytes) -> None:
+        """After an edit: what is shown of the database. Diagnostics that it brought come first."""
         self.text = text
         self.version += 1
+        messages, self.messages = self.messages, self.listed()
+        self.edition += messages != self.messages
+        before = set(self.diagnostics)
+        self.diagnostics = [tools.shown(it) for it in self.session.diagnostics()]
+        new = [it for it in self.diagnostics if it not in before]
+        others = (it for it in self.diagnostics if it in before)
+        self.found = [*((it, True) for it in new[:MOST_FOUND]), *((it, False) for it in others)][:MOST_FOUND]
 
     def open_text(self, text: bytes) -> None:
         """Opens a text of before or after in a session of its own."""

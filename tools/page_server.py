@@ -11,6 +11,7 @@ import contextlib
 import hmac
 import json
 import secrets
+import weakref
 from collections.abc import Awaitable, Callable
 from typing import Any
 
@@ -48,6 +49,8 @@ class Server:
         # who looks, and whose page is hidden
         self.lookers: set[web.WebSocketResponse] = set()
         self.hidden: set[web.WebSocketResponse] = set()
+        # the edition of the list of messages that each page has
+        self.editions: weakref.WeakKeyDictionary[web.WebSocketResponse, int] = weakref.WeakKeyDictionary()
         self.counts: Counts = Counts()
         self.counted_version = -1
         self.later: asyncio.Task[None] | None = None
@@ -105,12 +108,12 @@ class Server:
             raise web.HTTPForbidden(text="this page is for its own scripts alone\n")
         socket = web.WebSocketResponse(max_msg_size=MOST_BYTES, heartbeat=20)
         await socket.prepare(request)
-        state = await self.run(self.desk.state)
+        state = await self.state_for(socket)
         await self.push(socket, {"state": state, "counts": self.counts.shown(), "log": {"total": self.desk.total}})
         self.lookers.add(socket)
         try:
             if state["version"] != self.desk.version:
-                await self.push(socket, {"state": await self.run(self.desk.state)})
+                await self.push(socket, {"state": await self.state_for(socket)})
             async for message in socket:
                 if message.type != WSMsgType.TEXT:
                     break
@@ -150,8 +153,8 @@ class Server:
                 answer: Any = None
             elif wish in self.edits:
                 await self.run(lambda: self.edits[wish](asked))
-                answer = await self.looked_at(asked.get("look"))
-                await self.changed(answer["state"], socket)
+                answer = await self.looked_at(asked.get("look"), socket)
+                await self.changed(socket)
             elif wish in self.wishes:
                 answer = await self.run(lambda: self.wishes[wish](asked))
             else:
@@ -165,9 +168,16 @@ class Server:
             told = {"id": asked.get("id"), "refused": f"{error.filename or 'a file'}: {error.strerror or error}"}
         await self.push(socket, told)
 
-    async def looked_at(self, look: Any) -> dict[str, Any]:
+    async def state_for(self, socket: web.WebSocketResponse) -> dict[str, Any]:
+        """What a page shows of the database, without what it has already."""
+        state: dict[str, Any] = await self.run(lambda: self.desk.glance(self.editions.get(socket, -1)))
+        self.editions[socket] = state["edition"]
+        return state
+
+    async def looked_at(self, look: Any, socket: web.WebSocketResponse) -> dict[str, Any]:
         """The state, and what a page looks at: a message and a window of the log."""
-        calls: dict[str, Callable[[], Any]] = {"state": self.desk.state}
+        state = await self.state_for(socket)
+        calls: dict[str, Callable[[], Any]] = {}
         if isinstance(look, dict):
             place, first, count = (int(look[it]) for it in ("place", "first", "count"))
             calls["lines"] = lambda: self.desk.lines(first, count)
@@ -177,12 +187,12 @@ class Server:
             # (the message that was looked at may have been removed)
             if isinstance(it, BaseException) and not isinstance(it, Refused):
                 raise it
-        return {name: it for name, it in zip(calls, answers) if not isinstance(it, Refused)}
+        return {"state": state, **{name: it for name, it in zip(calls, answers) if not isinstance(it, Refused)}}
 
-    async def changed(self, state: dict[str, Any], editor: web.WebSocketResponse) -> None:
+    async def changed(self, editor: web.WebSocketResponse) -> None:
         """After an edit: all others that look see it too. What takes the whole log follows."""
         for it in self.lookers - self.hidden - {editor}:
-            await self.push(it, {"state": state, "log": {"total": self.desk.total}})
+            await self.push(it, {"state": await self.state_for(it), "log": {"total": self.desk.total}})
         await self.push(editor, {"log": {"total": self.desk.total}})
         if self.desk.version != self.counted_version:
             self.later = asyncio.get_running_loop().create_task(self.recount())

@@ -9,6 +9,8 @@ use Rattle.dbc_reader.specs.Grammar as grammar
 use Rattle.dbc_tokens.proofs.CutLaws.{cut_unique}
 use Rattle.dbc_reader.specs.Pattern.{first_fault, nothing_seen}
 use Rattle.dbc_reader.specs.Texts.{HasDatabase, HasFirstFault, IsRead}
+use Rattle.dbc_reader.specs.Located.{HasLocatedDatabase}
+use Rattle.dbc_reader.specs.declared.start.Starts.{Starts}
 use Rattle.fault_places.specs.Places.{Found, IsPlace}
 use Rattle.fault_places.specs.Walks.{found_of}
 use Rattle.fault_reports.specs.Headlines.{BeginsSo}
@@ -20,7 +22,8 @@ use Rattle.candesk_runs.specs.declared.fault.PrintFault.TheVariants as print
 use Rattle.candesk_runs.specs.declared.checking.Verdict.{Verdict}
 use Rattle.candesk_runs.specs.declared.fault.CheckFault.{CheckFault}
 use Rattle.candesk_runs.specs.declared.fault.CheckFault.TheVariants as check
-use Rattle.candesk_runs.specs.Explaining.{Explains, ExplainsFault, ExplainsText}
+use Rattle.candesk_runs.specs.Explaining.{ExplainsPlaced, ExplainsFault, ExplainsText}
+use Rattle.placed_faults.specs.PlacedFaults.{placed_faults}
 use Rattle.can_decode.specs.declared.short.Short.{Short}
 use Rattle.can_decode.specs.DecodedLines.{Bus}
 use Rattle.candesk_runs.specs.Decoding.{Writes, WritesRows, WritesCsv, RunsToTexts, RunsToCsv, header_text}
@@ -42,18 +45,20 @@ module _ (text : List ℕ) (database : Database) (read : HasDatabase text databa
   csv_written short before after old new (Err (run.Read fault)) done = absurd done
   csv_written short before after old new (Err run.Memory) done = done
 
-  pub explained : (old new : Written) (result : Result Verdict CheckFault) → Explains text database old new result
-      → ExplainsText text old new result
-  explained old new (Ok verdict) done = (database, read, done)
-  explained old new (Err (check.Read fault)) done = absurd done
-  explained old new (Err check.Write) done = inl (database, read, done)
-  explained old new (Err check.Memory) done = done
-
   pub printed : (old new : Written) (result : Result (Unit {0}) PrintFault) → Prints database old new result
       → PrintsText text old new result
   printed old new (Ok u) done = (database, read, done)
   printed old new (Err (print.Read fault)) done = absurd done
   printed old new (Err print.Write) done = (database, read, done)
+
+-- the same of a database with where its statements begin
+pub explained : (text : List ℕ) (database : Database) (starts : Starts) → HasLocatedDatabase text database starts
+    → (old new : Written) (result : Result Verdict CheckFault) → ExplainsPlaced (placed_faults database starts) old new result
+    → ExplainsText text old new result
+explained text database starts read old new (Ok verdict) done = (database, starts, read, done)
+explained text database starts read old new (Err (check.Read fault)) done = absurd done
+explained text database starts read old new (Err check.Write) done = inl (database, starts, read, done)
+explained text database starts read old new (Err check.Memory) done = done
 
 -- rows behind the names of the columns
 pub behind_header : (bus : Bus) (before after : Unread) (old begun new : Written) (result : Result ℕ RunFault)

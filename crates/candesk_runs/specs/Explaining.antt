@@ -5,12 +5,12 @@ use Rattle.dbc_records.specs.Databases.{Database}
 use Rattle.byte_devices.specs.Device.{Written, Wrote, Broke}
 use Rattle.dbc_tokens.specs.declared.fault.ReadFault.{ReadFault}
 use Rattle.dbc_reader.specs.Grammar as grammar
-use Rattle.dbc_reader.specs.Texts.{HasDatabase, HasFirstFault}
+use Rattle.dbc_reader.specs.Texts.{HasFirstFault}
+use Rattle.dbc_reader.specs.Located.{HasLocatedDatabase}
+use Rattle.dbc_reader.specs.declared.start.Starts.{Starts}
 use Rattle.can_remedies.specs.declared.placed.Placed.{Placed}
 use Rattle.can_remedies.specs.Remedies.{explained_text}
 use Rattle.fault_reports.specs.Headlines.{BeginsSo}
-use Rattle.statement_lines.specs.declared.lines.Lines.{Lines}
-use Rattle.statement_lines.specs.Lines.{HasLines}
 use Rattle.placed_faults.specs.PlacedFaults.{placed_faults}
 use Rattle.candesk_runs.specs.declared.checking.Verdict.{Verdict}
 use Rattle.candesk_runs.specs.declared.fault.CheckFault.{CheckFault}
@@ -31,15 +31,6 @@ ExplainsPlaced found old new (Err (faults.Read fault)) = ⊥
 ExplainsPlaced found old new (Err faults.Write) = ExplainsAll found old new (Err faults.Write)
 ExplainsPlaced found old new (Err faults.Memory) = new ≡ old
 
--- The same of all that is doubtful in the database, placed by the lines in which the statements of the text begin.
-abbrev pub Explains : List ℕ → Database → Written → Written → Result Verdict CheckFault → Type 0
-Explains text database old new (Ok verdict) = (lines : Lines) × HasLines text lines
-    × ExplainsAll (placed_faults database lines) old new (Ok verdict)
-Explains text database old new (Err (faults.Read fault)) = ⊥
-Explains text database old new (Err faults.Write) = (lines : Lines) × HasLines text lines
-    × ExplainsAll (placed_faults database lines) old new (Err faults.Write)
-Explains text database old new (Err faults.Memory) = new ≡ old
-
 -- Words on a text with this first fault were written, which begin with its line and its cause, or a beginning of such words, and
 -- then a put failed. Or nothing was written, and memory ran out.
 abbrev pub ExplainsFault : ReadFault → Written → Written → Result Verdict CheckFault → Type 0
@@ -49,14 +40,16 @@ ExplainsFault first old new (Err (faults.Read fault)) = (fault ≡ first) × (wo
 ExplainsFault first old new (Err faults.Write) = (words : List ℕ) × BeginsSo first words × Broke old new words
 ExplainsFault first old new (Err faults.Memory) = new ≡ old
 
--- The text has a database, and what is doubtful in it was so explained; or it has this first fault, and words on it were written.
+-- The text has a database, of which the statements begin there, and its diagnostics were so explained; or it has this first fault, and
+-- words on it were written.
 abbrev pub ExplainsText : List ℕ → Written → Written → Result Verdict CheckFault → Type 0
-ExplainsText text old new (Ok verdict) = (database : Database) × HasDatabase text database
-    × Explains text database old new (Ok verdict)
+ExplainsText text old new (Ok verdict) = (database : Database) × (starts : Starts) × HasLocatedDatabase text database starts
+    × ExplainsPlaced (placed_faults database starts) old new (Ok verdict)
 ExplainsText text old new (Err (faults.Read fault)) = HasFirstFault grammar.text text fault
     × ExplainsFault fault old new (Err (faults.Read fault))
 ExplainsText text old new (Err faults.Write) =
-    ((database : Database) × HasDatabase text database × Explains text database old new (Err faults.Write))
+    ((database : Database) × (starts : Starts) × HasLocatedDatabase text database starts
+    × ExplainsPlaced (placed_faults database starts) old new (Err faults.Write))
     ⊎ ((fault : ReadFault) × HasFirstFault grammar.text text fault × ExplainsFault fault old new (Err faults.Write))
 ExplainsText text old new (Err faults.Memory) = new ≡ old
 

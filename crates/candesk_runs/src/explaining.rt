@@ -2,18 +2,17 @@
 ghost use Rattle.dbc_reader.specs.Grammar as grammar;
 ghost use Rattle.dbc_reader.specs.Texts.{HasFirstFault};
 ghost use Rattle.placed_faults.specs.PlacedFaults.{placed_faults};
-ghost use Rattle.candesk_runs.specs.Explaining.{ExplainsAll, ExplainsPlaced, Explains, ExplainsFault, ExplainsText};
+ghost use Rattle.candesk_runs.specs.Explaining.{ExplainsAll, ExplainsPlaced, ExplainsFault, ExplainsText};
 
 use crate::checking::{Verdict, verdict_of};
 use crate::fault::CheckFault;
 use can_remedies::{Placed, write_explained};
 use dbc_model::{Memory, Sink, WriteFault, put_all};
-use dbc_reader::read;
+use dbc_reader::{Starts, read_with_starts};
 use dbc_records::Database;
 use dbc_tokens::{Cause, ReadFault};
 use fault_reports::fault_report;
 use placed_faults::placed_faults;
-use statement_lines::{Lines, statement_lines};
 use std::alloc::Global;
 
 // Writes diagnostics behind their lines, with their remedies.
@@ -26,32 +25,17 @@ fn explain_all<W: Sink>(found: &[Placed], sink: &mut W) -> Result<Verdict, Check
     }
 }
 
-// Writes the diagnostics of a database whose statements begin in these lines.
-fn explain_placed<W: Sink>(
-    alloc: Global,
-    database: &Database,
-    lines: &Lines,
-    sink: &mut W,
-) -> Result<Verdict, CheckFault>
-    ensures { ExplainsPlaced (placed_faults database.now lines.now) (W.written sink.old) (W.written sink.new) result }
-{
-    match placed_faults(alloc, database, lines) {
-        Ok(found) => explain_all(found.as_slice(), sink),
-        Err(Memory) => Err(CheckFault::Memory),
-    }
-}
-
-// Writes the diagnostics of the database that a text has.
+// Writes the diagnostics of a database whose statements begin there.
 fn explain_database<W: Sink>(
     alloc: Global,
-    text: &[u8],
     database: &Database,
+    starts: &Starts,
     sink: &mut W,
 ) -> Result<Verdict, CheckFault>
-    ensures { Explains text.now database.now (W.written sink.old) (W.written sink.new) result }
+    ensures { ExplainsPlaced (placed_faults database.now starts.now) (W.written sink.old) (W.written sink.new) result }
 {
-    match statement_lines(alloc, text) {
-        Ok(lines) => explain_placed(alloc, database, &lines, sink),
+    match placed_faults(alloc, database, starts) {
+        Ok(found) => explain_all(found.as_slice(), sink),
         Err(Memory) => Err(CheckFault::Memory),
     }
 }
@@ -83,8 +67,8 @@ fn explain_fault<W: Sink>(
 pub fn explain_run<W: Sink>(alloc: Global, text: &[u8], sink: &mut W) -> Result<Verdict, CheckFault>
     ensures { ExplainsText text.now (W.written sink.old) (W.written sink.new) result }
 {
-    match read(alloc, text) {
-        Ok(database) => explain_database(alloc, text, &database, sink),
+    match read_with_starts(alloc, text) {
+        Ok((database, starts)) => explain_database(alloc, &database, &starts, sink),
         Err(fault) if fault.cause == Cause::Memory => Err(CheckFault::Memory),
         Err(fault) => explain_fault(alloc, text, fault, sink),
     }

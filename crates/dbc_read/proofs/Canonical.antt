@@ -2,13 +2,13 @@
 use Rattle.std.proofs.Common.{◌≡◌, ◌≤◌, List, [], ◌∷◌, ◌++◌, map, length, Some, append_assoc, append-nil, refl, sym, ap, ◌∙◌, arith}
 use Rattle.std.specs.List.{flat_map}
 use Rattle.dbc_records.specs.Databases.{Database, IsDatabase}
-use Rattle.dbc_reader.specs.Kinds.{Kind, RowOf, list_of, with_list, with_lists, all_kinds, empty_database, Tables, Messages, Comments, Definitions, Defaults, Attributes, ValueRows, FloatRows, MuxRows, KeptOnes}
-use Rattle.dbc_reader.specs.Spelling.{AnyStatement, Symbols, Timing, Nodes, Row, timings_of, ArePlaced, gather}
-use Rattle.dbc_reader.proofs.Sound.Adding.{joined, joined_none, joined_twice, row_joined}
+use Rattle.dbc_reader.specs.Kinds.{Kind, RecordOf, list_of, with_list, with_lists, all_kinds, empty_database, Tables, Messages, Comments, Definitions, Defaults, Attributes, ValueDescriptions, FloatTypes, Multiplexings, KeptVerbatim}
+use Rattle.dbc_reader.specs.Spelling.{AnyStatement, Symbols, Timing, Nodes, OfKind, timings_of, ArePlaced, gather}
+use Rattle.dbc_reader.proofs.Sound.Adding.{joined, joined_none, joined_twice, record_joined}
 use Rattle.dbc_reader.proofs.Sound.Databases.{three_numbers, timing_kept, gather_timed}
 
 abbrev pub statements_of : Database → Kind → List AnyStatement
-statements_of d kind = map (Row kind) (list_of kind d)
+statements_of d kind = map (OfKind kind) (list_of kind d)
 
 abbrev pub canonical_rows : Database → List AnyStatement
 canonical_rows d = flat_map (statements_of d) all_kinds
@@ -18,26 +18,26 @@ canonical d = Symbols d.symbols ∷ Timing (three_numbers d.bit_timing) ∷ Node
 
 -- ---- their places, and at most one bit timing
 
-rows_placed : (kind : Kind) (rows : List (RowOf kind)) (behind : List AnyStatement) → ArePlaced behind
-    → ArePlaced (map (Row kind) rows ++ behind)
-rows_placed kind [] behind placed = placed
-rows_placed kind (row ∷ rows) behind placed = (tt, rows_placed kind rows behind placed)
+records_placed : (kind : Kind) (rows : List (RecordOf kind)) (behind : List AnyStatement) → ArePlaced behind
+    → ArePlaced (map (OfKind kind) rows ++ behind)
+records_placed kind [] behind placed = placed
+records_placed kind (row ∷ rows) behind placed = (tt, records_placed kind rows behind placed)
 
 kinds_placed : (kinds : List Kind) (d : Database) → ArePlaced (flat_map (statements_of d) kinds)
 kinds_placed [] d = tt
-kinds_placed (kind ∷ kinds) d = rows_placed kind (list_of kind d) _ (kinds_placed kinds d)
+kinds_placed (kind ∷ kinds) d = records_placed kind (list_of kind d) _ (kinds_placed kinds d)
 
 pub canonical_placed : (d : Database) → ArePlaced (canonical d)
 canonical_placed d = (tt, (tt, (tt, kinds_placed all_kinds d)))
 
-row_untimed : (kind : Kind) (rows : List (RowOf kind)) (behind : List AnyStatement) → flat_map timings_of behind ≡ []
-    → flat_map timings_of (map (Row kind) rows ++ behind) ≡ []
-row_untimed kind [] behind e = e
-row_untimed kind (row ∷ rows) behind e = row_untimed kind rows behind e
+records_untimed : (kind : Kind) (rows : List (RecordOf kind)) (behind : List AnyStatement) → flat_map timings_of behind ≡ []
+    → flat_map timings_of (map (OfKind kind) rows ++ behind) ≡ []
+records_untimed kind [] behind e = e
+records_untimed kind (row ∷ rows) behind e = records_untimed kind rows behind e
 
 kinds_untimed : (kinds : List Kind) (d : Database) → flat_map timings_of (flat_map (statements_of d) kinds) ≡ []
 kinds_untimed [] d = refl
-kinds_untimed (kind ∷ kinds) d = row_untimed kind (list_of kind d) _ (kinds_untimed kinds d)
+kinds_untimed (kind ∷ kinds) d = records_untimed kind (list_of kind d) _ (kinds_untimed kinds d)
 
 pub rows_untimed : (d : Database) → flat_map timings_of (canonical_rows d) ≡ []
 rows_untimed d = kinds_untimed all_kinds d
@@ -54,45 +54,45 @@ put_found Comments d = refl
 put_found Definitions d = refl
 put_found Defaults d = refl
 put_found Attributes d = refl
-put_found ValueRows d = refl
-put_found FloatRows d = refl
-put_found MuxRows d = refl
-put_found KeptOnes d = refl
+put_found ValueDescriptions d = refl
+put_found FloatTypes d = refl
+put_found Multiplexings d = refl
+put_found KeptVerbatim d = refl
 
-found_put : (kind : Kind) (d : Database) (rows : List (RowOf kind)) → list_of kind (with_list kind d rows) ≡ rows
+found_put : (kind : Kind) (d : Database) (rows : List (RecordOf kind)) → list_of kind (with_list kind d rows) ≡ rows
 found_put Tables d rows = refl
 found_put Messages d rows = refl
 found_put Comments d rows = refl
 found_put Definitions d rows = refl
 found_put Defaults d rows = refl
 found_put Attributes d rows = refl
-found_put ValueRows d rows = refl
-found_put FloatRows d rows = refl
-found_put MuxRows d rows = refl
-found_put KeptOnes d rows = refl
+found_put ValueDescriptions d rows = refl
+found_put FloatTypes d rows = refl
+found_put Multiplexings d rows = refl
+found_put KeptVerbatim d rows = refl
 
-put_twice : (kind : Kind) (d : Database) (rows more : List (RowOf kind)) → with_list kind (with_list kind d rows) more ≡ with_list kind d more
+put_twice : (kind : Kind) (d : Database) (rows more : List (RecordOf kind)) → with_list kind (with_list kind d rows) more ≡ with_list kind d more
 put_twice Tables d rows more = refl
 put_twice Messages d rows more = refl
 put_twice Comments d rows more = refl
 put_twice Definitions d rows more = refl
 put_twice Defaults d rows more = refl
 put_twice Attributes d rows more = refl
-put_twice ValueRows d rows more = refl
-put_twice FloatRows d rows more = refl
-put_twice MuxRows d rows more = refl
-put_twice KeptOnes d rows more = refl
+put_twice ValueDescriptions d rows more = refl
+put_twice FloatTypes d rows more = refl
+put_twice Multiplexings d rows more = refl
+put_twice KeptVerbatim d rows more = refl
 
-kind_joined : (kind : Kind) (d : Database) (rows : List (RowOf kind)) → joined d (map (Row kind) rows)
+kind_joined : (kind : Kind) (d : Database) (rows : List (RecordOf kind)) → joined d (map (OfKind kind) rows)
     ≡ with_list kind d (list_of kind d ++ rows)
 kind_joined kind d [] = joined_none d ∙ sym (put_found kind d) ∙ ap (with_list kind d) (sym (append-nil (list_of kind d)))
 kind_joined kind d (row ∷ rows) =
     let first = list_of kind d ++ row ∷ [] in
     let e = with_list kind d first in
-    sym (joined_twice d (Row kind row ∷ []) (map (Row kind) rows))
-    ∙ ap (λ (e : Database). joined e (map (Row kind) rows)) (sym (row_joined kind d row))
+    sym (joined_twice d (OfKind kind row ∷ []) (map (OfKind kind) rows))
+    ∙ ap (λ (e : Database). joined e (map (OfKind kind) rows)) (sym (record_joined kind d row))
     ∙ kind_joined kind e rows ∙ put_twice kind d first _
-    ∙ ap (with_list kind d) (ap (λ (l : List (RowOf kind)). l ++ rows) (found_put kind d first)
+    ∙ ap (with_list kind d) (ap (λ (l : List (RecordOf kind)). l ++ rows) (found_put kind d first)
     ∙ append_assoc (list_of kind d) (row ∷ []) rows)
 
 abbrev put_all : List Kind → Database → Database → Database

@@ -5,6 +5,8 @@ pub mod Notes
 pub mod Tags
 pub mod Messages
 pub mod Adding
+pub mod Starts
+pub mod Located
 pub mod Databases
 pub mod Statements
 use Rattle.std.proofs.Common.{◌≡◌, ℕ, zero, suc, Bool, true, false, cond, List, [], ◌∷◌, ◌++◌, Result, Ok, Err, refl, sym, ap}

@@ -1,2 +1,3 @@
 -- What the families say together: the clauses of the two readers of texts.
 pub mod Readings
+pub mod LocatedReadings

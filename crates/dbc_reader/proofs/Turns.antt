@@ -2,6 +2,8 @@
 pub mod Lists
 pub mod Signals
 pub mod Statements
+pub mod Located
+pub mod Dropped
 use Rattle.std.proofs.Common.{◌≡◌, ℕ, zero, suc, ◌<◌, ◌≤◌, Bool, true, false, cond, Result, Ok, Err, refl, sym, ap, subst, ◌∙◌}
 use Rattle.std.proofs.Common.{arith}
 use Rattle.dbc_tokens.specs.declared.fault.Cause.{Cause}

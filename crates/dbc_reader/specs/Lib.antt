@@ -5,5 +5,7 @@ pub mod Forms
 pub mod Kinds
 pub mod Spelling
 pub mod Texts
+pub mod Starts
+pub mod Located
 -- how the code goes through tokens: a middle step
 pub mod Reading

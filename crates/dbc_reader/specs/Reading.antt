@@ -7,3 +7,4 @@ pub mod Messages
 pub mod Tables
 pub mod Attributes
 pub mod Databases
+pub mod Located

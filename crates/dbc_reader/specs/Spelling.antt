@@ -21,7 +21,7 @@ use Rattle.dbc_records.specs.CanonicalText.{float_key, mux_layout, kept_layout}
 use Rattle.dbc_reader.specs.declared.statement.Statement.{Statement}
 use Rattle.dbc_reader.specs.declared.statement.Statement.TheVariants as statements
 use Rattle.dbc_tokens.specs.Tokens.{Token}
-use Rattle.dbc_reader.specs.Kinds.{Kind, RowOf, with_lists, empty_database, Tables, Messages, Comments, Definitions, Defaults, Attributes, ValueRows, FloatRows, MuxRows, KeptOnes}
+use Rattle.dbc_reader.specs.Kinds.{Kind, RecordOf, with_lists, empty_database, Tables, Messages, Comments, Definitions, Defaults, Attributes, ValueDescriptions, FloatTypes, Multiplexings, KeptVerbatim}
 use Rattle.dbc_reader.specs.Forms.{Part, Is, Perhaps, Unsigned, Spelled, of_layout}
 
 -- ---- statements
@@ -30,37 +30,37 @@ pub data AnyStatement : Type 0 where
   Symbols : List (List ℕ) → AnyStatement
   Timing : Option (Decimal × Decimal × Decimal) → AnyStatement
   Nodes : List (List ℕ) → AnyStatement
-  Row : (kind : Kind) → RowOf kind → AnyStatement
+  OfKind : (kind : Kind) → RecordOf kind → AnyStatement
 
 pattern abbrev pub Table : TableRow → AnyStatement
-Table row = Row Tables row
+Table row = OfKind Tables row
 
 pattern abbrev pub OfMessage : Message → AnyStatement
-OfMessage message = Row Messages message
+OfMessage message = OfKind Messages message
 
 pattern abbrev pub OfComment : Comment → AnyStatement
-OfComment comment = Row Comments comment
+OfComment comment = OfKind Comments comment
 
 pattern abbrev pub Definition : AttrDef → AnyStatement
-Definition definition = Row Definitions definition
+Definition definition = OfKind Definitions definition
 
 pattern abbrev pub Default : AttrDefault → AnyStatement
-Default row = Row Defaults row
+Default row = OfKind Defaults row
 
 pattern abbrev pub Attribute : AttrRow → AnyStatement
-Attribute row = Row Attributes row
+Attribute row = OfKind Attributes row
 
 pattern abbrev pub Values : ValueRow → AnyStatement
-Values row = Row ValueRows row
+Values row = OfKind ValueDescriptions row
 
 pattern abbrev pub Float : FloatRow → AnyStatement
-Float row = Row FloatRows row
+Float row = OfKind FloatTypes row
 
 pattern abbrev pub Mux : MuxRow → AnyStatement
-Mux row = Row MuxRows row
+Mux row = OfKind Multiplexings row
 
 pattern abbrev pub OfKept : Kept → AnyStatement
-OfKept statement = Row KeptOnes statement
+OfKept statement = OfKind KeptVerbatim statement
 
 -- `BS_ :`, and perhaps three numbers without signs
 abbrev pub timing_form : Option (Decimal × Decimal × Decimal) → List Part
@@ -131,22 +131,22 @@ nodes_of (Nodes nodes) = nodes
 nodes_of statement = []
 
 -- the row, where it is one of this kind
-abbrev pub if_kind : (kind other : Kind) → RowOf other → List (RowOf kind)
+abbrev pub if_kind : (kind other : Kind) → RecordOf other → List (RecordOf kind)
 if_kind Tables Tables row = row ∷ []
 if_kind Messages Messages row = row ∷ []
 if_kind Comments Comments row = row ∷ []
 if_kind Definitions Definitions row = row ∷ []
 if_kind Defaults Defaults row = row ∷ []
 if_kind Attributes Attributes row = row ∷ []
-if_kind ValueRows ValueRows row = row ∷ []
-if_kind FloatRows FloatRows row = row ∷ []
-if_kind MuxRows MuxRows row = row ∷ []
-if_kind KeptOnes KeptOnes row = row ∷ []
+if_kind ValueDescriptions ValueDescriptions row = row ∷ []
+if_kind FloatTypes FloatTypes row = row ∷ []
+if_kind Multiplexings Multiplexings row = row ∷ []
+if_kind KeptVerbatim KeptVerbatim row = row ∷ []
 if_kind kind other row = []
 
-abbrev pub rows_of : (kind : Kind) → AnyStatement → List (RowOf kind)
-rows_of kind (Row other row) = if_kind kind other row
-rows_of kind statement = []
+abbrev pub records_of : (kind : Kind) → AnyStatement → List (RecordOf kind)
+records_of kind (OfKind other row) = if_kind kind other row
+records_of kind statement = []
 
 -- the bit timing of at most one statement
 abbrev pub timing_of : List (Option (Decimal × Decimal × Decimal)) → Option (List Decimal)
@@ -169,7 +169,7 @@ gather version statements = with_lists (record (empty_database (version_text ver
   symbols = flat_map symbols_of statements;
   bit_timing = timing_of (flat_map timings_of statements);
   nodes = flat_map nodes_of statements;
-}) (λ kind. flat_map (rows_of kind) statements)
+}) (λ kind. flat_map (records_of kind) statements)
 
 -- The tokens spell the database: perhaps a version, and then statements in their places, at most one of them a bit
 -- timing; and the database is within all bounds.

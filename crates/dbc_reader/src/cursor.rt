@@ -6,9 +6,11 @@ ghost use Rattle.dbc_reader.specs.Classes.{has_word, has_mark, has_name, has_sym
 ghost use Rattle.dbc_reader.specs.Reading.Cursors.{left_at, behind};
 ghost use Rattle.dbc_reader.specs.Reading.Keywords.{keyword_at};
 ghost use Rattle.dbc_reader.specs.Reading.Readers.{GivesTo, TakesTo, starts, token_at, end_at};
+ghost use Rattle.dbc_reader.specs.Starts.{start_at};
 
 use crate::classes;
 use crate::keyword::{Keyword, keyword_of};
+use crate::start::Start;
 use crate::stopped::Stopped;
 use dbc_tokens::{Cause, Next, Token, Tokens, tokens};
 
@@ -115,6 +117,18 @@ impl<'t> Cursor<'t> {
                 Ok(())
             }
             Next::Fault(line) => Err(Stopped::at(line, Cause::Token)),
+        }
+    }
+
+    /// Where the token that is here begins; where the text ends if there is none.
+    #[tactic(auto, unfolding(crate::specs::Reading::Cursors::left_at, crate::specs::Starts::start_at))]
+    pub fn start(self) -> Start
+        ensures { result ≡ start_at (left_at self.entry) }
+    {
+        match self.next {
+            Next::Token(token) => Start { line: token.line },
+            Next::End(line) => Start { line },
+            Next::Fault(line) => Start { line },
         }
     }
 

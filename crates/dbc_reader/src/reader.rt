@@ -23,7 +23,7 @@ use std::alloc::Global;
 
 // Takes the version, or gives the empty text where none stands here.
 #[tactic(auto, unfolding(crate::specs::Reading::Databases::version_at))]
-fn version(alloc: Global, at: &mut Cursor<'_>) -> Result<Text, Stopped>
+pub(crate) fn version(alloc: Global, at: &mut Cursor<'_>) -> Result<Text, Stopped>
     ensures { GivesTo result (left_at at.new) (version_at (left_at at.old)) }
 {
     if at.starts_word(b"VERSION") {
@@ -61,7 +61,7 @@ fn timing_numbers(at: &mut Cursor<'_>) -> Result<Option<[Decimal; 3]>, Stopped>
 
 // Takes the bit timing, with its numbers or without.
 #[tactic(auto, unfolding(crate::specs::Reading::Databases::timing_at))]
-fn timing(at: &mut Cursor<'_>) -> Result<Option<[Decimal; 3]>, Stopped>
+pub(crate) fn timing(at: &mut Cursor<'_>) -> Result<Option<[Decimal; 3]>, Stopped>
     ensures value { GivesTo result (left_at at.new) (timing_at (left_at at.old)) }
     ensures fits { IfOk result (λ timing. IsTrue (timing_fits timing)) }
     ensures valid { IfOk result (λ timing. IfSome timing IsBitTiming) }
@@ -76,7 +76,7 @@ fn timing(at: &mut Cursor<'_>) -> Result<Option<[Decimal; 3]>, Stopped>
 }
 
 // A database of this version, with nothing else.
-fn empty_database(alloc: Global, version: Text) -> Database
+pub(crate) fn empty_database(alloc: Global, version: Text) -> Database
     ensures { result ≡ empty_database version }
 {
     Database {
@@ -122,7 +122,7 @@ fn database(alloc: Global, at: &mut Cursor<'_>) -> Result<Database, Stopped>
 }
 
 // The fault that a reader stopped for.
-fn fault_of(stopped: Stopped) -> ReadFault
+pub(crate) fn fault_of(stopped: Stopped) -> ReadFault
     ensures { result ≡ fault_of stopped }
 {
     match stopped {

@@ -45,7 +45,7 @@ fn add_nodes(alloc: Global, at: &mut Cursor<'_>, database: &mut Database) -> Res
     read
 }
 
-#[tactic(auto, using(crate::proofs::Facts::Keywords::message_begins, crate::proofs::Facts::Keywords::message_step), unfolding(crate::specs::Reading::Databases::row_into))]
+#[tactic(auto, using(crate::proofs::Facts::Keywords::message_begins, crate::proofs::Facts::Keywords::message_step), unfolding(crate::specs::Reading::Databases::record_into))]
 fn add_message(alloc: Global, at: &mut Cursor<'_>, database: &mut Database) -> Result<(), Stopped>
     requires { keyword_at (left_at at.old) ≡ Some keywords.Message }
     ensures { MakesTo result database.new (left_at at.new) (statement_into database.old (left_at at.old)) }
@@ -55,7 +55,7 @@ fn add_message(alloc: Global, at: &mut Cursor<'_>, database: &mut Database) -> R
     Ok(())
 }
 
-#[tactic(auto, using(crate::proofs::Facts::Keywords::kept_step), unfolding(crate::specs::Reading::Databases::row_into))]
+#[tactic(auto, using(crate::proofs::Facts::Keywords::kept_step), unfolding(crate::specs::Reading::Databases::record_into))]
 fn add_kept(alloc: Global, at: &mut Cursor<'_>, database: &mut Database) -> Result<(), Stopped>
     requires { begins_kept (left_at at.old) ≡ true }
     ensures { MakesTo result database.new (left_at at.new) (statement_into database.old (left_at at.old)) }
@@ -65,7 +65,7 @@ fn add_kept(alloc: Global, at: &mut Cursor<'_>, database: &mut Database) -> Resu
     Ok(())
 }
 
-#[tactic(auto, using(crate::proofs::Facts::Keywords::table_step), unfolding(crate::specs::Reading::Databases::row_into))]
+#[tactic(auto, using(crate::proofs::Facts::Keywords::table_step), unfolding(crate::specs::Reading::Databases::record_into))]
 fn add_table(alloc: Global, at: &mut Cursor<'_>, database: &mut Database) -> Result<(), Stopped>
     requires { keyword_at (left_at at.old) ≡ Some keywords.Table }
     ensures { MakesTo result database.new (left_at at.new) (statement_into database.old (left_at at.old)) }
@@ -77,7 +77,7 @@ fn add_table(alloc: Global, at: &mut Cursor<'_>, database: &mut Database) -> Res
 }
 
 // Named values: those of an environment variable, which has a name in place of a number, are kept as they stand.
-#[tactic(auto, using(crate::proofs::Facts::Keywords::values_kept_step, crate::proofs::Facts::Keywords::values_step), unfolding(crate::specs::Reading::Databases::row_into))]
+#[tactic(auto, using(crate::proofs::Facts::Keywords::values_kept_step, crate::proofs::Facts::Keywords::values_step), unfolding(crate::specs::Reading::Databases::record_into))]
 fn add_values(alloc: Global, at: &mut Cursor<'_>, database: &mut Database) -> Result<(), Stopped>
     requires { keyword_at (left_at at.old) ≡ Some keywords.Values }
     ensures { MakesTo result database.new (left_at at.new) (statement_into database.old (left_at at.old)) }
@@ -92,7 +92,7 @@ fn add_values(alloc: Global, at: &mut Cursor<'_>, database: &mut Database) -> Re
     Ok(())
 }
 
-#[tactic(auto, using(crate::proofs::Facts::Keywords::float_step), unfolding(crate::specs::Reading::Databases::row_into))]
+#[tactic(auto, using(crate::proofs::Facts::Keywords::float_step), unfolding(crate::specs::Reading::Databases::record_into))]
 fn add_float(alloc: Global, at: &mut Cursor<'_>, database: &mut Database) -> Result<(), Stopped>
     requires { keyword_at (left_at at.old) ≡ Some keywords.Float }
     ensures { MakesTo result database.new (left_at at.new) (statement_into database.old (left_at at.old)) }
@@ -103,7 +103,7 @@ fn add_float(alloc: Global, at: &mut Cursor<'_>, database: &mut Database) -> Res
     Ok(())
 }
 
-#[tactic(auto, using(crate::proofs::Facts::Keywords::mux_step), unfolding(crate::specs::Reading::Databases::row_into))]
+#[tactic(auto, using(crate::proofs::Facts::Keywords::mux_step), unfolding(crate::specs::Reading::Databases::record_into))]
 fn add_mux(alloc: Global, at: &mut Cursor<'_>, database: &mut Database) -> Result<(), Stopped>
     requires { keyword_at (left_at at.old) ≡ Some keywords.Mux }
     ensures { MakesTo result database.new (left_at at.new) (statement_into database.old (left_at at.old)) }
@@ -115,7 +115,7 @@ fn add_mux(alloc: Global, at: &mut Cursor<'_>, database: &mut Database) -> Resul
 }
 
 // A comment: that of an environment variable is kept as it stands.
-#[tactic(auto, using(crate::proofs::Facts::Keywords::comment_kept_step, crate::proofs::Facts::Keywords::comment_step), unfolding(crate::specs::Reading::Databases::row_into))]
+#[tactic(auto, using(crate::proofs::Facts::Keywords::comment_kept_step, crate::proofs::Facts::Keywords::comment_step), unfolding(crate::specs::Reading::Databases::record_into))]
 fn add_comment(alloc: Global, at: &mut Cursor<'_>, database: &mut Database) -> Result<(), Stopped>
     requires { keyword_at (left_at at.old) ≡ Some keywords.Comment }
     ensures { MakesTo result database.new (left_at at.new) (statement_into database.old (left_at at.old)) }
@@ -130,7 +130,7 @@ fn add_comment(alloc: Global, at: &mut Cursor<'_>, database: &mut Database) -> R
     Ok(())
 }
 
-#[tactic(auto, using(crate::proofs::Facts::Keywords::definition_step), unfolding(crate::specs::Reading::Databases::row_into))]
+#[tactic(auto, using(crate::proofs::Facts::Keywords::definition_step), unfolding(crate::specs::Reading::Databases::record_into))]
 fn add_definition(
     alloc: Global,
     at: &mut Cursor<'_>,
@@ -145,7 +145,7 @@ fn add_definition(
     Ok(())
 }
 
-#[tactic(auto, using(crate::proofs::Facts::Keywords::default_step), unfolding(crate::specs::Reading::Databases::row_into))]
+#[tactic(auto, using(crate::proofs::Facts::Keywords::default_step), unfolding(crate::specs::Reading::Databases::record_into))]
 fn add_default(alloc: Global, at: &mut Cursor<'_>, database: &mut Database) -> Result<(), Stopped>
     requires { keyword_at (left_at at.old) ≡ Some keywords.Default }
     ensures { MakesTo result database.new (left_at at.new) (statement_into database.old (left_at at.old)) }
@@ -157,7 +157,7 @@ fn add_default(alloc: Global, at: &mut Cursor<'_>, database: &mut Database) -> R
 }
 
 // The value of an attribute: that of an environment variable is kept as it stands.
-#[tactic(auto, using(crate::proofs::Facts::Keywords::attribute_kept_step, crate::proofs::Facts::Keywords::attribute_step), unfolding(crate::specs::Reading::Databases::row_into))]
+#[tactic(auto, using(crate::proofs::Facts::Keywords::attribute_kept_step, crate::proofs::Facts::Keywords::attribute_step), unfolding(crate::specs::Reading::Databases::record_into))]
 fn add_attribute(alloc: Global, at: &mut Cursor<'_>, database: &mut Database) -> Result<(), Stopped>
     requires { keyword_at (left_at at.old) ≡ Some keywords.Attribute }
     ensures { MakesTo result database.new (left_at at.new) (statement_into database.old (left_at at.old)) }
@@ -175,7 +175,7 @@ fn add_attribute(alloc: Global, at: &mut Cursor<'_>, database: &mut Database) ->
 
 // Takes a statement that begins with this keyword.
 #[tactic(auto, using(crate::proofs::Facts::Keywords::begins_kept_step))]
-fn add_statement(
+pub(crate) fn add_statement(
     alloc: Global,
     at: &mut Cursor<'_>,
     keyword: Keyword,

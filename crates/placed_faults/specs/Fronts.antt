@@ -1,13 +1,13 @@
--- The first of some lines.
+-- The first of some starts.
 use Rattle.std.specs.Prelude.{ℕ, List, [], ◌∷◌}
-use Rattle.statement_lines.specs.declared.lines.Line.{Line}
+use Rattle.dbc_reader.specs.declared.start.Start.{Start}
 
--- its number; 0 where there is none
-abbrev pub first_line : List Line → ℕ
+-- its line; 0 where there is none
+abbrev pub first_line : List Start → ℕ
 first_line [] = 0
-first_line (line ∷ lines) = line.number
+first_line (start ∷ starts) = start.line
 
 -- those behind it
-abbrev pub behind_first : List Line → List Line
+abbrev pub behind_first : List Start → List Start
 behind_first [] = []
-behind_first (line ∷ lines) = lines
+behind_first (start ∷ starts) = starts

@@ -3,8 +3,8 @@ use Rattle.std.specs.Prelude.{◌==◌, ◌&&◌, ℕ, List, [], ◌∷◌, Opti
 use Rattle.std.specs.List.{find}
 use Rattle.std.specs.Str.{bytes_eq}
 use Rattle.dbc_records.specs.Databases.{Database}
-use Rattle.statement_lines.specs.declared.lines.Line.{Line}
-use Rattle.statement_lines.specs.declared.lines.Lines.{Lines}
+use Rattle.dbc_reader.specs.declared.start.Start.{Start}
+use Rattle.dbc_reader.specs.declared.start.Starts.{Starts}
 use Rattle.placed_faults.specs.declared.row_lines.RowLine.{RowLine}
 use Rattle.placed_faults.specs.Fronts.{first_line, behind_first}
 
@@ -19,11 +19,11 @@ abbrev pub key_line : RowLine → KeyLine
 key_line row = record { number = row.number; signal = row.signal.now; line = row.line }
 
 -- those of rows that begin in these lines
-abbrev pub key_lines : {R : Type 0} → (R → ℕ) → (R → List ℕ) → List R → List Line → List KeyLine
-key_lines number_of signal_of [] lines = []
-key_lines number_of signal_of (row ∷ rows) lines =
-    record { number = number_of row; signal = signal_of row; line = first_line lines }
-    ∷ key_lines number_of signal_of rows (behind_first lines)
+abbrev pub key_lines : {R : Type 0} → (R → ℕ) → (R → List ℕ) → List R → List Start → List KeyLine
+key_lines number_of signal_of [] starts = []
+key_lines number_of signal_of (row ∷ rows) starts =
+    record { number = number_of row; signal = signal_of row; line = first_line starts }
+    ∷ key_lines number_of signal_of rows (behind_first starts)
 
 -- the line of the first row of the key
 abbrev pub line_of_key : ℕ → List ℕ → List KeyLine → Option ℕ
@@ -35,9 +35,9 @@ pub record RowLines : Type 0 where
   pub floats : List KeyLine
   pub muxes : List KeyLine
 
-abbrev pub row_lines_of : Database → Lines → RowLines
-row_lines_of database lines = record {
-  values = key_lines (λ row. row.number) (λ row. row.signal) database.values lines.values;
-  floats = key_lines (λ row. row.number) (λ row. row.signal) database.floats lines.floats;
-  muxes = key_lines (λ row. row.number) (λ row. row.signal) database.muxes lines.muxes;
+abbrev pub row_lines_of : Database → Starts → RowLines
+row_lines_of database starts = record {
+  values = key_lines (λ row. row.number) (λ row. row.signal) database.values starts.values;
+  floats = key_lines (λ row. row.number) (λ row. row.signal) database.floats starts.floats;
+  muxes = key_lines (λ row. row.number) (λ row. row.signal) database.muxes starts.muxes;
 }

@@ -8,8 +8,8 @@ use Rattle.can_diagnostics.specs.declared.row_key.RowKey.{RowKey}
 use Rattle.can_references.specs.RowFaults.{row_fault}
 use Rattle.can_remedies.specs.declared.placed.Place.TheVariants as places
 use Rattle.can_remedies.specs.declared.placed.Placed.{Placed}
-use Rattle.statement_lines.specs.declared.lines.Line.{Line}
-use Rattle.statement_lines.specs.declared.lines.Lines.{Lines}
+use Rattle.dbc_reader.specs.declared.start.Start.{Start}
+use Rattle.dbc_reader.specs.declared.start.Starts.{Starts}
 use Rattle.placed_faults.specs.Fronts.{first_line, behind_first}
 
 -- a row that begins in this line
@@ -17,9 +17,9 @@ abbrev pub placed_at : ℕ → Diagnostic → Placed
 placed_at line diagnostic = record { place = places.Line line; diagnostic = diagnostic }
 
 -- keys of rows, each with the line in which the row begins
-abbrev pub keys_at : List RowKey → List Line → List (RowKey × ℕ)
-keys_at [] lines = []
-keys_at (key ∷ keys) lines = (key, first_line lines) ∷ keys_at keys (behind_first lines)
+abbrev pub keys_at : List RowKey → List Start → List (RowKey × ℕ)
+keys_at [] starts = []
+keys_at (key ∷ keys) starts = (key, first_line starts) ∷ keys_at keys (behind_first starts)
 
 abbrev pub keys_in : List (RowKey × ℕ) → List RowKey
 keys_in rows = map (λ row. row.0) rows
@@ -32,18 +32,18 @@ placed_after database before (row ∷ rows) =
 
 -- ---- all rows, kind by kind in the order in which they are printed
 
-unfoldable pub front_rows : Database → Lines → List (RowKey × ℕ)
-front_rows d lines = keys_at (map key_of_table d.tables) lines.tables ++ keys_at (map key_of_comment d.comments) lines.comments
+unfoldable pub front_rows : Database → Starts → List (RowKey × ℕ)
+front_rows d starts = keys_at (map key_of_table d.tables) starts.tables ++ keys_at (map key_of_comment d.comments) starts.comments
 
-unfoldable pub attribute_rows : Database → Lines → List (RowKey × ℕ)
-attribute_rows d lines = keys_at (map key_of_definition d.definitions) lines.definitions
-    ++ (keys_at (map key_of_default d.defaults) lines.defaults
-    ++ keys_at (map key_of_attribute d.attributes) lines.attributes)
+unfoldable pub attribute_rows : Database → Starts → List (RowKey × ℕ)
+attribute_rows d starts = keys_at (map key_of_definition d.definitions) starts.definitions
+    ++ (keys_at (map key_of_default d.defaults) starts.defaults
+    ++ keys_at (map key_of_attribute d.attributes) starts.attributes)
 
-unfoldable pub signal_rows : Database → Lines → List (RowKey × ℕ)
-signal_rows d lines = keys_at (map key_of_values d.values) lines.values
-    ++ (keys_at (map key_of_float d.floats) lines.floats
-    ++ keys_at (map key_of_mux d.muxes) lines.muxes)
+unfoldable pub signal_rows : Database → Starts → List (RowKey × ℕ)
+signal_rows d starts = keys_at (map key_of_values d.values) starts.values
+    ++ (keys_at (map key_of_float d.floats) starts.floats
+    ++ keys_at (map key_of_mux d.muxes) starts.muxes)
 
-unfoldable pub all_rows : Database → Lines → List (RowKey × ℕ)
-all_rows d lines = front_rows d lines ++ (attribute_rows d lines ++ signal_rows d lines)
+unfoldable pub all_rows : Database → Starts → List (RowKey × ℕ)
+all_rows d starts = front_rows d starts ++ (attribute_rows d starts ++ signal_rows d starts)

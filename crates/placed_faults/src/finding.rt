@@ -11,7 +11,7 @@ use can_remedies::Placed;
 use can_rows::{Indexed, Lookup};
 use dbc_records::Database;
 use dbc_values::Memory;
-use statement_lines::Lines;
+use dbc_reader::Starts;
 use std::alloc::Global;
 
 // By what is known of the database, and the lines of its rows.
@@ -19,11 +19,11 @@ use std::alloc::Global;
 fn placed_by<L: Lookup>(
     alloc: Global,
     known: &Known<'_, L>,
-    lines: &Lines,
+    starts: &Starts,
     rows: &KeyedLines<'_>,
 ) -> Result<Vec<Placed>, Memory>
-    requires { rows.now ≡ row_lines_of known.now lines.now }
-    ensures { IfOk result (λ placed. placed.items ≡ placed_faults known.now lines.now) }
+    requires { rows.now ≡ row_lines_of known.now starts.now }
+    ensures { IfOk result (λ placed. placed.items ≡ placed_faults known.now starts.now) }
 {
     let database = known.database();
     let mut placed = Vec::new(alloc);
@@ -31,10 +31,10 @@ fn placed_by<L: Lookup>(
         &mut placed,
         known,
         database.messages.as_slice(),
-        lines,
+        starts,
         rows,
     )?;
-    push_all_rows(&mut placed, known, database, lines)?;
+    push_all_rows(&mut placed, known, database, starts)?;
     Ok(placed)
 }
 
@@ -42,14 +42,14 @@ fn placed_by<L: Lookup>(
 fn placed_by_keys<L: Lookup>(
     alloc: Global,
     known: &Known<'_, L>,
-    lines: &Lines,
+    starts: &Starts,
     rows: &SignalRowLines<'_>,
 ) -> Result<Vec<Placed>, Memory>
-    requires { rows.now ≡ row_lines_of known.now lines.now }
-    ensures { IfOk result (λ placed. placed.items ≡ placed_faults known.now lines.now) }
+    requires { rows.now ≡ row_lines_of known.now starts.now }
+    ensures { IfOk result (λ placed. placed.items ≡ placed_faults known.now starts.now) }
 {
     match KeyedLines::of(alloc, rows) {
-        Ok(rows) => placed_by(alloc, known, lines, &rows),
+        Ok(rows) => placed_by(alloc, known, starts, &rows),
         Err(Memory) => Err(Memory),
     }
 }
@@ -58,19 +58,19 @@ fn placed_by_keys<L: Lookup>(
 fn placed_in<L: Lookup>(
     alloc: Global,
     known: &Known<'_, L>,
-    lines: &Lines,
+    starts: &Starts,
 ) -> Result<Vec<Placed>, Memory>
-    ensures { IfOk result (λ placed. placed.items ≡ placed_faults known.now lines.now) }
+    ensures { IfOk result (λ placed. placed.items ≡ placed_faults known.now starts.now) }
 {
-    let rows = SignalRowLines::of(alloc, known.database(), lines)?;
-    placed_by_keys(alloc, known, lines, &rows)
+    let rows = SignalRowLines::of(alloc, known.database(), starts)?;
+    placed_by_keys(alloc, known, starts, &rows)
 }
 
-fn placed_with<L: Lookup>(alloc: Global, lookup: &L, lines: &Lines) -> Result<Vec<Placed>, Memory>
-    ensures { IfOk result (λ placed. placed.items ≡ placed_faults (L.whole lookup.now) lines.now) }
+fn placed_with<L: Lookup>(alloc: Global, lookup: &L, starts: &Starts) -> Result<Vec<Placed>, Memory>
+    ensures { IfOk result (λ placed. placed.items ≡ placed_faults (L.whole lookup.now) starts.now) }
 {
     match Known::of(alloc, lookup) {
-        Ok(known) => placed_in(alloc, &known, lines),
+        Ok(known) => placed_in(alloc, &known, starts),
         Err(Memory) => Err(Memory),
     }
 }
@@ -80,12 +80,12 @@ fn placed_with<L: Lookup>(alloc: Global, lookup: &L, lines: &Lines) -> Result<Ve
 pub fn placed_faults(
     alloc: Global,
     database: &Database,
-    lines: &Lines,
+    starts: &Starts,
 ) -> Result<Vec<Placed>, Memory>
-    ensures { IfOk result (λ placed. placed.items ≡ placed_faults database.now lines.now) }
+    ensures { IfOk result (λ placed. placed.items ≡ placed_faults database.now starts.now) }
 {
     match Indexed::of(alloc, database) {
-        Ok(indexed) => placed_with(alloc, &indexed, lines),
+        Ok(indexed) => placed_with(alloc, &indexed, starts),
         Err(Memory) => Err(Memory),
     }
 }

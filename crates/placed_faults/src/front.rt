@@ -1,33 +1,33 @@
-//! The first of some lines.
+//! The first of some starts.
 ghost use Rattle.std.specs.Prelude.{◌≡◌, take, drop};
 ghost use Rattle.placed_faults.specs.Fronts.{first_line, behind_first};
 
-use statement_lines::Line;
+use dbc_reader::Start;
 
-/// Its number; 0 where there is none.
-pub(crate) fn first_line(lines: &[Line]) -> u64
-    ensures { result ≡ first_line lines.now }
+/// Its line; 0 where there is none.
+pub(crate) fn first_line(starts: &[Start]) -> u64
+    ensures { result ≡ first_line starts.now }
 {
-    match lines {
+    match starts {
         [] => 0,
-        [line, ..] => line.number,
+        [start, ..] => start.line,
     }
 }
 
 /// Those behind it.
-pub(crate) fn behind_first(lines: &[Line]) -> &[Line]
-    ensures { result.now ≡ behind_first lines.now }
+pub(crate) fn behind_first(starts: &[Start]) -> &[Start]
+    ensures { result.now ≡ behind_first starts.now }
 {
-    match lines {
+    match starts {
         [] => &[],
         [_, others @ ..] => others,
     }
 }
 
 /// The first ones, at most so many, and the others.
-pub(crate) fn parted(lines: &[Line], count: usize) -> (&[Line], &[Line])
-    ensures first { result.0.now ≡ take count lines.now }
-    ensures others { result.1.now ≡ drop count lines.now }
+pub(crate) fn parted(starts: &[Start], count: usize) -> (&[Start], &[Start])
+    ensures first { result.0.now ≡ take count starts.now }
+    ensures others { result.1.now ≡ drop count starts.now }
 {
-    lines.split_at(count.min(lines.len()))
+    starts.split_at(count.min(starts.len()))
 }

@@ -1,7 +1,7 @@
 //! What is doubtful in a database, each with the lines of the text in which what it speaks of begins.
 //!
-//! [`placed_faults`] finds what `can_check` finds, message by message and row by row, so that it knows at which place of the
-//! database each stands; the lines are those that `statement_lines` keeps, kind by kind in the same order.
+//! [`placed_faults`] finds what `can_check` finds, message by message and entry by entry, so it knows the index of each in the
+//! database; where they begin is what `dbc_reader` reports of the statements that it read.
 #![tactic(auto)]
 
 mod finding;

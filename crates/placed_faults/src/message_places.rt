@@ -14,7 +14,7 @@ use can_remedies::{Place, Placed};
 use can_rows::{Index, Lookup};
 use dbc_records::{Message, Signal};
 use dbc_values::{Memory, Name};
-use statement_lines::{Line, Lines};
+use dbc_reader::{Start, Starts};
 use std::alloc::Global;
 
 // A message, and the lines in which it and its signals begin.
@@ -22,7 +22,7 @@ use std::alloc::Global;
 struct Begun<'m, 'l> {
     message: &'m Message,
     line: u64,
-    signals: &'l [Line],
+    signals: &'l [Start],
 }
 
 // The same, and the lines of its signals are found by their names.
@@ -30,7 +30,7 @@ struct Begun<'m, 'l> {
 struct Lined<'a> {
     message: &'a Message,
     line: u64,
-    signals: &'a [Line],
+    signals: &'a [Start],
     index: Index<'a, RowLine<'a>>,
     ghost indexed: { map key_line index ≡ signal_lines message.now.signals signals.now },
 }
@@ -39,12 +39,12 @@ struct Lined<'a> {
 fn signal_lines<'a>(
     alloc: Global,
     signals: &'a [Signal],
-    lines: &[Line],
+    starts: &[Start],
 ) -> Result<Vec<RowLine<'a>>, Memory>
-    ensures { IfOk result (λ made. map key_line made.items ≡ signal_lines signals.now lines.now) }
+    ensures { IfOk result (λ made. map key_line made.items ≡ signal_lines signals.now starts.now) }
 {
     let mut made = Vec::new(alloc);
-    let (mut left, mut further) = (signals, lines);
+    let (mut left, mut further) = (signals, starts);
     'signals: while let [signal, others @ ..] = left {
         made.push(RowLine {
             number: 0,
@@ -184,15 +184,15 @@ pub(crate) fn push_messages<'a, L: Lookup>(
     placed: &mut Vec<Placed>,
     known: &Known<'a, L>,
     messages: &'a [Message],
-    lines: &Lines,
+    starts: &Starts,
     rows: &KeyedLines<'_>,
 ) -> Result<(), Memory>
     ensures { OnOk result (placed.new.items ≡ placed.old.items ++ placed_messages known.now rows.now messages.now
-        lines.now.messages lines.now.signals) }
+        starts.now.messages starts.now.signals) }
 {
     let mut occupancy = Occupancy::new(*placed.allocator());
-    let (mut left, mut heads) = (messages, lines.messages.as_slice());
-    let mut further = lines.signals.as_slice();
+    let (mut left, mut heads) = (messages, starts.messages.as_slice());
+    let mut further = starts.signals.as_slice();
     'messages: while let [message, others @ ..] = left {
         let (signals, behind) = parted(further, message.signals.len());
         let line = first_line(heads);

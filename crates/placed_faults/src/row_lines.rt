@@ -6,7 +6,7 @@ use crate::front::{behind_first, first_line};
 use can_rows::{Index, Keyed};
 use dbc_records::Database;
 use dbc_values::{Checked, Memory, Name};
-use statement_lines::{Line, Lines};
+use dbc_reader::{Start, Starts};
 use std::alloc::Global;
 use std::marker::Model;
 
@@ -45,12 +45,12 @@ impl<'a> Keyed for RowLine<'a> {
 fn row_lines<'a, R: Keyed>(
     alloc: Global,
     rows: &'a [R],
-    lines: &[Line],
+    starts: &[Start],
 ) -> Result<Vec<RowLine<'a>>, Memory>
-    ensures { IfOk result (λ made. map key_line made.items ≡ key_lines R.number_of R.signal_of rows.now lines.now) }
+    ensures { IfOk result (λ made. map key_line made.items ≡ key_lines R.number_of R.signal_of rows.now starts.now) }
 {
     let mut made = Vec::new(alloc);
-    let (mut left, mut further) = (rows, lines);
+    let (mut left, mut further) = (rows, starts);
     'rows: while let [row, others @ ..] = left {
         made.push(RowLine {
             number: row.number(),
@@ -88,13 +88,13 @@ impl<'a> SignalRowLines<'a> {
     pub(crate) fn of(
         alloc: Global,
         database: &'a Database,
-        lines: &Lines,
+        starts: &Starts,
     ) -> Result<SignalRowLines<'a>, Memory>
-        ensures { IfOk result (λ rows. rows ≡ row_lines_of database.now lines.now) }
+        ensures { IfOk result (λ rows. rows ≡ row_lines_of database.now starts.now) }
     {
-        let values = row_lines(alloc, database.values.as_slice(), lines.values.as_slice())?;
-        let floats = row_lines(alloc, database.floats.as_slice(), lines.floats.as_slice())?;
-        let muxes = row_lines(alloc, database.muxes.as_slice(), lines.muxes.as_slice())?;
+        let values = row_lines(alloc, database.values.as_slice(), starts.values.as_slice())?;
+        let floats = row_lines(alloc, database.floats.as_slice(), starts.floats.as_slice())?;
+        let muxes = row_lines(alloc, database.muxes.as_slice(), starts.muxes.as_slice())?;
         Ok(SignalRowLines {
             values,
             floats,

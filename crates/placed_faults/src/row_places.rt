@@ -12,7 +12,7 @@ use can_remedies::{Place, Placed};
 use can_rows::Lookup;
 use dbc_records::Database;
 use dbc_values::{List, Memory};
-use statement_lines::{Line, Lines};
+use dbc_reader::{Start, Starts};
 
 // Adds diagnostics of a row that begins in this line.
 fn push_at(placed: &mut Vec<Placed>, line: u64, found: Vec<Diagnostic>) -> Result<(), Memory>
@@ -48,13 +48,13 @@ fn push_rows_at<'a, L: Lookup, R: Row>(
     known: &Known<'a, L>,
     seen: &mut RowKeys<'a>,
     rows: &'a List<R>,
-    lines: &List<Line>,
+    starts: &List<Start>,
 ) -> Result<(), Memory>
     ensures placed { OnOk result (placed.new.items ≡ placed.old.items ++ placed_after known.now seen.old (keys_at
-        (map R.key_of rows.now) lines.now)) }
-    ensures seen { OnOk result (seen.new ≡ seen.old ++ keys_in (keys_at (map R.key_of rows.now) lines.now)) }
+        (map R.key_of rows.now) starts.now)) }
+    ensures seen { OnOk result (seen.new ≡ seen.old ++ keys_in (keys_at (map R.key_of rows.now) starts.now)) }
 {
-    let (mut left, mut further) = (rows.as_slice(), lines.as_slice());
+    let (mut left, mut further) = (rows.as_slice(), starts.as_slice());
     'rows: while let [row, others @ ..] = left {
         push_row_at(placed, known, seen, row, first_line(further))?;
         (left, further) = (others, behind_first(further));
@@ -68,14 +68,14 @@ fn push_front<'a, L: Lookup>(
     known: &Known<'a, L>,
     seen: &mut RowKeys<'a>,
     database: &'a Database,
-    lines: &Lines,
+    starts: &Starts,
 ) -> Result<(), Memory>
     ensures placed { OnOk result (placed.new.items ≡ placed.old.items ++ placed_after known.now seen.old (front_rows database.now
-        lines.now)) }
-    ensures seen { OnOk result (seen.new ≡ seen.old ++ keys_in (front_rows database.now lines.now)) }
+        starts.now)) }
+    ensures seen { OnOk result (seen.new ≡ seen.old ++ keys_in (front_rows database.now starts.now)) }
 {
-    push_rows_at(placed, known, seen, &database.tables, &lines.tables)?;
-    push_rows_at(placed, known, seen, &database.comments, &lines.comments)
+    push_rows_at(placed, known, seen, &database.tables, &starts.tables)?;
+    push_rows_at(placed, known, seen, &database.comments, &starts.comments)
 }
 
 #[tactic(auto, using(crate::proofs::Rows::placed_then), unfolding(crate::specs::RowPlaces::attribute_rows))]
@@ -84,21 +84,21 @@ fn push_attributes<'a, L: Lookup>(
     known: &Known<'a, L>,
     seen: &mut RowKeys<'a>,
     database: &'a Database,
-    lines: &Lines,
+    starts: &Starts,
 ) -> Result<(), Memory>
     ensures placed { OnOk result (placed.new.items ≡ placed.old.items ++ placed_after known.now seen.old
-        (attribute_rows database.now lines.now)) }
-    ensures seen { OnOk result (seen.new ≡ seen.old ++ keys_in (attribute_rows database.now lines.now)) }
+        (attribute_rows database.now starts.now)) }
+    ensures seen { OnOk result (seen.new ≡ seen.old ++ keys_in (attribute_rows database.now starts.now)) }
 {
     push_rows_at(
         placed,
         known,
         seen,
         &database.definitions,
-        &lines.definitions,
+        &starts.definitions,
     )?;
-    push_rows_at(placed, known, seen, &database.defaults, &lines.defaults)?;
-    push_rows_at(placed, known, seen, &database.attributes, &lines.attributes)
+    push_rows_at(placed, known, seen, &database.defaults, &starts.defaults)?;
+    push_rows_at(placed, known, seen, &database.attributes, &starts.attributes)
 }
 
 #[tactic(auto, using(crate::proofs::Rows::placed_then), unfolding(crate::specs::RowPlaces::signal_rows))]
@@ -107,15 +107,15 @@ fn push_signal_rows<'a, L: Lookup>(
     known: &Known<'a, L>,
     seen: &mut RowKeys<'a>,
     database: &'a Database,
-    lines: &Lines,
+    starts: &Starts,
 ) -> Result<(), Memory>
     ensures placed { OnOk result (placed.new.items ≡ placed.old.items ++ placed_after known.now seen.old (signal_rows database.now
-        lines.now)) }
-    ensures seen { OnOk result (seen.new ≡ seen.old ++ keys_in (signal_rows database.now lines.now)) }
+        starts.now)) }
+    ensures seen { OnOk result (seen.new ≡ seen.old ++ keys_in (signal_rows database.now starts.now)) }
 {
-    push_rows_at(placed, known, seen, &database.values, &lines.values)?;
-    push_rows_at(placed, known, seen, &database.floats, &lines.floats)?;
-    push_rows_at(placed, known, seen, &database.muxes, &lines.muxes)
+    push_rows_at(placed, known, seen, &database.values, &starts.values)?;
+    push_rows_at(placed, known, seen, &database.floats, &starts.floats)?;
+    push_rows_at(placed, known, seen, &database.muxes, &starts.muxes)
 }
 
 /// Adds what is doubtful of all rows, kind by kind.
@@ -124,12 +124,12 @@ pub(crate) fn push_all_rows<'a, L: Lookup>(
     placed: &mut Vec<Placed>,
     known: &Known<'a, L>,
     database: &'a Database,
-    lines: &Lines,
+    starts: &Starts,
 ) -> Result<(), Memory>
-    ensures { OnOk result (placed.new.items ≡ placed.old.items ++ placed_after known.now [] (all_rows database.now lines.now)) }
+    ensures { OnOk result (placed.new.items ≡ placed.old.items ++ placed_after known.now [] (all_rows database.now starts.now)) }
 {
     let mut seen = RowKeys::new(*placed.allocator());
-    push_front(placed, known, &mut seen, database, lines)?;
-    push_attributes(placed, known, &mut seen, database, lines)?;
-    push_signal_rows(placed, known, &mut seen, database, lines)
+    push_front(placed, known, &mut seen, database, starts)?;
+    push_attributes(placed, known, &mut seen, database, starts)?;
+    push_signal_rows(placed, known, &mut seen, database, starts)
 }

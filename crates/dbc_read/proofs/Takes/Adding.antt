@@ -16,8 +16,8 @@ use Rattle.dbc_records.specs.CanonicalText.{word_layout, signal_key, table_key, 
 use Rattle.dbc_records.specs.CanonicalText.{mux_key, mux_layout, definition_key, definition_layout, default_key, default_layout}
 use Rattle.dbc_records.specs.CanonicalText.{target_layout, value_layout, head_layout}
 use Rattle.dbc_tokens.specs.Tokens.{Token, Cut}
-use Rattle.dbc_reader.specs.Reading.Databases.{row_into}
-use Rattle.dbc_reader.specs.Kinds.{Attributes, Comments, Defaults, Definitions, FloatRows, KeptOnes, Messages, MuxRows, Tables, ValueRows}
+use Rattle.dbc_reader.specs.Reading.Databases.{record_into}
+use Rattle.dbc_reader.specs.Kinds.{Attributes, Comments, Defaults, Definitions, FloatTypes, KeptVerbatim, Messages, Multiplexings, Tables, ValueDescriptions}
 use Rattle.dbc_reader.specs.Classes.{has_word, has_symbol, has_name}
 use Rattle.dbc_reader.specs.Forms.{Part, Is, Spelled, of_layout, ◌▸▸◌}
 use Rattle.dbc_reader.specs.Spelling.{AnyStatement, Symbols, Nodes, Table, OfMessage, OfComment, Definition, Default, Attribute}
@@ -30,7 +30,7 @@ use Rattle.dbc_reader.specs.Reading.Databases.{value_words, has_object_word, has
 use Rattle.dbc_reader.proofs.Turns.{bind_shrinks, value_keeps}
 use Rattle.dbc_reader.proofs.Turns.Lists.{name_shrinks, symbol_shrinks}
 use Rattle.dbc_reader.proofs.Sound.Notes.{comment_form, attribute_form}
-use Rattle.dbc_reader.proofs.Sound.Adding.{joined, row_joined, symbols_joined, nodes_joined, symbols_are, nodes_are, piece_form}
+use Rattle.dbc_reader.proofs.Sound.Adding.{joined, record_joined, symbols_joined, nodes_joined, symbols_are, nodes_are, piece_form}
 use Rattle.dbc_read.proofs.Takes.{chosen-first, chosen-second, Takes, Anything, Opens, Stops, takes_value, takes_next, takes_last}
 use Rattle.dbc_read.proofs.Takes.{takes_as, takes_first, takes_second, opens_one, takes_list}
 use Rattle.dbc_read.proofs.Takes.Kinds.{word_takes, mark_takes, name_takes, symbol_takes}
@@ -60,18 +60,18 @@ put_into {A} {r} {a} {parts} {May} {made} add h same = takes_made same (takes_la
 
 -- no kept statement
 takes_unkept : (d : Database) {made : Database} {r : Reader Database} {parts : List Part} {May : Cut → Type 0} → NotKept parts
-    → Takes r made parts May → Takes (choose_by begins_kept (row_into KeptOnes d) r) made parts May
+    → Takes r made parts May → Takes (choose_by begins_kept (record_into KeptVerbatim d) r) made parts May
 takes_unkept d {made} {r} {parts} {May} unkept h = record {
-  takes = λ tokens cut spelled may. chosen-second (begins_kept (tokens ▸▸ cut)) (row_into KeptOnes d (tokens ▸▸ cut)) (r (tokens ▸▸ cut)) _
+  takes = λ tokens cut spelled may. chosen-second (begins_kept (tokens ▸▸ cut)) (record_into KeptVerbatim d (tokens ▸▸ cut)) (r (tokens ▸▸ cut)) _
       (unkept.not_kept tokens cut spelled) (h.takes tokens cut spelled may);
 }
 
 -- a kept one
 takes_kept : (d : Database) {made : Database} (r : Reader Database) {parts : List Part} → ((tokens : List Token) (cut : Cut)
-    → Spelled parts tokens → begins_kept (tokens ▸▸ cut) ≡ true) → Takes (row_into KeptOnes d) made parts Anything
-    → Takes (choose_by begins_kept (row_into KeptOnes d) r) made parts Anything
+    → Spelled parts tokens → begins_kept (tokens ▸▸ cut) ≡ true) → Takes (record_into KeptVerbatim d) made parts Anything
+    → Takes (choose_by begins_kept (record_into KeptVerbatim d) r) made parts Anything
 takes_kept d {made} r {parts} kept h = record {
-  takes = λ tokens cut spelled may. chosen-first (begins_kept (tokens ▸▸ cut)) (row_into KeptOnes d (tokens ▸▸ cut)) (r (tokens ▸▸ cut)) _
+  takes = λ tokens cut spelled may. chosen-first (begins_kept (tokens ▸▸ cut)) (record_into KeptVerbatim d (tokens ▸▸ cut)) (r (tokens ▸▸ cut)) _
       (kept tokens cut spelled) (h.takes tokens cut spelled may);
 }
 
@@ -151,92 +151,92 @@ nodes_added d nodes =
 
 pub message_added : (d : Database) (message : Message) → nat_lt (length d.messages) 65535 ≡ true → IsMessage message
     → Takes (statement_into d) (joined d (OfMessage message ∷ [])) (form (OfMessage message)) EndsSignals
-unfolding object_into row_into head_layout items_of
+unfolding object_into record_into head_layout items_of
 message_added d message room is =
     as_object d (codes "BO_") refl (unkept_word (codes "BO_") refl refl refl refl)
     (takes_second _ (is_word_of (codes "BO_") (codes "NS_") refl) (takes_second _ (is_word_of (codes "BO_") (codes "BU_") refl)
     (put_into (λ message. record d { messages = d.messages ++ message ∷ [] }) (message_takes (length d.messages) message room is)
-    (row_joined Messages d message))))
+    (record_joined Messages d message))))
 
 -- ---- rows of values
 
 pub table_added : (d : Database) (row : TableRow) → IsTableRow row → Takes (statement_into d) (joined d (Table row ∷ []))
     (form (Table row)) Anything
-unfolding value_row_into row_into table_layout table_key word_layout items_of
+unfolding value_row_into record_into table_layout table_key word_layout items_of
 table_added d row is =
     as_value_row d (codes "VAL_TABLE_") refl refl (unkept_word (codes "VAL_TABLE_") refl refl refl refl)
     (takes_first _ (is_word_of (codes "VAL_TABLE_") (codes "VAL_TABLE_") refl)
     (put_into (λ row. record d { tables = d.tables ++ row ∷ [] }) (table_takes row is)
-    (row_joined Tables d row)))
+    (record_joined Tables d row)))
 
 pub values_added : (d : Database) (row : ValueRow) → IsValueRow row → Takes (statement_into d) (joined d (Values row ∷ []))
     (form (Values row)) Anything
-unfolding value_row_into row_into values_layout values_key word_layout signal_key items_of
+unfolding value_row_into record_into values_layout values_key word_layout signal_key items_of
 values_added d row is =
     as_value_row d (codes "VAL_") refl refl unkept_values (takes_second _ (is_word_of (codes "VAL_") (codes "VAL_TABLE_") refl)
     (takes_first _ (is_word_of (codes "VAL_") (codes "VAL_") refl)
     (put_into (λ row. record d { values = d.values ++ row ∷ [] }) (values_take row is)
-    (row_joined ValueRows d row))))
+    (record_joined ValueDescriptions d row))))
 
 pub float_added : (d : Database) (row : FloatRow) → IsFloatRow row → Takes (statement_into d) (joined d (Float row ∷ []))
     (form (Float row)) Anything
-unfolding value_row_into row_into float_key word_layout items_of
+unfolding value_row_into record_into float_key word_layout items_of
 float_added d row is =
     as_value_row d (codes "SIG_VALTYPE_") refl refl (unkept_word (codes "SIG_VALTYPE_") refl refl refl refl)
     (takes_second _ (is_word_of (codes "SIG_VALTYPE_") (codes "VAL_TABLE_") refl)
     (takes_second _ (is_word_of (codes "SIG_VALTYPE_") (codes "VAL_") refl)
     (takes_first _ (is_word_of (codes "SIG_VALTYPE_") (codes "SIG_VALTYPE_") refl)
     (put_into (λ row. record d { floats = d.floats ++ row ∷ [] }) (float_takes row is)
-    (row_joined FloatRows d row)))))
+    (record_joined FloatTypes d row)))))
 
 pub mux_added : (d : Database) (row : MuxRow) → IsMuxRow row → Takes (statement_into d) (joined d (Mux row ∷ [])) (form (Mux row))
     Anything
-unfolding value_row_into row_into mux_layout mux_key word_layout items_of
+unfolding value_row_into record_into mux_layout mux_key word_layout items_of
 mux_added d row is =
     as_value_row d (codes "SG_MUL_VAL_") refl refl (unkept_word (codes "SG_MUL_VAL_") refl refl refl refl)
     (takes_second _ (is_word_of (codes "SG_MUL_VAL_") (codes "VAL_TABLE_") refl)
     (takes_second _ (is_word_of (codes "SG_MUL_VAL_") (codes "VAL_") refl)
     (takes_second _ (is_word_of (codes "SG_MUL_VAL_") (codes "SIG_VALTYPE_") refl)
     (put_into (λ row. record d { muxes = d.muxes ++ row ∷ [] }) (mux_takes row is)
-    (row_joined MuxRows d row)))))
+    (record_joined Multiplexings d row)))))
 
 -- ---- comments and attributes
 
 pub comment_added : (d : Database) (row : Comment) → IsComment row → Takes (statement_into d) (joined d (OfComment row ∷ []))
     (form (OfComment row)) Anything
-unfolding attribute_row_into row_into
+unfolding attribute_row_into record_into
 comment_added d row is =
     let apart = comment_form row ∙ append_assoc (Is (Word (codes "CM_")) ∷ of_layout (target_layout row.target)) (Is (Text row.text)
     ∷ []) (Is (Mark 59) ∷ []) in
     takes_as apart (as_note d (codes "CM_") refl refl (unkept_comment row.target row.text (Is (Mark 59) ∷ []))
     (takes_first _ (is_word_of (codes "CM_") (codes "CM_") refl)
     (put_into (λ row. record d { comments = d.comments ++ row ∷ [] }) (takes_as (sym apart) (comment_takes row is))
-    (row_joined Comments d row))))
+    (record_joined Comments d row))))
 
 pub definition_added : (d : Database) (row : AttrDef) → IsAttrDef row → Takes (statement_into d) (joined d (Definition row ∷ []))
     (form (Definition row)) Anything
-unfolding attribute_row_into row_into definition_layout definition_key word_layout items_of
+unfolding attribute_row_into record_into definition_layout definition_key word_layout items_of
 definition_added d row is =
     as_note d (codes "BA_DEF_") refl refl (unkept_word (codes "BA_DEF_") refl refl refl refl)
     (takes_second _ (is_word_of (codes "BA_DEF_") (codes "CM_") refl)
     (takes_first _ (is_word_of (codes "BA_DEF_") (codes "BA_DEF_") refl)
     (put_into (λ row. record d { definitions = d.definitions ++ row ∷ [] }) (definition_takes row is)
-    (row_joined Definitions d row))))
+    (record_joined Definitions d row))))
 
 pub default_added : (d : Database) (row : AttrDefault) → Takes (statement_into d) (joined d (Default row ∷ [])) (form (Default row))
     Anything
-unfolding attribute_row_into row_into default_layout default_key word_layout items_of
+unfolding attribute_row_into record_into default_layout default_key word_layout items_of
 default_added d row =
     as_note d (codes "BA_DEF_DEF_") refl refl (unkept_word (codes "BA_DEF_DEF_") refl refl refl refl)
     (takes_second _ (is_word_of (codes "BA_DEF_DEF_") (codes "CM_") refl)
     (takes_second _ (is_word_of (codes "BA_DEF_DEF_") (codes "BA_DEF_") refl)
     (takes_first _ (is_word_of (codes "BA_DEF_DEF_") (codes "BA_DEF_DEF_") refl)
     (put_into (λ row. record d { defaults = d.defaults ++ row ∷ [] }) (default_takes row)
-    (row_joined Defaults d row)))))
+    (record_joined Defaults d row)))))
 
 pub attribute_added : (d : Database) (row : AttrRow) → IsAttrRow row → Takes (statement_into d) (joined d (Attribute row ∷ []))
     (form (Attribute row)) Anything
-unfolding attribute_row_into row_into
+unfolding attribute_row_into record_into
 attribute_added d row is =
     let apart = attribute_form row ∙ append_assoc (Is (Word (codes "BA_")) ∷ Is (Text row.name)
     ∷ of_layout (target_layout row.target)) (of_layout (value_layout row.value)) (Is (Mark 59) ∷ []) in
@@ -245,13 +245,13 @@ attribute_added d row is =
     (takes_second _ (is_word_of (codes "BA_") (codes "BA_DEF_") refl)
     (takes_second _ (is_word_of (codes "BA_") (codes "BA_DEF_DEF_") refl)
     (put_into (λ row. record d { attributes = d.attributes ++ row ∷ [] }) (takes_as (sym apart) (attribute_takes row is))
-    (row_joined Attributes d row))))))
+    (record_joined Attributes d row))))))
 
 pub kept_added : (d : Database) (row : Kept) → IsKept row → Takes (statement_into d) (joined d (OfKept row ∷ []))
     (form (OfKept row)) Anything
-unfolding statement_into row_into
+unfolding statement_into record_into
 kept_added d row is =
     takes_kept d _ (λ tokens cut spelled. begins_as_kept row (Is (Mark 59) ∷ []) tokens cut is.fit
     (subst (λ (parts : List Part). Spelled parts tokens) (piece_form row) spelled))
     (put_into (λ row. record d { kept = d.kept ++ row ∷ [] }) (kept_takes row)
-    (row_joined KeptOnes d row))
+    (record_joined KeptVerbatim d row))

@@ -14,7 +14,7 @@ use Rattle.dbc_records.specs.Layout.{items_of}
 use Rattle.dbc_records.specs.CanonicalText.{version_layout}
 use Rattle.dbc_tokens.specs.declared.fault.ReadFault.{ReadFault}
 use Rattle.dbc_tokens.specs.Tokens.{Token, Cut, End}
-use Rattle.dbc_reader.specs.Spelling.{rows_of}
+use Rattle.dbc_reader.specs.Spelling.{records_of}
 use Rattle.dbc_reader.specs.Kinds.{Messages}
 use Rattle.dbc_reader.specs.Classes.{has_word, has_mark, has_symbol, has_name, has_number, has_kept_word, is_there}
 use Rattle.dbc_reader.specs.Forms.{Part, Unsigned, Spelled, ◌▸▸◌}
@@ -130,7 +130,7 @@ no_number count statements may tokens line spelled = no_start (λ bytes. is_ther
 
 -- the statements behind a bit timing, with it
 timed_read : (version : Option (List ℕ)) (p : List AnyStatement) (numbers : Option (Decimal × Decimal × Decimal))
-    (q : List AnyStatement) (tokens : List Token) (line : ℕ) → MayAdd 0 p → MayAdd (length (flat_map (rows_of Messages) p)) q
+    (q : List AnyStatement) (tokens : List Token) (line : ℕ) → MayAdd 0 p → MayAdd (length (flat_map (records_of Messages) p)) q
     → Spelled (flat_map form p ++ (timing_form numbers ++ flat_map form q)) tokens
     → behind_version (version_text version) (tokens ▸▸ End line) ≡ Ok (gather version (p ++ Timing numbers ∷ q), End line)
 unfolding timed_into
@@ -145,7 +145,7 @@ timed_read version p numbers q tokens line may more spelled =
     let stands : behind ≡ (other.front ▸▸ (other.rest ▸▸ End line)) = ap (λ (t : List Token). t ▸▸ End line) other.parts
     ∙ all_then_twice other.front other.rest (End line) in
     let timing = (timing_takes numbers).takes other.front (other.rest ▸▸ End line) other.first
-    (no_number (length (flat_map (rows_of Messages) p)) q more other.rest line other.second) in
+    (no_number (length (flat_map (records_of Messages) p)) q more other.rest line other.second) in
     let last = statements_added e q more other.rest (End line) other.second (closes_end line) in
     ap (λ (t : List Token). behind_version (version_text version) (t ▸▸ End line)) half.parts
     ∙ ap (behind_version (version_text version)) (all_then_twice half.front half.rest (End line))
@@ -187,7 +187,7 @@ behind_read version statements tokens line text spelled = elim (parted statement
         placed = placed.0;
       })
       (record {
-        fit = subst (λ (n : ℕ). AllFit n parts.behind) (plus_none (length (flat_map (rows_of Messages) parts.before))) fit.1.1;
+        fit = subst (λ (n : ℕ). AllFit n parts.behind) (plus_none (length (flat_map (records_of Messages) parts.before))) fit.1.1;
         no_timings = parts.none_behind;
         placed = placed.1.1;
       })

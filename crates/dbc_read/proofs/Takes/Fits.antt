@@ -14,9 +14,9 @@ use Rattle.dbc_records.specs.Kept.{IsKept}
 use Rattle.dbc_records.specs.Records.{IsTableRow, IsValueRow, IsFloatRow, IsMuxRow, IsMessage}
 use Rattle.dbc_records.specs.Comments.{IsComment}
 use Rattle.dbc_records.specs.Attributes.{IsAttrDef, IsAttrRow}
-use Rattle.dbc_reader.specs.Spelling.{rows_of}
-use Rattle.dbc_reader.specs.Kinds.{Attributes, Comments, Definitions, FloatRows, KeptOnes, Messages, MuxRows, Tables, ValueRows}
-use Rattle.dbc_reader.specs.Spelling.{AnyStatement, Symbols, Timing, Nodes, Table, OfMessage, OfComment, Definition, Default}
+use Rattle.dbc_reader.specs.Spelling.{records_of}
+use Rattle.dbc_reader.specs.Kinds.{Attributes, Comments, Definitions, FloatTypes, KeptVerbatim, Messages, Multiplexings, Tables, ValueDescriptions}
+use Rattle.dbc_reader.specs.Spelling.{AnyStatement, Symbols, Timing, Nodes, OfKind, Table, OfMessage, OfComment, Definition, Default}
 use Rattle.dbc_reader.specs.Spelling.{Attribute, Values, Float, Mux, OfKept, timings_of}
 use Rattle.dbc_reader.specs.Spelling.{EndsSymbols, FollowOn}
 use Rattle.dbc_reader.specs.Spelling.{ArePlaced}
@@ -42,7 +42,7 @@ Fits count (OfKept row) = IsKept row
 
 abbrev pub AllFit : ℕ → List AnyStatement → Type 0
 AllFit count [] = Unit {0}
-AllFit count (s ∷ more) = Fits count s × AllFit (count + length (flat_map (rows_of Messages) (s ∷ []))) more
+AllFit count (s ∷ more) = Fits count s × AllFit (count + length (flat_map (records_of Messages) (s ∷ []))) more
 
 one_of : {X : Type 0} (P : X → Type 0) (xs : List X) (x : X) (ys : List X) → All P (xs ++ x ∷ ys) → P x
 one_of P xs x ys all = All-head P x ys (subst (All P) (drop_at xs (x ∷ ys) (length xs) refl) (All-drop P (length xs) (xs ++ x ∷ ys)
@@ -56,49 +56,49 @@ fits_first : (d : Database) (s : AnyStatement) (more : List AnyStatement) → Is
 fits_first d (Symbols symbols) more is = tt
 fits_first d (Timing numbers) more is = tt
 fits_first d (Nodes nodes) more is = tt
-fits_first d (Table row) more is = one_of IsTableRow d.tables row (flat_map (rows_of Tables) more) is.tables
+fits_first d (Table row) more is = one_of IsTableRow d.tables row (flat_map (records_of Tables) more) is.tables
 fits_first d (OfMessage message) more is =
-    let count = and_parts (timing_fits d.bit_timing) (nat_le (length (d.messages ++ message ∷ flat_map (rows_of Messages) more)) 65535)
+    let count = and_parts (timing_fits d.bit_timing) (nat_le (length (d.messages ++ message ∷ flat_map (records_of Messages) more)) 65535)
     is.fits in (
-      room (length d.messages) (length (flat_map (rows_of Messages) more)) (subst (λ (n : ℕ). nat_le n 65535 ≡ true)
-          (length-append d.messages (message ∷ flat_map (rows_of Messages) more)) count.1),
-      one_of IsMessage d.messages message (flat_map (rows_of Messages) more) is.messages,
+      room (length d.messages) (length (flat_map (records_of Messages) more)) (subst (λ (n : ℕ). nat_le n 65535 ≡ true)
+          (length-append d.messages (message ∷ flat_map (records_of Messages) more)) count.1),
+      one_of IsMessage d.messages message (flat_map (records_of Messages) more) is.messages,
     )
-fits_first d (OfComment comment) more is = one_of IsComment d.comments comment (flat_map (rows_of Comments) more) is.comments
-fits_first d (Definition definition) more is = one_of IsAttrDef d.definitions definition (flat_map (rows_of Definitions) more)
+fits_first d (OfComment comment) more is = one_of IsComment d.comments comment (flat_map (records_of Comments) more) is.comments
+fits_first d (Definition definition) more is = one_of IsAttrDef d.definitions definition (flat_map (records_of Definitions) more)
     is.definitions
 fits_first d (Default row) more is = tt
-fits_first d (Attribute row) more is = one_of IsAttrRow d.attributes row (flat_map (rows_of Attributes) more) is.attributes
-fits_first d (Values row) more is = one_of IsValueRow d.values row (flat_map (rows_of ValueRows) more) is.values
-fits_first d (Float row) more is = one_of IsFloatRow d.floats row (flat_map (rows_of FloatRows) more) is.floats
-fits_first d (Mux row) more is = one_of IsMuxRow d.muxes row (flat_map (rows_of MuxRows) more) is.muxes
-fits_first d (OfKept row) more is = one_of IsKept d.kept row (flat_map (rows_of KeptOnes) more) is.kept
+fits_first d (Attribute row) more is = one_of IsAttrRow d.attributes row (flat_map (records_of Attributes) more) is.attributes
+fits_first d (Values row) more is = one_of IsValueRow d.values row (flat_map (records_of ValueDescriptions) more) is.values
+fits_first d (Float row) more is = one_of IsFloatRow d.floats row (flat_map (records_of FloatTypes) more) is.floats
+fits_first d (Mux row) more is = one_of IsMuxRow d.muxes row (flat_map (records_of Multiplexings) more) is.muxes
+fits_first d (OfKept row) more is = one_of IsKept d.kept row (flat_map (records_of KeptVerbatim) more) is.kept
 
 pub all_fit : (d : Database) (statements : List AnyStatement) → IsDatabase (joined d statements)
     → AllFit (length d.messages) statements
 all_fit d [] is = tt
 all_fit d (s ∷ more) is = (
   fits_first d s more is,
-  subst (λ (n : ℕ). AllFit n more) (length-append d.messages (flat_map (rows_of Messages) (s ∷ [])))
+  subst (λ (n : ℕ). AllFit n more) (length-append d.messages (flat_map (records_of Messages) (s ∷ [])))
       (all_fit (joined d (s ∷ [])) more (subst (λ (e : Database). IsDatabase e) (sym (joined_twice d (s ∷ []) more)) is)),
 )
 
 pub fit_both : (count : ℕ) (xs ys : List AnyStatement) → AllFit count (xs ++ ys) → AllFit count xs
-    × AllFit (count + length (flat_map (rows_of Messages) xs)) ys
+    × AllFit (count + length (flat_map (records_of Messages) xs)) ys
 fit_both count [] ys fit = (tt, subst (λ (n : ℕ). AllFit n ys) (plus_none count) fit)
   where
     plus_none : (n : ℕ) → n ≡ n + 0
     plus_none n = omega arith
 fit_both count (x ∷ xs) ys fit =
-    let below = fit_both (count + length (flat_map (rows_of Messages) (x ∷ []))) xs ys fit.1 in
+    let below = fit_both (count + length (flat_map (records_of Messages) (x ∷ []))) xs ys fit.1 in
     ((fit.0, below.0), subst (λ (n : ℕ). AllFit n ys) (counted count x xs) below.1)
   where
-    counted : (count : ℕ) (x : AnyStatement) (xs : List AnyStatement) → (count + length (flat_map (rows_of Messages) (x ∷ []))) + length
-        (flat_map (rows_of Messages) xs) ≡ count + length (flat_map (rows_of Messages) (x ∷ xs))
+    counted : (count : ℕ) (x : AnyStatement) (xs : List AnyStatement) → (count + length (flat_map (records_of Messages) (x ∷ []))) + length
+        (flat_map (records_of Messages) xs) ≡ count + length (flat_map (records_of Messages) (x ∷ xs))
     counted count x xs = omega (
       arith,
-      length-append (flat_map (rows_of Messages) (x ∷ [])) (flat_map (rows_of Messages) xs),
-      ap length (flat_map-append (rows_of Messages) (x ∷ []) xs),
+      length-append (flat_map (records_of Messages) (x ∷ [])) (flat_map (records_of Messages) xs),
+      ap length (flat_map-append (records_of Messages) (x ∷ []) xs),
     )
 
 -- ---- at most one bit timing
@@ -140,16 +140,7 @@ parted (Timing numbers ∷ more) one = inr (record {
 })
 parted (Symbols symbols ∷ more) one = one_more (Symbols symbols) more refl (parted more one)
 parted (Nodes nodes ∷ more) one = one_more (Nodes nodes) more refl (parted more one)
-parted (Table row ∷ more) one = one_more (Table row) more refl (parted more one)
-parted (OfMessage message ∷ more) one = one_more (OfMessage message) more refl (parted more one)
-parted (OfComment comment ∷ more) one = one_more (OfComment comment) more refl (parted more one)
-parted (Definition definition ∷ more) one = one_more (Definition definition) more refl (parted more one)
-parted (Default row ∷ more) one = one_more (Default row) more refl (parted more one)
-parted (Attribute row ∷ more) one = one_more (Attribute row) more refl (parted more one)
-parted (Values row ∷ more) one = one_more (Values row) more refl (parted more one)
-parted (Float row ∷ more) one = one_more (Float row) more refl (parted more one)
-parted (Mux row ∷ more) one = one_more (Mux row) more refl (parted more one)
-parted (OfKept row ∷ more) one = one_more (OfKept row) more refl (parted more one)
+parted (OfKind kind row ∷ more) one = one_more (OfKind kind row) more refl (parted more one)
 
 -- ---- places on both sides of a bit timing
 
@@ -158,31 +149,13 @@ ends_so [] ys h = tt
 ends_so (Symbols symbols ∷ xs) ys h = h
 ends_so (Timing numbers ∷ xs) ys h = h
 ends_so (Nodes nodes ∷ xs) ys h = h
-ends_so (Table row ∷ xs) ys h = h
-ends_so (OfMessage message ∷ xs) ys h = h
-ends_so (OfComment comment ∷ xs) ys h = h
-ends_so (Definition definition ∷ xs) ys h = h
-ends_so (Default row ∷ xs) ys h = h
-ends_so (Attribute row ∷ xs) ys h = h
-ends_so (Values row ∷ xs) ys h = h
-ends_so (Float row ∷ xs) ys h = h
-ends_so (Mux row ∷ xs) ys h = h
-ends_so (OfKept row ∷ xs) ys h = h
+ends_so (OfKind kind row ∷ xs) ys h = h
 
 follows_so : (s : AnyStatement) (xs ys : List AnyStatement) → FollowOn s (xs ++ ys) → FollowOn s xs
 follows_so (Symbols symbols) xs ys h = ends_so xs ys h
 follows_so (Timing numbers) xs ys h = tt
 follows_so (Nodes nodes) xs ys h = tt
-follows_so (Table row) xs ys h = tt
-follows_so (OfMessage message) xs ys h = tt
-follows_so (OfComment comment) xs ys h = tt
-follows_so (Definition definition) xs ys h = tt
-follows_so (Default row) xs ys h = tt
-follows_so (Attribute row) xs ys h = tt
-follows_so (Values row) xs ys h = tt
-follows_so (Float row) xs ys h = tt
-follows_so (Mux row) xs ys h = tt
-follows_so (OfKept row) xs ys h = tt
+follows_so (OfKind kind row) xs ys h = tt
 
 pub placed_both : (xs ys : List AnyStatement) → ArePlaced (xs ++ ys) → ArePlaced xs × ArePlaced ys
 placed_both [] ys h = (tt, h)

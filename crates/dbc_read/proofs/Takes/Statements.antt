@@ -17,7 +17,7 @@ use Rattle.dbc_records.specs.CanonicalText.{word_layout, table_key, table_layout
 use Rattle.dbc_records.specs.CanonicalText.{mux_layout, comment_key, comment_layout, definition_key, definition_layout, default_key}
 use Rattle.dbc_records.specs.CanonicalText.{default_layout, attribute_key, attribute_layout, head_layout}
 use Rattle.dbc_tokens.specs.Tokens.{Token, Cut}
-use Rattle.dbc_reader.specs.Spelling.{rows_of}
+use Rattle.dbc_reader.specs.Spelling.{records_of}
 use Rattle.dbc_reader.specs.Kinds.{Messages}
 use Rattle.dbc_reader.specs.Classes.{has_word, has_mark, has_symbol, has_name, has_kept_word}
 use Rattle.dbc_reader.specs.Forms.{Part, Is, Spelled, ◌▸▸◌}
@@ -184,7 +184,7 @@ untimed : (s : AnyStatement) (more : List AnyStatement) → flat_map timings_of 
 untimed s more none = no_first (timings_of s) (flat_map timings_of more) none
 
 rest_fits : (count : ℕ) (s : AnyStatement) (more : List AnyStatement) → MayAdd count (s ∷ more)
-    → MayAdd (count + length (flat_map (rows_of Messages) (s ∷ []))) more
+    → MayAdd (count + length (flat_map (records_of Messages) (s ∷ []))) more
 rest_fits count s more may = record { fit = may.fit.1; no_timings = (untimed s more may.no_timings).1; placed = may.placed.1 }
 
 -- what may stand behind all statements: the end, or a bit timing
@@ -289,7 +289,7 @@ statements_added d (s ∷ more) may tokens cut spelled closes =
     let behind = half.rest ▸▸ cut in
     let read = (statement_added d s first may.fit.0).takes half.front behind half.first (may_follow (length d.messages) s more may
     half.rest cut half.second closes) in
-    let next = subst (λ (n : ℕ). MayAdd n more) (sym (length-append d.messages (flat_map (rows_of Messages) (s ∷ []))))
+    let next = subst (λ (n : ℕ). MayAdd n more) (sym (length-append d.messages (flat_map (records_of Messages) (s ∷ []))))
     (rest_fits (length d.messages) s more may) in
     ap (λ (t : List Token). statements_into d (t ▸▸ cut)) half.parts
     ∙ ap (statements_into d) (all_then_twice half.front half.rest cut)

@@ -13,8 +13,8 @@ use Rattle.dbc_values.specs.Pieces.{is_piece, is_string}
 use Rattle.dbc_tokens.specs.declared.fault.Cause.TheVariants as causes
 use Rattle.dbc_tokens.specs.declared.token.Kind.{Kind}
 use Rattle.dbc_tokens.specs.Tokens.{Token, Cut, End, Fault, ◌▸◌}
-use Rattle.dbc_reader.specs.Reading.Databases.{row_into}
-use Rattle.dbc_reader.specs.Kinds.{Attributes, Comments, Defaults, Definitions, FloatRows, KeptOnes, Messages, MuxRows, Tables, ValueRows}
+use Rattle.dbc_reader.specs.Reading.Databases.{record_into}
+use Rattle.dbc_reader.specs.Kinds.{Attributes, Comments, Defaults, Definitions, FloatTypes, KeptVerbatim, Messages, Multiplexings, Tables, ValueDescriptions}
 use Rattle.dbc_reader.specs.Classes.{has_word, has_name, has_string, has_piece, has_kept_word}
 use Rattle.dbc_reader.specs.Pattern.{Class, Word, Name, String, Whole, BeginsMessage, Seen, is_of_class, plain, verdict, Pattern}
 use Rattle.dbc_reader.specs.Pattern.{Done, ◌⇒◌, Either, ◌then◌, may_end, first_of, left_then, after, fault_in, ruled, judged}
@@ -54,34 +54,34 @@ nodes_more d seen has =
     agree_then (word_agrees seen (codes "BU_")) λ _. agree_then (mark_agrees seen 58) λ _. agree_then (names_agree seen d.nodes)
     λ nodes. agree_value (record { count = has.count })
 
-message_more : (d : Database) (seen : Seen) → Counted d seen → Agrees seen (row_into Messages d) grammar.message Counted
-unfolding row_into
+message_more : (d : Database) (seen : Seen) → Counted d seen → Agrees seen (record_into Messages d) grammar.message Counted
+unfolding record_into
 message_more d seen has =
     agree_bind (message_agrees seen (length d.messages) has.count) λ message s is. agree_value
     (record { count = is ∙ sym (length-append d.messages (message ∷ [])) })
 
-table_more : (d : Database) (seen : Seen) → Counted d seen → Agrees seen (row_into Tables d) grammar.table Counted
-unfolding row_into
+table_more : (d : Database) (seen : Seen) → Counted d seen → Agrees seen (record_into Tables d) grammar.table Counted
+unfolding record_into
 table_more d seen has = agree_then (table_agrees seen) λ row. agree_value (record { count = has.count })
 
-float_more : (d : Database) (seen : Seen) → Counted d seen → Agrees seen (row_into FloatRows d) grammar.float Counted
-unfolding row_into
+float_more : (d : Database) (seen : Seen) → Counted d seen → Agrees seen (record_into FloatTypes d) grammar.float Counted
+unfolding record_into
 float_more d seen has = agree_then (float_agrees seen) λ row. agree_value (record { count = has.count })
 
-mux_more : (d : Database) (seen : Seen) → Counted d seen → Agrees seen (row_into MuxRows d) grammar.mux Counted
-unfolding row_into
+mux_more : (d : Database) (seen : Seen) → Counted d seen → Agrees seen (record_into Multiplexings d) grammar.mux Counted
+unfolding record_into
 mux_more d seen has = agree_then (mux_agrees seen) λ row. agree_value (record { count = has.count })
 
-definition_more : (d : Database) (seen : Seen) → Counted d seen → Agrees seen (row_into Definitions d) grammar.definition Counted
-unfolding row_into
+definition_more : (d : Database) (seen : Seen) → Counted d seen → Agrees seen (record_into Definitions d) grammar.definition Counted
+unfolding record_into
 definition_more d seen has = agree_then (definition_agrees seen) λ definition. agree_value (record { count = has.count })
 
-default_more : (d : Database) (seen : Seen) → Counted d seen → Agrees seen (row_into Defaults d) grammar.default Counted
-unfolding row_into
+default_more : (d : Database) (seen : Seen) → Counted d seen → Agrees seen (record_into Defaults d) grammar.default Counted
+unfolding record_into
 default_more d seen has = agree_then (default_agrees seen) λ row. agree_value (record { count = has.count })
 
-kept_more : (d : Database) (seen : Seen) → Counted d seen → Agrees seen (row_into KeptOnes d) grammar.kept_rest Counted
-unfolding row_into kept_at
+kept_more : (d : Database) (seen : Seen) → Counted d seen → Agrees seen (record_into KeptVerbatim d) grammar.kept_rest Counted
+unfolding record_into kept_at
 kept_more d seen has =
     agree_then (agree_then (pieces_agree seen []) λ tokens. agree_then (mark_agrees seen 59) λ _. agree_value refl) λ row.
     agree_value (record { count = has.count })
@@ -97,22 +97,22 @@ plain_comment = Word (codes "CM_") ⇒ (grammar.target then String ⇒ grammar.s
 abbrev plain_attribute : Pattern
 plain_attribute = Word (codes "BA_") ⇒ String ⇒ (grammar.target then (grammar.given then grammar.statement_end))
 
-values_more : (d : Database) (seen : Seen) → Counted d seen → Agrees seen (row_into ValueRows d) plain_values Counted
-unfolding row_into values_at
+values_more : (d : Database) (seen : Seen) → Counted d seen → Agrees seen (record_into ValueDescriptions d) plain_values Counted
+unfolding record_into values_at
 values_more d seen has =
     agree_then (agree_then (word_agrees seen (codes "VAL_")) λ _. agree_then (id_agrees seen) λ number. agree_then
     (name_agrees seen) λ signal. agree_then (entries_agree seen []) λ entries.
     agree_then (mark_agrees seen 59) λ _. agree_value refl) λ row. agree_value (record { count = has.count })
 
-comment_more : (d : Database) (seen : Seen) → Counted d seen → Agrees seen (row_into Comments d) plain_comment Counted
-unfolding row_into comment_at
+comment_more : (d : Database) (seen : Seen) → Counted d seen → Agrees seen (record_into Comments d) plain_comment Counted
+unfolding record_into comment_at
 comment_more d seen has =
     agree_then (agree_then (word_agrees seen (codes "CM_")) λ _. agree_then (target_agrees seen) λ target. agree_then
     (text_agrees seen) λ text.
     agree_then (mark_agrees seen 59) λ _. agree_value refl) λ row. agree_value (record { count = has.count })
 
-attribute_more : (d : Database) (seen : Seen) → Counted d seen → Agrees seen (row_into Attributes d) plain_attribute Counted
-unfolding row_into attribute_at
+attribute_more : (d : Database) (seen : Seen) → Counted d seen → Agrees seen (record_into Attributes d) plain_attribute Counted
+unfolding record_into attribute_at
 attribute_more d seen has =
     agree_then (agree_then (word_agrees seen (codes "BA_")) λ _. agree_then (text_agrees seen) λ name. agree_then
     (target_agrees seen) λ target. agree_then (given_agrees seen) λ given.
@@ -171,7 +171,7 @@ unfolding statement_into object_into value_row_into attribute_row_into begins_ke
     has_attribute_word has_word has_kept_word has_name has_string has_piece is_piece is_string is_name is_keyword starts first_fault
 message_case kind line d seen has q cut =
     let t = token_of_word kind line (codes "BO_") in
-    subst (λ total. Follows Counted (row_into Messages d (t ▸ cut)) (first_fault q) total) (sym (message_first kind line seen q cut))
+    subst (λ total. Follows Counted (record_into Messages d (t ▸ cut)) (first_fault q) total) (sym (message_first kind line seen q cut))
     ((message_more d seen has).follows q (t ▸ cut))
 
 table_case : (kind : Kind) (line : ℕ) → AgreesFor kind line (codes "VAL_TABLE_")
@@ -340,7 +340,7 @@ comment_first kind line seen q t cut e =
     (no_token (Word (codes "EV_")) grammar.kept_rest seen t (rw e refl)) refl
 
 comment_plain : (kind : Kind) (line : ℕ) (d : Database) (t : Token) (cut : Cut) → bytes_eq (codes "EV_") t.bytes ≡ false
-    → statement_into d (token_of_word kind line (codes "CM_") ▸ (t ▸ cut)) ≡ row_into Comments d (token_of_word kind line (codes "CM_") ▸
+    → statement_into d (token_of_word kind line (codes "CM_") ▸ (t ▸ cut)) ≡ record_into Comments d (token_of_word kind line (codes "CM_") ▸
     (t ▸ cut))
 unfolding statement_into object_into value_row_into attribute_row_into begins_kept kept_fits has_object_word has_value_word
     has_attribute_word has_word has_kept_word has_name has_string has_piece is_piece is_string starts first_fault
@@ -367,13 +367,13 @@ comment_case kind line d seen has q (t ▸ cut) =
 attribute_kept : (kind : Kind) (line : ℕ) (d : Database) (seen : Seen) → Counted d seen → (q : Pattern) (t : Token)
     → has_string t ≡ true → (kind3 : Kind) (line3 : ℕ) (cut : Cut)
     → statement_into d (token_of_word kind line (codes "BA_") ▸ (t ▸ (token_of_word kind3 line3 (codes "EV_") ▸ cut)))
-    ≡ row_into KeptOnes d (token_of_word kind line (codes "BA_") ▸ (t ▸ (token_of_word kind3 line3 (codes "EV_") ▸ cut)))
+    ≡ record_into KeptVerbatim d (token_of_word kind line (codes "BA_") ▸ (t ▸ (token_of_word kind3 line3 (codes "EV_") ▸ cut)))
 unfolding statement_into object_into value_row_into attribute_row_into begins_kept kept_fits has_object_word has_value_word
     has_attribute_word has_word has_kept_word has_name has_string has_piece is_piece starts first_fault
 attribute_kept kind line d seen has q t e kind3 line3 cut = rw e refl
 
 attribute_ends : (kind : Kind) (line : ℕ) (d : Database) (t : Token) (cut : Cut) → has_string t ≡ false
-    → statement_into d (token_of_word kind line (codes "BA_") ▸ (t ▸ cut)) ≡ row_into Attributes d (token_of_word kind line (codes "BA_")
+    → statement_into d (token_of_word kind line (codes "BA_") ▸ (t ▸ cut)) ≡ record_into Attributes d (token_of_word kind line (codes "BA_")
     ▸ (t ▸ cut))
 unfolding statement_into object_into value_row_into attribute_row_into begins_kept kept_fits has_object_word has_value_word
     has_attribute_word has_word has_kept_word has_name has_string has_piece is_piece starts first_fault
@@ -382,14 +382,14 @@ attribute_ends kind line d t cut e = rw e refl
 -- ---- named values
 
 values_kept : (kind : Kind) (line : ℕ) (d : Database) (t : Token) (cut : Cut) → has_name t ≡ true
-    → statement_into d (token_of_word kind line (codes "VAL_") ▸ (t ▸ cut)) ≡ row_into KeptOnes d (token_of_word kind line (codes "VAL_") ▸
+    → statement_into d (token_of_word kind line (codes "VAL_") ▸ (t ▸ cut)) ≡ record_into KeptVerbatim d (token_of_word kind line (codes "VAL_") ▸
     (t ▸ cut))
 unfolding statement_into object_into value_row_into attribute_row_into begins_kept kept_fits has_object_word has_value_word
     has_attribute_word has_word has_kept_word has_name has_string has_piece is_piece is_string starts first_fault
 values_kept kind line d t cut e = rw e refl
 
 values_plain : (kind : Kind) (line : ℕ) (d : Database) (t : Token) (cut : Cut) → has_name t ≡ false
-    → statement_into d (token_of_word kind line (codes "VAL_") ▸ (t ▸ cut)) ≡ row_into ValueRows d (token_of_word kind line (codes "VAL_")
+    → statement_into d (token_of_word kind line (codes "VAL_") ▸ (t ▸ cut)) ≡ record_into ValueDescriptions d (token_of_word kind line (codes "VAL_")
     ▸ (t ▸ cut))
 unfolding statement_into object_into value_row_into attribute_row_into begins_kept kept_fits has_object_word has_value_word
     has_attribute_word has_word has_kept_word has_name has_string has_piece is_piece is_string starts first_fault
@@ -446,7 +446,7 @@ ev_kept = Word (codes "EV_") ⇒ grammar.kept_rest
 attribute_short : (kind : Kind) (line : ℕ) (d : Database) (t : Token) (rest : Cut) → has_string t ≡ true
     → ((t3 : Token) (cut : Cut) → rest ≡ (t3 ▸ cut) → bytes_eq (codes "EV_") t3.bytes ≡ false)
     → statement_into d (token_of_word kind line (codes "BA_") ▸ (t ▸ rest))
-    ≡ row_into Attributes d (token_of_word kind line (codes "BA_") ▸ (t ▸ rest))
+    ≡ record_into Attributes d (token_of_word kind line (codes "BA_") ▸ (t ▸ rest))
 unfolding statement_into object_into value_row_into attribute_row_into begins_kept kept_fits has_object_word has_value_word
     has_attribute_word has_word has_kept_word has_name has_string has_piece is_piece starts first_fault
 attribute_short kind line d t (End at) e none = rw e refl

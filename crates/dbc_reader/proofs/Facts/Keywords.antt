@@ -12,8 +12,8 @@ use Rattle.dbc_records.specs.Databases.{Database}
 use Rattle.dbc_records.specs.Kept.{kept_fits}
 use Rattle.dbc_tokens.specs.declared.token.Kind.{Kind}
 use Rattle.dbc_tokens.specs.Tokens.{Token, Cut, End, Fault, ◌▸◌}
-use Rattle.dbc_reader.specs.Reading.Databases.{row_into}
-use Rattle.dbc_reader.specs.Kinds.{Attributes, Comments, Defaults, Definitions, FloatRows, KeptOnes, Messages, MuxRows, Tables, ValueRows}
+use Rattle.dbc_reader.specs.Reading.Databases.{record_into}
+use Rattle.dbc_reader.specs.Kinds.{Attributes, Comments, Defaults, Definitions, FloatTypes, KeptVerbatim, Messages, Multiplexings, Tables, ValueDescriptions}
 use Rattle.dbc_reader.specs.declared.keyword.Keyword.{Keyword}
 use Rattle.dbc_reader.specs.declared.statement.Statement.{Statement}
 use Rattle.dbc_reader.specs.declared.keyword.Keyword.TheVariants as keywords
@@ -37,23 +37,23 @@ use Rattle.dbc_reader.proofs.Facts.KeptBeginnings.{kept_by_tokens}
 abbrev Reads : Keyword → Cut → Type 0
 Reads keywords.Symbols cut = (d : Database) → statement_into d cut ≡ symbols_into d (with_word (codes "NS_") (behind cut))
 Reads keywords.Nodes cut = (d : Database) → statement_into d cut ≡ nodes_into d (with_word (codes "BU_") (behind cut))
-Reads keywords.Table cut = (d : Database) → statement_into d cut ≡ row_into Tables d (with_word (codes "VAL_TABLE_") (behind cut))
-Reads keywords.Float cut = (d : Database) → statement_into d cut ≡ row_into FloatRows d (with_word (codes "SIG_VALTYPE_") (behind cut))
-Reads keywords.Mux cut = (d : Database) → statement_into d cut ≡ row_into MuxRows d (with_word (codes "SG_MUL_VAL_") (behind cut))
-Reads keywords.Definition cut = (d : Database) → statement_into d cut ≡ row_into Definitions d (with_word (codes "BA_DEF_") (behind cut))
-Reads keywords.Default cut = (d : Database) → statement_into d cut ≡ row_into Defaults d (with_word (codes "BA_DEF_DEF_") (behind cut))
+Reads keywords.Table cut = (d : Database) → statement_into d cut ≡ record_into Tables d (with_word (codes "VAL_TABLE_") (behind cut))
+Reads keywords.Float cut = (d : Database) → statement_into d cut ≡ record_into FloatTypes d (with_word (codes "SIG_VALTYPE_") (behind cut))
+Reads keywords.Mux cut = (d : Database) → statement_into d cut ≡ record_into Multiplexings d (with_word (codes "SG_MUL_VAL_") (behind cut))
+Reads keywords.Definition cut = (d : Database) → statement_into d cut ≡ record_into Definitions d (with_word (codes "BA_DEF_") (behind cut))
+Reads keywords.Default cut = (d : Database) → statement_into d cut ≡ record_into Defaults d (with_word (codes "BA_DEF_DEF_") (behind cut))
 Reads keywords.Message cut = (starts (has_word (codes "BO_")) cut ≡ true)
-    × ((d : Database) → statement_into d cut ≡ row_into Messages d cut)
+    × ((d : Database) → statement_into d cut ≡ record_into Messages d cut)
 Reads keywords.Values cut = (starts has_name (behind cut) ≡ true → begins_kept cut ≡ true)
     × ((d : Database) → starts has_name (behind cut) ≡ false → statement_into d cut
-    ≡ row_into ValueRows d (with_word (codes "VAL_") (behind cut)))
+    ≡ record_into ValueDescriptions d (with_word (codes "VAL_") (behind cut)))
 Reads keywords.Comment cut = (starts (has_word (codes "EV_")) (behind cut) ≡ true → begins_kept cut ≡ true)
     × ((d : Database) → starts (has_word (codes "EV_")) (behind cut) ≡ false → statement_into d cut
-    ≡ row_into Comments d (with_word (codes "CM_") (behind cut)))
+    ≡ record_into Comments d (with_word (codes "CM_") (behind cut)))
 Reads keywords.Attribute cut = ((starts (has_word (codes "EV_")) (behind (behind cut)) && starts has_string (behind cut)) ≡ true
     → begins_kept cut ≡ true)
     × ((d : Database) → (starts (has_word (codes "EV_")) (behind (behind cut)) && starts has_string (behind cut)) ≡ false
-    → statement_into d cut ≡ row_into Attributes d (with_word (codes "BA_") (behind cut)))
+    → statement_into d cut ≡ record_into Attributes d (with_word (codes "BA_") (behind cut)))
 Reads keywords.Kept cut = begins_kept cut ≡ true
 
 abbrev a_word : Kind → ℕ → List ℕ → Token
@@ -74,27 +74,27 @@ nodes_read kind line cut d = refl
 
 table_read : ReadsWord (codes "VAL_TABLE_") keywords.Table
 unfolding statement_into object_into value_row_into attribute_row_into has_object_word has_value_word has_attribute_word has_word
-    has_kept_word starts word_at token_at begins_kept kept_fits row_into table_at
+    has_kept_word starts word_at token_at begins_kept kept_fits record_into table_at
 table_read kind line cut d = refl
 
 float_read : ReadsWord (codes "SIG_VALTYPE_") keywords.Float
 unfolding statement_into object_into value_row_into attribute_row_into has_object_word has_value_word has_attribute_word has_word
-    has_kept_word starts word_at token_at begins_kept kept_fits row_into float_at
+    has_kept_word starts word_at token_at begins_kept kept_fits record_into float_at
 float_read kind line cut d = refl
 
 mux_read : ReadsWord (codes "SG_MUL_VAL_") keywords.Mux
 unfolding statement_into object_into value_row_into attribute_row_into has_object_word has_value_word has_attribute_word has_word
-    has_kept_word starts word_at token_at begins_kept kept_fits row_into mux_at
+    has_kept_word starts word_at token_at begins_kept kept_fits record_into mux_at
 mux_read kind line cut d = refl
 
 definition_read : ReadsWord (codes "BA_DEF_") keywords.Definition
 unfolding statement_into object_into value_row_into attribute_row_into has_object_word has_value_word has_attribute_word has_word
-    has_kept_word starts word_at token_at begins_kept kept_fits row_into definition_at
+    has_kept_word starts word_at token_at begins_kept kept_fits record_into definition_at
 definition_read kind line cut d = refl
 
 default_read : ReadsWord (codes "BA_DEF_DEF_") keywords.Default
 unfolding statement_into object_into value_row_into attribute_row_into has_object_word has_value_word has_attribute_word has_word
-    has_kept_word starts word_at token_at begins_kept kept_fits row_into default_at
+    has_kept_word starts word_at token_at begins_kept kept_fits record_into default_at
 default_read kind line cut d = refl
 
 message_read : ReadsWord (codes "BO_") keywords.Message
@@ -118,7 +118,7 @@ values_kept kind line cut = kept_by_tokens (a_word kind line (codes "VAL_") ▸ 
 
 values_read : ReadsWord (codes "VAL_") keywords.Values
 unfolding statement_into object_into value_row_into attribute_row_into has_object_word has_value_word has_attribute_word has_word
-    has_kept_word starts word_at token_at row_into values_at
+    has_kept_word starts word_at token_at record_into values_at
 values_read kind line cut = (λ e. values_kept kind line cut ∙ e, λ d e. rw (values_kept kind line cut, e) refl)
 
 comment_kept : (kind : Kind) (line : ℕ) (cut : Cut) → begins_kept (a_word kind line (codes "CM_") ▸ cut)
@@ -128,7 +128,7 @@ comment_kept kind line cut = kept_by_tokens (a_word kind line (codes "CM_") ▸ 
 
 comment_read : ReadsWord (codes "CM_") keywords.Comment
 unfolding statement_into object_into value_row_into attribute_row_into has_object_word has_value_word has_attribute_word has_word
-    has_kept_word starts word_at token_at row_into comment_at
+    has_kept_word starts word_at token_at record_into comment_at
 comment_read kind line cut = (λ e. comment_kept kind line cut ∙ e, λ d e. rw (comment_kept kind line cut, e) refl)
 
 attribute_kept : (kind : Kind) (line : ℕ) (cut : Cut) → begins_kept (a_word kind line (codes "BA_") ▸ cut)
@@ -138,7 +138,7 @@ attribute_kept kind line cut = kept_by_tokens (a_word kind line (codes "BA_") �
 
 attribute_read : ReadsWord (codes "BA_") keywords.Attribute
 unfolding statement_into object_into value_row_into attribute_row_into has_object_word has_value_word has_attribute_word has_word
-    has_kept_word starts word_at token_at row_into attribute_at
+    has_kept_word starts word_at token_at record_into attribute_at
 attribute_read kind line cut = (λ e. attribute_kept kind line cut ∙ e, λ d e. rw (attribute_kept kind line cut, e) refl)
 
 -- ---- each keyword
@@ -209,37 +209,48 @@ pub nodes_step : (d : Database) (cut : Cut) → keyword_at cut ≡ Some keywords
 nodes_step d cut e = reads keywords.Nodes cut e d
 
 pub table_step : (d : Database) (cut : Cut) → keyword_at cut ≡ Some keywords.Table → statement_into d cut
-    ≡ row_into Tables d (with_word (codes "VAL_TABLE_") (behind cut))
+    ≡ record_into Tables d (with_word (codes "VAL_TABLE_") (behind cut))
 table_step d cut e = reads keywords.Table cut e d
 
 pub float_step : (d : Database) (cut : Cut) → keyword_at cut ≡ Some keywords.Float → statement_into d cut
-    ≡ row_into FloatRows d (with_word (codes "SIG_VALTYPE_") (behind cut))
+    ≡ record_into FloatTypes d (with_word (codes "SIG_VALTYPE_") (behind cut))
 float_step d cut e = reads keywords.Float cut e d
 
 pub mux_step : (d : Database) (cut : Cut) → keyword_at cut ≡ Some keywords.Mux → statement_into d cut
-    ≡ row_into MuxRows d (with_word (codes "SG_MUL_VAL_") (behind cut))
+    ≡ record_into Multiplexings d (with_word (codes "SG_MUL_VAL_") (behind cut))
 mux_step d cut e = reads keywords.Mux cut e d
 
 pub definition_step : (d : Database) (cut : Cut) → keyword_at cut ≡ Some keywords.Definition → statement_into d cut
-    ≡ row_into Definitions d (with_word (codes "BA_DEF_") (behind cut))
+    ≡ record_into Definitions d (with_word (codes "BA_DEF_") (behind cut))
 definition_step d cut e = reads keywords.Definition cut e d
 
 pub default_step : (d : Database) (cut : Cut) → keyword_at cut ≡ Some keywords.Default → statement_into d cut
-    ≡ row_into Defaults d (with_word (codes "BA_DEF_DEF_") (behind cut))
+    ≡ record_into Defaults d (with_word (codes "BA_DEF_DEF_") (behind cut))
 default_step d cut e = reads keywords.Default cut e d
 
 pub message_begins : (cut : Cut) → keyword_at cut ≡ Some keywords.Message → starts (has_word (codes "BO_")) cut ≡ true
 message_begins cut e = (reads keywords.Message cut e).0
 
-pub message_step : (d : Database) (cut : Cut) → keyword_at cut ≡ Some keywords.Message → statement_into d cut ≡ row_into Messages d cut
+pub message_step : (d : Database) (cut : Cut) → keyword_at cut ≡ Some keywords.Message → statement_into d cut ≡ record_into Messages d cut
 message_step d cut e = (reads keywords.Message cut e).1 d
+
+-- the same by the token alone
+pub message_into_here : (d : Database) (cut : Cut) → starts (has_word (codes "BO_")) cut ≡ true
+    → statement_into d cut ≡ record_into Messages d cut
+unfolding starts has_word
+message_into_here d (End line) e = absurd cc
+message_into_here d (Fault line) e = absurd cc
+message_into_here d (t ▸ cut) e =
+    subst (λ (bytes : List ℕ). statement_into d (a_word t.kind t.line bytes ▸ cut)
+    ≡ record_into Messages d (a_word t.kind t.line bytes ▸ cut))
+    (sym ((bytes_eq-Decides t.bytes (codes "BO_")).0 e)) ((message_read t.kind t.line cut).1 d)
 
 pub values_kept_step : (cut : Cut) → keyword_at cut ≡ Some keywords.Values → starts has_name (behind cut) ≡ true
     → begins_kept cut ≡ true
 values_kept_step cut e = (reads keywords.Values cut e).0
 
 pub values_step : (d : Database) (cut : Cut) → keyword_at cut ≡ Some keywords.Values → starts has_name (behind cut) ≡ false
-    → statement_into d cut ≡ row_into ValueRows d (with_word (codes "VAL_") (behind cut))
+    → statement_into d cut ≡ record_into ValueDescriptions d (with_word (codes "VAL_") (behind cut))
 values_step d cut e = (reads keywords.Values cut e).1 d
 
 pub comment_kept_step : (cut : Cut) → keyword_at cut ≡ Some keywords.Comment → starts (has_word (codes "EV_")) (behind cut) ≡ true
@@ -248,7 +259,7 @@ comment_kept_step cut e = (reads keywords.Comment cut e).0
 
 pub comment_step : (d : Database) (cut : Cut) → keyword_at cut ≡ Some keywords.Comment
     → starts (has_word (codes "EV_")) (behind cut) ≡ false → statement_into d cut
-    ≡ row_into Comments d (with_word (codes "CM_") (behind cut))
+    ≡ record_into Comments d (with_word (codes "CM_") (behind cut))
 comment_step d cut e = (reads keywords.Comment cut e).1 d
 
 pub attribute_kept_step : (cut : Cut) → keyword_at cut ≡ Some keywords.Attribute
@@ -257,13 +268,13 @@ attribute_kept_step cut e = (reads keywords.Attribute cut e).0
 
 pub attribute_step : (d : Database) (cut : Cut) → keyword_at cut ≡ Some keywords.Attribute
     → (starts (has_word (codes "EV_")) (behind (behind cut)) && starts has_string (behind cut)) ≡ false → statement_into d cut
-    ≡ row_into Attributes d (with_word (codes "BA_") (behind cut))
+    ≡ record_into Attributes d (with_word (codes "BA_") (behind cut))
 attribute_step d cut e = (reads keywords.Attribute cut e).1 d
 
 pub begins_kept_step : (cut : Cut) → keyword_at cut ≡ Some keywords.Kept → begins_kept cut ≡ true
 begins_kept_step cut e = reads keywords.Kept cut e
 
-pub kept_step : (d : Database) (cut : Cut) → begins_kept cut ≡ true → statement_into d cut ≡ row_into KeptOnes d cut
+pub kept_step : (d : Database) (cut : Cut) → begins_kept cut ≡ true → statement_into d cut ≡ record_into KeptVerbatim d cut
 unfolding statement_into
 kept_step d cut e = rw e refl
 

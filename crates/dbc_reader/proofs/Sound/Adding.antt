@@ -19,15 +19,15 @@ use Rattle.dbc_records.specs.CanonicalText.{default_key, default_layout, attribu
 use Rattle.dbc_records.specs.CanonicalText.{statement_end}
 use Rattle.dbc_tokens.specs.declared.fault.ReadFault.{ReadFault}
 use Rattle.dbc_tokens.specs.Tokens.{Token, Cut, End, Fault, ◌▸◌}
-use Rattle.dbc_reader.specs.Reading.Databases.{row_at, row_into}
+use Rattle.dbc_reader.specs.Reading.Databases.{record_at, record_into}
 use Rattle.dbc_reader.specs.Classes.{has_word, has_name, has_string, has_symbol, has_kept_word}
 use Rattle.dbc_reader.specs.Reading.Cursors.{behind}
 use Rattle.dbc_reader.specs.Forms.{Part, Is, ◌▸▸◌}
 use Rattle.dbc_reader.specs.Reading.Readers.{Reader, and_then, ◌>>=◌, value, starts, size, turns, repeated, choose, choose_by}
 use Rattle.dbc_reader.specs.Spelling.{AnyStatement, Symbols, Nodes, Table, OfMessage, OfComment, Definition, Default, Attribute}
 use Rattle.dbc_reader.specs.Spelling.{Values, Float, Mux, OfKept, form, EndsSymbols, FollowOn, symbols_of, timings_of, nodes_of}
-use Rattle.dbc_reader.specs.Spelling.{Row, rows_of}
-use Rattle.dbc_reader.specs.Kinds.{Kind, RowOf, list_of, with_list, with_lists, Tables, Messages, Comments, Definitions, Defaults, Attributes, ValueRows, FloatRows, MuxRows, KeptOnes}
+use Rattle.dbc_reader.specs.Spelling.{OfKind, records_of}
+use Rattle.dbc_reader.specs.Kinds.{Kind, RecordOf, list_of, with_list, with_lists, Tables, Messages, Comments, Definitions, Defaults, Attributes, ValueDescriptions, FloatTypes, Multiplexings, KeptVerbatim}
 use mathlib.Core.Path.{fun_ext, Path}
 use Rattle.dbc_reader.specs.Reading.Parts.{word_at, mark_at, names_from, symbols_from}
 use Rattle.dbc_reader.proofs.Facts.KeptBeginnings.{kept_by_tokens}
@@ -49,7 +49,7 @@ abbrev pub joined : Database → List AnyStatement → Database
 joined d statements = with_lists (record d {
   symbols = d.symbols ++ flat_map symbols_of statements;
   nodes = d.nodes ++ flat_map nodes_of statements;
-}) (λ kind. list_of kind d ++ flat_map (rows_of kind) statements)
+}) (λ kind. list_of kind d ++ flat_map (records_of kind) statements)
 
 pub joined_none : (d : Database) → joined d [] ≡ d
 joined_none d = rw (append-nil d.symbols, append-nil d.nodes)
@@ -60,7 +60,7 @@ pub behind_both : {X : Type 0} (f : AnyStatement → List X) (list : List X) (xs
 behind_both f list xs ys = append_assoc list (flat_map f xs) (flat_map f ys)
     ∙ ap (λ more. list ++ more) (sym (flat_map-append f xs ys))
 
-pub listed : (kind : Kind) (d : Database) (lists : (kind : Kind) → List (RowOf kind))
+pub listed : (kind : Kind) (d : Database) (lists : (kind : Kind) → List (RecordOf kind))
     → list_of kind (with_lists d lists) ≡ lists kind
 listed Tables d lists = refl
 listed Messages d lists = refl
@@ -68,25 +68,25 @@ listed Comments d lists = refl
 listed Definitions d lists = refl
 listed Defaults d lists = refl
 listed Attributes d lists = refl
-listed ValueRows d lists = refl
-listed FloatRows d lists = refl
-listed MuxRows d lists = refl
-listed KeptOnes d lists = refl
+listed ValueDescriptions d lists = refl
+listed FloatTypes d lists = refl
+listed Multiplexings d lists = refl
+listed KeptVerbatim d lists = refl
 
 -- the list of a kind in a database that is joined
 pub joined_list : (kind : Kind) (d : Database) (xs : List AnyStatement)
-    → list_of kind (joined d xs) ≡ list_of kind d ++ flat_map (rows_of kind) xs
+    → list_of kind (joined d xs) ≡ list_of kind d ++ flat_map (records_of kind) xs
 joined_list kind d xs = listed kind (record d {
   symbols = d.symbols ++ flat_map symbols_of xs;
   nodes = d.nodes ++ flat_map nodes_of xs;
-}) (λ kind. list_of kind d ++ flat_map (rows_of kind) xs)
+}) (λ kind. list_of kind d ++ flat_map (records_of kind) xs)
 
 -- and where it is joined again
 pub lists_twice : (d : Database) (xs ys : List AnyStatement)
-    → Path ((kind : Kind) → List (RowOf kind)) (λ kind. list_of kind (joined d xs) ++ flat_map (rows_of kind) ys)
-    (λ kind. list_of kind d ++ flat_map (rows_of kind) (xs ++ ys))
-lists_twice d xs ys = fun_ext (λ (kind : Kind). ap (λ (l : List (RowOf kind)). l ++ flat_map (rows_of kind) ys)
-    (joined_list kind d xs) ∙ behind_both (rows_of kind) (list_of kind d) xs ys)
+    → Path ((kind : Kind) → List (RecordOf kind)) (λ kind. list_of kind (joined d xs) ++ flat_map (records_of kind) ys)
+    (λ kind. list_of kind d ++ flat_map (records_of kind) (xs ++ ys))
+lists_twice d xs ys = fun_ext (λ (kind : Kind). ap (λ (l : List (RecordOf kind)). l ++ flat_map (records_of kind) ys)
+    (joined_list kind d xs) ∙ behind_both (records_of kind) (list_of kind d) xs ys)
 
 pub joined_twice : (d : Database) (xs ys : List AnyStatement) → joined (joined d xs) ys ≡ joined d (xs ++ ys)
 joined_twice d xs ys = rw (behind_both symbols_of d.symbols xs ys, behind_both nodes_of d.nodes xs ys)
@@ -96,22 +96,22 @@ joined_twice d xs ys = rw (behind_both symbols_of d.symbols xs ys, behind_both n
     })) (lists_twice d xs ys))
 
 -- a row is put behind those of its kind
-row_put : (kind : Kind) (d : Database) (row : RowOf kind)
-    → with_list kind (joined d []) (list_of kind d ++ row ∷ []) ≡ joined d (Row kind row ∷ [])
+row_put : (kind : Kind) (d : Database) (row : RecordOf kind)
+    → with_list kind (joined d []) (list_of kind d ++ row ∷ []) ≡ joined d (OfKind kind row ∷ [])
 row_put Tables d row = refl
 row_put Messages d row = refl
 row_put Comments d row = refl
 row_put Definitions d row = refl
 row_put Defaults d row = refl
 row_put Attributes d row = refl
-row_put ValueRows d row = refl
-row_put FloatRows d row = refl
-row_put MuxRows d row = refl
-row_put KeptOnes d row = refl
+row_put ValueDescriptions d row = refl
+row_put FloatTypes d row = refl
+row_put Multiplexings d row = refl
+row_put KeptVerbatim d row = refl
 
-pub row_joined : (kind : Kind) (d : Database) (row : RowOf kind) → with_list kind d (list_of kind d ++ row ∷ [])
-    ≡ joined d (Row kind row ∷ [])
-row_joined kind d row = ap (λ (e : Database). with_list kind e (list_of kind d ++ row ∷ [])) (sym (joined_none d))
+pub record_joined : (kind : Kind) (d : Database) (row : RecordOf kind) → with_list kind d (list_of kind d ++ row ∷ [])
+    ≡ joined d (OfKind kind row ∷ [])
+record_joined kind d row = ap (λ (e : Database). with_list kind e (list_of kind d ++ row ∷ [])) (sym (joined_none d))
     ∙ row_put kind d row
 
 -- ---- what one statement more is
@@ -314,74 +314,74 @@ begins_as_symbol (t ▸ cut) e =
 
 -- ---- a row of any kind
 
-row_sound : (kind : Kind) (d : Database) → Sound (row_at kind d) (λ row. form (Row kind row))
-row_sound Tables d = table_sound
-row_sound Messages d = message_sound (length d.messages)
-row_sound Comments d = comment_sound
-row_sound Definitions d = definition_sound
-row_sound Defaults d = default_sound
-row_sound Attributes d = attribute_sound
-row_sound ValueRows d = values_sound
-row_sound FloatRows d = float_sound
-row_sound MuxRows d = mux_sound
-row_sound KeptOnes d = kept_sound
+record_sound : (kind : Kind) (d : Database) → Sound (record_at kind d) (λ row. form (OfKind kind row))
+record_sound Tables d = table_sound
+record_sound Messages d = message_sound (length d.messages)
+record_sound Comments d = comment_sound
+record_sound Definitions d = definition_sound
+record_sound Defaults d = default_sound
+record_sound Attributes d = attribute_sound
+record_sound ValueDescriptions d = values_sound
+record_sound FloatTypes d = float_sound
+record_sound Multiplexings d = mux_sound
+record_sound KeptVerbatim d = kept_sound
 
 -- what is known of where a row of the kind was read
 Begins : Kind → Cut → Type 0
-Begins KeptOnes cut = begins_kept cut ≡ true
+Begins KeptVerbatim cut = begins_kept cut ≡ true
 Begins kind cut = Unit {0}
 
-row_ends : (kind : Kind) (row : RowOf kind) (cut rest : Cut) (behind : List AnyStatement) → Begins kind cut
-    → Spelt (form (Row kind row)) cut rest → starts has_symbol cut ≡ false → EndsSymbols (Row kind row ∷ behind)
+record_ends : (kind : Kind) (row : RecordOf kind) (cut rest : Cut) (behind : List AnyStatement) → Begins kind cut
+    → Spelt (form (OfKind kind row)) cut rest → starts has_symbol cut ≡ false → EndsSymbols (OfKind kind row ∷ behind)
 unfolding Begins table_layout table_key values_layout values_key float_key mux_layout mux_key comment_layout comment_key
     definition_layout definition_key default_layout default_key attribute_layout attribute_key word_layout items_of is_symbol
-row_ends Tables row cut rest behind begins spelt none = absurd (no_first (codes "VAL_TABLE_") _ cut rest refl spelt none)
-row_ends Messages row cut rest behind begins spelt none = tt
-row_ends Comments row cut rest behind begins spelt none = absurd (no_first (codes "CM_") _ cut rest refl spelt none)
-row_ends Definitions row cut rest behind begins spelt none = absurd (no_first (codes "BA_DEF_") _ cut rest refl spelt none)
-row_ends Defaults row cut rest behind begins spelt none = absurd (no_first (codes "BA_DEF_DEF_") _ cut rest refl spelt none)
-row_ends Attributes row cut rest behind begins spelt none = absurd (no_first (codes "BA_") _ cut rest refl spelt none)
-row_ends ValueRows row cut rest behind begins spelt none = absurd (no_first (codes "VAL_") _ cut rest refl spelt none)
-row_ends FloatRows row cut rest behind begins spelt none = absurd (no_first (codes "SIG_VALTYPE_") _ cut rest refl spelt none)
-row_ends MuxRows row cut rest behind begins spelt none = absurd (no_first (codes "SG_MUL_VAL_") _ cut rest refl spelt none)
-row_ends KeptOnes row cut rest behind begins spelt none = let both : true ≡ false = sym (begins_as_symbol cut begins) ∙ none in
+record_ends Tables row cut rest behind begins spelt none = absurd (no_first (codes "VAL_TABLE_") _ cut rest refl spelt none)
+record_ends Messages row cut rest behind begins spelt none = tt
+record_ends Comments row cut rest behind begins spelt none = absurd (no_first (codes "CM_") _ cut rest refl spelt none)
+record_ends Definitions row cut rest behind begins spelt none = absurd (no_first (codes "BA_DEF_") _ cut rest refl spelt none)
+record_ends Defaults row cut rest behind begins spelt none = absurd (no_first (codes "BA_DEF_DEF_") _ cut rest refl spelt none)
+record_ends Attributes row cut rest behind begins spelt none = absurd (no_first (codes "BA_") _ cut rest refl spelt none)
+record_ends ValueDescriptions row cut rest behind begins spelt none = absurd (no_first (codes "VAL_") _ cut rest refl spelt none)
+record_ends FloatTypes row cut rest behind begins spelt none = absurd (no_first (codes "SIG_VALTYPE_") _ cut rest refl spelt none)
+record_ends Multiplexings row cut rest behind begins spelt none = absurd (no_first (codes "SG_MUL_VAL_") _ cut rest refl spelt none)
+record_ends KeptVerbatim row cut rest behind begins spelt none = let both : true ≡ false = sym (begins_as_symbol cut begins) ∙ none in
     absurd cc
 
-row_adding : (kind : Kind) (d : Database) (cut : Cut) (x : Database × Cut) → Begins kind cut → row_into kind d cut ≡ Ok x
+record_adding : (kind : Kind) (d : Database) (cut : Cut) (x : Database × Cut) → Begins kind cut → record_into kind d cut ≡ Ok x
     → Adding d cut x
-unfolding row_into
-row_adding kind d cut x begins e =
-    let y = and_then_ok (row_at kind d cut) _ x e in
-    let spelt = (row_sound kind d).spelt cut y.0 y.1 in
+unfolding record_into
+record_adding kind d cut x begins e =
+    let y = and_then_ok (record_at kind d cut) _ x e in
+    let spelt = (record_sound kind d).spelt cut y.0 y.1 in
     subst (λ (z : Database × Cut). Adding d cut z) (ok_is (with_list kind d (list_of kind d ++ y.0.0 ∷ []), y.0.1) x y.2)
     (record {
-      statement = Row kind y.0.0;
+      statement = OfKind kind y.0.0;
       spelt = spelt;
-      joins = row_joined kind d y.0.0;
+      joins = record_joined kind d y.0.0;
       no_timing = refl;
       before = λ behind h. tt;
-      ends = λ behind none. row_ends kind y.0.0 cut y.0.1 behind begins spelt none;
+      ends = λ behind none. record_ends kind y.0.0 cut y.0.1 behind begins spelt none;
     })
 
-row_adds : (kind : Kind) (d : Database) → ((cut : Cut) → Begins kind cut) → Adds d (row_into kind d)
-row_adds kind d begins = record { adds = λ cut x e. row_adding kind d cut x (begins cut) e }
+row_adds : (kind : Kind) (d : Database) → ((cut : Cut) → Begins kind cut) → Adds d (record_into kind d)
+row_adds kind d begins = record { adds = λ cut x e. record_adding kind d cut x (begins cut) e }
 
 -- ---- any statement
 
-adds_kept : (d : Database) {r : Reader Database} → Adds d r → Adds d (choose_by begins_kept (row_into KeptOnes d) r)
+adds_kept : (d : Database) {r : Reader Database} → Adds d r → Adds d (choose_by begins_kept (record_into KeptVerbatim d) r)
 unfolding Begins
 adds_kept d {r} h = record { adds = λ cut x e. by_test (begins_kept cut) cut x refl e }
   where
-    by_test : (b : Bool) (cut : Cut) (x : Database × Cut) → begins_kept cut ≡ b → cond b (row_into KeptOnes d cut) (r cut) ≡ Ok x
+    by_test : (b : Bool) (cut : Cut) (x : Database × Cut) → begins_kept cut ≡ b → cond b (record_into KeptVerbatim d cut) (r cut) ≡ Ok x
         → Adding d cut x
-    by_test true cut x is e = row_adding KeptOnes d cut x is e
+    by_test true cut x is e = record_adding KeptVerbatim d cut x is e
     by_test false cut x is e = h.adds cut x e
 
 pub statement_adds : (d : Database) → Adds d (statement_into d)
 unfolding statement_into object_into value_row_into attribute_row_into Begins
 statement_adds d =
     adds_kept d (adds_choose _ (adds_choose _ (symbols_adds d) (adds_choose _ (nodes_adds d) (row_adds Messages d (λ cut. tt))))
-    (adds_choose _ (adds_choose _ (row_adds Tables d (λ cut. tt)) (adds_choose _ (row_adds ValueRows d (λ cut. tt))
-    (adds_choose _ (row_adds FloatRows d (λ cut. tt)) (row_adds MuxRows d (λ cut. tt)))))
+    (adds_choose _ (adds_choose _ (row_adds Tables d (λ cut. tt)) (adds_choose _ (row_adds ValueDescriptions d (λ cut. tt))
+    (adds_choose _ (row_adds FloatTypes d (λ cut. tt)) (row_adds Multiplexings d (λ cut. tt)))))
     (adds_choose _ (row_adds Comments d (λ cut. tt)) (adds_choose _ (row_adds Definitions d (λ cut. tt))
     (adds_choose _ (row_adds Defaults d (λ cut. tt)) (row_adds Attributes d (λ cut. tt)))))))

@@ -1,82 +1,38 @@
 -- A database that was read is spelled by the tokens that it was read from.
 use Rattle.std.proofs.Common.{◌≡◌, ℕ, zero, suc, ◌≤◌, Bool, true, false, cond, List, [], ◌∷◌, ◌++◌, length, Option, Some, None, Ok}
-use Rattle.std.proofs.Common.{refl, sym, ap, subst, ◌∙◌, append-nil, arith}
+use Rattle.std.proofs.Common.{refl, sym, ap, subst, ◌∙◌, append_assoc, append-nil, arith, map}
 use Rattle.std.specs.Prelude.{codes, IfSome}
 use Rattle.std.specs.List.{flat_map}
+use Rattle.std.proofs.lemmas.List.{map-append}
 use Rattle.std.proofs.lemmas.List.Concat.{flat_map-append}
 use Rattle.dbc_records.specs.Databases.{Database, IsDatabase, IsBitTiming}
 use Rattle.dbc_values.specs.Decimals.{Decimal}
 use Rattle.dbc_records.specs.Layout.{Word, Mark, items_of}
 use Rattle.dbc_records.specs.CanonicalText.{version_layout, timing_title}
 use Rattle.dbc_tokens.specs.Tokens.{Token, Cut, End, Fault, ◌▸◌}
-use Rattle.dbc_reader.specs.Classes.{has_word, has_number, has_symbol}
-use Rattle.dbc_reader.specs.Forms.{Part, Is, Unsigned, of_layout, ◌▸▸◌}
-use Rattle.dbc_reader.specs.Reading.Readers.{and_then, ◌>>=◌, value, starts, size, turns, repeated, end_at}
+use Rattle.dbc_reader.specs.declared.start.Starts.{Starts}
+use Rattle.dbc_reader.specs.Classes.{has_word, has_number}
+use Rattle.dbc_reader.specs.Forms.{Part, Is, Unsigned, Spelled, of_layout, ◌▸▸◌}
+use Rattle.dbc_reader.specs.Kinds.{Kind, RecordOf, list_of, with_lists, empty_database, Tables, Messages, Comments, Definitions}
+use Rattle.dbc_reader.specs.Kinds.{Defaults, Attributes, ValueDescriptions, FloatTypes, Multiplexings, KeptVerbatim}
+use Rattle.dbc_reader.specs.Located.{SpellsFrom}
+use Rattle.dbc_reader.specs.Reading.Readers.{◌>>=◌, value, starts, end_at}
 use Rattle.dbc_reader.specs.Reading.Parts.{word_at, text_at}
-use Rattle.dbc_reader.specs.Reading.Databases.{begins_statement, statement_into, statements_into, version_at, timing_numbers_at}
-use Rattle.dbc_reader.specs.Reading.Databases.{timing_at, timed_into, empty_database, database_at}
-use Rattle.dbc_reader.specs.Spelling.{AnyStatement, Timing, form, timing_form, EndsSymbols, ArePlaced, symbols_of, timings_of}
-use Rattle.dbc_reader.specs.Spelling.{nodes_of, rows_of, timing_of, version_form, version_text, gather, Spells}
-use Rattle.dbc_reader.specs.Kinds.{Kind, RowOf, list_of, with_lists}
+use Rattle.dbc_reader.specs.Reading.Databases.{version_at, timing_numbers_at, timing_at, database_at}
+use Rattle.dbc_reader.specs.Reading.Located.{all_located_into, timed_located_into, located_database_at}
+use Rattle.dbc_reader.specs.Spelling.{AnyStatement, Timing, form, timing_form, ArePlaced, symbols_of, timings_of, nodes_of}
+use Rattle.dbc_reader.specs.Spelling.{records_of, timing_of, version_form, version_text, gather, Spells}
+use Rattle.dbc_reader.specs.Starts.{Located, AreLocated, start_at, no_starts, gather_starts}
 use mathlib.Core.Path.{fun_ext}
-use Rattle.dbc_reader.proofs.Turns.{and_then_ok}
+use Rattle.dbc_reader.proofs.Turns.{and_then_ok, ok_is}
+use Rattle.dbc_reader.proofs.Turns.Statements.{timing_less}
+use Rattle.dbc_reader.proofs.Turns.Dropped.{database_drops, with_some_starts}
+use Rattle.dbc_reader.proofs.Sound.{Spelt, spelt_none, spelled_both, all_then_twice, Sound, sound_start, sound_then, sound_value}
+use Rattle.dbc_reader.proofs.Sound.{sound_choose, sound_end}
 use Rattle.dbc_reader.proofs.Sound.Kinds.{mark_sound, word_sound, text_sound, unsigned_sound}
-use Rattle.dbc_reader.proofs.Sound.Adding.{joined, joined_none, joined_list, behind_both, joined_twice, Adding, statement_adds}
-use Rattle.dbc_reader.proofs.Turns.{ok_is}
-use Rattle.dbc_reader.proofs.Sound.{Spelt, spelt_both, spelt_none, Sound, sound_start, sound_then, sound_value, sound_choose}
-use Rattle.dbc_reader.proofs.Sound.{sound_end}
-
--- ---- many statements
-
--- statements were read that a database is joined by; what may stand behind them, and when they end a list of symbols
-record Joins (d : Database) (cut : Cut) (x : Database × Cut) : Type 0 where
-  statements : List AnyStatement
-  spelt : Spelt (flat_map form statements) cut x.1
-  joins : x.0 ≡ joined d statements
-  no_timings : flat_map timings_of statements ≡ []
-  placed : (behind : List AnyStatement) → (starts has_symbol x.1 ≡ false → EndsSymbols behind) → ArePlaced behind
-      → ArePlaced (statements ++ behind)
-  ends : (behind : List AnyStatement) → (starts has_symbol x.1 ≡ false → EndsSymbols behind) → starts has_symbol cut ≡ false
-      → EndsSymbols (statements ++ behind)
-
-joins_none : (d : Database) (cut : Cut) → Joins d cut (d, cut)
-joins_none d cut = record {
-  statements = [];
-  spelt = spelt_none cut;
-  joins = sym (joined_none d);
-  no_timings = refl;
-  placed = λ behind ends placed. placed;
-  ends = λ behind ends none. ends none;
-}
-
-joins_more : (d : Database) (cut : Cut) (y x : Database × Cut) → Adding d cut y → Joins y.0 y.1 x → Joins d cut x
-joins_more d cut y x first rest = record {
-  statements = first.statement ∷ rest.statements;
-  spelt = spelt_both first.spelt rest.spelt;
-  joins = rest.joins ∙ ap (λ (e : Database). joined e rest.statements) first.joins
-      ∙ joined_twice d (first.statement ∷ []) rest.statements;
-  no_timings = rw (first.no_timing, rest.no_timings) refl;
-  placed = λ behind ends placed. (first.before (rest.statements ++ behind) (rest.ends behind ends), rest.placed behind ends placed);
-  ends = λ behind ends none. first.ends (rest.statements ++ behind) none;
-}
-
-turn_joins : (n : ℕ) → ((d : Database) (cut : Cut) (x : Database × Cut) → turns n begins_statement statement_into d cut ≡ Ok x
-    → Joins d cut x)
-    → (d : Database) (b : Bool) (cut : Cut) (x : Database × Cut)
-    → cond b (and_then (statement_into d cut) (turns n begins_statement statement_into)) (Ok (d, cut)) ≡ Ok x → Joins d cut x
-turn_joins n below d false cut x e = subst (λ (y : Database × Cut). Joins d cut y) (ok_is (d, cut) x e) (joins_none d cut)
-turn_joins n below d true cut x e =
-    let y = and_then_ok (statement_into d cut) (turns n begins_statement statement_into) x e in
-    joins_more d cut y.0 x ((statement_adds d).adds cut y.0 y.1) (below y.0.0 y.0.1 x y.2)
-
-turns_join : (n : ℕ) (d : Database) (cut : Cut) (x : Database × Cut) → turns n begins_statement statement_into d cut ≡ Ok x
-    → Joins d cut x
-turns_join zero d cut x e = subst (λ (y : Database × Cut). Joins d cut y) (ok_is (d, cut) x e) (joins_none d cut)
-turns_join (suc n) d cut x e = turn_joins n (turns_join n) d (starts begins_statement cut) cut x e
-
-statements_join : (d : Database) (cut : Cut) (x : Database × Cut) → statements_into d cut ≡ Ok x → Joins d cut x
-unfolding statements_into repeated
-statements_join d cut x e = turns_join (size cut) d cut x e
+use Rattle.dbc_reader.proofs.Sound.Adding.{joined, joined_list, behind_both}
+use Rattle.dbc_reader.proofs.Sound.Starts.{joined_starts, joined_starts_twice, AreMatched}
+use Rattle.dbc_reader.proofs.Sound.Located.{first_of, Joins, located_more, all_join}
 
 -- ---- the version
 
@@ -158,8 +114,8 @@ pub gather_timed : (version : Option (List ℕ)) (xs ys : List AnyStatement) (nu
 gather_timed version xs ys numbers timing before behind is =
     let all : List AnyStatement = Timing numbers ∷ ys in
     let d : Database = empty_database (version_text version) in
-    let lists = fun_ext (λ (kind : Kind). ap (λ (l : List (RowOf kind)). l ++ flat_map (rows_of kind) ys) (joined_list kind d xs)
-    ∙ behind_both (rows_of kind) (list_of kind d) xs all) in
+    let lists = fun_ext (λ (kind : Kind). ap (λ (l : List (RecordOf kind)). l ++ flat_map (records_of kind) ys) (joined_list kind d xs)
+    ∙ behind_both (records_of kind) (list_of kind d) xs all) in
     rw (
       flat_map-append symbols_of xs all,
       flat_map-append timings_of xs all,
@@ -173,61 +129,138 @@ gather_timed version xs ys numbers timing before behind is =
       nodes = flat_map nodes_of xs ++ flat_map nodes_of ys;
     })) lists)
 
-record Gathered (version : Option (List ℕ)) (cut : Cut) (x : Database × Cut) : Type 0 where
+-- all statements of a text, and where they begin
+record Gathered (version : Option (List ℕ)) (cut : Cut) (x : (Database × Starts) × Cut) : Type 0 where
+  located : List Located
   statements : List AnyStatement
-  spelt : Spelt (flat_map form statements) cut x.1
+  same : map (λ it. it.statement) located ≡ statements
+  front : List Token
+  stands : cut ≡ (front ▸▸ x.1)
+  spelled : Spelled (flat_map form statements) front
   placed : ArePlaced statements
   one_timing : length (flat_map timings_of statements) ≤ 1
-  is : x.0 ≡ gather version statements
+  is : x.0.0 ≡ gather version statements
+  begin : AreLocated located front
+  found : x.0.1 ≡ gather_starts located
 
--- nothing stands behind
-placed_alone : {d : Database} {cut : Cut} {x : Database × Cut} (h : Joins d cut x) → ArePlaced h.statements
-placed_alone {d} {cut} {x} h = subst (λ (statements : List AnyStatement). ArePlaced statements) (append-nil h.statements)
+-- nothing follows
+placed_alone : {s : Database × Starts} {cut : Cut} {x : (Database × Starts) × Cut} (h : Joins s cut x) → ArePlaced h.statements
+placed_alone {s} {cut} {x} h = subst (λ (statements : List AnyStatement). ArePlaced statements) (append-nil h.statements)
     (h.placed [] (λ _. tt) tt)
 
-all_untimed : (version : Option (List ℕ)) (cut : Cut) (x : Database × Cut) → Joins (empty_database (version_text version)) cut x
-    → Gathered version cut x
+none_matched : (version : List ℕ) → AreMatched (empty_database version) no_starts
+none_matched version Tables = refl
+none_matched version Messages = refl
+none_matched version Comments = refl
+none_matched version Definitions = refl
+none_matched version Defaults = refl
+none_matched version Attributes = refl
+none_matched version ValueDescriptions = refl
+none_matched version FloatTypes = refl
+none_matched version Multiplexings = refl
+none_matched version KeptVerbatim = refl
+
+timed_matched : (d : Database) (timing : Option (List Decimal)) (starts : Starts) → AreMatched d starts
+    → AreMatched (record d { bit_timing = timing }) starts
+timed_matched d timing starts matched Tables = matched Tables
+timed_matched d timing starts matched Messages = matched Messages
+timed_matched d timing starts matched Comments = matched Comments
+timed_matched d timing starts matched Definitions = matched Definitions
+timed_matched d timing starts matched Defaults = matched Defaults
+timed_matched d timing starts matched Attributes = matched Attributes
+timed_matched d timing starts matched ValueDescriptions = matched ValueDescriptions
+timed_matched d timing starts matched FloatTypes = matched FloatTypes
+timed_matched d timing starts matched Multiplexings = matched Multiplexings
+timed_matched d timing starts matched KeptVerbatim = matched KeptVerbatim
+
+all_untimed : (version : Option (List ℕ)) (cut : Cut) (x : (Database × Starts) × Cut)
+    → Joins (empty_database (version_text version), no_starts) cut x → Gathered version cut x
 all_untimed version cut x h = record {
+  located = h.located;
   statements = h.statements;
-  spelt = h.spelt;
+  same = h.same;
+  front = h.front;
+  stands = h.stands;
+  spelled = h.spelled;
   placed = placed_alone h;
   one_timing = rw h.no_timings (omega arith);
   is = h.joins ∙ gather_untimed version h.statements h.no_timings;
+  begin = h.begin;
+  found = h.found;
 }
 
-all_timed : (version : Option (List ℕ)) (cut : Cut) (y : Database × Cut) (t : Option (List Decimal) × Cut) (x : Database × Cut)
-    → Joins (empty_database (version_text version)) cut y
-    → timing_at y.1 ≡ Ok t → Joins (record y.0 { bit_timing = t.0 }) t.1 x → IfSome x.0.bit_timing IsBitTiming
+located_both : (xs ys : List Located) (u v : List Token) → AreLocated xs u → AreLocated ys v → AreLocated (xs ++ ys) (u ++ v)
+located_both [] ys u v none k = rw none k
+located_both (x ∷ xs) ys u v (first, further, rest, parts, spelled, start, signals, begin) k = (
+  first,
+  further,
+  rest ++ v,
+  ap (λ (tokens : List Token). tokens ++ v) parts ∙ append_assoc (first ∷ further) rest v,
+  spelled,
+  start,
+  signals,
+  located_both xs ys rest v begin k,
+)
+
+-- where the bit timing begins
+abbrev timing_located : Option (Decimal × Decimal × Decimal) → Cut → Located
+timing_located numbers cut = record { statement = Timing numbers; start = start_at cut; signals = [] }
+
+all_timed : (version : Option (List ℕ)) (cut : Cut) (y : (Database × Starts) × Cut) (t : Option (List Decimal) × Cut)
+    (x : (Database × Starts) × Cut) → Joins (empty_database (version_text version), no_starts) cut y
+    → timing_at y.1 ≡ Ok t → Joins (record y.0.0 { bit_timing = t.0 }, y.0.1) t.1 x → IfSome x.0.0.bit_timing IsBitTiming
     → Gathered version cut x
 all_timed version cut y t x h e k proper =
     let numbers = three_numbers t.0 in
+    let here = timing_located numbers y.1 in
     let kept : timing_of (numbers ∷ []) ≡ t.0 =
     timing_kept t.0 (subst (λ (timing : Option (List Decimal)). IfSome timing IsBitTiming) (ap (λ (d : Database). d.bit_timing)
     k.joins) proper) in
+    let spelt = timing_sound.spelt y.1 t e in
+    let first = first_of spelt.front y.1 t.1 spelt.stands (timing_less y.1 t e) in
     record {
+      located = h.located ++ here ∷ k.located;
       statements = h.statements ++ Timing numbers ∷ k.statements;
-      spelt = subst (λ (parts : List Part). Spelt parts cut x.1)
+      same = map-append (λ it. it.statement) h.located (here ∷ k.located)
+          ∙ ap (λ (all : List AnyStatement). all ++ Timing numbers ∷ map (λ it. it.statement) k.located) h.same
+          ∙ ap (λ (all : List AnyStatement). h.statements ++ Timing numbers ∷ all) k.same;
+      front = h.front ++ (spelt.front ++ k.front);
+      stands = h.stands
+          ∙ ap (λ (c : Cut). h.front ▸▸ c) (spelt.stands ∙ ap (λ (c : Cut). spelt.front ▸▸ c) k.stands
+          ∙ sym (all_then_twice spelt.front k.front x.1))
+          ∙ sym (all_then_twice h.front (spelt.front ++ k.front) x.1);
+      spelled = subst (λ (parts : List Part). Spelled parts (h.front ++ (spelt.front ++ k.front)))
           (sym (flat_map-append form h.statements (Timing numbers ∷ k.statements)))
-          (spelt_both h.spelt (spelt_both (timing_sound.spelt y.1 t e) k.spelt));
+          (spelled_both (flat_map form h.statements) (flat_map form (Timing numbers ∷ k.statements)) h.front
+          (spelt.front ++ k.front) h.spelled
+          (spelled_both (form (Timing numbers)) (flat_map form k.statements) spelt.front k.front spelt.spelled k.spelled));
       placed = h.placed (Timing numbers ∷ k.statements) (λ _. tt) (tt, placed_alone k);
       one_timing = rw (flat_map-append timings_of h.statements (Timing numbers ∷ k.statements), h.no_timings, k.no_timings)
           (omega arith);
       is = k.joins ∙ ap (λ (d : Database). joined (record d { bit_timing = t.0 }) k.statements) h.joins
           ∙ gather_timed version h.statements k.statements numbers t.0 h.no_timings k.no_timings kept;
+      begin = located_both h.located (here ∷ k.located) h.front (spelt.front ++ k.front) h.begin
+          (located_more here k.located spelt.front k.front y.1 first spelt.spelled refl refl k.begin);
+      found = k.found ∙ ap (λ (starts : Starts). joined_starts starts k.located) h.found
+          ∙ joined_starts_twice no_starts h.located (here ∷ k.located);
     }
 
-all_gathered : (version : Option (List ℕ)) (cut : Cut) (y x : Database × Cut) → Joins (empty_database (version_text version)) cut y
-    → timed_into y.0 y.1 ≡ Ok x → IsDatabase x.0 → Gathered version cut x
-unfolding timed_into
+all_gathered : (version : Option (List ℕ)) (cut : Cut) (y x : (Database × Starts) × Cut)
+    → Joins (empty_database (version_text version), no_starts) cut y → timed_located_into y.0 y.1 ≡ Ok x → IsDatabase x.0.0
+    → Gathered version cut x
+unfolding timed_located_into
 all_gathered version cut y x h e proper = by_test (starts (has_word (codes "BS_")) y.1) e
   where
-    by_test : (b : Bool) → cond b ((timing_at >>= λ timing. statements_into (record y.0 { bit_timing = timing })) y.1) (Ok y) ≡ Ok x
+    by_test : (b : Bool)
+        → cond b ((timing_at >>= λ timing. all_located_into (record y.0.0 { bit_timing = timing }, y.0.1)) y.1) (Ok y) ≡ Ok x
         → Gathered version cut x
     by_test true e =
         let t = and_then_ok (timing_at y.1) _ x e in
-        all_timed version cut y t.0 x h t.1 (statements_join (record y.0 { bit_timing = t.0.0 }) t.0.1 x t.2) proper.bit_timing
-    by_test false e = all_untimed version cut x (subst (λ (z : Database × Cut). Joins (empty_database (version_text version)) cut z)
-        (ok_is y x e) h)
+        all_timed version cut y t.0 x h t.1
+        (all_join (record y.0.0 { bit_timing = t.0.0 }, y.0.1) t.0.1 x
+        (timed_matched y.0.0 t.0.0 y.0.1 h.matched) t.2) proper.bit_timing
+    by_test false e = all_untimed version cut x
+        (subst (λ (z : (Database × Starts) × Cut). Joins (empty_database (version_text version), no_starts) cut z) (ok_is y x e) h)
 
 -- ---- the end
 
@@ -240,34 +273,54 @@ ends_there (t ▸ cut) x e = absurd cc
 pub up_to : (front : List Token) (cut rest : Cut) (line : ℕ) → cut ≡ (front ▸▸ rest) → rest ≡ End line → cut ≡ (front ▸▸ End line)
 up_to front cut rest line stands end = stands ∙ ap (λ (behind : Cut). front ▸▸ behind) end
 
-same_database : (a b : Database) (c d : Cut) → value a c ≡ Ok (b, d) → a ≡ b
-same_database a b c d e = ap (λ (x : Database × Cut). x.0) (ok_is (a, c) (b, d) e)
+same_read : (a b : Database × Starts) (c d : Cut) → value a c ≡ Ok (b, d) → a ≡ b
+same_read a b c d e = ap (λ (x : (Database × Starts) × Cut). x.0) (ok_is (a, c) (b, d) e)
+
+pub located_sound : (cut : Cut) (s : Database × Starts) (rest : Cut) → located_database_at cut ≡ Ok (s, rest) → IsDatabase s.0
+    → (tokens : List Token) × (line : ℕ) × (cut ≡ (tokens ▸▸ End line)) × SpellsFrom tokens s.0 s.1
+unfolding located_database_at
+located_sound cut s rest e proper =
+    let a = and_then_ok (version_at cut) _ (s, rest) e in
+    let b = and_then_ok (all_located_into (empty_database a.0.0, no_starts) a.0.1) _ (s, rest) a.2 in
+    let c = and_then_ok (timed_located_into b.0.0 b.0.1) _ (s, rest) b.2 in
+    let f = and_then_ok (end_at c.0.1) _ (s, rest) c.2 in
+    let same : c.0.0 ≡ s = same_read c.0.0 s f.0.1 rest f.2 in
+    let version = version_spelt cut a.0 a.1 in
+    let first = subst (λ (text : List ℕ). Joins (empty_database text, no_starts) a.0.1 b.0) (sym version.is)
+    (all_join (empty_database a.0.0, no_starts) a.0.1 b.0 (none_matched a.0.0) b.1) in
+    let all = all_gathered version.version a.0.1 b.0 c.0 first c.1
+    (subst (λ (s : Database × Starts). IsDatabase s.0) (sym same) proper) in
+    let end = ends_there c.0.1 f.0 f.1 in
+    let stands = version.spelt.stands ∙ ap (λ (c : Cut). version.spelt.front ▸▸ c) all.stands
+    ∙ sym (all_then_twice version.spelt.front all.front c.0.1) in (
+      version.spelt.front ++ all.front,
+      end.0,
+      up_to (version.spelt.front ++ all.front) cut c.0.1 end.0 stands end.1,
+      record {
+        spells = record {
+          version = version.version;
+          statements = all.statements;
+          spelled = spelled_both (version_form version.version) (flat_map form all.statements) version.spelt.front all.front
+              version.spelt.spelled all.spelled;
+          placed = all.placed;
+          one_timing = all.one_timing;
+          gathered = sym (ap (λ (s : Database × Starts). s.0) same) ∙ all.is;
+          proper = proper;
+        };
+        version = version.spelt.front;
+        rest = all.front;
+        parts = refl;
+        spelled = version.spelt.spelled;
+        located = all.located;
+        statements = all.same;
+        begin = all.begin;
+        gathered = sym (ap (λ (s : Database × Starts). s.1) same) ∙ all.found;
+      },
+    )
 
 pub database_sound : (cut : Cut) (d : Database) (rest : Cut) → database_at cut ≡ Ok (d, rest) → IsDatabase d → (tokens : List Token)
     × (line : ℕ) × (cut ≡ (tokens ▸▸ End line)) × Spells tokens d
-unfolding database_at
 database_sound cut d rest e proper =
-    let a = and_then_ok (version_at cut) _ (d, rest) e in
-    let b = and_then_ok (statements_into (empty_database a.0.0) a.0.1) _ (d, rest) a.2 in
-    let c = and_then_ok (timed_into b.0.0 b.0.1) _ (d, rest) b.2 in
-    let f = and_then_ok (end_at c.0.1) _ (d, rest) c.2 in
-    let same : c.0.0 ≡ d = same_database c.0.0 d f.0.1 rest f.2 in
-    let version = version_spelt cut a.0 a.1 in
-    let first = subst (λ (text : List ℕ). Joins (empty_database text) a.0.1 b.0) (sym version.is)
-    (statements_join (empty_database a.0.0) a.0.1 b.0 b.1) in
-    let all = all_gathered version.version a.0.1 b.0 c.0 first c.1 (subst (λ (d : Database). IsDatabase d) (sym same) proper) in
-    let end = ends_there c.0.1 f.0 f.1 in
-    let spelt = spelt_both version.spelt all.spelt in (
-      spelt.front,
-      end.0,
-      up_to spelt.front cut c.0.1 end.0 spelt.stands end.1,
-      record {
-        version = version.version;
-        statements = all.statements;
-        spelled = spelt.spelled;
-        placed = all.placed;
-        one_timing = all.one_timing;
-        gathered = subst (λ (e : Database). e ≡ gather version.version all.statements) same all.is;
-        proper = proper;
-      },
-    )
+    let located = with_some_starts (located_database_at cut) (database_at cut) (d, rest) (database_drops cut) e in
+    let found = located_sound cut (d, located.0) rest located.1 proper in
+    (found.0, found.1, found.2, found.3.spells)

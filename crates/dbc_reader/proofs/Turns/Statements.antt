@@ -1,10 +1,11 @@
 -- Each statement takes tokens, and what one statement more does in the loop over them.
-use Rattle.std.proofs.Common.{◌≡◌, ℕ, ◌<◌, true, false, [], None, Result, Ok}
+use Rattle.std.proofs.Common.{◌≡◌, ℕ, ◌<◌, true, false, List, [], Option, None, Result, Ok}
 use Rattle.std.specs.Prelude.{codes, nat_lt}
 use Rattle.dbc_records.specs.Databases.{Database}
+use Rattle.dbc_values.specs.Decimals.{Decimal}
 use Rattle.dbc_tokens.specs.declared.fault.Cause.TheVariants as causes
 use Rattle.dbc_tokens.specs.declared.fault.ReadFault.{ReadFault}
-use Rattle.dbc_reader.specs.Reading.Databases.{row_into}
+use Rattle.dbc_reader.specs.Reading.Databases.{record_into}
 use Rattle.dbc_reader.specs.declared.stopped.Stopped.{Stopped}
 use Rattle.dbc_tokens.specs.Tokens.{Cut}
 use Rattle.dbc_reader.specs.Classes.{has_word}
@@ -16,14 +17,14 @@ use Rattle.dbc_reader.specs.Reading.Attributes.{object_at, limits_at, string_for
 use Rattle.dbc_reader.specs.Reading.Attributes.{value_at, default_at, attribute_at}
 use Rattle.dbc_reader.specs.Reading.Databases.{symbols_into, nodes_into, kept_at}
 use Rattle.dbc_reader.specs.Reading.Databases.{object_into, value_row_into, attribute_row_into, begins_statement, statement_into}
-use Rattle.dbc_reader.specs.Reading.Databases.{statements_into}
+use Rattle.dbc_reader.specs.Reading.Databases.{statements_into, timing_numbers_at, timing_at}
 use Rattle.dbc_reader.specs.Reading.Keywords.{keyword_at}
 use Rattle.dbc_reader.proofs.Facts.Keywords.{no_statement_begins}
 use Rattle.dbc_reader.proofs.Turns.{Shrinks, Keeps, one_shrinks, value_keeps, keeps, bind_shrinks, bind_keeps, after_shrinks}
 use Rattle.dbc_reader.proofs.Turns.{choose_shrinks, choose_by_shrinks, choose_keeps, goes_on, fails, ends}
 use Rattle.dbc_reader.proofs.Turns.Lists.{word_shrinks, mark_shrinks, name_shrinks, text_shrinks, whole_shrinks, id_shrinks}
 use Rattle.dbc_reader.proofs.Turns.Lists.{decimal_shrinks, range_shrinks, names_keep, symbols_keep, pieces_keep, entries_keep}
-use Rattle.dbc_reader.proofs.Turns.Lists.{texts_keep, ranges_keep}
+use Rattle.dbc_reader.proofs.Turns.Lists.{texts_keep, ranges_keep, number_shrinks}
 use Rattle.dbc_reader.proofs.Turns.Signals.{signals_keep}
 
 -- ---- messages
@@ -32,7 +33,7 @@ begin_shrinks : (count : ℕ) → Shrinks (begin_message_at count)
 unfolding begin_message_at
 begin_shrinks count = one_shrinks (λ t. begun (has_word (codes "BO_") t) (nat_lt count 65535) causes.MessagesFull)
 
-head_shrinks : (count : ℕ) → Shrinks (head_at count)
+pub head_shrinks : (count : ℕ) → Shrinks (head_at count)
 unfolding head_at
 head_shrinks count =
     bind_shrinks (begin_shrinks count) λ _. bind_keeps (keeps id_shrinks) λ number. bind_keeps (keeps name_shrinks) λ name.
@@ -165,7 +166,7 @@ unfolding kept_at
 kept_shrinks = after_shrinks (pieces_keep []) λ tokens. bind_shrinks (mark_shrinks 59) λ _. value_keeps _
 
 object_shrinks : (d : Database) → Shrinks (object_into d)
-unfolding object_into symbols_into nodes_into row_into
+unfolding object_into symbols_into nodes_into record_into
 object_shrinks d =
     choose_shrinks _ (bind_shrinks (word_shrinks _) λ _. bind_keeps (keeps (mark_shrinks 58)) λ _. bind_keeps (symbols_keep _)
     λ symbols. value_keeps _)
@@ -174,21 +175,21 @@ object_shrinks d =
     (bind_shrinks (message_shrinks _) λ message. value_keeps _))
 
 value_row_shrinks : (d : Database) → Shrinks (value_row_into d)
-unfolding value_row_into row_into
+unfolding value_row_into record_into
 value_row_shrinks d =
     choose_shrinks _ (bind_shrinks table_shrinks λ row. value_keeps _)
     (choose_shrinks _ (bind_shrinks values_shrinks λ row. value_keeps _)
     (choose_shrinks _ (bind_shrinks float_shrinks λ row. value_keeps _) (bind_shrinks mux_shrinks λ row. value_keeps _)))
 
 attribute_row_shrinks : (d : Database) → Shrinks (attribute_row_into d)
-unfolding attribute_row_into row_into
+unfolding attribute_row_into record_into
 attribute_row_shrinks d =
     choose_shrinks _ (bind_shrinks comment_shrinks λ row. value_keeps _)
     (choose_shrinks _ (bind_shrinks definition_shrinks λ row. value_keeps _)
     (choose_shrinks _ (bind_shrinks default_shrinks λ row. value_keeps _) (bind_shrinks attribute_shrinks λ row. value_keeps _)))
 
 pub statement_shrinks : (d : Database) → Shrinks (statement_into d)
-unfolding statement_into row_into
+unfolding statement_into record_into
 statement_shrinks d =
     choose_by_shrinks _ (bind_shrinks kept_shrinks λ row. value_keeps _) (choose_shrinks _ (object_shrinks d)
     (choose_shrinks _ (value_row_shrinks d) (attribute_row_shrinks d)))
@@ -216,3 +217,15 @@ statements_over d cut total none so_far = statements_end d cut total (no_stateme
 
 pub statements_less : (d new : Database) (cut rest : Cut) → statement_into d cut ≡ Ok (new, rest) → size rest < size cut
 statements_less d new cut rest h = (statement_shrinks d).less cut (new, rest) h
+
+-- ---- the bit timing
+
+timing_shrinks : Shrinks timing_at
+unfolding timing_at timing_numbers_at
+timing_shrinks = bind_shrinks (word_shrinks _) λ _. bind_keeps (keeps (mark_shrinks 58)) λ _. choose_keeps _
+    (bind_keeps (keeps (number_shrinks false)) λ rate. bind_keeps (keeps (mark_shrinks 58)) λ _.
+    bind_keeps (keeps (number_shrinks false)) λ first. bind_keeps (keeps (mark_shrinks 44)) λ _.
+    bind_keeps (keeps (number_shrinks false)) λ second. value_keeps _) (value_keeps _)
+
+pub timing_less : (cut : Cut) (x : Option (List Decimal) × Cut) → timing_at cut ≡ Ok x → size x.1 < size cut
+timing_less cut x e = timing_shrinks.less cut x e

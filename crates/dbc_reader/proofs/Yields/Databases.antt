@@ -12,8 +12,8 @@ use Rattle.dbc_records.specs.Comments.{IsComment}
 use Rattle.dbc_records.specs.Attributes.{IsAttrDef, IsAttrDefault, IsAttrRow}
 use Rattle.dbc_records.specs.Kept.{IsKept}
 use Rattle.dbc_records.specs.Databases.{Database, IsBitTiming, IsDatabase, timing_fits, database_fits}
-use Rattle.dbc_reader.specs.Reading.Databases.{row_into}
-use Rattle.dbc_reader.specs.Kinds.{Attributes, Comments, Defaults, Definitions, FloatRows, KeptOnes, Messages, MuxRows, Tables, ValueRows}
+use Rattle.dbc_reader.specs.Reading.Databases.{record_into}
+use Rattle.dbc_reader.specs.Kinds.{Attributes, Comments, Defaults, Definitions, FloatTypes, KeptVerbatim, Messages, Multiplexings, Tables, ValueDescriptions}
 use Rattle.dbc_reader.specs.declared.statement.Statement.{Statement}
 use Rattle.dbc_tokens.specs.Tokens.{Cut}
 use Rattle.dbc_reader.specs.Spelling.{IsStatement}
@@ -82,74 +82,74 @@ one_message_more timing messages message room fits =
     (grind (arith, room)) in
     and_from (timing_fits timing) (nat_le (length (messages ++ message ∷ [])) 65535) timed.0 count
 
-message_keeps : (d : Database) → IsDatabase d → Yields (row_into Messages d) (λ d. IsDatabase d)
-unfolding row_into
+message_keeps : (d : Database) → IsDatabase d → Yields (record_into Messages d) (λ d. IsDatabase d)
+unfolding record_into
 message_keeps d is =
     yields_then (message_proper (length d.messages)) λ message is_message.
     yields_value (of_parts _ is.version is.symbols is.bit_timing is.nodes is.tables (All-push IsMessage d.messages message
     is.messages is_message.proper) is.comments is.definitions is.defaults is.attributes is.values is.floats is.muxes is.kept
     (one_message_more d.bit_timing d.messages message is_message.room is.fits))
 
-table_keeps : (d : Database) → IsDatabase d → Yields (row_into Tables d) (λ d. IsDatabase d)
-unfolding row_into
+table_keeps : (d : Database) → IsDatabase d → Yields (record_into Tables d) (λ d. IsDatabase d)
+unfolding record_into
 table_keeps d is =
     yields_then table_proper λ row is_proper.
     yields_value (of_parts _ is.version is.symbols is.bit_timing is.nodes (All-push IsTableRow d.tables row is.tables is_proper)
     is.messages is.comments is.definitions is.defaults is.attributes is.values is.floats is.muxes is.kept is.fits)
 
-values_keep : (d : Database) → IsDatabase d → Yields (row_into ValueRows d) (λ d. IsDatabase d)
-unfolding row_into
+values_keep : (d : Database) → IsDatabase d → Yields (record_into ValueDescriptions d) (λ d. IsDatabase d)
+unfolding record_into
 values_keep d is =
     yields_then values_proper λ row is_proper.
     yields_value (of_parts _ is.version is.symbols is.bit_timing is.nodes is.tables is.messages is.comments is.definitions
     is.defaults is.attributes (All-push IsValueRow d.values row is.values is_proper) is.floats is.muxes is.kept is.fits)
 
-float_keeps : (d : Database) → IsDatabase d → Yields (row_into FloatRows d) (λ d. IsDatabase d)
-unfolding row_into
+float_keeps : (d : Database) → IsDatabase d → Yields (record_into FloatTypes d) (λ d. IsDatabase d)
+unfolding record_into
 float_keeps d is =
     yields_then float_proper λ row is_proper.
     yields_value (of_parts _ is.version is.symbols is.bit_timing is.nodes is.tables is.messages is.comments is.definitions
     is.defaults is.attributes is.values (All-push IsFloatRow d.floats row is.floats is_proper) is.muxes is.kept is.fits)
 
-mux_keeps : (d : Database) → IsDatabase d → Yields (row_into MuxRows d) (λ d. IsDatabase d)
-unfolding row_into
+mux_keeps : (d : Database) → IsDatabase d → Yields (record_into Multiplexings d) (λ d. IsDatabase d)
+unfolding record_into
 mux_keeps d is =
     yields_then mux_proper λ row is_proper.
     yields_value (of_parts _ is.version is.symbols is.bit_timing is.nodes is.tables is.messages is.comments is.definitions
     is.defaults is.attributes is.values is.floats (All-push IsMuxRow d.muxes row is.muxes is_proper) is.kept is.fits)
 
-comment_keeps : (d : Database) → IsDatabase d → Yields (row_into Comments d) (λ d. IsDatabase d)
-unfolding row_into
+comment_keeps : (d : Database) → IsDatabase d → Yields (record_into Comments d) (λ d. IsDatabase d)
+unfolding record_into
 comment_keeps d is =
     yields_then comment_proper λ comment is_proper.
     yields_value (of_parts _ is.version is.symbols is.bit_timing is.nodes is.tables is.messages
     (All-push IsComment d.comments comment is.comments is_proper) is.definitions is.defaults is.attributes is.values is.floats
     is.muxes is.kept is.fits)
 
-definition_keeps : (d : Database) → IsDatabase d → Yields (row_into Definitions d) (λ d. IsDatabase d)
-unfolding row_into
+definition_keeps : (d : Database) → IsDatabase d → Yields (record_into Definitions d) (λ d. IsDatabase d)
+unfolding record_into
 definition_keeps d is =
     yields_then definition_proper λ definition is_proper.
     yields_value (of_parts _ is.version is.symbols is.bit_timing is.nodes is.tables is.messages is.comments
     (All-push IsAttrDef d.definitions definition is.definitions is_proper) is.defaults is.attributes is.values is.floats
     is.muxes is.kept is.fits)
 
-default_keeps : (d : Database) → IsDatabase d → Yields (row_into Defaults d) (λ d. IsDatabase d)
-unfolding row_into
+default_keeps : (d : Database) → IsDatabase d → Yields (record_into Defaults d) (λ d. IsDatabase d)
+unfolding record_into
 default_keeps d is =
     yields_then default_proper λ row is_proper.
     yields_value (of_parts _ is.version is.symbols is.bit_timing is.nodes is.tables is.messages is.comments is.definitions
     (All-push IsAttrDefault d.defaults row is.defaults is_proper) is.attributes is.values is.floats is.muxes is.kept is.fits)
 
-attribute_keeps : (d : Database) → IsDatabase d → Yields (row_into Attributes d) (λ d. IsDatabase d)
-unfolding row_into
+attribute_keeps : (d : Database) → IsDatabase d → Yields (record_into Attributes d) (λ d. IsDatabase d)
+unfolding record_into
 attribute_keeps d is =
     yields_then attribute_proper λ row is_proper.
     yields_value (of_parts _ is.version is.symbols is.bit_timing is.nodes is.tables is.messages is.comments is.definitions
     is.defaults (All-push IsAttrRow d.attributes row is.attributes is_proper) is.values is.floats is.muxes is.kept is.fits)
 
-kept_keeps : (d : Database) → IsDatabase d → YieldsWhere begins_kept (row_into KeptOnes d) (λ d. IsDatabase d)
-unfolding row_into
+kept_keeps : (d : Database) → IsDatabase d → YieldsWhere begins_kept (record_into KeptVerbatim d) (λ d. IsDatabase d)
+unfolding record_into
 kept_keeps d is =
     yields_then_where kept_proper λ row is_proper.
     yields_value (of_parts _ is.version is.symbols is.bit_timing is.nodes is.tables is.messages is.comments is.definitions

@@ -13,7 +13,7 @@ use Rattle.dbc_reader.specs.declared.statement.Statement.{Statement}
 use Rattle.dbc_reader.specs.declared.statement.Statement.TheVariants as statements
 use Rattle.dbc_tokens.specs.Tokens.{Token, Cut, End, Fault, ◌▸◌}
 pub use Rattle.dbc_reader.specs.Kinds.{empty_database}
-use Rattle.dbc_reader.specs.Kinds.{Kind, RowOf, list_of, with_list, Tables, Messages, Comments, Definitions, Defaults, Attributes, ValueRows, FloatRows, MuxRows, KeptOnes}
+use Rattle.dbc_reader.specs.Kinds.{Kind, RecordOf, list_of, with_list, Tables, Messages, Comments, Definitions, Defaults, Attributes, ValueDescriptions, FloatTypes, Multiplexings, KeptVerbatim}
 use Rattle.dbc_reader.specs.Classes.{has_word, has_number, has_kept_word}
 use Rattle.dbc_reader.specs.Reading.Readers.{Reader, ◌>>=◌, value, choose, choose_by, repeated, end_at}
 use Rattle.dbc_reader.specs.Reading.Parts.{word_at, mark_at, text_at, number_at, names_from, symbols_from, pieces_from}
@@ -62,43 +62,43 @@ kept_at = do
 -- ---- a database and one statement more
 
 -- a row of each kind; a message is bounded by those that are there
-abbrev pub row_at : (kind : Kind) → Database → Reader (RowOf kind)
-row_at Tables d = table_at
-row_at Messages d = message_at (length d.messages)
-row_at Comments d = comment_at
-row_at Definitions d = definition_at
-row_at Defaults d = default_at
-row_at Attributes d = attribute_at
-row_at ValueRows d = values_at
-row_at FloatRows d = float_at
-row_at MuxRows d = mux_at
-row_at KeptOnes d = kept_at
+abbrev pub record_at : (kind : Kind) → Database → Reader (RecordOf kind)
+record_at Tables d = table_at
+record_at Messages d = message_at (length d.messages)
+record_at Comments d = comment_at
+record_at Definitions d = definition_at
+record_at Defaults d = default_at
+record_at Attributes d = attribute_at
+record_at ValueDescriptions d = values_at
+record_at FloatTypes d = float_at
+record_at Multiplexings d = mux_at
+record_at KeptVerbatim d = kept_at
 
 -- a row is put behind those of its kind
-unfoldable pub row_into : Kind → Database → Reader Database
-row_into kind d = do
-  row ← row_at kind d
+unfoldable pub record_into : Kind → Database → Reader Database
+record_into kind d = do
+  row ← record_at kind d
   value (with_list kind d (list_of kind d ++ row ∷ []))
 
 -- what stands for objects of the bus: nodes, messages and symbols
 unfoldable pub object_into : Database → Reader Database
 object_into d =
     choose (has_word (codes "NS_")) (symbols_into d)
-    (choose (has_word (codes "BU_")) (nodes_into d) (row_into Messages d))
+    (choose (has_word (codes "BU_")) (nodes_into d) (record_into Messages d))
 
 -- a row that speaks of values
 unfoldable pub value_row_into : Database → Reader Database
 value_row_into d =
-    choose (has_word (codes "VAL_TABLE_")) (row_into Tables d)
-    (choose (has_word (codes "VAL_")) (row_into ValueRows d)
-    (choose (has_word (codes "SIG_VALTYPE_")) (row_into FloatRows d) (row_into MuxRows d)))
+    choose (has_word (codes "VAL_TABLE_")) (record_into Tables d)
+    (choose (has_word (codes "VAL_")) (record_into ValueDescriptions d)
+    (choose (has_word (codes "SIG_VALTYPE_")) (record_into FloatTypes d) (record_into Multiplexings d)))
 
 -- a comment or a row of attributes
 unfoldable pub attribute_row_into : Database → Reader Database
 attribute_row_into d =
-    choose (has_word (codes "CM_")) (row_into Comments d)
-    (choose (has_word (codes "BA_DEF_")) (row_into Definitions d)
-    (choose (has_word (codes "BA_DEF_DEF_")) (row_into Defaults d) (row_into Attributes d)))
+    choose (has_word (codes "CM_")) (record_into Comments d)
+    (choose (has_word (codes "BA_DEF_")) (record_into Definitions d)
+    (choose (has_word (codes "BA_DEF_DEF_")) (record_into Defaults d) (record_into Attributes d)))
 
 abbrev pub object_words : List (List ℕ)
 object_words = codes "NS_" ∷ codes "BU_" ∷ codes "BO_" ∷ []
@@ -125,7 +125,7 @@ begins_statement t = has_object_word t || (has_value_word t || (has_attribute_wo
 -- a statement of any kind that may be repeated
 unfoldable pub statement_into : Database → Reader Database
 statement_into d =
-    choose_by begins_kept (row_into KeptOnes d)
+    choose_by begins_kept (record_into KeptVerbatim d)
     (choose has_object_word (object_into d)
     (choose has_value_word (value_row_into d) (attribute_row_into d)))
 

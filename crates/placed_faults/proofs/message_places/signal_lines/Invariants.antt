@@ -7,7 +7,7 @@ use Rattle.placed_faults.proofs.message_places.signal_lines.Given as goal
 abbrev pub invariant-signals : goal.invariant-signals
 invariant-signals l =
     map key_line l.made.items ++ key_lines (λ _. 0) (λ signal. signal.name) l.left l.further
-    ≡ signal_lines l.signals l.lines
+    ≡ signal_lines l.signals l.starts
 
 abbrev pub decreases-signals : goal.decreases-signals
 decreases-signals l = length l.left

@@ -13,5 +13,5 @@ returns g c =
     (placed_then c.args.known.now _ _ _ _ _ _ _ more c.in_ok-push_attributes.ensures.placed c.in_ok-push_attributes.ensures.seen)
     c.in_ok-push_front.ensures.placed c.in_ok-push_front.ensures.seen
     ∙ ap (λ (s : List RowKey). c.args.placed.now.items
-    ++ placed_after c.args.known.now s (all_rows c.args.database.now c.args.lines.now)) c.new-seen.ensures)
+    ++ placed_after c.args.known.now s (all_rows c.args.database.now c.args.starts.now)) c.new-seen.ensures)
     c.push_signal_rows.ensures.placed

@@ -11,5 +11,5 @@ returns-clause-placed g c =
     on_ok_weaker c.push_rows_at-2.result
     (λ more. placed_then c.args.known.now _ _ _ _ _ _ _ more c.in_ok-push_rows_at.ensures.placed c.in_ok-push_rows_at.ensures.seen
     ∙ ap (λ (d : Database). c.args.placed.now.items
-    ++ placed_after c.args.known.now c.args.seen.now (front_rows d c.args.lines.now))
+    ++ placed_after c.args.known.now c.args.seen.now (front_rows d c.args.starts.now))
     c.database.view_is) c.push_rows_at-2.ensures.placed

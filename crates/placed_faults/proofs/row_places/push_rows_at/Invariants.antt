@@ -6,9 +6,9 @@ use Rattle.placed_faults.proofs.row_places.push_rows_at.Given as goal
 abbrev pub invariant-rows : goal.invariant-rows
 invariant-rows g l = record {
   placed : l.placed.items ++ placed_after l.known l.seen (keys_at (map g.R.Row.key_of l.left) l.further)
-      ≡ l.initial.placed.items ++ placed_after l.known l.initial.seen (keys_at (map g.R.Row.key_of l.rows) l.lines);
+      ≡ l.initial.placed.items ++ placed_after l.known l.initial.seen (keys_at (map g.R.Row.key_of l.rows) l.starts);
   seen : l.seen ++ keys_in (keys_at (map g.R.Row.key_of l.left) l.further)
-      ≡ l.initial.seen ++ keys_in (keys_at (map g.R.Row.key_of l.rows) l.lines);
+      ≡ l.initial.seen ++ keys_in (keys_at (map g.R.Row.key_of l.rows) l.starts);
 }
 
 abbrev pub decreases-rows : goal.decreases-rows

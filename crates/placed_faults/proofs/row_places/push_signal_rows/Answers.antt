@@ -13,5 +13,5 @@ returns-clause-placed g c =
     (placed_then c.args.known.now _ _ _ _ _ _ _ more c.in_ok-push_rows_at-2.ensures.placed c.in_ok-push_rows_at-2.ensures.seen)
     c.in_ok-push_rows_at.ensures.placed c.in_ok-push_rows_at.ensures.seen
     ∙ ap (λ (d : Database). c.args.placed.now.items
-    ++ placed_after c.args.known.now c.args.seen.now (signal_rows d c.args.lines.now))
+    ++ placed_after c.args.known.now c.args.seen.now (signal_rows d c.args.starts.now))
     c.database.view_is) c.push_rows_at-3.ensures.placed

@@ -1,0 +1,14 @@
+use Rattle.std.proofs.Common.{◌≡◌, [], IsTrue}
+use Rattle.dbc_records.specs.Records.{signals_fit}
+use Rattle.dbc_reader.specs.Reading.Cursors.{left_at}
+use Rattle.dbc_reader.specs.Reading.Readers.{size}
+use Rattle.dbc_reader.specs.Reading.Located.{signals_with_starts}
+use Rattle.dbc_reader.proofs.located.signals.Given as goal
+
+abbrev pub invariant-signals : goal.invariant-signals
+invariant-signals l = (signals_with_starts (l.signals, l.signal_starts) (left_at l.at)
+    ≡ signals_with_starts ([], l.initial.signal_starts) (left_at l.initial.at))
+    × IsTrue (signals_fit l.signals)
+
+abbrev pub decreases-signals : goal.decreases-signals
+decreases-signals l = size (left_at l.at)
