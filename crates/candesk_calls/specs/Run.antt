@@ -9,13 +9,14 @@ use Rattle.candesk_words.specs.declared.job.Form.TheVariants as forms
 use Rattle.candesk_words.specs.declared.job.Job.{Job}
 use Rattle.candesk_words.specs.declared.job.Command.{Command}
 use Rattle.candesk_words.specs.declared.job.Command.TheVariants as commands
-use Rattle.candesk_runs.specs.Checking.{CheckingEndsWith}
-use Rattle.candesk_runs.specs.Decoding.{Runs, RunsToJson, RunsToCsv, DecodingEndsWith, JsonEndsWith, CsvEndsWith}
+use Rattle.candesk_runs.specs.Checking.{ChecksAll, verdict_status}
+use Rattle.candesk_runs.specs.Decoding.{Runs, RunsToJson, RunsToCsv}
 use Rattle.candesk_runs.specs.declared.fault.RunFault.{RunFault}
-use Rattle.candesk_runs.specs.Dumping.{DumpingEndsWith, ObjectsEndWith}
-use Rattle.candesk_runs.specs.Explaining.{ExplainingEndsWith}
-use Rattle.candesk_runs.specs.Printing.{PrintingEndsWith}
-use Rattle.candesk_calls.specs.Scripting.{SessionEndsWith}
+use Rattle.candesk_runs.specs.Dumping.{DumpsPictures, DumpsObjects}
+use Rattle.candesk_runs.specs.Explaining.{ExplainsText}
+use Rattle.candesk_runs.specs.Printing.{PrintsText}
+use Rattle.candesk_runs.specs.Statuses.{Ends, well}
+use Rattle.candesk_calls.specs.Scripting.{SessionRuns}
 
 -- what the flag of the command line chooses for short frames
 abbrev pub short_of : Bool → Short
@@ -32,21 +33,22 @@ Decoded forms.Json text short before after old new outcome = RunsToJson text sho
 Decoded forms.Csv text short before after old new outcome = RunsToCsv text short before after old new outcome
 
 -- a database was written in this form; no words ask for its rows, so there its messages are drawn
-abbrev pub DumpedSo : Form → List ℕ → Written → Written → ℕ → Type 0
-DumpedSo forms.Text text old new status = DumpingEndsWith text old new status
-DumpedSo forms.Json text old new status = ObjectsEndWith text old new status
-DumpedSo forms.Csv text old new status = DumpingEndsWith text old new status
+abbrev pub Dumped : Form → List ℕ → Written → Written → Result (Unit {0}) RunFault → Type 0
+Dumped forms.Text text old new outcome = DumpsPictures text old new outcome
+Dumped forms.Json text old new outcome = DumpsObjects text old new outcome
+Dumped forms.Csv text old new outcome = DumpsPictures text old new outcome
 
 -- the command ended so, and wrote this form; all but `decode` and `session` read nothing from the source
 abbrev pub EndsWith : Command → Form → Options → List ℕ → Unread → Unread → Written → Written → ℕ → Type 0
-EndsWith commands.Check form options text before after old new status = (after ≡ before) × CheckingEndsWith text old new status
-EndsWith commands.Decode forms.Text options text before after old new status =
-    DecodingEndsWith text options.short before after old new status
-EndsWith commands.Decode forms.Json options text before after old new status =
-    JsonEndsWith text options.short before after old new status
-EndsWith commands.Decode forms.Csv options text before after old new status =
-    CsvEndsWith text options.short before after old new status
-EndsWith commands.Dump form options text before after old new status = (after ≡ before) × DumpedSo form text old new status
-EndsWith commands.Explain form options text before after old new status = (after ≡ before) × ExplainingEndsWith text old new status
-EndsWith commands.Print form options text before after old new status = (after ≡ before) × PrintingEndsWith text old new status
-EndsWith commands.Session form options text before after old new status = SessionEndsWith text options before after old new status
+EndsWith commands.Check form options text before after old new status =
+    (after ≡ before) × Ends verdict_status (ChecksAll text old new) status
+EndsWith commands.Decode form options text before after old new status =
+    Ends well (Decoded form text options.short before after old new) status
+EndsWith commands.Dump form options text before after old new status = (after ≡ before)
+    × Ends well (Dumped form text old new) status
+EndsWith commands.Explain form options text before after old new status =
+    (after ≡ before) × Ends verdict_status (ExplainsText text old new) status
+EndsWith commands.Print form options text before after old new status = (after ≡ before)
+    × Ends well (PrintsText text old new) status
+EndsWith commands.Session form options text before after old new status =
+    Ends well (SessionRuns text options before after old new) status

@@ -9,8 +9,8 @@ mod refusing;
 mod running;
 
 pub use candesk_runs::{
-    CheckFault, DumpFault, PrintFault, RunFault, Short, StreamFault, Verdict, check_run,
-    decode_csv_run, decode_json_run, decode_run, dump_run, explain_run, print_run, status,
+    RunFault, Short, StreamFault, Verdict, check_run, decode_csv_run, decode_json_run, decode_run,
+    dump_run, explain_run, print_run, status,
 };
 pub use candesk_words::{Command, Form, Job, NoJob, job_of};
 pub use refusing::{refuse, refuse_file};

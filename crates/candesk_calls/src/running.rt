@@ -1,43 +1,27 @@
 //! A job on a file's bytes, the standard streams and an exit status.
-ghost use Rattle.std.specs.Prelude.{◌≡◌, Err};
-ghost use Rattle.candesk_calls.specs.Scripting.{session_status_of};
-ghost use Rattle.candesk_calls.specs.Run.{Decoded, DumpedSo, EndsWith, options_of};
+ghost use Rattle.std.specs.Prelude.{◌≡◌};
+ghost use Rattle.candesk_calls.specs.Scripting.{outcome_of, SessionRuns};
+ghost use Rattle.candesk_calls.specs.Run.{Decoded, Dumped, EndsWith, options_of};
 
 use can_decode::Short;
 use candesk_runs::{
-    RunFault, check, decode_csv_run, decode_ended, decode_json_run, decode_run, dump, dump_json,
-    explain, print, report, status, status_of_cause,
+    RunFault, check_run, decode_csv_run, decode_json_run, decode_run, dump_json_run, dump_run,
+    ended, ended_with_verdict, explain_run, print_run,
 };
 use candesk_words::{Command, Form, Job};
 use dbc_model::{Sink, Source};
-use line_stream::StreamFault;
 use session_script::{KeyedOptions, Options, SessionFault, keyed_run};
 use std::alloc::Global;
 use std::hash::RandomState;
 
-// The status of a fault of `session`.
-fn session_status_of(fault: SessionFault) -> u8
-    ensures { result ≡ session_status_of (Err fault) }
+// The outcome of `session` as one of any command.
+fn outcome_of(ended: Result<u64, SessionFault>) -> Result<u64, RunFault>
+    ensures { result ≡ outcome_of ended }
 {
-    match fault {
-        SessionFault::Read(fault) => status_of_cause(fault.cause),
-        SessionFault::Stream(StreamFault::Memory) => status::MEMORY,
-        SessionFault::Stream(StreamFault::LongLine | StreamFault::Read | StreamFault::Write) => {
-            status::DEVICE
-        }
-    }
-}
-
-// Says the fault of `session`, if there is one.
-fn session_ended<E: Sink>(outcome: Result<u64, SessionFault>, errors: &mut E) -> u8
-    ensures { result ≡ session_status_of outcome }
-{
-    match outcome {
-        Ok(_commands) => status::DONE,
-        Err(fault) => {
-            report(errors, fault);
-            session_status_of(fault)
-        }
+    match ended {
+        Ok(count) => Ok(count),
+        Err(SessionFault::Read(fault)) => Err(RunFault::Read(fault)),
+        Err(SessionFault::Stream(fault)) => Err(RunFault::Stream(fault)),
     }
 }
 
@@ -76,19 +60,27 @@ fn decoded<R: Source, W: Sink>(
 }
 
 // Draws the messages of a database, or writes objects of JSON.
-fn dumped<W: Sink, E: Sink>(
-    alloc: Global,
-    job: &Job,
-    text: &[u8],
-    sink: &mut W,
-    errors: &mut E,
-) -> u8
-    ensures { DumpedSo job.now.form text.now (W.written sink.old) (W.written sink.new) result }
+fn dumped<W: Sink>(alloc: Global, job: &Job, text: &[u8], sink: &mut W) -> Result<(), RunFault>
+    ensures { Dumped job.now.form text.now (W.written sink.old) (W.written sink.new) result }
 {
     match job.form {
-        Form::Json => dump_json(alloc, text, sink, errors),
-        Form::Text | Form::Csv => dump(alloc, text, sink, errors),
+        Form::Json => dump_json_run(alloc, text, sink),
+        Form::Text | Form::Csv => dump_run(alloc, text, sink),
     }
+}
+
+// Runs a script, by the options of the command line.
+fn scripted<R: Source, W: Sink>(
+    alloc: Global,
+    text: &[u8],
+    options: KeyedOptions,
+    source: &mut R,
+    sink: &mut W,
+) -> Result<u64, RunFault>
+    ensures { SessionRuns text.now options.options (R.unread source.old) (R.unread source.new) (W.written sink.old)
+        (W.written sink.new) result }
+{
+    outcome_of(keyed_run(alloc, text, options, source, sink))
 }
 
 /// Does the job on the bytes of its file: writes the output to `sink` and a fault's line to `errors`, and answers the
@@ -122,15 +114,15 @@ pub fn run_keyed<R: Source, W: Sink, E: Sink>(
         (W.written sink.old) (W.written sink.new) result }
 {
     match job.command {
-        Command::Check => check(alloc, text, sink, errors),
-        Command::Decode => decode_ended(decoded(alloc, job, text, source, sink), errors),
-        Command::Dump => dumped(alloc, job, text, sink, errors),
-        Command::Explain => explain(alloc, text, sink, errors),
-        Command::Print => print(alloc, text, sink, errors),
+        Command::Check => ended_with_verdict(check_run(alloc, text, sink), errors),
+        Command::Decode => ended(decoded(alloc, job, text, source, sink), errors),
+        Command::Dump => ended(dumped(alloc, job, text, sink), errors),
+        Command::Explain => ended_with_verdict(explain_run(alloc, text, sink), errors),
+        Command::Print => ended(print_run(alloc, text, sink), errors),
         Command::Session => {
             let options = options_of(job);
-            let outcome = keyed_run(alloc, text, KeyedOptions { options, keys }, source, sink);
-            session_ended(outcome, errors)
+            let keyed = KeyedOptions { options, keys };
+            ended(scripted(alloc, text, keyed, source, sink), errors)
         }
     }
 }

@@ -17,11 +17,8 @@ use Rattle.fault_reports.specs.Headlines.{BeginsSo}
 use Rattle.fault_reports.specs.declared.report.Report.{Report}
 use Rattle.candesk_runs.specs.declared.fault.RunFault.{RunFault}
 use Rattle.candesk_runs.specs.declared.fault.RunFault.TheVariants as run
-use Rattle.candesk_runs.specs.declared.fault.PrintFault.{PrintFault}
-use Rattle.candesk_runs.specs.declared.fault.PrintFault.TheVariants as print
+use Rattle.line_stream.specs.declared.fault.StreamFault.TheVariants as streams
 use Rattle.candesk_runs.specs.declared.checking.Verdict.{Verdict}
-use Rattle.candesk_runs.specs.declared.fault.CheckFault.{CheckFault}
-use Rattle.candesk_runs.specs.declared.fault.CheckFault.TheVariants as check
 use Rattle.candesk_runs.specs.Explaining.{ExplainsPlaced, ExplainsFault, ExplainsText}
 use Rattle.placed_faults.specs.PlacedFaults.{placed_faults}
 use Rattle.can_decode.specs.declared.short.Short.{Short}
@@ -45,20 +42,27 @@ module _ (text : List ℕ) (database : Database) (read : HasDatabase text databa
   csv_written short before after old new (Err (run.Read fault)) done = absurd done
   csv_written short before after old new (Err run.Memory) done = done
 
-  pub printed : (old new : Written) (result : Result (Unit {0}) PrintFault) → Prints database old new result
+  pub printed : (old new : Written) (result : Result (Unit {0}) RunFault) → Prints database old new result
       → PrintsText text old new result
   printed old new (Ok u) done = (database, read, done)
-  printed old new (Err (print.Read fault)) done = absurd done
-  printed old new (Err print.Write) done = (database, read, done)
+  printed old new (Err (run.Read fault)) done = absurd done
+  printed old new (Err (run.Stream streams.Write)) done = (database, read, done)
+  printed old new (Err (run.Stream streams.LongLine)) done = absurd done
+  printed old new (Err (run.Stream streams.Read)) done = absurd done
+  printed old new (Err (run.Stream streams.Memory)) done = absurd done
+  printed old new (Err run.Memory) done = absurd done
 
 -- the same of a database with where its statements begin
 pub explained : (text : List ℕ) (database : Database) (starts : Starts) → HasLocatedDatabase text database starts
-    → (old new : Written) (result : Result Verdict CheckFault) → ExplainsPlaced (placed_faults database starts) old new result
+    → (old new : Written) (result : Result Verdict RunFault) → ExplainsPlaced (placed_faults database starts) old new result
     → ExplainsText text old new result
 explained text database starts read old new (Ok verdict) done = (database, starts, read, done)
-explained text database starts read old new (Err (check.Read fault)) done = absurd done
-explained text database starts read old new (Err check.Write) done = inl (database, starts, read, done)
-explained text database starts read old new (Err check.Memory) done = done
+explained text database starts read old new (Err (run.Read fault)) done = absurd done
+explained text database starts read old new (Err (run.Stream streams.Write)) done = inl (database, starts, read, done)
+explained text database starts read old new (Err (run.Stream streams.LongLine)) done = absurd done
+explained text database starts read old new (Err (run.Stream streams.Read)) done = absurd done
+explained text database starts read old new (Err (run.Stream streams.Memory)) done = absurd done
+explained text database starts read old new (Err run.Memory) done = done
 
 -- rows behind the names of the columns
 pub behind_header : (bus : Bus) (before after : Unread) (old begun new : Written) (result : Result ℕ RunFault)
@@ -74,13 +78,16 @@ pub first_fault_of : (text : List ℕ) (fault : ReadFault) → IsRead text (Err 
 first_fault_of text fault (inl e) other = absurd (other (ap (λ (f : ReadFault). f.cause) e))
 first_fault_of text fault (inr first) other = first
 
-pub fault_explained : (text : List ℕ) (fault : ReadFault) (old new : Written) (result : Result Verdict CheckFault)
+pub fault_explained : (text : List ℕ) (fault : ReadFault) (old new : Written) (result : Result Verdict RunFault)
     → HasFirstFault grammar.text text fault → ExplainsFault fault old new result → ExplainsText text old new result
 fault_explained text fault old new (Ok verdict) first done = absurd done
-fault_explained text fault old new (Err (check.Read same)) first (is, words, begins, wrote) =
+fault_explained text fault old new (Err (run.Read same)) first (is, words, begins, wrote) =
     (subst (HasFirstFault grammar.text text) (sym is) first, (refl, words, subst (λ f. BeginsSo f words) (sym is) begins, wrote))
-fault_explained text fault old new (Err check.Write) first done = inr (fault, first, done)
-fault_explained text fault old new (Err check.Memory) first done = done
+fault_explained text fault old new (Err (run.Stream streams.Write)) first done = inr (fault, first, done)
+fault_explained text fault old new (Err (run.Stream streams.LongLine)) first done = absurd done
+fault_explained text fault old new (Err (run.Stream streams.Read)) first done = absurd done
+fault_explained text fault old new (Err (run.Stream streams.Memory)) first done = absurd done
+fault_explained text fault old new (Err run.Memory) first done = done
 
 -- ---- one first fault
 

@@ -1,4 +1,4 @@
--- What a run of `check` has written when it ends, and its status.
+-- What a run of `check` has written when it ends.
 use Rattle.std.specs.Prelude.{◌≡◌, ℕ, List, [], ◌∷◌, ◌++◌, codes, Result, Ok, Err, ◌⊎◌}
 use Rattle.std.specs.List.{flat_map}
 use Rattle.dbc_records.specs.Databases.{Database}
@@ -13,10 +13,10 @@ use Rattle.can_check.specs.declared.report.Stop.{Stop}
 use Rattle.can_check.specs.declared.report.Stop.TheVariants as stops
 use Rattle.candesk_runs.specs.declared.checking.Verdict.{Verdict}
 use Rattle.candesk_runs.specs.declared.checking.Verdict.TheVariants as verdicts
-use Rattle.candesk_runs.specs.declared.fault.CheckFault.{CheckFault}
-use Rattle.candesk_runs.specs.declared.fault.CheckFault.TheVariants as faults
-use Rattle.candesk_runs.specs.Printing.{status_of_cause}
-use Rattle.candesk_runs.specs.Statuses.{done, doubtful, device, memory}
+use Rattle.candesk_runs.specs.declared.fault.RunFault.{RunFault}
+use Rattle.candesk_runs.specs.declared.fault.RunFault.TheVariants as faults
+use Rattle.line_stream.specs.declared.fault.StreamFault.TheVariants as streams
+use Rattle.candesk_runs.specs.Statuses.{done, doubtful}
 
 -- a line for each
 abbrev pub found_text : List Diagnostic → List ℕ
@@ -34,36 +34,30 @@ verdict_then verdicts.Doubtful later = verdicts.Doubtful
 
 -- The lines of all were written, or a beginning of them and then a put failed. Or the lines of some first ones were written, and
 -- then memory ran out. It ends so after the database was read.
-abbrev pub Says : List Diagnostic → Written → Written → Result Verdict CheckFault → Type 0
+abbrev pub Says : List Diagnostic → Written → Written → Result Verdict RunFault → Type 0
 Says found old new (Ok verdict) = Wrote old new (found_text found) × (verdict ≡ verdict_of found)
 Says found old new (Err (faults.Read fault)) = ⊥
-Says found old new (Err faults.Write) = Broke old new (found_text found)
+Says found old new (Err (faults.Stream streams.Write)) = Broke old new (found_text found)
+Says found old new (Err (faults.Stream fault)) = ⊥
 Says found old new (Err faults.Memory) = (first later : List Diagnostic) × (found ≡ first ++ later)
     × Wrote old new (found_text first)
 
 -- The text has a database, and what is doubtful in it was so said. Or nothing was written, and the fault is the first of the text,
 -- or says that memory ran out.
-abbrev pub ChecksAll : List ℕ → Written → Written → Result Verdict CheckFault → Type 0
+abbrev pub ChecksAll : List ℕ → Written → Written → Result Verdict RunFault → Type 0
 ChecksAll text old new (Ok verdict) = (database : Database) × HasDatabase text database
     × Says (all_faults database) old new (Ok verdict)
 ChecksAll text old new (Err (faults.Read fault)) = (new ≡ old) × IsRead text (Err fault)
-ChecksAll text old new (Err faults.Write) = (database : Database) × HasDatabase text database
-    × Says (all_faults database) old new (Err faults.Write)
+ChecksAll text old new (Err (faults.Stream streams.Write)) = (database : Database) × HasDatabase text database
+    × Says (all_faults database) old new (Err (faults.Stream streams.Write))
+ChecksAll text old new (Err (faults.Stream fault)) = ⊥
 ChecksAll text old new (Err faults.Memory) = (database : Database) × HasDatabase text database
     × Says (all_faults database) old new (Err faults.Memory)
 
--- the exit status of an outcome of `check` or of `explain`
-abbrev pub check_status_of : Result Verdict CheckFault → ℕ
-check_status_of (Ok verdicts.Clean) = done
-check_status_of (Ok verdicts.Doubtful) = doubtful
-check_status_of (Err (faults.Read fault)) = status_of_cause fault.cause
-check_status_of (Err faults.Write) = device
-check_status_of (Err faults.Memory) = memory
-
--- the status is that of an outcome with which the lines were so written
-abbrev pub CheckingEndsWith : List ℕ → Written → Written → ℕ → Type 0
-CheckingEndsWith text old new status = (outcome : Result Verdict CheckFault) × ChecksAll text old new outcome
-    × (status ≡ check_status_of outcome)
+-- the exit status of a verdict
+abbrev pub verdict_status : Verdict → ℕ
+verdict_status verdicts.Clean = done
+verdict_status verdicts.Doubtful = doubtful
 
 -- ---- lines that wait before a sink
 
@@ -79,5 +73,6 @@ StoppedLines written old new stops.Memory found = (first later : List Diagnostic
     × Took written old new (found_text first)
 
 -- What waited was written, and it ends with the outcome. Or a put failed, and a beginning of it was written.
-abbrev pub Flushes : Written → Written → List ℕ → Result Verdict CheckFault → Result Verdict CheckFault → Type 0
-Flushes old new held outcome result = (Wrote old new held × (result ≡ outcome)) ⊎ (Broke old new held × (result ≡ Err faults.Write))
+abbrev pub Flushes : Written → Written → List ℕ → Result Verdict RunFault → Result Verdict RunFault → Type 0
+Flushes old new held outcome result = (Wrote old new held × (result ≡ outcome)) ⊎ (Broke old new held × (result
+    ≡ Err (faults.Stream streams.Write)))

@@ -1,4 +1,4 @@
--- What a run of `decode` has read and written when it ends, and its status.
+-- What a run of `decode` has read and written when it ends.
 use Rattle.std.specs.Prelude.{◌≡◌, ◌⊎◌, ℕ, List, Result, Ok, Err}
 use Rattle.byte_devices.specs.Device.{Unread, Written, Wrote, Broke}
 use Rattle.csv.specs.Writing.{row_text, default_writer}
@@ -14,8 +14,6 @@ use Rattle.json_lines.specs.Lines.{json_line}
 use Rattle.csv_lines.specs.Rows.{csv_line, header}
 use Rattle.candesk_runs.specs.declared.fault.RunFault.{RunFault}
 use Rattle.candesk_runs.specs.declared.fault.RunFault.TheVariants as faults
-use Rattle.candesk_runs.specs.Printing.{status_of_cause}
-use Rattle.candesk_runs.specs.Statuses.{done, device, memory}
 
 -- nothing was read and nothing was written
 pub record IsUntouched (before after : Unread) (old new : Written) : Type 0 where
@@ -96,30 +94,3 @@ RunsToCsv text short before after old new (Err (faults.Stream fault)) = (databas
 RunsToCsv text short before after old new (Err (faults.Read fault)) = IsUntouched before after old new
     × HasFirstFault grammar.text text fault
 RunsToCsv text short before after old new (Err faults.Memory) = IsUntouched before after old new
-
--- ---- statuses
-
--- the exit status of an outcome
-abbrev pub status_of : Result ℕ RunFault → ℕ
-status_of (Ok count) = done
-status_of (Err (faults.Read fault)) = status_of_cause fault.cause
-status_of (Err faults.Memory) = memory
-status_of (Err (faults.Stream streams.LongLine)) = device
-status_of (Err (faults.Stream streams.Read)) = device
-status_of (Err (faults.Stream streams.Write)) = device
-status_of (Err (faults.Stream streams.Memory)) = memory
-
--- the status is that of an outcome with which the log was so decoded
-abbrev pub DecodingEndsWith : List ℕ → Short → Unread → Unread → Written → Written → ℕ → Type 0
-DecodingEndsWith text short before after old new status =
-    (outcome : Result ℕ RunFault) × Runs text short before after old new outcome × (status ≡ status_of outcome)
-
--- the same of objects of JSON
-abbrev pub JsonEndsWith : List ℕ → Short → Unread → Unread → Written → Written → ℕ → Type 0
-JsonEndsWith text short before after old new status =
-    (outcome : Result ℕ RunFault) × RunsToJson text short before after old new outcome × (status ≡ status_of outcome)
-
--- and of rows of CSV
-abbrev pub CsvEndsWith : List ℕ → Short → Unread → Unread → Written → Written → ℕ → Type 0
-CsvEndsWith text short before after old new status =
-    (outcome : Result ℕ RunFault) × RunsToCsv text short before after old new outcome × (status ≡ status_of outcome)

@@ -1,4 +1,4 @@
--- What a run of `dump` has written when it ends, and its status.
+-- What a run of `dump` has written when it ends.
 use Rattle.std.specs.Prelude.{◌≡◌, ℕ, List, take, Result, Ok, Err}
 use Rattle.std.specs.List.{flat_map}
 use Rattle.dbc_records.specs.Records.{Message}
@@ -7,10 +7,9 @@ use Rattle.byte_devices.specs.Device.{Written, Wrote, Broke}
 use Rattle.dbc_reader.specs.Texts.{HasDatabase, IsRead}
 use Rattle.can_layout.specs.Pictures.{picture_of}
 use Rattle.json_dump.specs.Dumps.{dump_lines}
-use Rattle.candesk_runs.specs.declared.fault.DumpFault.{DumpFault}
-use Rattle.candesk_runs.specs.declared.fault.DumpFault.TheVariants as faults
-use Rattle.candesk_runs.specs.Printing.{status_of_cause}
-use Rattle.candesk_runs.specs.Statuses.{done, device, memory}
+use Rattle.candesk_runs.specs.declared.fault.RunFault.{RunFault}
+use Rattle.candesk_runs.specs.declared.fault.RunFault.TheVariants as faults
+use Rattle.line_stream.specs.declared.fault.StreamFault.TheVariants as streams
 
 -- the pictures of messages, one after another
 abbrev pub pictures_text : Database → List Message → List ℕ
@@ -18,20 +17,22 @@ pictures_text database messages = flat_map (picture_of database) messages
 
 -- All pictures were written, or a beginning of them and then a put failed. Or those of some first messages were, each
 -- whole, and then memory ran out. It ends so after the database was read.
-abbrev pub Draws : Database → List Message → Written → Written → Result (Unit {0}) DumpFault → Type 0
+abbrev pub Draws : Database → List Message → Written → Written → Result (Unit {0}) RunFault → Type 0
 Draws database messages old new (Ok u) = Wrote old new (pictures_text database messages)
 Draws database messages old new (Err (faults.Read fault)) = ⊥
-Draws database messages old new (Err faults.Write) = Broke old new (pictures_text database messages)
+Draws database messages old new (Err (faults.Stream streams.Write)) = Broke old new (pictures_text database messages)
+Draws database messages old new (Err (faults.Stream fault)) = ⊥
 Draws database messages old new (Err faults.Memory) = (count : ℕ) × Wrote old new (pictures_text database (take count messages))
 
 -- The text has a database whose pictures were so written. Or nothing was written, and the fault is the first of the text, or says
 -- that memory ran out.
-abbrev pub DumpsPictures : List ℕ → Written → Written → Result (Unit {0}) DumpFault → Type 0
+abbrev pub DumpsPictures : List ℕ → Written → Written → Result (Unit {0}) RunFault → Type 0
 DumpsPictures text old new (Ok u) = (database : Database) × HasDatabase text database × Draws database database.messages old new
     (Ok u)
 DumpsPictures text old new (Err (faults.Read fault)) = (new ≡ old) × IsRead text (Err fault)
-DumpsPictures text old new (Err faults.Write) = (database : Database) × HasDatabase text database
-    × Draws database database.messages old new (Err faults.Write)
+DumpsPictures text old new (Err (faults.Stream streams.Write)) = (database : Database) × HasDatabase text database
+    × Draws database database.messages old new (Err (faults.Stream streams.Write))
+DumpsPictures text old new (Err (faults.Stream fault)) = ⊥
 DumpsPictures text old new (Err faults.Memory) = (database : Database) × HasDatabase text database
     × Draws database database.messages old new (Err faults.Memory)
 
@@ -42,38 +43,21 @@ lines_text lines = flat_map (λ line. line) lines
 
 -- All lines were written, or a beginning of them and then a put failed. Or some first ones were, each whole, and then memory ran
 -- out.
-abbrev pub WritesLines : List (List ℕ) → Written → Written → Result (Unit {0}) DumpFault → Type 0
+abbrev pub WritesLines : List (List ℕ) → Written → Written → Result (Unit {0}) RunFault → Type 0
 WritesLines lines old new (Ok u) = Wrote old new (lines_text lines)
 WritesLines lines old new (Err (faults.Read fault)) = ⊥
-WritesLines lines old new (Err faults.Write) = Broke old new (lines_text lines)
+WritesLines lines old new (Err (faults.Stream streams.Write)) = Broke old new (lines_text lines)
+WritesLines lines old new (Err (faults.Stream fault)) = ⊥
 WritesLines lines old new (Err faults.Memory) = (count : ℕ) × Wrote old new (lines_text (take count lines))
 
 -- The text has a database whose objects were so written. Or nothing was written, and the fault is the first of the text, or says
 -- that memory ran out.
-abbrev pub DumpsObjects : List ℕ → Written → Written → Result (Unit {0}) DumpFault → Type 0
+abbrev pub DumpsObjects : List ℕ → Written → Written → Result (Unit {0}) RunFault → Type 0
 DumpsObjects text old new (Ok u) = (database : Database) × HasDatabase text database
     × WritesLines (dump_lines database) old new (Ok u)
 DumpsObjects text old new (Err (faults.Read fault)) = (new ≡ old) × IsRead text (Err fault)
-DumpsObjects text old new (Err faults.Write) = (database : Database) × HasDatabase text database
-    × WritesLines (dump_lines database) old new (Err faults.Write)
+DumpsObjects text old new (Err (faults.Stream streams.Write)) = (database : Database) × HasDatabase text database
+    × WritesLines (dump_lines database) old new (Err (faults.Stream streams.Write))
+DumpsObjects text old new (Err (faults.Stream fault)) = ⊥
 DumpsObjects text old new (Err faults.Memory) = (database : Database) × HasDatabase text database
     × WritesLines (dump_lines database) old new (Err faults.Memory)
-
--- ---- statuses
-
--- the exit status of an outcome
-abbrev pub dump_status_of : Result (Unit {0}) DumpFault → ℕ
-dump_status_of (Ok u) = done
-dump_status_of (Err (faults.Read fault)) = status_of_cause fault.cause
-dump_status_of (Err faults.Write) = device
-dump_status_of (Err faults.Memory) = memory
-
--- the status is that of an outcome with which the pictures were so written
-abbrev pub DumpingEndsWith : List ℕ → Written → Written → ℕ → Type 0
-DumpingEndsWith text old new status = (outcome : Result (Unit {0}) DumpFault) × DumpsPictures text old new outcome
-    × (status ≡ dump_status_of outcome)
-
--- and with which the objects were
-abbrev pub ObjectsEndWith : List ℕ → Written → Written → ℕ → Type 0
-ObjectsEndWith text old new status = (outcome : Result (Unit {0}) DumpFault) × DumpsObjects text old new outcome
-    × (status ≡ dump_status_of outcome)

@@ -1,4 +1,4 @@
--- What a run of `explain` has written when it ends, and its status.
+-- What a run of `explain` has written when it ends.
 use Rattle.std.specs.Prelude.{◌≡◌, ℕ, List, Result, Ok, Err, ◌⊎◌}
 use Rattle.std.specs.List.{flat_map}
 use Rattle.dbc_records.specs.Databases.{Database}
@@ -13,47 +13,49 @@ use Rattle.can_remedies.specs.Remedies.{explained_text}
 use Rattle.fault_reports.specs.Headlines.{BeginsSo}
 use Rattle.placed_faults.specs.PlacedFaults.{placed_faults}
 use Rattle.candesk_runs.specs.declared.checking.Verdict.{Verdict}
-use Rattle.candesk_runs.specs.declared.fault.CheckFault.{CheckFault}
-use Rattle.candesk_runs.specs.declared.fault.CheckFault.TheVariants as faults
-use Rattle.candesk_runs.specs.Checking.{verdict_of, check_status_of}
+use Rattle.candesk_runs.specs.declared.fault.RunFault.{RunFault}
+use Rattle.candesk_runs.specs.declared.fault.RunFault.TheVariants as faults
+use Rattle.line_stream.specs.declared.fault.StreamFault.TheVariants as streams
+use Rattle.candesk_runs.specs.Checking.{verdict_of}
 
 -- The lines of all with their remedies were written, or a beginning of them and then a put failed.
-abbrev pub ExplainsAll : List Placed → Written → Written → Result Verdict CheckFault → Type 0
+abbrev pub ExplainsAll : List Placed → Written → Written → Result Verdict RunFault → Type 0
 ExplainsAll found old new (Ok verdict) = Wrote old new (flat_map explained_text found) × (verdict ≡ verdict_of found)
 ExplainsAll found old new (Err (faults.Read fault)) = ⊥
-ExplainsAll found old new (Err faults.Write) = Broke old new (flat_map explained_text found)
+ExplainsAll found old new (Err (faults.Stream streams.Write)) = Broke old new (flat_map explained_text found)
+ExplainsAll found old new (Err (faults.Stream fault)) = ⊥
 ExplainsAll found old new (Err faults.Memory) = ⊥
 
 -- So it ended, or nothing was written, and memory ran out.
-abbrev pub ExplainsPlaced : List Placed → Written → Written → Result Verdict CheckFault → Type 0
+abbrev pub ExplainsPlaced : List Placed → Written → Written → Result Verdict RunFault → Type 0
 ExplainsPlaced found old new (Ok verdict) = ExplainsAll found old new (Ok verdict)
 ExplainsPlaced found old new (Err (faults.Read fault)) = ⊥
-ExplainsPlaced found old new (Err faults.Write) = ExplainsAll found old new (Err faults.Write)
+ExplainsPlaced found old new (Err (faults.Stream streams.Write)) = ExplainsAll found old new (Err (faults.Stream streams.Write))
+ExplainsPlaced found old new (Err (faults.Stream fault)) = ⊥
 ExplainsPlaced found old new (Err faults.Memory) = new ≡ old
 
 -- Words on a text with this first fault were written, which begin with its line and its cause, or a beginning of such words, and
 -- then a put failed. Or nothing was written, and memory ran out.
-abbrev pub ExplainsFault : ReadFault → Written → Written → Result Verdict CheckFault → Type 0
+abbrev pub ExplainsFault : ReadFault → Written → Written → Result Verdict RunFault → Type 0
 ExplainsFault first old new (Ok verdict) = ⊥
 ExplainsFault first old new (Err (faults.Read fault)) = (fault ≡ first) × (words : List ℕ) × BeginsSo first words
     × Wrote old new words
-ExplainsFault first old new (Err faults.Write) = (words : List ℕ) × BeginsSo first words × Broke old new words
+ExplainsFault first old new (Err (faults.Stream streams.Write)) = (words : List ℕ) × BeginsSo first words × Broke old new words
+ExplainsFault first old new (Err (faults.Stream fault)) = ⊥
 ExplainsFault first old new (Err faults.Memory) = new ≡ old
 
--- The text has a database, of which the statements begin there, and its diagnostics were so explained; or it has this first fault, and
+-- The text has a database, of which the statements begin there, and its diagnostics were so explained; or it has this first fault,
+-- and
 -- words on it were written.
-abbrev pub ExplainsText : List ℕ → Written → Written → Result Verdict CheckFault → Type 0
+abbrev pub ExplainsText : List ℕ → Written → Written → Result Verdict RunFault → Type 0
 ExplainsText text old new (Ok verdict) = (database : Database) × (starts : Starts) × HasLocatedDatabase text database starts
     × ExplainsPlaced (placed_faults database starts) old new (Ok verdict)
 ExplainsText text old new (Err (faults.Read fault)) = HasFirstFault grammar.text text fault
     × ExplainsFault fault old new (Err (faults.Read fault))
-ExplainsText text old new (Err faults.Write) =
+ExplainsText text old new (Err (faults.Stream streams.Write)) =
     ((database : Database) × (starts : Starts) × HasLocatedDatabase text database starts
-    × ExplainsPlaced (placed_faults database starts) old new (Err faults.Write))
-    ⊎ ((fault : ReadFault) × HasFirstFault grammar.text text fault × ExplainsFault fault old new (Err faults.Write))
+    × ExplainsPlaced (placed_faults database starts) old new (Err (faults.Stream streams.Write)))
+    ⊎ ((fault : ReadFault) × HasFirstFault grammar.text text fault × ExplainsFault fault old new (Err (faults.Stream
+        streams.Write)))
+ExplainsText text old new (Err (faults.Stream fault)) = ⊥
 ExplainsText text old new (Err faults.Memory) = new ≡ old
-
--- the status is that of an outcome with which the text was so explained
-abbrev pub ExplainingEndsWith : List ℕ → Written → Written → ℕ → Type 0
-ExplainingEndsWith text old new status = (outcome : Result Verdict CheckFault) × ExplainsText text old new outcome
-    × (status ≡ check_status_of outcome)

@@ -1,5 +1,10 @@
 -- The exit statuses.
-use Rattle.std.specs.Prelude.{ℕ}
+use Rattle.std.specs.Prelude.{◌≡◌, ℕ, Result, Ok, Err}
+use Rattle.dbc_tokens.specs.declared.fault.Cause.{Cause}
+use Rattle.dbc_tokens.specs.declared.fault.Cause.TheVariants as causes
+use Rattle.line_stream.specs.declared.fault.StreamFault.TheVariants as streams
+use Rattle.candesk_runs.specs.declared.fault.RunFault.{RunFault}
+use Rattle.candesk_runs.specs.declared.fault.RunFault.TheVariants as faults
 
 -- all went well, or help or the version was asked for
 abbrev pub done : ℕ
@@ -24,3 +29,35 @@ device = 3
 -- an allocation was refused
 abbrev pub memory : ℕ
 memory = 4
+
+-- the exit status of a text that is not read
+abbrev pub status_of_cause : Cause → ℕ
+status_of_cause causes.Memory = memory
+status_of_cause causes.Token = refused
+status_of_cause causes.Statement = refused
+status_of_cause causes.RepeatedSignal = refused
+status_of_cause causes.MessagesFull = refused
+status_of_cause causes.SignalsFull = refused
+status_of_cause causes.Limit = refused
+
+-- the exit status of a fault
+abbrev pub status_of_fault : RunFault → ℕ
+status_of_fault (faults.Read fault) = status_of_cause fault.cause
+status_of_fault faults.Memory = memory
+status_of_fault (faults.Stream streams.LongLine) = device
+status_of_fault (faults.Stream streams.Read) = device
+status_of_fault (faults.Stream streams.Write) = device
+status_of_fault (faults.Stream streams.Memory) = memory
+
+-- the exit status of an outcome, by that of what it gives
+abbrev pub status_of : {A : Type 0} → (A → ℕ) → Result A RunFault → ℕ
+status_of of_value (Ok x) = of_value x
+status_of of_value (Err fault) = status_of_fault fault
+
+-- whatever it gives
+abbrev pub well : {A : Type 0} → A → ℕ
+well x = done
+
+-- the status is that of an outcome of which this holds
+abbrev pub Ends : {A : Type 0} → (A → ℕ) → (Result A RunFault → Type 0) → ℕ → Type 0
+Ends {A} of_value Holds status = (outcome : Result A RunFault) × Holds outcome × (status ≡ status_of of_value outcome)

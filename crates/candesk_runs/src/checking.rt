@@ -4,12 +4,13 @@ ghost use Rattle.can_check.specs.AllFaults.{all_faults};
 ghost use Rattle.candesk_runs.specs.Checking.{verdict_of, verdict_then, Flushes, Says, ChecksAll};
 ghost use Rattle.byte_devices.specs.Outs.{SameSink};
 
-use crate::fault::CheckFault;
+use crate::fault::RunFault;
 use byte_devices::Out;
 use can_check::{Diagnostic, Report, Stop, hold_lines, report_all};
 use dbc_model::{Sink, WriteFault};
 use dbc_reader::read;
 use dbc_records::Database;
+use line_stream::StreamFault;
 use std::alloc::Global;
 
 /// What is said of a database as a whole.
@@ -93,19 +94,19 @@ impl<'w, W: Sink> Lines<'w, W> {
 // Puts what waits, after which it ends so, unless the put fails.
 fn flushed<W: Sink>(
     out: &mut Out<'_, W>,
-    outcome: Result<Verdict, CheckFault>,
-) -> Result<Verdict, CheckFault>
+    outcome: Result<Verdict, RunFault>,
+) -> Result<Verdict, RunFault>
     ensures ends { Flushes (W.written out.old.sink.now) (W.written out.new.sink.now) out.old.held.items outcome result }
     ensures same { SameSink out.old out.new }
 {
     match out.flush() {
         Ok(()) => outcome,
-        Err(WriteFault) => Err(CheckFault::Write),
+        Err(WriteFault) => Err(RunFault::Stream(StreamFault::Write)),
     }
 }
 
 // Looks at all of the database, and writes the lines as they are found.
-fn say_all<W: Sink>(alloc: Global, database: &Database, sink: &mut W) -> Result<Verdict, CheckFault>
+fn say_all<W: Sink>(alloc: Global, database: &Database, sink: &mut W) -> Result<Verdict, RunFault>
     ensures { Says (all_faults database.now) (W.written sink.old) (W.written sink.new) result }
 {
     let mut lines = Lines::before(Out::new(sink));
@@ -113,19 +114,19 @@ fn say_all<W: Sink>(alloc: Global, database: &Database, sink: &mut W) -> Result<
     let verdict = lines.verdict;
     match outcome {
         Ok(()) => flushed(&mut lines.out, Ok(verdict)),
-        Err(Stop::Memory) => flushed(&mut lines.out, Err(CheckFault::Memory)),
-        Err(Stop::Write) => Err(CheckFault::Write),
+        Err(Stop::Memory) => flushed(&mut lines.out, Err(RunFault::Memory)),
+        Err(Stop::Write) => Err(RunFault::Stream(StreamFault::Write)),
     }
 }
 
 /// Reads the database text to its end, looks at all of the database, and writes a line for each thing that is doubtful in it, in
 /// the order of messages and then of rows, each as soon as it is found.
 #[inline(never)]
-pub fn check_run<W: Sink>(alloc: Global, text: &[u8], sink: &mut W) -> Result<Verdict, CheckFault>
+pub fn check_run<W: Sink>(alloc: Global, text: &[u8], sink: &mut W) -> Result<Verdict, RunFault>
     ensures { ChecksAll text.now (W.written sink.old) (W.written sink.new) result }
 {
     match read(alloc, text) {
         Ok(database) => say_all(alloc, &database, sink),
-        Err(fault) => Err(CheckFault::Read(fault)),
+        Err(fault) => Err(RunFault::Read(fault)),
     }
 }

@@ -5,23 +5,24 @@ ghost use Rattle.placed_faults.specs.PlacedFaults.{placed_faults};
 ghost use Rattle.candesk_runs.specs.Explaining.{ExplainsAll, ExplainsPlaced, ExplainsFault, ExplainsText};
 
 use crate::checking::{Verdict, verdict_of};
-use crate::fault::CheckFault;
+use crate::fault::RunFault;
 use can_remedies::{Placed, write_explained};
 use dbc_model::{Memory, Sink, WriteFault, put_all};
 use dbc_reader::{Starts, read_with_starts};
 use dbc_records::Database;
 use dbc_tokens::{Cause, ReadFault};
 use fault_reports::fault_report;
+use line_stream::StreamFault;
 use placed_faults::placed_faults;
 use std::alloc::Global;
 
 // Writes diagnostics behind their lines, with their remedies.
-fn explain_all<W: Sink>(found: &[Placed], sink: &mut W) -> Result<Verdict, CheckFault>
+fn explain_all<W: Sink>(found: &[Placed], sink: &mut W) -> Result<Verdict, RunFault>
     ensures { ExplainsAll found.now (W.written sink.old) (W.written sink.new) result }
 {
     match write_explained(found, sink) {
         Ok(()) => Ok(verdict_of(found)),
-        Err(WriteFault) => Err(CheckFault::Write),
+        Err(WriteFault) => Err(RunFault::Stream(StreamFault::Write)),
     }
 }
 
@@ -31,12 +32,12 @@ fn explain_database<W: Sink>(
     database: &Database,
     starts: &Starts,
     sink: &mut W,
-) -> Result<Verdict, CheckFault>
+) -> Result<Verdict, RunFault>
     ensures { ExplainsPlaced (placed_faults database.now starts.now) (W.written sink.old) (W.written sink.new) result }
 {
     match placed_faults(alloc, database, starts) {
         Ok(found) => explain_all(found.as_slice(), sink),
-        Err(Memory) => Err(CheckFault::Memory),
+        Err(Memory) => Err(RunFault::Memory),
     }
 }
 
@@ -46,17 +47,17 @@ fn explain_fault<W: Sink>(
     text: &[u8],
     fault: ReadFault,
     sink: &mut W,
-) -> Result<Verdict, CheckFault>
+) -> Result<Verdict, RunFault>
     requires { HasFirstFault grammar.text text.now fault }
     ensures { ExplainsFault fault (W.written sink.old) (W.written sink.new) result }
 {
     match fault_report(alloc, text) {
         Ok(Some(report)) => match put_all(sink, report.words.as_slice()) {
-            Ok(()) => Err(CheckFault::Read(fault)),
-            Err(WriteFault) => Err(CheckFault::Write),
+            Ok(()) => Err(RunFault::Read(fault)),
+            Err(WriteFault) => Err(RunFault::Stream(StreamFault::Write)),
         },
         Ok(None) => unreachable!(),
-        Err(Memory) => Err(CheckFault::Memory),
+        Err(Memory) => Err(RunFault::Memory),
     }
 }
 
@@ -64,12 +65,12 @@ fn explain_fault<W: Sink>(
 /// that isn't refused it writes what is doubtful in the database, as `check` does, each behind the lines of the text in which what
 /// it speaks of begins, and with its remedy.
 #[inline(never)]
-pub fn explain_run<W: Sink>(alloc: Global, text: &[u8], sink: &mut W) -> Result<Verdict, CheckFault>
+pub fn explain_run<W: Sink>(alloc: Global, text: &[u8], sink: &mut W) -> Result<Verdict, RunFault>
     ensures { ExplainsText text.now (W.written sink.old) (W.written sink.new) result }
 {
     match read_with_starts(alloc, text) {
         Ok((database, starts)) => explain_database(alloc, &database, &starts, sink),
-        Err(fault) if fault.cause == Cause::Memory => Err(CheckFault::Memory),
+        Err(fault) if fault.cause == Cause::Memory => Err(RunFault::Memory),
         Err(fault) => explain_fault(alloc, text, fault, sink),
     }
 }

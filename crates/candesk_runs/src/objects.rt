@@ -2,12 +2,13 @@
 ghost use Rattle.json_dump.specs.Dumps.{dump_lines};
 ghost use Rattle.candesk_runs.specs.Dumping.{WritesLines, DumpsObjects};
 
-use crate::fault::DumpFault;
+use crate::fault::RunFault;
 use can_layout::{Indexed, Lookup};
 use dbc_model::{Sink, WriteFault, put_all};
 use dbc_reader::read;
 use dbc_records::Database;
 use json_dump::Dump;
+use line_stream::StreamFault;
 use std::alloc::Global;
 
 // Writes each line as soon as it is made.
@@ -15,40 +16,36 @@ fn write_lines<L: Lookup, W: Sink>(
     alloc: Global,
     dump: &Dump<'_, L>,
     sink: &mut W,
-) -> Result<(), DumpFault>
+) -> Result<(), RunFault>
     ensures { WritesLines (dump_lines dump.now) (W.written sink.old) (W.written sink.new) result }
 {
     for place in 0..dump.len() {
         let Ok(line) = dump.line(alloc, place) else {
-            return Err(DumpFault::Memory);
+            return Err(RunFault::Memory);
         };
         if let Err(WriteFault) = put_all(sink, line.as_slice()) {
-            return Err(DumpFault::Write);
+            return Err(RunFault::Stream(StreamFault::Write));
         }
     }
     Ok(())
 }
 
 // Writes the lines, by what finds the rows of the database.
-fn write_dump<L: Lookup, W: Sink>(alloc: Global, lookup: &L, sink: &mut W) -> Result<(), DumpFault>
+fn write_dump<L: Lookup, W: Sink>(alloc: Global, lookup: &L, sink: &mut W) -> Result<(), RunFault>
     ensures { WritesLines (dump_lines (L.whole lookup.now)) (W.written sink.old) (W.written sink.new) result }
 {
     let Ok(dump) = Dump::of(alloc, lookup) else {
-        return Err(DumpFault::Memory);
+        return Err(RunFault::Memory);
     };
     write_lines(alloc, &dump, sink)
 }
 
 // The same, by an index of the rows.
-fn write_database<W: Sink>(
-    alloc: Global,
-    database: &Database,
-    sink: &mut W,
-) -> Result<(), DumpFault>
+fn write_database<W: Sink>(alloc: Global, database: &Database, sink: &mut W) -> Result<(), RunFault>
     ensures { WritesLines (dump_lines database.now) (W.written sink.old) (W.written sink.new) result }
 {
     let Ok(indexed) = Indexed::of(alloc, database) else {
-        return Err(DumpFault::Memory);
+        return Err(RunFault::Memory);
     };
     write_dump(alloc, &indexed, sink)
 }
@@ -56,11 +53,11 @@ fn write_database<W: Sink>(
 /// Reads the database text to its end, and then writes the objects of its messages in order, each as soon as it is made, and last
 /// the object of all that belongs to no message.
 #[inline(never)]
-pub fn dump_json_run<W: Sink>(alloc: Global, text: &[u8], sink: &mut W) -> Result<(), DumpFault>
+pub fn dump_json_run<W: Sink>(alloc: Global, text: &[u8], sink: &mut W) -> Result<(), RunFault>
     ensures { DumpsObjects text.now (W.written sink.old) (W.written sink.new) result }
 {
     match read(alloc, text) {
         Ok(database) => write_database(alloc, &database, sink),
-        Err(fault) => Err(DumpFault::Read(fault)),
+        Err(fault) => Err(RunFault::Read(fault)),
     }
 }

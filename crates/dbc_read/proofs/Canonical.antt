@@ -2,7 +2,9 @@
 use Rattle.std.proofs.Common.{◌≡◌, ◌≤◌, List, [], ◌∷◌, ◌++◌, map, length, Some, append_assoc, append-nil, refl, sym, ap, ◌∙◌, arith}
 use Rattle.std.specs.List.{flat_map}
 use Rattle.dbc_records.specs.Databases.{Database, IsDatabase}
-use Rattle.dbc_reader.specs.Kinds.{Kind, RecordOf, list_of, with_list, with_lists, all_kinds, empty_database, Tables, Messages, Comments, Definitions, Defaults, Attributes, ValueDescriptions, FloatTypes, Multiplexings, KeptVerbatim}
+use Rattle.dbc_reader.specs.Kinds.{Kind, RecordOf, list_of, with_list, with_lists, all_kinds, empty_database, Tables, Messages}
+use Rattle.dbc_reader.specs.Kinds.{Comments, Definitions, Defaults, Attributes, ValueDescriptions, FloatTypes, Multiplexings}
+use Rattle.dbc_reader.specs.Kinds.{KeptVerbatim}
 use Rattle.dbc_reader.specs.Spelling.{AnyStatement, Symbols, Timing, Nodes, OfKind, timings_of, ArePlaced, gather}
 use Rattle.dbc_reader.proofs.Sound.Adding.{joined, joined_none, joined_twice, record_joined}
 use Rattle.dbc_reader.proofs.Sound.Databases.{three_numbers, timing_kept, gather_timed}
@@ -71,7 +73,8 @@ found_put FloatTypes d rows = refl
 found_put Multiplexings d rows = refl
 found_put KeptVerbatim d rows = refl
 
-put_twice : (kind : Kind) (d : Database) (rows more : List (RecordOf kind)) → with_list kind (with_list kind d rows) more ≡ with_list kind d more
+put_twice : (kind : Kind) (d : Database) (rows more : List (RecordOf kind)) → with_list kind (with_list kind d rows) more
+    ≡ with_list kind d more
 put_twice Tables d rows more = refl
 put_twice Messages d rows more = refl
 put_twice Comments d rows more = refl

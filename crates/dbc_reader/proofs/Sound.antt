@@ -8,6 +8,7 @@ pub mod Adding
 pub mod Starts
 pub mod Located
 pub mod Databases
+pub mod Matched
 pub mod Statements
 use Rattle.std.proofs.Common.{◌≡◌, ℕ, zero, suc, Bool, true, false, cond, List, [], ◌∷◌, ◌++◌, Result, Ok, Err, refl, sym, ap}
 use Rattle.std.proofs.Common.{subst, ◌∙◌, append_assoc, append-nil}

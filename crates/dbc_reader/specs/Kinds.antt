@@ -20,7 +20,8 @@ pub data Kind : Type 0 where
 
 abbrev pub all_kinds : List Kind
 all_kinds =
-    Tables ∷ Messages ∷ Comments ∷ Definitions ∷ Defaults ∷ Attributes ∷ ValueDescriptions ∷ FloatTypes ∷ Multiplexings ∷ KeptVerbatim ∷ []
+    Tables ∷ Messages ∷ Comments ∷ Definitions ∷ Defaults ∷ Attributes ∷ ValueDescriptions ∷ FloatTypes ∷ Multiplexings ∷
+    KeptVerbatim ∷ []
 
 abbrev pub RecordOf : Kind → Type 0
 RecordOf Tables = TableRow

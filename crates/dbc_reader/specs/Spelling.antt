@@ -21,7 +21,8 @@ use Rattle.dbc_records.specs.CanonicalText.{float_key, mux_layout, kept_layout}
 use Rattle.dbc_reader.specs.declared.statement.Statement.{Statement}
 use Rattle.dbc_reader.specs.declared.statement.Statement.TheVariants as statements
 use Rattle.dbc_tokens.specs.Tokens.{Token}
-use Rattle.dbc_reader.specs.Kinds.{Kind, RecordOf, with_lists, empty_database, Tables, Messages, Comments, Definitions, Defaults, Attributes, ValueDescriptions, FloatTypes, Multiplexings, KeptVerbatim}
+use Rattle.dbc_reader.specs.Kinds.{Kind, RecordOf, with_lists, empty_database, Tables, Messages, Comments, Definitions, Defaults}
+use Rattle.dbc_reader.specs.Kinds.{Attributes, ValueDescriptions, FloatTypes, Multiplexings, KeptVerbatim}
 use Rattle.dbc_reader.specs.Forms.{Part, Is, Perhaps, Unsigned, Spelled, of_layout}
 
 -- ---- statements

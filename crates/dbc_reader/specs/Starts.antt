@@ -105,6 +105,11 @@ abbrev pub gather_starts : List Located → Starts
 gather_starts located = with_starts (record no_starts { signals = flat_map (λ it. it.signals) located })
     (λ kind. flat_map (starts_in kind) located)
 
+-- as many starts as there are records of each kind, and signals
+pub record HaveStarts (database : Database) (starts : Starts) : Type 0 where
+  pub records : (kind : Kind) → length (starts_of kind starts) ≡ length (list_of kind database)
+  pub signals : length starts.signals ≡ length (flat_map (λ message. message.signals) database.messages)
+
 -- ---- lists that grow with those of a database
 
 -- one start more if there are fewer
@@ -113,4 +118,5 @@ extended starts count start = if nat_lt (length starts) count then starts ++ sta
 
 -- each list that is shorter than the database's has one start more
 abbrev pub caught_up : Starts → Database → Start → Starts
-caught_up starts database start = with_starts starts (λ kind. extended (starts_of kind starts) (length (list_of kind database)) start)
+caught_up starts database start = with_starts starts (λ kind. extended (starts_of kind starts) (length (list_of kind database))
+    start)

@@ -1,7 +1,8 @@
 //! Reading of a DBC text: the database that its tokens spell, and the fault that reading ends with.
 //!
 //! [`read`] and [`read_one`] give what the tokens spell by `specs/Spelling.antt`, or the first fault of
-//! `specs/Pattern.antt`. That a text has the one or the other is a law of `dbc_read`.
+//! `specs/Pattern.antt`. That a text has the one or the other is a law of `dbc_read`. [`read_with_starts`] reports besides where
+//! each statement begins.
 #![tactic(auto)]
 
 mod attributes;
@@ -9,6 +10,7 @@ mod classes;
 mod cursor;
 mod kept;
 mod keyword;
+pub mod laws;
 mod located;
 mod messages;
 mod numerals;

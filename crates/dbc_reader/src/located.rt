@@ -30,7 +30,8 @@ fn signals(
     at: &mut Cursor<'_>,
     signal_starts: &mut List<Start>,
 ) -> Result<List<Signal>, Stopped>
-    ensures value { GivesWith result signal_starts.new (left_at at.new) (signals_with_starts ([], signal_starts.old) (left_at at.old)) }
+    ensures value { GivesWith result signal_starts.new (left_at at.new) (signals_with_starts ([], signal_starts.old) (left_at
+        at.old)) }
     ensures fit { IfOk result (λ signals. IsTrue (signals_fit signals)) }
 {
     let mut signals = List::new(alloc);
@@ -53,7 +54,8 @@ fn message(
     signal_starts: &mut List<Start>,
 ) -> Result<Message, Stopped>
     requires { starts (has_word (codes "BO_")) (left_at at.old) ≡ true }
-    ensures value { GivesWith result signal_starts.new (left_at at.new) (message_with_starts count signal_starts.old (left_at at.old)) }
+    ensures value { GivesWith result signal_starts.new (left_at at.new) (message_with_starts count signal_starts.old (left_at
+        at.old)) }
     ensures count { OnOk result (count < most_messages) }
 {
     let head = head(alloc, at, count)?;

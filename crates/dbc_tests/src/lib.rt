@@ -9,6 +9,8 @@ mod lists;
 #[cfg(test)]
 mod numbers;
 #[cfg(test)]
+mod starts;
+#[cfg(test)]
 mod tests;
 #[cfg(test)]
 mod tokens;

@@ -111,6 +111,7 @@ same_faults d starts =
     let messages = placed_messages d (row_lines_of d starts) d.messages starts.messages starts.signals in
     let rows = placed_after d [] (all_rows d starts) in
     bare-append messages rows
-    ∙ ap (λ (r : List Diagnostic). r ++ bare rows) (bare-messages d (row_lines_of d starts) d.messages starts.messages starts.signals)
+    ∙ ap (λ (r : List Diagnostic). r ++ bare rows) (bare-messages d (row_lines_of d starts) d.messages starts.messages
+        starts.signals)
     ∙ ap (λ (r : List Diagnostic). flat_map (message_faults d) d.messages ++ r) (bare-after d [] (all_rows d starts)
     ∙ ap (each_after (row_fault d) []) (keys-all d starts))

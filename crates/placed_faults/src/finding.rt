@@ -9,9 +9,9 @@ use crate::row_places::push_all_rows;
 use can_references::Known;
 use can_remedies::Placed;
 use can_rows::{Indexed, Lookup};
+use dbc_reader::Starts;
 use dbc_records::Database;
 use dbc_values::Memory;
-use dbc_reader::Starts;
 use std::alloc::Global;
 
 // By what is known of the database, and the lines of its rows.

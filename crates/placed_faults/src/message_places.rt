@@ -12,9 +12,9 @@ use can_check::{Code, Diagnostic, Occupancy, Subject, report_message};
 use can_references::Known;
 use can_remedies::{Place, Placed};
 use can_rows::{Index, Lookup};
+use dbc_reader::{Start, Starts};
 use dbc_records::{Message, Signal};
 use dbc_values::{Memory, Name};
-use dbc_reader::{Start, Starts};
 use std::alloc::Global;
 
 // A message, and the lines in which it and its signals begin.

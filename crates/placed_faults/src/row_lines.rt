@@ -4,9 +4,9 @@ ghost use Rattle.placed_faults.specs.RowLines.{key_line, key_lines, line_of_key,
 
 use crate::front::{behind_first, first_line};
 use can_rows::{Index, Keyed};
+use dbc_reader::{Start, Starts};
 use dbc_records::Database;
 use dbc_values::{Checked, Memory, Name};
-use dbc_reader::{Start, Starts};
 use std::alloc::Global;
 use std::marker::Model;
 

@@ -10,9 +10,9 @@ use can_keys::RowKeys;
 use can_references::{Known, Row, push_row};
 use can_remedies::{Place, Placed};
 use can_rows::Lookup;
+use dbc_reader::{Start, Starts};
 use dbc_records::Database;
 use dbc_values::{List, Memory};
-use dbc_reader::{Start, Starts};
 
 // Adds diagnostics of a row that begins in this line.
 fn push_at(placed: &mut Vec<Placed>, line: u64, found: Vec<Diagnostic>) -> Result<(), Memory>
@@ -98,7 +98,13 @@ fn push_attributes<'a, L: Lookup>(
         &starts.definitions,
     )?;
     push_rows_at(placed, known, seen, &database.defaults, &starts.defaults)?;
-    push_rows_at(placed, known, seen, &database.attributes, &starts.attributes)
+    push_rows_at(
+        placed,
+        known,
+        seen,
+        &database.attributes,
+        &starts.attributes,
+    )
 }
 
 #[tactic(auto, using(crate::proofs::Rows::placed_then), unfolding(crate::specs::RowPlaces::signal_rows))]

@@ -17,7 +17,8 @@ use Rattle.dbc_records.specs.CanonicalText.{mux_key, mux_layout, definition_key,
 use Rattle.dbc_records.specs.CanonicalText.{target_layout, value_layout, head_layout}
 use Rattle.dbc_tokens.specs.Tokens.{Token, Cut}
 use Rattle.dbc_reader.specs.Reading.Databases.{record_into}
-use Rattle.dbc_reader.specs.Kinds.{Attributes, Comments, Defaults, Definitions, FloatTypes, KeptVerbatim, Messages, Multiplexings, Tables, ValueDescriptions}
+use Rattle.dbc_reader.specs.Kinds.{Attributes, Comments, Defaults, Definitions, FloatTypes, KeptVerbatim, Messages, Multiplexings}
+use Rattle.dbc_reader.specs.Kinds.{Tables, ValueDescriptions}
 use Rattle.dbc_reader.specs.Classes.{has_word, has_symbol, has_name}
 use Rattle.dbc_reader.specs.Forms.{Part, Is, Spelled, of_layout, ◌▸▸◌}
 use Rattle.dbc_reader.specs.Spelling.{AnyStatement, Symbols, Nodes, Table, OfMessage, OfComment, Definition, Default, Attribute}
@@ -62,7 +63,8 @@ put_into {A} {r} {a} {parts} {May} {made} add h same = takes_made same (takes_la
 takes_unkept : (d : Database) {made : Database} {r : Reader Database} {parts : List Part} {May : Cut → Type 0} → NotKept parts
     → Takes r made parts May → Takes (choose_by begins_kept (record_into KeptVerbatim d) r) made parts May
 takes_unkept d {made} {r} {parts} {May} unkept h = record {
-  takes = λ tokens cut spelled may. chosen-second (begins_kept (tokens ▸▸ cut)) (record_into KeptVerbatim d (tokens ▸▸ cut)) (r (tokens ▸▸ cut)) _
+  takes = λ tokens cut spelled may. chosen-second (begins_kept (tokens ▸▸ cut)) (record_into KeptVerbatim d (tokens ▸▸ cut)) (r
+      (tokens ▸▸ cut)) _
       (unkept.not_kept tokens cut spelled) (h.takes tokens cut spelled may);
 }
 
@@ -71,7 +73,8 @@ takes_kept : (d : Database) {made : Database} (r : Reader Database) {parts : Lis
     → Spelled parts tokens → begins_kept (tokens ▸▸ cut) ≡ true) → Takes (record_into KeptVerbatim d) made parts Anything
     → Takes (choose_by begins_kept (record_into KeptVerbatim d) r) made parts Anything
 takes_kept d {made} r {parts} kept h = record {
-  takes = λ tokens cut spelled may. chosen-first (begins_kept (tokens ▸▸ cut)) (record_into KeptVerbatim d (tokens ▸▸ cut)) (r (tokens ▸▸ cut)) _
+  takes = λ tokens cut spelled may. chosen-first (begins_kept (tokens ▸▸ cut)) (record_into KeptVerbatim d (tokens ▸▸ cut)) (r
+      (tokens ▸▸ cut)) _
       (kept tokens cut spelled) (h.takes tokens cut spelled may);
 }
 

@@ -15,8 +15,10 @@ use Rattle.dbc_records.specs.Records.{IsTableRow, IsValueRow, IsFloatRow, IsMuxR
 use Rattle.dbc_records.specs.Comments.{IsComment}
 use Rattle.dbc_records.specs.Attributes.{IsAttrDef, IsAttrRow}
 use Rattle.dbc_reader.specs.Spelling.{records_of}
-use Rattle.dbc_reader.specs.Kinds.{Attributes, Comments, Definitions, FloatTypes, KeptVerbatim, Messages, Multiplexings, Tables, ValueDescriptions}
-use Rattle.dbc_reader.specs.Spelling.{AnyStatement, Symbols, Timing, Nodes, OfKind, Table, OfMessage, OfComment, Definition, Default}
+use Rattle.dbc_reader.specs.Kinds.{Attributes, Comments, Definitions, FloatTypes, KeptVerbatim, Messages, Multiplexings, Tables}
+use Rattle.dbc_reader.specs.Kinds.{ValueDescriptions}
+use Rattle.dbc_reader.specs.Spelling.{AnyStatement, Symbols, Timing, Nodes, OfKind, Table, OfMessage, OfComment, Definition}
+use Rattle.dbc_reader.specs.Spelling.{Default}
 use Rattle.dbc_reader.specs.Spelling.{Attribute, Values, Float, Mux, OfKept, timings_of}
 use Rattle.dbc_reader.specs.Spelling.{EndsSymbols, FollowOn}
 use Rattle.dbc_reader.specs.Spelling.{ArePlaced}
@@ -58,7 +60,8 @@ fits_first d (Timing numbers) more is = tt
 fits_first d (Nodes nodes) more is = tt
 fits_first d (Table row) more is = one_of IsTableRow d.tables row (flat_map (records_of Tables) more) is.tables
 fits_first d (OfMessage message) more is =
-    let count = and_parts (timing_fits d.bit_timing) (nat_le (length (d.messages ++ message ∷ flat_map (records_of Messages) more)) 65535)
+    let count = and_parts (timing_fits d.bit_timing) (nat_le (length (d.messages
+        ++ message ∷ flat_map (records_of Messages) more)) 65535)
     is.fits in (
       room (length d.messages) (length (flat_map (records_of Messages) more)) (subst (λ (n : ℕ). nat_le n 65535 ≡ true)
           (length-append d.messages (message ∷ flat_map (records_of Messages) more)) count.1),
@@ -93,7 +96,8 @@ fit_both count (x ∷ xs) ys fit =
     let below = fit_both (count + length (flat_map (records_of Messages) (x ∷ []))) xs ys fit.1 in
     ((fit.0, below.0), subst (λ (n : ℕ). AllFit n ys) (counted count x xs) below.1)
   where
-    counted : (count : ℕ) (x : AnyStatement) (xs : List AnyStatement) → (count + length (flat_map (records_of Messages) (x ∷ []))) + length
+    counted : (count : ℕ) (x : AnyStatement) (xs : List AnyStatement) → (count + length (flat_map (records_of Messages) (x ∷ []))) +
+        length
         (flat_map (records_of Messages) xs) ≡ count + length (flat_map (records_of Messages) (x ∷ xs))
     counted count x xs = omega (
       arith,

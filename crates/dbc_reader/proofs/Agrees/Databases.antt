@@ -14,7 +14,8 @@ use Rattle.dbc_tokens.specs.declared.fault.Cause.TheVariants as causes
 use Rattle.dbc_tokens.specs.declared.token.Kind.{Kind}
 use Rattle.dbc_tokens.specs.Tokens.{Token, Cut, End, Fault, ◌▸◌}
 use Rattle.dbc_reader.specs.Reading.Databases.{record_into}
-use Rattle.dbc_reader.specs.Kinds.{Attributes, Comments, Defaults, Definitions, FloatTypes, KeptVerbatim, Messages, Multiplexings, Tables, ValueDescriptions}
+use Rattle.dbc_reader.specs.Kinds.{Attributes, Comments, Defaults, Definitions, FloatTypes, KeptVerbatim, Messages, Multiplexings}
+use Rattle.dbc_reader.specs.Kinds.{Tables, ValueDescriptions}
 use Rattle.dbc_reader.specs.Classes.{has_word, has_name, has_string, has_piece, has_kept_word}
 use Rattle.dbc_reader.specs.Pattern.{Class, Word, Name, String, Whole, BeginsMessage, Seen, is_of_class, plain, verdict, Pattern}
 use Rattle.dbc_reader.specs.Pattern.{Done, ◌⇒◌, Either, ◌then◌, may_end, first_of, left_then, after, fault_in, ruled, judged}
@@ -171,7 +172,8 @@ unfolding statement_into object_into value_row_into attribute_row_into begins_ke
     has_attribute_word has_word has_kept_word has_name has_string has_piece is_piece is_string is_name is_keyword starts first_fault
 message_case kind line d seen has q cut =
     let t = token_of_word kind line (codes "BO_") in
-    subst (λ total. Follows Counted (record_into Messages d (t ▸ cut)) (first_fault q) total) (sym (message_first kind line seen q cut))
+    subst (λ total. Follows Counted (record_into Messages d (t ▸ cut)) (first_fault q) total) (sym (message_first kind line seen q
+    cut))
     ((message_more d seen has).follows q (t ▸ cut))
 
 table_case : (kind : Kind) (line : ℕ) → AgreesFor kind line (codes "VAL_TABLE_")
@@ -340,7 +342,8 @@ comment_first kind line seen q t cut e =
     (no_token (Word (codes "EV_")) grammar.kept_rest seen t (rw e refl)) refl
 
 comment_plain : (kind : Kind) (line : ℕ) (d : Database) (t : Token) (cut : Cut) → bytes_eq (codes "EV_") t.bytes ≡ false
-    → statement_into d (token_of_word kind line (codes "CM_") ▸ (t ▸ cut)) ≡ record_into Comments d (token_of_word kind line (codes "CM_") ▸
+    → statement_into d (token_of_word kind line (codes "CM_") ▸ (t ▸ cut))
+    ≡ record_into Comments d (token_of_word kind line (codes "CM_") ▸
     (t ▸ cut))
 unfolding statement_into object_into value_row_into attribute_row_into begins_kept kept_fits has_object_word has_value_word
     has_attribute_word has_word has_kept_word has_name has_string has_piece is_piece is_string starts first_fault
@@ -373,7 +376,8 @@ unfolding statement_into object_into value_row_into attribute_row_into begins_ke
 attribute_kept kind line d seen has q t e kind3 line3 cut = rw e refl
 
 attribute_ends : (kind : Kind) (line : ℕ) (d : Database) (t : Token) (cut : Cut) → has_string t ≡ false
-    → statement_into d (token_of_word kind line (codes "BA_") ▸ (t ▸ cut)) ≡ record_into Attributes d (token_of_word kind line (codes "BA_")
+    → statement_into d (token_of_word kind line (codes "BA_") ▸ (t ▸ cut))
+    ≡ record_into Attributes d (token_of_word kind line (codes "BA_")
     ▸ (t ▸ cut))
 unfolding statement_into object_into value_row_into attribute_row_into begins_kept kept_fits has_object_word has_value_word
     has_attribute_word has_word has_kept_word has_name has_string has_piece is_piece starts first_fault
@@ -382,14 +386,16 @@ attribute_ends kind line d t cut e = rw e refl
 -- ---- named values
 
 values_kept : (kind : Kind) (line : ℕ) (d : Database) (t : Token) (cut : Cut) → has_name t ≡ true
-    → statement_into d (token_of_word kind line (codes "VAL_") ▸ (t ▸ cut)) ≡ record_into KeptVerbatim d (token_of_word kind line (codes "VAL_") ▸
+    → statement_into d (token_of_word kind line (codes "VAL_") ▸ (t ▸ cut))
+    ≡ record_into KeptVerbatim d (token_of_word kind line (codes "VAL_") ▸
     (t ▸ cut))
 unfolding statement_into object_into value_row_into attribute_row_into begins_kept kept_fits has_object_word has_value_word
     has_attribute_word has_word has_kept_word has_name has_string has_piece is_piece is_string starts first_fault
 values_kept kind line d t cut e = rw e refl
 
 values_plain : (kind : Kind) (line : ℕ) (d : Database) (t : Token) (cut : Cut) → has_name t ≡ false
-    → statement_into d (token_of_word kind line (codes "VAL_") ▸ (t ▸ cut)) ≡ record_into ValueDescriptions d (token_of_word kind line (codes "VAL_")
+    → statement_into d (token_of_word kind line (codes "VAL_") ▸ (t ▸ cut))
+    ≡ record_into ValueDescriptions d (token_of_word kind line (codes "VAL_")
     ▸ (t ▸ cut))
 unfolding statement_into object_into value_row_into attribute_row_into begins_kept kept_fits has_object_word has_value_word
     has_attribute_word has_word has_kept_word has_name has_string has_piece is_piece is_string starts first_fault

@@ -13,7 +13,8 @@ use Rattle.dbc_records.specs.Kept.{kept_fits}
 use Rattle.dbc_tokens.specs.declared.token.Kind.{Kind}
 use Rattle.dbc_tokens.specs.Tokens.{Token, Cut, End, Fault, ◌▸◌}
 use Rattle.dbc_reader.specs.Reading.Databases.{record_into}
-use Rattle.dbc_reader.specs.Kinds.{Attributes, Comments, Defaults, Definitions, FloatTypes, KeptVerbatim, Messages, Multiplexings, Tables, ValueDescriptions}
+use Rattle.dbc_reader.specs.Kinds.{Attributes, Comments, Defaults, Definitions, FloatTypes, KeptVerbatim, Messages, Multiplexings}
+use Rattle.dbc_reader.specs.Kinds.{Tables, ValueDescriptions}
 use Rattle.dbc_reader.specs.declared.keyword.Keyword.{Keyword}
 use Rattle.dbc_reader.specs.declared.statement.Statement.{Statement}
 use Rattle.dbc_reader.specs.declared.keyword.Keyword.TheVariants as keywords
@@ -37,11 +38,16 @@ use Rattle.dbc_reader.proofs.Facts.KeptBeginnings.{kept_by_tokens}
 abbrev Reads : Keyword → Cut → Type 0
 Reads keywords.Symbols cut = (d : Database) → statement_into d cut ≡ symbols_into d (with_word (codes "NS_") (behind cut))
 Reads keywords.Nodes cut = (d : Database) → statement_into d cut ≡ nodes_into d (with_word (codes "BU_") (behind cut))
-Reads keywords.Table cut = (d : Database) → statement_into d cut ≡ record_into Tables d (with_word (codes "VAL_TABLE_") (behind cut))
-Reads keywords.Float cut = (d : Database) → statement_into d cut ≡ record_into FloatTypes d (with_word (codes "SIG_VALTYPE_") (behind cut))
-Reads keywords.Mux cut = (d : Database) → statement_into d cut ≡ record_into Multiplexings d (with_word (codes "SG_MUL_VAL_") (behind cut))
-Reads keywords.Definition cut = (d : Database) → statement_into d cut ≡ record_into Definitions d (with_word (codes "BA_DEF_") (behind cut))
-Reads keywords.Default cut = (d : Database) → statement_into d cut ≡ record_into Defaults d (with_word (codes "BA_DEF_DEF_") (behind cut))
+Reads keywords.Table cut = (d : Database) → statement_into d cut ≡ record_into Tables d (with_word (codes "VAL_TABLE_") (behind
+    cut))
+Reads keywords.Float cut = (d : Database) → statement_into d cut ≡ record_into FloatTypes d (with_word (codes "SIG_VALTYPE_")
+    (behind cut))
+Reads keywords.Mux cut = (d : Database) → statement_into d cut ≡ record_into Multiplexings d (with_word (codes "SG_MUL_VAL_")
+    (behind cut))
+Reads keywords.Definition cut = (d : Database) → statement_into d cut ≡ record_into Definitions d (with_word (codes "BA_DEF_")
+    (behind cut))
+Reads keywords.Default cut = (d : Database) → statement_into d cut ≡ record_into Defaults d (with_word (codes "BA_DEF_DEF_") (behind
+    cut))
 Reads keywords.Message cut = (starts (has_word (codes "BO_")) cut ≡ true)
     × ((d : Database) → statement_into d cut ≡ record_into Messages d cut)
 Reads keywords.Values cut = (starts has_name (behind cut) ≡ true → begins_kept cut ≡ true)
@@ -231,7 +237,8 @@ default_step d cut e = reads keywords.Default cut e d
 pub message_begins : (cut : Cut) → keyword_at cut ≡ Some keywords.Message → starts (has_word (codes "BO_")) cut ≡ true
 message_begins cut e = (reads keywords.Message cut e).0
 
-pub message_step : (d : Database) (cut : Cut) → keyword_at cut ≡ Some keywords.Message → statement_into d cut ≡ record_into Messages d cut
+pub message_step : (d : Database) (cut : Cut) → keyword_at cut ≡ Some keywords.Message → statement_into d cut
+    ≡ record_into Messages d cut
 message_step d cut e = (reads keywords.Message cut e).1 d
 
 -- the same by the token alone

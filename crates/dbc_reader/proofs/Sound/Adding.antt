@@ -27,7 +27,8 @@ use Rattle.dbc_reader.specs.Reading.Readers.{Reader, and_then, ◌>>=◌, value,
 use Rattle.dbc_reader.specs.Spelling.{AnyStatement, Symbols, Nodes, Table, OfMessage, OfComment, Definition, Default, Attribute}
 use Rattle.dbc_reader.specs.Spelling.{Values, Float, Mux, OfKept, form, EndsSymbols, FollowOn, symbols_of, timings_of, nodes_of}
 use Rattle.dbc_reader.specs.Spelling.{OfKind, records_of}
-use Rattle.dbc_reader.specs.Kinds.{Kind, RecordOf, list_of, with_list, with_lists, Tables, Messages, Comments, Definitions, Defaults, Attributes, ValueDescriptions, FloatTypes, Multiplexings, KeptVerbatim}
+use Rattle.dbc_reader.specs.Kinds.{Kind, RecordOf, list_of, with_list, with_lists, Tables, Messages, Comments, Definitions}
+use Rattle.dbc_reader.specs.Kinds.{Defaults, Attributes, ValueDescriptions, FloatTypes, Multiplexings, KeptVerbatim}
 use mathlib.Core.Path.{fun_ext, Path}
 use Rattle.dbc_reader.specs.Reading.Parts.{word_at, mark_at, names_from, symbols_from}
 use Rattle.dbc_reader.proofs.Facts.KeptBeginnings.{kept_by_tokens}
@@ -344,7 +345,8 @@ record_ends Attributes row cut rest behind begins spelt none = absurd (no_first 
 record_ends ValueDescriptions row cut rest behind begins spelt none = absurd (no_first (codes "VAL_") _ cut rest refl spelt none)
 record_ends FloatTypes row cut rest behind begins spelt none = absurd (no_first (codes "SIG_VALTYPE_") _ cut rest refl spelt none)
 record_ends Multiplexings row cut rest behind begins spelt none = absurd (no_first (codes "SG_MUL_VAL_") _ cut rest refl spelt none)
-record_ends KeptVerbatim row cut rest behind begins spelt none = let both : true ≡ false = sym (begins_as_symbol cut begins) ∙ none in
+record_ends KeptVerbatim row cut rest behind begins spelt none = let both : true ≡ false = sym (begins_as_symbol cut begins)
+    ∙ none in
     absurd cc
 
 record_adding : (kind : Kind) (d : Database) (cut : Cut) (x : Database × Cut) → Begins kind cut → record_into kind d cut ≡ Ok x
@@ -372,7 +374,8 @@ adds_kept : (d : Database) {r : Reader Database} → Adds d r → Adds d (choose
 unfolding Begins
 adds_kept d {r} h = record { adds = λ cut x e. by_test (begins_kept cut) cut x refl e }
   where
-    by_test : (b : Bool) (cut : Cut) (x : Database × Cut) → begins_kept cut ≡ b → cond b (record_into KeptVerbatim d cut) (r cut) ≡ Ok x
+    by_test : (b : Bool) (cut : Cut) (x : Database × Cut) → begins_kept cut ≡ b → cond b (record_into KeptVerbatim d cut) (r cut)
+        ≡ Ok x
         → Adding d cut x
     by_test true cut x is e = record_adding KeptVerbatim d cut x is e
     by_test false cut x is e = h.adds cut x e

@@ -114,7 +114,8 @@ pub gather_timed : (version : Option (List ℕ)) (xs ys : List AnyStatement) (nu
 gather_timed version xs ys numbers timing before behind is =
     let all : List AnyStatement = Timing numbers ∷ ys in
     let d : Database = empty_database (version_text version) in
-    let lists = fun_ext (λ (kind : Kind). ap (λ (l : List (RecordOf kind)). l ++ flat_map (records_of kind) ys) (joined_list kind d xs)
+    let lists = fun_ext (λ (kind : Kind). ap (λ (l : List (RecordOf kind)). l
+    ++ flat_map (records_of kind) ys) (joined_list kind d xs)
     ∙ behind_both (records_of kind) (list_of kind d) xs all) in
     rw (
       flat_map-append symbols_of xs all,

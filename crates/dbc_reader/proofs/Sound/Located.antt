@@ -1,5 +1,6 @@
 -- Where statements and signals were read to begin, their first tokens are.
-use Rattle.std.proofs.Common.{◌≡◌, ℕ, zero, suc, ◌<◌, Bool, true, false, cond, List, [], ◌∷◌, ◌++◌, map, length, Result, Ok, refl, sym}
+use Rattle.std.proofs.Common.{◌≡◌, ℕ, zero, suc, ◌<◌, Bool, true, false, cond, List, [], ◌∷◌, ◌++◌, map, length, Result, Ok, refl}
+use Rattle.std.proofs.Common.{sym}
 use Rattle.std.proofs.Common.{ap, subst, ◌∙◌, append_assoc, append-nil, arith}
 use Rattle.std.specs.Prelude.{codes}
 use Rattle.std.specs.List.{flat_map}
@@ -31,7 +32,8 @@ use Rattle.dbc_reader.proofs.Turns.Dropped.{dropped, with_signals_drops}
 use Rattle.dbc_reader.proofs.Sound.{all_then_twice, spelled_both, Spelt, spelt_both}
 use Rattle.dbc_reader.proofs.Sound.Adding.{joined, joined_none, joined_twice, record_joined, Adding, statement_adds}
 use Rattle.dbc_reader.proofs.Sound.Messages.{head_sound, signal_sound}
-use Rattle.dbc_reader.proofs.Sound.Starts.{joined_starts, joined_starts_none, joined_starts_twice, AreMatched, one_more, caught_up_is}
+use Rattle.dbc_reader.proofs.Sound.Starts.{joined_starts, joined_starts_none, joined_starts_twice, AreMatched, one_more}
+use Rattle.dbc_reader.proofs.Sound.Starts.{caught_up_is}
 use Rattle.dbc_reader.proofs.Sound.Starts.{still_matched}
 
 -- ---- the first token
@@ -49,7 +51,8 @@ first_of (t ∷ front) cut rest stands less = record { first = t; others = front
 
 -- ---- items of one form
 
-begin_more : {A : Type 0} (form : A → List Part) (item : A) (items : List A) (front rest : List Token) (cut : Cut) (more : List Start)
+begin_more : {A : Type 0} (form : A → List Part) (item : A) (items : List A) (front rest : List Token) (cut : Cut) (more : List
+    Start)
     → First front cut → Spelled (form item) front → BeginAt form items rest more
     → BeginAt form (item ∷ items) (front ++ rest) (start_at cut ∷ more)
 begin_more form item items front rest cut more h spelled begin = (
@@ -164,7 +167,8 @@ message_finds s cut x e =
     let begin : BeginAt signal_form g.0.0.0 all.front all.added =
     subst (λ (signals : List Signal). BeginAt signal_form signals all.front all.added) (sym all.signals) all.begin in
     let made = ok_is ((message, g.0.0.1), g.0.1) m.0 g.2 in
-    let here : Finds s cut ((with_list Messages s.0 (s.0.messages ++ message ∷ []), record s.1 { signals = g.0.0.1 }), g.0.1) = record {
+    let here : Finds s cut ((with_list Messages s.0 (s.0.messages ++ message ∷ []), record s.1 { signals = g.0.0.1 }), g.0.1) =
+    record {
       adding = record {
         statement = OfMessage message;
         spelt = record {
@@ -183,11 +187,19 @@ message_finds s cut x e =
       found = ap (λ (list : List Start). record s.1 { signals = list }) all.found;
     } in
     subst (λ (y : (Database × Starts) × Cut). Finds s cut y)
-    (ap (λ (w : (Message × List Start) × Cut). ((with_list Messages s.0 (s.0.messages ++ w.0.0 ∷ []), record s.1 { signals = w.0.1 }), w.1))
+    (ap (λ (w : (Message × List Start) × Cut). (
+      (
+        with_list Messages s.0 (s.0.messages
+            ++ w.0.0 ∷ []),
+        record s.1 { signals = w.0.1 },
+      ),
+      w.1,
+    ))
     made ∙ ok_is ((with_list Messages s.0 (s.0.messages ++ m.0.0.0 ∷ []), record s.1 { signals = m.0.0.1 }), m.0.1) x m.2) here
 
 -- a statement that doesn't begin as a message does is none
-has_no_signals : (statement : AnyStatement) (front : List Token) (cut rest : Cut) → cut ≡ (front ▸▸ rest) → Spelled (form statement) front
+has_no_signals : (statement : AnyStatement) (front : List Token) (cut rest : Cut) → cut ≡ (front ▸▸ rest)
+    → Spelled (form statement) front
     → starts (has_word (codes "BO_")) cut ≡ false → SignalsBeginAt statement front []
 unfolding head_layout items_of starts has_word
 has_no_signals (Symbols symbols) front cut rest stands spelled none = refl
@@ -228,7 +240,8 @@ with_signals_finds s cut x e = by_test (starts (has_word (codes "BO_")) cut) ref
 
 -- ---- many statements
 
--- Statements were read that a database is joined by, and where they begin; what may follow them, and when they end a list of symbols.
+-- Statements were read that a database is joined by, and where they begin; what may follow them, and when they end a list of
+-- symbols.
 pub record Joins (s : Database × Starts) (cut : Cut) (x : (Database × Starts) × Cut) : Type 0 where
   pub located : List Located
   pub statements : List AnyStatement
@@ -264,7 +277,8 @@ joins_none s cut matched = record {
 }
 
 pub located_more : (it : Located) (others : List Located) (front rest : List Token) (cut : Cut) → First front cut
-    → Spelled (form it.statement) front → it.start ≡ start_at cut → SignalsBeginAt it.statement front it.signals → AreLocated others rest
+    → Spelled (form it.statement) front → it.start ≡ start_at cut → SignalsBeginAt it.statement front it.signals
+    → AreLocated others rest
     → AreLocated (it ∷ others) (front ++ rest)
 located_more it others front rest cut h spelled start signals begin = (
   h.first,
@@ -299,8 +313,8 @@ joins_more s cut y x h less rest =
           ∙ joined_twice s.0 (adding.statement ∷ []) rest.statements;
       no_timings = rw (adding.no_timing, rest.no_timings) refl;
       placed = λ behind ends placed. (
-          adding.before (rest.statements ++ behind) (rest.ends behind ends),
-          rest.placed behind ends placed,
+        adding.before (rest.statements ++ behind) (rest.ends behind ends),
+        rest.placed behind ends placed,
       );
       ends = λ behind ends none. adding.ends (rest.statements ++ behind) none;
       begin = located_more (one s cut y h) rest.located front rest.front cut first adding.spelt.spelled refl h.begin rest.begin;
@@ -367,7 +381,8 @@ turns_join zero s cut x matched e =
 turns_join (suc n) s cut x matched e = turn_joins n (turns_join n) s (starts begins_statement cut) cut x matched e
 
 -- what many statements that were read are
-pub all_join : (s : Database × Starts) (cut : Cut) (x : (Database × Starts) × Cut) → AreMatched s.0 s.1 → all_located_into s cut ≡ Ok x
+pub all_join : (s : Database × Starts) (cut : Cut) (x : (Database × Starts) × Cut) → AreMatched s.0 s.1 → all_located_into s cut
+    ≡ Ok x
     → Joins s cut x
 unfolding all_located_into repeated
 all_join s cut x matched e = turns_join (size cut) s cut x matched e

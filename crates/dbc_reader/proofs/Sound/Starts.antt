@@ -25,7 +25,8 @@ joined_starts starts located = with_starts (record starts { signals = starts.sig
 abbrev pub AreMatched : Database → Starts → Type 0
 AreMatched d starts = (kind : Kind) → length (starts_of kind starts) ≡ length (list_of kind d)
 
-pub listed_starts : (kind : Kind) (starts : Starts) (lists : Kind → List Start) → starts_of kind (with_starts starts lists) ≡ lists kind
+pub listed_starts : (kind : Kind) (starts : Starts) (lists : Kind → List Start) → starts_of kind (with_starts starts lists)
+    ≡ lists kind
 listed_starts Tables starts lists = refl
 listed_starts Messages starts lists = refl
 listed_starts Comments starts lists = refl
@@ -43,7 +44,10 @@ joined_starts_none starts = rw (append-nil starts.signals)
 
 joined_starts_list : (kind : Kind) (starts : Starts) (xs : List Located)
     → starts_of kind (joined_starts starts xs) ≡ starts_of kind starts ++ flat_map (starts_in kind) xs
-joined_starts_list kind starts xs = listed_starts kind (record starts { signals = starts.signals ++ flat_map (λ it. it.signals) xs })
+joined_starts_list kind starts xs = listed_starts kind (record starts {
+  signals = starts.signals
+      ++ flat_map (λ it. it.signals) xs;
+})
     (λ kind. starts_of kind starts ++ flat_map (starts_in kind) xs)
 
 starts_both : (f : Located → List Start) (list : List Start) (xs ys : List Located)
@@ -106,7 +110,8 @@ matched_by starts records added start same = rw (
 abbrev pub one_more : AnyStatement → Start → List Start → List Located
 one_more statement start signals = record { statement = statement; start = start; signals = signals } ∷ []
 
-pub caught_up_is : (d : Database) (starts : Starts) (statement : AnyStatement) (start : Start) (signals : List Start) → AreMatched d starts
+pub caught_up_is : (d : Database) (starts : Starts) (statement : AnyStatement) (start : Start) (signals : List Start)
+    → AreMatched d starts
     → caught_up (record starts { signals = starts.signals ++ signals }) (joined d (statement ∷ [])) start
     ≡ joined_starts starts (one_more statement start signals)
 caught_up_is d starts statement start signals matched = rw (append-nil signals)

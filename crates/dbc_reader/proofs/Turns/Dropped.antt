@@ -1,5 +1,6 @@
 -- Reading with where statements begin reads what reading without it does.
-use Rattle.std.proofs.Common.{◌≡◌, ℕ, zero, suc, Bool, true, false, cond, List, [], ◌∷◌, ◌++◌, length, Result, Ok, Err, refl, sym, ap}
+use Rattle.std.proofs.Common.{◌≡◌, ℕ, zero, suc, Bool, true, false, cond, List, [], ◌∷◌, ◌++◌, length, Result, Ok, Err, refl, sym}
+use Rattle.std.proofs.Common.{ap}
 use Rattle.std.proofs.Common.{◌∙◌}
 use Rattle.std.specs.Prelude.{codes, Option}
 use Rattle.dbc_values.specs.Decimals.{Decimal}
@@ -16,7 +17,8 @@ use Rattle.dbc_reader.specs.Kinds.{Messages, with_list, empty_database}
 use Rattle.dbc_reader.specs.Starts.{start_at, no_starts, caught_up}
 use Rattle.dbc_reader.specs.Reading.Readers.{Reader, and_then, ◌>>=◌, value, starts, size, turns, repeated, end_at, Fails}
 use Rattle.dbc_reader.specs.Reading.Messages.{head_at, signal_at, signals_from, message_at}
-use Rattle.dbc_reader.specs.Reading.Databases.{record_into, begins_statement, statement_into, statements_into, version_at, timing_at}
+use Rattle.dbc_reader.specs.Reading.Databases.{record_into, begins_statement, statement_into, statements_into, version_at}
+use Rattle.dbc_reader.specs.Reading.Databases.{timing_at}
 use Rattle.dbc_reader.specs.Reading.Databases.{timed_into, database_at}
 use Rattle.dbc_reader.specs.Reading.Located.{signal_with_start, signals_with_starts, message_with_starts, message_with_starts_into}
 use Rattle.dbc_reader.specs.Reading.Located.{without_signals_into, with_signals_into, located_into, all_located_into}
@@ -44,7 +46,8 @@ module _ {A S : Type 0} (test : Token → Bool) (r : A × S → Reader (A × S))
     (drops : (s : A × S) (cut : Cut) → dropped (r s cut) ≡ q s.0 cut) where
   turn_drops : (n : ℕ) → ((s : A × S) (cut : Cut) → dropped (turns n test r s cut) ≡ turns n test q s.0 cut)
       → (s : A × S) (cut : Cut) (b : Bool)
-      → dropped (cond b (and_then (r s cut) (turns n test r)) (Ok (s, cut))) ≡ cond b (and_then (q s.0 cut) (turns n test q)) (Ok (s.0, cut))
+      → dropped (cond b (and_then (r s cut) (turns n test r)) (Ok (s, cut)))
+      ≡ cond b (and_then (q s.0 cut) (turns n test q)) (Ok (s.0, cut))
   turn_drops n below s cut true = and_drop (r s cut) (q s.0 cut) _ _ (drops s cut) below
   turn_drops n below s cut false = refl
 
@@ -115,7 +118,10 @@ unfolding timed_located_into timed_into
 timed_drops s cut = by_test (starts (has_word (codes "BS_")) cut)
   where
     by_test : (b : Bool)
-        → dropped (cond b (and_then (timing_at cut) (λ timing. all_located_into (record s.0 { bit_timing = timing }, s.1))) (Ok (s, cut)))
+        → dropped (cond b (and_then (timing_at cut) (λ timing. all_located_into (record s.0 { bit_timing = timing }, s.1))) (Ok (
+          s,
+          cut,
+        )))
         ≡ cond b (and_then (timing_at cut) (λ timing. statements_into (record s.0 { bit_timing = timing }))) (Ok (s.0, cut))
     by_test true = value_drops (timing_at cut) _ _ (λ timing rest. all_drop (record s.0 { bit_timing = timing }, s.1) rest)
     by_test false = refl

@@ -33,7 +33,8 @@ signal_with_start_shrinks s = record {
       (λ signal. value_keeps _)).less cut y e;
 }
 
-signal_once : (signals : List Signal) (found : List Start) (signal : Signal) (cut rest : Cut) → signal_at signals cut ≡ Ok (signal, rest)
+signal_once : (signals : List Signal) (found : List Start) (signal : Signal) (cut rest : Cut) → signal_at signals cut
+    ≡ Ok (signal, rest)
     → signal_with_start (signals, found) cut ≡ Ok ((signals ++ signal ∷ [], found ++ start_at cut ∷ []), rest)
 unfolding signal_with_start
 signal_once signals found signal cut rest h = rw h refl
@@ -77,7 +78,8 @@ signals_keep s = repeated_keeps (has_word (codes "SG_")) signal_with_start signa
 message_shrinks : (s : Database × Starts) → Shrinks (message_with_starts_into s)
 unfolding message_with_starts_into message_with_starts
 message_shrinks s =
-    bind_shrinks (bind_shrinks (head_shrinks _) λ head. bind_keeps (signals_keep _) λ signals. value_keeps _) λ message. value_keeps _
+    bind_shrinks (bind_shrinks (head_shrinks _) λ head. bind_keeps (signals_keep _) λ signals. value_keeps _) λ message. value_keeps
+    _
 
 without_shrinks : (s : Database × Starts) → Shrinks (without_signals_into s)
 unfolding without_signals_into

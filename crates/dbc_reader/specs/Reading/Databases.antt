@@ -13,7 +13,8 @@ use Rattle.dbc_reader.specs.declared.statement.Statement.{Statement}
 use Rattle.dbc_reader.specs.declared.statement.Statement.TheVariants as statements
 use Rattle.dbc_tokens.specs.Tokens.{Token, Cut, End, Fault, ◌▸◌}
 pub use Rattle.dbc_reader.specs.Kinds.{empty_database}
-use Rattle.dbc_reader.specs.Kinds.{Kind, RecordOf, list_of, with_list, Tables, Messages, Comments, Definitions, Defaults, Attributes, ValueDescriptions, FloatTypes, Multiplexings, KeptVerbatim}
+use Rattle.dbc_reader.specs.Kinds.{Kind, RecordOf, list_of, with_list, Tables, Messages, Comments, Definitions, Defaults}
+use Rattle.dbc_reader.specs.Kinds.{Attributes, ValueDescriptions, FloatTypes, Multiplexings, KeptVerbatim}
 use Rattle.dbc_reader.specs.Classes.{has_word, has_number, has_kept_word}
 use Rattle.dbc_reader.specs.Reading.Readers.{Reader, ◌>>=◌, value, choose, choose_by, repeated, end_at}
 use Rattle.dbc_reader.specs.Reading.Parts.{word_at, mark_at, text_at, number_at, names_from, symbols_from, pieces_from}

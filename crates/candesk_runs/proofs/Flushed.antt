@@ -11,8 +11,9 @@ use Rattle.can_diagnostics.specs.Lines.{line_text}
 use Rattle.can_check.specs.declared.report.Stop.TheVariants as stops
 use Rattle.candesk_runs.specs.declared.checking.Verdict.{Verdict}
 use Rattle.candesk_runs.specs.declared.checking.Verdict.TheVariants as verdicts
-use Rattle.candesk_runs.specs.declared.fault.CheckFault.{CheckFault}
-use Rattle.candesk_runs.specs.declared.fault.CheckFault.TheVariants as faults
+use Rattle.candesk_runs.specs.declared.fault.RunFault.{RunFault}
+use Rattle.candesk_runs.specs.declared.fault.RunFault.TheVariants as faults
+use Rattle.line_stream.specs.declared.fault.StreamFault.TheVariants as streams
 use Rattle.candesk_runs.specs.Checking.{found_text, verdict_of, verdict_then, Flushes, Says, TookLines, StoppedLines}
 
 module _ {W : Type 0} (written : W → Written) (a b : Out W) (c : Written) where
@@ -26,7 +27,7 @@ module _ {W : Type 0} (written : W → Written) (a b : Out W) (c : Written) wher
   lost text none p q = subst (λ (t : List ℕ). Broke (written a.sink.now) c (t ++ text)) none
       (Broke-flush (written a.sink.now) (written b.sink.now) c a.held.items text b.held.items p.passes q)
 
-  pub ended_all : (found : List Diagnostic) (before after : Verdict) (result : Result Verdict CheckFault) → a.held.items ≡ []
+  pub ended_all : (found : List Diagnostic) (before after : Verdict) (result : Result Verdict RunFault) → a.held.items ≡ []
       → before ≡ verdicts.Clean → TookLines written a b before after found
       → Flushes (written b.sink.now) c b.held.items (Ok after) result → Says found (written a.sink.now) c result
   ended_all found before after result none clean p (inl (wrote, is)) =
@@ -37,7 +38,7 @@ module _ {W : Type 0} (written : W → Written) (a b : Out W) (c : Written) wher
   ended_all found before after result none clean p (inr (broke, is)) =
       subst (Says found (written a.sink.now) c) (sym is) (lost (found_text found) none p.0 broke)
 
-  pub ended_early : (found : List Diagnostic) (result : Result Verdict CheckFault) → a.held.items ≡ []
+  pub ended_early : (found : List Diagnostic) (result : Result Verdict RunFault) → a.held.items ≡ []
       → StoppedLines written a b stops.Memory found
       → Flushes (written b.sink.now) c b.held.items (Err faults.Memory) result → Says found (written a.sink.now) c result
   ended_early found result none (first, later, parts, took) (inl (wrote, is)) =

@@ -1,0 +1,45 @@
+//! What no contract says: that a text is read with where its statements begin.
+
+use dbc_reader::{Start, Starts, read_with_starts};
+use dbc_values::List;
+use std::alloc::Global;
+use std::test::Fail;
+
+const TEXT: &[u8] =
+    b"VERSION \"1.0\"\nBU_: N\nBO_ 291 A: 8 N // SG_\n SG_ S : 7|8@0- (0.5,-1) [0|0.5] \"a\nb\" N SG_\n T : 0|1@1+ (1,0) [0|1] \"\"\n\
+BS_:\n\nBO_ 7 B: 0 N CM_ \"d\";\nCM_ EV_ e \"kept\";\nBA_ \"x\" 1;\nVAL_\n291 S -1 \"off\" ;\n";
+
+// Whether these are the lines.
+fn are_at(starts: &List<Start>, lines: &[u64]) -> bool {
+    let starts = starts.as_slice();
+    if starts.len() != lines.len() {
+        return false;
+    }
+    for (start, line) in starts.iter().zip(lines) {
+        if start.line != *line {
+            return false;
+        }
+    }
+    true
+}
+
+fn all_are_there(starts: &Starts) -> bool {
+    are_at(&starts.messages, &[3, 9])
+        && are_at(&starts.signals, &[4, 5])
+        && are_at(&starts.comments, &[9])
+        && are_at(&starts.attributes, &[11])
+        && are_at(&starts.values, &[12])
+        && are_at(&starts.kept, &[10])
+        && are_at(&starts.tables, &[])
+}
+
+fn are_read(alloc: Global) -> Result<bool, Fail> {
+    let (_, starts) = read_with_starts(alloc, TEXT).ok().ok_or("no database")?;
+    Ok(all_are_there(&starts))
+}
+
+#[test]
+fn statements_begin_there(rt: HostRuntime) -> Result<(), Fail> {
+    assert!(rt; are_read(rt.alloc())?);
+    Ok(())
+}
