@@ -286,7 +286,14 @@ function showTotal(total) {
   by("space").style.height = `${Math.min(total * LINE, MOST_HEIGHT)}px`;
   showLines(by("follow").checked ? total : page.first);
 }
-const visible = () => Math.ceil(by("log").clientHeight / LINE) + 1;
+// how many lines are visible (asked for at every update, so that it isn't measured there)
+const countRows = () => Math.ceil(by("log").clientHeight / LINE) + 1;
+let rows = countRows();
+new ResizeObserver(() => {
+  rows = countRows();
+  if (page.state) showLines(page.first);
+}).observe(by("log"));
+const visible = () => rows;
 let isAsking = false, wanted = null;
 async function showLines(first) {
   if (document.hidden) return;
