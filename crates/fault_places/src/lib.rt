@@ -9,6 +9,7 @@
 mod class;
 mod grammar;
 mod keyword;
+pub mod laws;
 mod pattern;
 mod place;
 mod seen;
