@@ -153,7 +153,16 @@ ends_so [] ys h = tt
 ends_so (Symbols symbols ∷ xs) ys h = h
 ends_so (Timing numbers ∷ xs) ys h = h
 ends_so (Nodes nodes ∷ xs) ys h = h
-ends_so (OfKind kind row ∷ xs) ys h = h
+ends_so (Table row ∷ xs) ys h = h
+ends_so (OfMessage message ∷ xs) ys h = h
+ends_so (OfComment comment ∷ xs) ys h = h
+ends_so (Definition definition ∷ xs) ys h = h
+ends_so (Default row ∷ xs) ys h = h
+ends_so (Attribute row ∷ xs) ys h = h
+ends_so (Values row ∷ xs) ys h = h
+ends_so (Float row ∷ xs) ys h = h
+ends_so (Mux row ∷ xs) ys h = h
+ends_so (OfKept row ∷ xs) ys h = h
 
 follows_so : (s : AnyStatement) (xs ys : List AnyStatement) → FollowOn s (xs ++ ys) → FollowOn s xs
 follows_so (Symbols symbols) xs ys h = ends_so xs ys h

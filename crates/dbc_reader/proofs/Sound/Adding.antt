@@ -24,8 +24,8 @@ use Rattle.dbc_reader.specs.Classes.{has_word, has_name, has_string, has_symbol,
 use Rattle.dbc_reader.specs.Reading.Cursors.{behind}
 use Rattle.dbc_reader.specs.Forms.{Part, Is, ◌▸▸◌}
 use Rattle.dbc_reader.specs.Reading.Readers.{Reader, and_then, ◌>>=◌, value, starts, size, turns, repeated, choose, choose_by}
-use Rattle.dbc_reader.specs.Spelling.{AnyStatement, Symbols, Nodes, Table, OfMessage, OfComment, Definition, Default, Attribute}
-use Rattle.dbc_reader.specs.Spelling.{Values, Float, Mux, OfKept, form, EndsSymbols, FollowOn, symbols_of, timings_of, nodes_of}
+use Rattle.dbc_reader.specs.Spelling.{AnyStatement, Symbols, Nodes}
+use Rattle.dbc_reader.specs.Spelling.{OfKept, form, EndsSymbols, FollowOn, symbols_of, timings_of, nodes_of}
 use Rattle.dbc_reader.specs.Spelling.{OfKind, records_of}
 use Rattle.dbc_reader.specs.Kinds.{Kind, RecordOf, list_of, with_list, with_lists, Tables, Messages, Comments, Definitions}
 use Rattle.dbc_reader.specs.Kinds.{Defaults, Attributes, ValueDescriptions, FloatTypes, Multiplexings, KeptVerbatim}

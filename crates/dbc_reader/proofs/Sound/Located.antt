@@ -1,5 +1,5 @@
 -- Where statements and signals were read to begin, their first tokens are.
-use Rattle.std.proofs.Common.{◌≡◌, ℕ, zero, suc, ◌<◌, Bool, true, false, cond, List, [], ◌∷◌, ◌++◌, map, length, Result, Ok, refl}
+use Rattle.std.proofs.Common.{◌≡◌, ℕ, zero, suc, ◌<◌, Bool, true, false, cond, List, [], ◌∷◌, ◌++◌, map, length, Ok, refl}
 use Rattle.std.proofs.Common.{sym}
 use Rattle.std.proofs.Common.{ap, subst, ◌∙◌, append_assoc, append-nil, arith}
 use Rattle.std.specs.Prelude.{codes}
@@ -7,20 +7,19 @@ use Rattle.std.specs.List.{flat_map}
 use Rattle.std.proofs.lemmas.Slice.Eq.{bytes_eq-Decides}
 use Rattle.dbc_records.specs.CanonicalText.{head_layout}
 use Rattle.dbc_records.specs.Databases.{Database}
-use Rattle.dbc_records.specs.Layout.{Word, items_of}
+use Rattle.dbc_records.specs.Layout.{items_of}
 use Rattle.dbc_records.specs.Records.{Signal, Message}
-use Rattle.dbc_tokens.specs.declared.fault.ReadFault.{ReadFault}
-use Rattle.dbc_tokens.specs.Tokens.{Token, Cut, ◌▸◌}
+use Rattle.dbc_tokens.specs.Tokens.{Token, Cut}
 use Rattle.dbc_reader.specs.declared.start.Start.{Start}
 use Rattle.dbc_reader.specs.declared.start.Starts.{Starts}
 use Rattle.dbc_reader.specs.Classes.{has_word, has_symbol}
-use Rattle.dbc_reader.specs.Forms.{Part, Is, Spelled, of_layout, ◌▸▸◌}
-use Rattle.dbc_reader.specs.Kinds.{Kind, RecordOf, Tables, Messages, Comments, Definitions, Defaults, Attributes, ValueDescriptions}
-use Rattle.dbc_reader.specs.Kinds.{FloatTypes, Multiplexings, KeptVerbatim, with_list}
+use Rattle.dbc_reader.specs.Forms.{Part, Spelled, of_layout, ◌▸▸◌}
+use Rattle.dbc_reader.specs.Kinds.{Messages}
+use Rattle.dbc_reader.specs.Kinds.{with_list}
 use Rattle.dbc_reader.specs.Spelling.{AnyStatement, Symbols, Timing, Nodes, OfKind, OfMessage, form, signal_form, EndsSymbols}
 use Rattle.dbc_reader.specs.Spelling.{ArePlaced, timings_of}
 use Rattle.dbc_reader.specs.Starts.{Located, start_of, start_at, BeginAt, SignalsBeginAt, AreLocated, caught_up}
-use Rattle.dbc_reader.specs.Reading.Readers.{and_then, ◌>>=◌, value, starts, size, turns, repeated}
+use Rattle.dbc_reader.specs.Reading.Readers.{and_then, value, starts, size, turns, repeated}
 use Rattle.dbc_reader.specs.Reading.Messages.{head_at, signal_at}
 use Rattle.dbc_reader.specs.Reading.Databases.{begins_statement, statement_into}
 use Rattle.dbc_reader.specs.Reading.Located.{signal_with_start, signals_with_starts, message_with_starts, message_with_starts_into}
@@ -29,10 +28,10 @@ use Rattle.dbc_reader.proofs.Turns.{and_then_ok, ok_is}
 use Rattle.dbc_reader.proofs.Turns.Signals.{signals_less}
 use Rattle.dbc_reader.proofs.Turns.Statements.{statement_shrinks}
 use Rattle.dbc_reader.proofs.Turns.Dropped.{dropped, with_signals_drops}
-use Rattle.dbc_reader.proofs.Sound.{all_then_twice, spelled_both, Spelt, spelt_both}
+use Rattle.dbc_reader.proofs.Sound.{all_then_twice, spelled_both}
 use Rattle.dbc_reader.proofs.Sound.Adding.{joined, joined_none, joined_twice, record_joined, Adding, statement_adds}
 use Rattle.dbc_reader.proofs.Sound.Messages.{head_sound, signal_sound}
-use Rattle.dbc_reader.proofs.Sound.Starts.{joined_starts, joined_starts_none, joined_starts_twice, AreMatched, one_more}
+use Rattle.dbc_reader.proofs.Sound.Starts.{joined_starts, joined_starts_none, joined_starts_twice, AreMatched}
 use Rattle.dbc_reader.proofs.Sound.Starts.{caught_up_is}
 use Rattle.dbc_reader.proofs.Sound.Starts.{still_matched}
 

@@ -1,5 +1,5 @@
 -- Each record of a database that tokens spell has a start, and so has each signal.
-use Rattle.std.proofs.Common.{◌≡◌, ℕ, ◌+◌, Option, List, [], ◌∷◌, ◌++◌, map, length, refl, sym, ap, subst, ◌∙◌, arith}
+use Rattle.std.proofs.Common.{◌≡◌, ℕ, Option, List, [], ◌∷◌, map, length, refl, sym, ap, ◌∙◌, arith}
 use Rattle.std.specs.List.{flat_map}
 use Rattle.std.proofs.lemmas.List.{length-append, length-map}
 use Rattle.std.proofs.lemmas.List.Concat.{flat_map-append}
@@ -9,11 +9,11 @@ use Rattle.dbc_tokens.specs.Tokens.{Token}
 use Rattle.dbc_reader.specs.declared.start.Start.{Start}
 use Rattle.dbc_reader.specs.declared.start.Starts.{Starts}
 use Rattle.dbc_reader.specs.Forms.{Part}
-use Rattle.dbc_reader.specs.Kinds.{Kind, RecordOf, list_of, Tables, Messages, Comments, Definitions, Defaults, Attributes}
+use Rattle.dbc_reader.specs.Kinds.{Kind, list_of, Tables, Messages, Comments, Definitions, Defaults, Attributes}
 use Rattle.dbc_reader.specs.Kinds.{ValueDescriptions, FloatTypes, Multiplexings, KeptVerbatim}
 use Rattle.dbc_reader.specs.Located.{SpellsFrom}
 use Rattle.dbc_reader.specs.Spelling.{AnyStatement, Symbols, Timing, Nodes, OfKind, signal_form, records_of, gather}
-use Rattle.dbc_reader.specs.Starts.{Located, BeginAt, SignalsBeginAt, AreLocated, HaveStarts, starts_of, starts_in, gather_starts}
+use Rattle.dbc_reader.specs.Starts.{Located, BeginAt, SignalsBeginAt, AreLocated, HaveStarts, starts_of, starts_in}
 use Rattle.dbc_reader.specs.Starts.{no_starts}
 use Rattle.dbc_reader.proofs.Sound.Starts.{listed_starts}
 

@@ -2,10 +2,9 @@
 use Rattle.std.proofs.Common.{◌≡◌, ℕ, zero, suc, Bool, true, false, cond, List, [], ◌∷◌, ◌++◌, length, Result, Ok, Err, refl, sym}
 use Rattle.std.proofs.Common.{ap}
 use Rattle.std.proofs.Common.{◌∙◌}
-use Rattle.std.specs.Prelude.{codes, Option}
-use Rattle.dbc_values.specs.Decimals.{Decimal}
+use Rattle.std.specs.Prelude.{codes}
 use Rattle.dbc_records.specs.Databases.{Database}
-use Rattle.dbc_records.specs.Records.{Head, Signal, Message}
+use Rattle.dbc_records.specs.Records.{Signal}
 use Rattle.dbc_tokens.specs.declared.fault.ReadFault.{ReadFault}
 use Rattle.dbc_tokens.specs.Tokens.{Token, Cut}
 use Rattle.dbc_reader.specs.declared.start.Start.{Start}
@@ -13,9 +12,9 @@ use Rattle.dbc_reader.specs.declared.start.Starts.{Starts}
 use Rattle.dbc_reader.specs.declared.stopped.Stopped.{Stopped}
 use Rattle.dbc_reader.specs.declared.stopped.Stopped.TheVariants as stops
 use Rattle.dbc_reader.specs.Classes.{has_word}
-use Rattle.dbc_reader.specs.Kinds.{Messages, with_list, empty_database}
+use Rattle.dbc_reader.specs.Kinds.{Messages, empty_database}
 use Rattle.dbc_reader.specs.Starts.{start_at, no_starts, caught_up}
-use Rattle.dbc_reader.specs.Reading.Readers.{Reader, and_then, ◌>>=◌, value, starts, size, turns, repeated, end_at, Fails}
+use Rattle.dbc_reader.specs.Reading.Readers.{Reader, and_then, value, starts, size, turns, repeated, end_at, Fails}
 use Rattle.dbc_reader.specs.Reading.Messages.{head_at, signal_at, signals_from, message_at}
 use Rattle.dbc_reader.specs.Reading.Databases.{record_into, begins_statement, statement_into, statements_into, version_at}
 use Rattle.dbc_reader.specs.Reading.Databases.{timing_at}

@@ -1,9 +1,8 @@
 -- Reading signals and statements with where each begins, one after another.
-use Rattle.std.proofs.Common.{◌≡◌, ◌<◌, true, false, Option, None, List, [], ◌∷◌, ◌++◌, Result, Ok, Err, refl, subst}
+use Rattle.std.proofs.Common.{◌≡◌, ◌<◌, true, false, None, List, [], ◌∷◌, ◌++◌, Result, Ok, refl, subst}
 use Rattle.std.specs.Prelude.{codes}
 use Rattle.dbc_records.specs.Databases.{Database}
 use Rattle.dbc_records.specs.Records.{Signal}
-use Rattle.dbc_values.specs.Decimals.{Decimal}
 use Rattle.dbc_tokens.specs.declared.fault.ReadFault.{ReadFault}
 use Rattle.dbc_tokens.specs.Tokens.{Cut}
 use Rattle.dbc_reader.specs.declared.start.Start.{Start}
@@ -15,7 +14,7 @@ use Rattle.dbc_reader.specs.Starts.{start_at}
 use Rattle.dbc_reader.specs.Reading.Keywords.{keyword_at}
 use Rattle.dbc_reader.specs.Reading.Readers.{starts, size, value, Fails}
 use Rattle.dbc_reader.specs.Reading.Messages.{signal_at}
-use Rattle.dbc_reader.specs.Reading.Databases.{begins_statement, statement_into}
+use Rattle.dbc_reader.specs.Reading.Databases.{begins_statement}
 use Rattle.dbc_reader.specs.Reading.Located.{signal_with_start, signals_with_starts, message_with_starts, message_with_starts_into}
 use Rattle.dbc_reader.specs.Reading.Located.{without_signals_into, with_signals_into, located_into, all_located_into}
 use Rattle.dbc_reader.proofs.Facts.Keywords.{no_statement_begins}
