@@ -19,8 +19,8 @@ use Rattle.candesk_runs.specs.declared.fault.RunFault.{RunFault}
 use Rattle.candesk_runs.specs.declared.fault.RunFault.TheVariants as run
 use Rattle.line_stream.specs.declared.fault.StreamFault.TheVariants as streams
 use Rattle.candesk_runs.specs.declared.checking.Verdict.{Verdict}
-use Rattle.candesk_runs.specs.Explaining.{ExplainsPlaced, ExplainsFault, ExplainsText}
-use Rattle.placed_faults.specs.PlacedFaults.{placed_faults}
+use Rattle.candesk_runs.specs.Explaining.{ExplainsFound, ExplainsFault, ExplainsText}
+use Rattle.can_findings.specs.AllFindings.{all_findings}
 use Rattle.can_decode.specs.declared.short.Short.{Short}
 use Rattle.can_decode.specs.DecodedLines.{Bus}
 use Rattle.candesk_runs.specs.Decoding.{Writes, WritesRows, WritesCsv, RunsToTexts, RunsToCsv, header_text}
@@ -54,7 +54,7 @@ module _ (text : List ℕ) (database : Database) (read : HasDatabase text databa
 
 -- the same of a database with where its statements begin
 pub explained : (text : List ℕ) (database : Database) (starts : Starts) → HasLocatedDatabase text database starts
-    → (old new : Written) (result : Result Verdict RunFault) → ExplainsPlaced (placed_faults database starts) old new result
+    → (old new : Written) (result : Result Verdict RunFault) → ExplainsFound (all_findings database starts) old new result
     → ExplainsText text old new result
 explained text database starts read old new (Ok verdict) done = (database, starts, read, done)
 explained text database starts read old new (Err (run.Read fault)) done = absurd done

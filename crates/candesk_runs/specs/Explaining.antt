@@ -8,10 +8,10 @@ use Rattle.dbc_reader.specs.Grammar as grammar
 use Rattle.dbc_reader.specs.Texts.{HasFirstFault}
 use Rattle.dbc_reader.specs.Located.{HasLocatedDatabase}
 use Rattle.dbc_reader.specs.declared.start.Starts.{Starts}
-use Rattle.can_remedies.specs.declared.placed.Placed.{Placed}
-use Rattle.can_remedies.specs.Remedies.{explained_text}
+use Rattle.can_findings.specs.declared.finding.Finding.{Finding}
+use Rattle.can_findings.specs.Remedies.{explained_text}
 use Rattle.fault_reports.specs.Headlines.{BeginsSo}
-use Rattle.placed_faults.specs.PlacedFaults.{placed_faults}
+use Rattle.can_findings.specs.AllFindings.{all_findings}
 use Rattle.candesk_runs.specs.declared.checking.Verdict.{Verdict}
 use Rattle.candesk_runs.specs.declared.fault.RunFault.{RunFault}
 use Rattle.candesk_runs.specs.declared.fault.RunFault.TheVariants as faults
@@ -19,7 +19,7 @@ use Rattle.line_stream.specs.declared.fault.StreamFault.TheVariants as streams
 use Rattle.candesk_runs.specs.Checking.{verdict_of}
 
 -- The lines of all with their remedies were written, or a beginning of them and then a put failed.
-abbrev pub ExplainsAll : List Placed → Written → Written → Result Verdict RunFault → Type 0
+abbrev pub ExplainsAll : List Finding → Written → Written → Result Verdict RunFault → Type 0
 ExplainsAll found old new (Ok verdict) = Wrote old new (flat_map explained_text found) × (verdict ≡ verdict_of found)
 ExplainsAll found old new (Err (faults.Read fault)) = ⊥
 ExplainsAll found old new (Err (faults.Stream streams.Write)) = Broke old new (flat_map explained_text found)
@@ -27,12 +27,12 @@ ExplainsAll found old new (Err (faults.Stream fault)) = ⊥
 ExplainsAll found old new (Err faults.Memory) = ⊥
 
 -- So it ended, or nothing was written, and memory ran out.
-abbrev pub ExplainsPlaced : List Placed → Written → Written → Result Verdict RunFault → Type 0
-ExplainsPlaced found old new (Ok verdict) = ExplainsAll found old new (Ok verdict)
-ExplainsPlaced found old new (Err (faults.Read fault)) = ⊥
-ExplainsPlaced found old new (Err (faults.Stream streams.Write)) = ExplainsAll found old new (Err (faults.Stream streams.Write))
-ExplainsPlaced found old new (Err (faults.Stream fault)) = ⊥
-ExplainsPlaced found old new (Err faults.Memory) = new ≡ old
+abbrev pub ExplainsFound : List Finding → Written → Written → Result Verdict RunFault → Type 0
+ExplainsFound found old new (Ok verdict) = ExplainsAll found old new (Ok verdict)
+ExplainsFound found old new (Err (faults.Read fault)) = ⊥
+ExplainsFound found old new (Err (faults.Stream streams.Write)) = ExplainsAll found old new (Err (faults.Stream streams.Write))
+ExplainsFound found old new (Err (faults.Stream fault)) = ⊥
+ExplainsFound found old new (Err faults.Memory) = new ≡ old
 
 -- Words on a text with this first fault were written, which begin with its line and its cause, or a beginning of such words, and
 -- then a put failed. Or nothing was written, and memory ran out.
@@ -49,13 +49,13 @@ ExplainsFault first old new (Err faults.Memory) = new ≡ old
 -- words on it were written.
 abbrev pub ExplainsText : List ℕ → Written → Written → Result Verdict RunFault → Type 0
 ExplainsText text old new (Ok verdict) = (database : Database) × (starts : Starts) × HasLocatedDatabase text database starts
-    × ExplainsPlaced (placed_faults database starts) old new (Ok verdict)
+    × ExplainsFound (all_findings database starts) old new (Ok verdict)
 ExplainsText text old new (Err (faults.Read fault)) = HasFirstFault grammar.text text fault
     × ExplainsFault fault old new (Err (faults.Read fault))
 ExplainsText text old new (Err (faults.Stream streams.Write)) =
     ((database : Database) × (starts : Starts) × HasLocatedDatabase text database starts
-    × ExplainsPlaced (placed_faults database starts) old new (Err (faults.Stream streams.Write)))
+    × ExplainsFound (all_findings database starts) old new (Err (faults.Stream streams.Write)))
     ⊎ ((fault : ReadFault) × HasFirstFault grammar.text text fault × ExplainsFault fault old new (Err (faults.Stream
-        streams.Write)))
+    streams.Write)))
 ExplainsText text old new (Err (faults.Stream fault)) = ⊥
 ExplainsText text old new (Err faults.Memory) = new ≡ old

@@ -1,23 +1,22 @@
 //! A database text in, what is wrong with it in words out.
 ghost use Rattle.dbc_reader.specs.Grammar as grammar;
 ghost use Rattle.dbc_reader.specs.Texts.{HasFirstFault};
-ghost use Rattle.placed_faults.specs.PlacedFaults.{placed_faults};
-ghost use Rattle.candesk_runs.specs.Explaining.{ExplainsAll, ExplainsPlaced, ExplainsFault, ExplainsText};
+ghost use Rattle.can_findings.specs.AllFindings.{all_findings};
+ghost use Rattle.candesk_runs.specs.Explaining.{ExplainsAll, ExplainsFound, ExplainsFault, ExplainsText};
 
 use crate::checking::{Verdict, verdict_of};
 use crate::fault::RunFault;
-use can_remedies::{Placed, write_explained};
+use can_findings::{Finding, all_findings, write_explained};
 use dbc_model::{Memory, Sink, WriteFault, put_all};
 use dbc_reader::{Starts, read_with_starts};
 use dbc_records::Database;
 use dbc_tokens::{Cause, ReadFault};
 use fault_reports::fault_report;
 use line_stream::StreamFault;
-use placed_faults::placed_faults;
 use std::alloc::Global;
 
 // Writes diagnostics behind their lines, with their remedies.
-fn explain_all<W: Sink>(found: &[Placed], sink: &mut W) -> Result<Verdict, RunFault>
+fn explain_all<W: Sink>(found: &[Finding], sink: &mut W) -> Result<Verdict, RunFault>
     ensures { ExplainsAll found.now (W.written sink.old) (W.written sink.new) result }
 {
     match write_explained(found, sink) {
@@ -33,9 +32,9 @@ fn explain_database<W: Sink>(
     starts: &Starts,
     sink: &mut W,
 ) -> Result<Verdict, RunFault>
-    ensures { ExplainsPlaced (placed_faults database.now starts.now) (W.written sink.old) (W.written sink.new) result }
+    ensures { ExplainsFound (all_findings database.now starts.now) (W.written sink.old) (W.written sink.new) result }
 {
-    match placed_faults(alloc, database, starts) {
+    match all_findings(alloc, database, starts) {
         Ok(found) => explain_all(found.as_slice(), sink),
         Err(Memory) => Err(RunFault::Memory),
     }

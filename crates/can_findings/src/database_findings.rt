@@ -1,0 +1,95 @@
+//! All that is doubtful in a database, with its lines.
+ghost use Rattle.std.specs.Prelude.{◌≡◌, IfOk};
+ghost use Rattle.can_findings.specs.RowLines.{row_lines_of};
+ghost use Rattle.can_findings.specs.AllFindings.{all_findings};
+
+use crate::finding::Finding;
+use crate::message_locations::push_messages;
+use crate::row_lines::{KeyedLines, SignalRowLines};
+use crate::row_locations::push_all_rows;
+use can_references::Known;
+use can_rows::{Indexed, Lookup};
+use dbc_reader::Starts;
+use dbc_records::Database;
+use dbc_values::Memory;
+use std::alloc::Global;
+
+// By what is known of the database, and the lines of its rows.
+#[tactic(auto, using(crate::proofs::Rows::pushed_then), unfolding(crate::specs::AllFindings::all_findings))]
+fn findings_by<L: Lookup>(
+    alloc: Global,
+    known: &Known<'_, L>,
+    starts: &Starts,
+    rows: &KeyedLines<'_>,
+) -> Result<Vec<Finding>, Memory>
+    requires { rows.now ≡ row_lines_of known.now starts.now }
+    ensures { IfOk result (λ finding. finding.items ≡ all_findings known.now starts.now) }
+{
+    let database = known.database();
+    let mut findings = Vec::new(alloc);
+    push_messages(
+        &mut findings,
+        known,
+        database.messages.as_slice(),
+        starts,
+        rows,
+    )?;
+    push_all_rows(&mut findings, known, database, starts)?;
+    Ok(findings)
+}
+
+// By what is known of the database, and the keys of its rows.
+fn findings_by_keys<L: Lookup>(
+    alloc: Global,
+    known: &Known<'_, L>,
+    starts: &Starts,
+    rows: &SignalRowLines<'_>,
+) -> Result<Vec<Finding>, Memory>
+    requires { rows.now ≡ row_lines_of known.now starts.now }
+    ensures { IfOk result (λ finding. finding.items ≡ all_findings known.now starts.now) }
+{
+    match KeyedLines::of(alloc, rows) {
+        Ok(rows) => findings_by(alloc, known, starts, &rows),
+        Err(Memory) => Err(Memory),
+    }
+}
+
+// By what is known of the database.
+fn findings_known<L: Lookup>(
+    alloc: Global,
+    known: &Known<'_, L>,
+    starts: &Starts,
+) -> Result<Vec<Finding>, Memory>
+    ensures { IfOk result (λ finding. finding.items ≡ all_findings known.now starts.now) }
+{
+    let rows = SignalRowLines::of(alloc, known.database(), starts)?;
+    findings_by_keys(alloc, known, starts, &rows)
+}
+
+fn findings_with<L: Lookup>(
+    alloc: Global,
+    lookup: &L,
+    starts: &Starts,
+) -> Result<Vec<Finding>, Memory>
+    ensures { IfOk result (λ finding. finding.items ≡ all_findings (L.whole lookup.now) starts.now) }
+{
+    match Known::of(alloc, lookup) {
+        Ok(known) => findings_known(alloc, &known, starts),
+        Err(Memory) => Err(Memory),
+    }
+}
+
+/// All diagnostics of a database, as `can_check` finds them, each with the lines in which what it speaks of begins. The lines are
+/// those of the database's text.
+pub fn all_findings(
+    alloc: Global,
+    database: &Database,
+    starts: &Starts,
+) -> Result<Vec<Finding>, Memory>
+    ensures { IfOk result (λ finding. finding.items ≡ all_findings database.now starts.now) }
+{
+    match Indexed::of(alloc, database) {
+        Ok(indexed) => findings_with(alloc, &indexed, starts),
+        Err(Memory) => Err(Memory),
+    }
+}

@@ -1,0 +1,57 @@
+//! Findings: diagnostics with their locations in the text.
+ghost use Rattle.byte_devices.specs.Outs.{Sends};
+ghost use Rattle.can_findings.specs.Remedies.{number_text, location_text};
+
+use byte_devices::{Out, Sink, WriteFault};
+use can_diagnostics::Diagnostic;
+use itoa::Buffer;
+
+/// The lines in which the statements that a diagnostic is about begin.
+#[derive(Clone, Copy, Debug, PartialEq, Eq)]
+pub enum Location {
+    /// One statement begins in this line.
+    Line(u64),
+    /// Two statements begin in these lines.
+    Lines(u64, u64),
+}
+
+/// A diagnostic, and where in the text of the database it is about.
+#[derive(Drop)]
+pub struct Finding {
+    /// Where.
+    pub location: Location,
+    /// The diagnostic.
+    pub diagnostic: Diagnostic,
+}
+
+// The words before a number of a line, it, and those behind it.
+#[tactic(auto, using(byte_devices::proofs::Outs::sends), unfolding(crate::specs::Remedies::number_text))]
+fn write_number<W: Sink>(
+    out: &mut Out<'_, W>,
+    before: &[u8],
+    number: u64,
+    behind: &[u8],
+) -> Result<(), WriteFault>
+    ensures { Sends W.written out.old out.new result (number_text before.now number behind.now) }
+{
+    let mut buffer = Buffer::new();
+    let pieces: [&[u8]; 3] = [before, buffer.format(number).as_bytes(), behind];
+    out.send_pieces(&pieces)
+}
+
+/// Writes the location at the beginning of a diagnostic's line.
+#[tactic(auto, using(byte_devices::proofs::Outs::sends), unfolding(crate::specs::Remedies::location_text))]
+pub(crate) fn write_location<W: Sink>(
+    out: &mut Out<'_, W>,
+    location: Location,
+) -> Result<(), WriteFault>
+    ensures { Sends W.written out.old out.new result (location_text location) }
+{
+    match location {
+        Location::Line(line) => write_number(out, b"line ", line, b": "),
+        Location::Lines(first, second) => {
+            write_number(out, b"lines ", first, b" and ")?;
+            write_number(out, b"", second, b": ")
+        }
+    }
+}

@@ -1,0 +1,21 @@
+//! The diagnostics of a database, each with the lines in which the statements that it is about begin, and with its remedy.
+//!
+//! [`all_findings`] finds what `can_check` finds, message by message and entry by entry, so it knows the index of each in the
+//! database; where they begin is what `dbc_reader` reports of the statements that it read. [`remedy`] is what to do about a code,
+//! and [`write_explained`] writes findings with their remedies.
+#![tactic(auto)]
+
+mod database_findings;
+mod explaining;
+mod finding;
+mod front;
+pub mod laws;
+mod message_locations;
+mod remedies;
+mod row_lines;
+mod row_locations;
+
+pub use database_findings::all_findings;
+pub use explaining::write_explained;
+pub use finding::{Finding, Location};
+pub use remedies::remedy;

@@ -1,0 +1,148 @@
+//! What is doubtful of rows, with its lines.
+ghost use Rattle.std.specs.Prelude.{◌≡◌, [], ◌∷◌, ◌++◌, OnOk, map};
+ghost use Rattle.can_references.specs.RowFaults.{row_fault};
+ghost use Rattle.can_findings.specs.RowLocations.{findings_at, keys_at, keys_in, findings_after, front_rows, attribute_rows};
+ghost use Rattle.can_findings.specs.RowLocations.{signal_rows};
+ghost use Rattle.can_findings.specs.RowLocations.{all_rows};
+
+use crate::finding::{Finding, Location};
+use crate::front::{behind_first, first_line};
+use can_check::Diagnostic;
+use can_keys::RowKeys;
+use can_references::{Known, Row, push_row};
+use can_rows::Lookup;
+use dbc_reader::{Start, Starts};
+use dbc_records::Database;
+use dbc_values::{List, Memory};
+
+// Adds diagnostics of a row that begins in this line.
+fn push_at(findings: &mut Vec<Finding>, line: u64, found: Vec<Diagnostic>) -> Result<(), Memory>
+    ensures { OnOk result (findings.new.items ≡ findings.old.items ++ map (findings_at line) found.items) }
+{
+    let location = Location::Line(line);
+    for diagnostic in found {
+        findings.push(Finding {
+            location,
+            diagnostic,
+        })?;
+    }
+    Ok(())
+}
+
+// Adds what is doubtful of a row, given the rows before it, and takes it among them.
+fn push_row_at<'a, L: Lookup, R: Row>(
+    findings: &mut Vec<Finding>,
+    known: &Known<'a, L>,
+    seen: &mut RowKeys<'a>,
+    row: &'a R,
+    line: u64,
+) -> Result<(), Memory>
+    ensures findings { OnOk result (findings.new.items ≡ findings.old.items ++ map (findings_at line) (row_fault known.now seen.old
+        (R.key_of row.now))) }
+    ensures seen { OnOk result (seen.new ≡ seen.old ++ R.key_of row.now ∷ []) }
+{
+    let mut found = Vec::new(*findings.allocator());
+    push_row(&mut found, known, seen, row)?;
+    push_at(findings, line, found)
+}
+
+// Adds what is doubtful of rows of one kind, which begin in these lines, given the rows before them.
+fn push_rows_at<'a, L: Lookup, R: Row>(
+    findings: &mut Vec<Finding>,
+    known: &Known<'a, L>,
+    seen: &mut RowKeys<'a>,
+    rows: &'a List<R>,
+    starts: &List<Start>,
+) -> Result<(), Memory>
+    ensures findings { OnOk result (findings.new.items ≡ findings.old.items ++ findings_after known.now seen.old (keys_at
+        (map R.key_of rows.now) starts.now)) }
+    ensures seen { OnOk result (seen.new ≡ seen.old ++ keys_in (keys_at (map R.key_of rows.now) starts.now)) }
+{
+    let (mut left, mut further) = (rows.as_slice(), starts.as_slice());
+    'rows: while let [row, others @ ..] = left {
+        push_row_at(findings, known, seen, row, first_line(further))?;
+        (left, further) = (others, behind_first(further));
+    }
+    Ok(())
+}
+
+#[tactic(auto, using(crate::proofs::Rows::findings_then), unfolding(crate::specs::RowLocations::front_rows))]
+fn push_front<'a, L: Lookup>(
+    findings: &mut Vec<Finding>,
+    known: &Known<'a, L>,
+    seen: &mut RowKeys<'a>,
+    database: &'a Database,
+    starts: &Starts,
+) -> Result<(), Memory>
+    ensures findings { OnOk result (findings.new.items ≡ findings.old.items
+        ++ findings_after known.now seen.old (front_rows database.now
+        starts.now)) }
+    ensures seen { OnOk result (seen.new ≡ seen.old ++ keys_in (front_rows database.now starts.now)) }
+{
+    push_rows_at(findings, known, seen, &database.tables, &starts.tables)?;
+    push_rows_at(findings, known, seen, &database.comments, &starts.comments)
+}
+
+#[tactic(auto, using(crate::proofs::Rows::findings_then), unfolding(crate::specs::RowLocations::attribute_rows))]
+fn push_attributes<'a, L: Lookup>(
+    findings: &mut Vec<Finding>,
+    known: &Known<'a, L>,
+    seen: &mut RowKeys<'a>,
+    database: &'a Database,
+    starts: &Starts,
+) -> Result<(), Memory>
+    ensures findings { OnOk result (findings.new.items ≡ findings.old.items ++ findings_after known.now seen.old
+        (attribute_rows database.now starts.now)) }
+    ensures seen { OnOk result (seen.new ≡ seen.old ++ keys_in (attribute_rows database.now starts.now)) }
+{
+    push_rows_at(
+        findings,
+        known,
+        seen,
+        &database.definitions,
+        &starts.definitions,
+    )?;
+    push_rows_at(findings, known, seen, &database.defaults, &starts.defaults)?;
+    push_rows_at(
+        findings,
+        known,
+        seen,
+        &database.attributes,
+        &starts.attributes,
+    )
+}
+
+#[tactic(auto, using(crate::proofs::Rows::findings_then), unfolding(crate::specs::RowLocations::signal_rows))]
+fn push_signal_rows<'a, L: Lookup>(
+    findings: &mut Vec<Finding>,
+    known: &Known<'a, L>,
+    seen: &mut RowKeys<'a>,
+    database: &'a Database,
+    starts: &Starts,
+) -> Result<(), Memory>
+    ensures findings { OnOk result (findings.new.items ≡ findings.old.items
+        ++ findings_after known.now seen.old (signal_rows database.now
+        starts.now)) }
+    ensures seen { OnOk result (seen.new ≡ seen.old ++ keys_in (signal_rows database.now starts.now)) }
+{
+    push_rows_at(findings, known, seen, &database.values, &starts.values)?;
+    push_rows_at(findings, known, seen, &database.floats, &starts.floats)?;
+    push_rows_at(findings, known, seen, &database.muxes, &starts.muxes)
+}
+
+/// Adds what is doubtful of all rows, kind by kind.
+#[tactic(auto, using(crate::proofs::Rows::findings_then), unfolding(crate::specs::RowLocations::all_rows))]
+pub(crate) fn push_all_rows<'a, L: Lookup>(
+    findings: &mut Vec<Finding>,
+    known: &Known<'a, L>,
+    database: &'a Database,
+    starts: &Starts,
+) -> Result<(), Memory>
+    ensures { OnOk result (findings.new.items ≡ findings.old.items ++ findings_after known.now [] (all_rows database.now
+        starts.now)) }
+{
+    let mut seen = RowKeys::new(*findings.allocator());
+    push_front(findings, known, &mut seen, database, starts)?;
+    push_attributes(findings, known, &mut seen, database, starts)?;
+    push_signal_rows(findings, known, &mut seen, database, starts)
+}
