@@ -61,7 +61,7 @@ fits_first d (Nodes nodes) more is = tt
 fits_first d (Table row) more is = one_of IsTableRow d.tables row (flat_map (records_of Tables) more) is.tables
 fits_first d (OfMessage message) more is =
     let count = and_parts (timing_fits d.bit_timing) (nat_le (length (d.messages
-        ++ message ∷ flat_map (records_of Messages) more)) 65535)
+    ++ message ∷ flat_map (records_of Messages) more)) 65535)
     is.fits in (
       room (length d.messages) (length (flat_map (records_of Messages) more)) (subst (λ (n : ℕ). nat_le n 65535 ≡ true)
           (length-append d.messages (message ∷ flat_map (records_of Messages) more)) count.1),
