@@ -17,7 +17,8 @@ class Number(str):
 
 def read(text: bytes) -> Item:
     """The object of a line, its numbers as they are written."""
-    return json.loads(text.decode("utf-8"), parse_float=Number, parse_int=Number, object_pairs_hook=members_once)
+    item: Item = json.loads(text.decode("utf-8"), parse_float=Number, parse_int=Number, object_pairs_hook=members_once)
+    return item
 
 
 def objects(text: bytes) -> tuple[list[Item], Item]:

@@ -27,12 +27,16 @@ def members_once(pairs: list[tuple[str, Any]]) -> dict[str, Any]:
 
 def read(text: bytes) -> dict[str, Any]:
     """The object of a line, its numbers exact."""
-    return json.loads(text.decode("utf-8"), parse_float=Decimal, object_pairs_hook=members_once)
+    item: dict[str, Any] = json.loads(text.decode("utf-8"), parse_float=Decimal, object_pairs_hook=members_once)
+    return item
 
 
 def bytes_of(item: dict[str, Any], name: str) -> bytes:
     """The bytes of a text that the object has."""
-    return bytes.fromhex(item[f"{name}_hex"]) if f"{name}_hex" in item else item[name].encode()
+    if f"{name}_hex" in item:
+        return bytes.fromhex(item[f"{name}_hex"])
+    text: str = item[name]
+    return text.encode()
 
 
 def number(value: int | Decimal) -> bytes:
@@ -65,7 +69,7 @@ def group_text(item: dict[str, Any]) -> bytes:
 
 def said(item: dict[str, Any]) -> bytes:
     """What the frame says."""
-    cause = item.get("not_decoded")
+    cause: str | None = item.get("not_decoded")
     if cause == "wrong size":
         return b"Wrong data size: %d instead of %d bytes" % (len(item["data"]) // 2, item["size"])
     if cause == "unknown id":

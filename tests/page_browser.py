@@ -122,8 +122,8 @@ def try_browser(tries: Tries, folder: str, page: Callable[..., Any], picture: st
     path = written(folder, "seen.dbc", read(example("car.print")) + b'CM_ BO_ 256 "<img src=x onerror=alert(1)>";\n')
     many = os.path.join(folder, "many.log")
     log = read(example("drive.log")) * 3704
-    with open(many, "wb") as file:
-        file.write(log)
+    with open(many, "wb") as target:
+        target.write(log)
     count = log.count(b"\n")
     driver = browser()
     try:
@@ -150,7 +150,7 @@ def try_browser(tries: Tries, folder: str, page: Callable[..., Any], picture: st
             look.do('change-signal 6 SG_ Main : 2|2@1+ (1,0) [0|3] "" Dash')
             look.wait("a new diagnostic, marked", lambda: "6 Overlap 769" in look.text("found"))
             shared = "return document.querySelectorAll('#grid .two').length"
-            look.wait("shared bits, marked", lambda: driver.execute_script(shared) == 2)
+            look.wait("shared bits, marked", lambda: bool(driver.execute_script(shared) == 2))
             look.by("undo").click()
             look.wait("undone", lambda: "6 Overlap 769" not in look.text("found"))
             look.drag(1, 5)
@@ -167,7 +167,7 @@ def try_browser(tries: Tries, folder: str, page: Callable[..., Any], picture: st
             both = driver.execute_script(cells)
             driver.execute_script("document.querySelector('#branches select').id = 'branch'")
             look.choose("branch", "1")
-            look.wait("a branch is switched", lambda: "2" not in driver.execute_script(cells) != both)
+            look.wait("a branch is switched", lambda: bool("2" not in driver.execute_script(cells) != both))
             said = [it for it in driver.get_log("browser") if it["level"] == "SEVERE" and "favicon" not in it["message"]]
             tries.note("browser: no error", not said, said)
         feeding = f"for n in 1 2 3 4 5 6 7 8; do cat {example('drive.log')}; sleep 0.3; done; sleep 5"

@@ -29,6 +29,7 @@ LONG = 1_000_000
 EDITS = 200
 SOON = 0.1
 LINE = b"(%d.%06d) can0 301#%02X\n"
+NO_HEADERS: dict[str, str] = {}
 
 
 class Refusal(Exception):
@@ -114,14 +115,14 @@ async def try_access(tries: Tries) -> None:
                 is_strict = "default-src 'none'" in policy and "frame-ancestors 'none'" in policy and nonce and nonce[0] in text
                 tries.note("page: its policy", is_strict and got.headers["Cache-Control"] == "no-store", got.headers)
             for what, web, query, headers in (
-                ("no token", stranger, "", {}), ("another token", stranger, "?token=" + "x" * 32, {}),
+                ("no token", stranger, "", NO_HEADERS), ("another token", stranger, "?token=" + "x" * 32, NO_HEADERS),
                 ("another host", friend, "", {"Host": "evil.example"}),
                 ("another origin", friend, "", {"Origin": "http://evil.example"}),
             ):
                 async with web.get(f"{it.base}/{query}", headers=headers) as got:
                     tries.note(f"page: refused: {what}", got.status == 403, got.status)
             for what, web, headers in (
-                ("no origin", friend, {}), ("another origin", friend, {"Origin": "http://evil.example"}),
+                ("no origin", friend, NO_HEADERS), ("another origin", friend, {"Origin": "http://evil.example"}),
                 ("no cookie", stranger, {"Origin": it.base}),
             ):
                 try:
@@ -133,9 +134,9 @@ async def try_access(tries: Tries) -> None:
         async with it.talk() as talk:
             await talk.next()
             await talk.socket.send_str("x" * (1 << 18))
-            got = await talk.socket.receive()
-            is_closed = got.type in (aiohttp.WSMsgType.CLOSE, aiohttp.WSMsgType.CLOSED)
-            tries.note("page: refused: a message that is too large", is_closed, got)
+            last = await talk.socket.receive()
+            is_closed = last.type in (aiohttp.WSMsgType.CLOSE, aiohttp.WSMsgType.CLOSED)
+            tries.note("page: refused: a message that is too large", is_closed, last)
         async with it.talk() as talk:
             await talk.next()
             wishes = ('{"id": 1, "want": "fly"}', '{"id": 2, "want": "message", "place": 99}', '{"id": 3, "want": "edit"}')
