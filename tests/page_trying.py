@@ -287,7 +287,7 @@ async def try_live_log(tries: Tries, folder: str) -> None:
                     began = time.monotonic()
                     await talk.wish("edit", command=f"rename-signal 5 {'A' if at % 2 == 0 else 'Z'} {'Z' if at % 2 == 0 else 'A'}")
                     taken.append(time.monotonic() - began)
-                told = await talk.until(lambda told: "log" in told)
+                await talk.until(lambda told: "log" in told)
                 pushes, end = 0, time.monotonic() + 1
                 while time.monotonic() < end:
                     pushes += "log" in await talk.next()
