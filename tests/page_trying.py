@@ -15,7 +15,7 @@ import sys
 import tempfile
 import time
 from collections.abc import AsyncIterator, Callable
-from typing import Any
+from typing import Any, Final
 
 sys.dont_write_bytecode = True
 
@@ -29,7 +29,7 @@ LONG = 1_000_000
 EDITS = 200
 SOON = 0.1
 LINE = b"(%d.%06d) can0 301#%02X\n"
-NO_HEADERS: dict[str, str] = {}
+NO_HEADERS: Final[dict[str, str]] = {}
 
 
 class Refusal(Exception):
