@@ -51,6 +51,8 @@ PIECES = re.compile(rb'(?P<quoted>%s)|(?P<comment>//[^\n]*)|(?P<plain>[^"/]+|/)|
 CANONICAL = re.compile(rb'%s|\n|[^"\n]+' % QUOTED)
 MESSAGE = re.compile(rb"BO_ (\d+) (\w+): (\d+) ")
 SIGNAL = re.compile(rb" SG_ (\w+) ")
+# the beginnings of messages and signals in a canonical text: a line feed that is quoted begins none
+HEADS = re.compile(rb"%s|^BO_ (\d+) (\w+): (\d+) |^ SG_ (\w+) " % QUOTED, re.MULTILINE)
 
 
 class Message(NamedTuple):
@@ -261,13 +263,11 @@ def canonical_lines(canonical: bytes) -> Iterator[list[bytes]]:
 def messages_of(canonical: bytes) -> list[Message]:
     """The messages of a canonical text, each with the names of its signals, in order."""
     found: list[Message] = []
-    for line in canonical_lines(canonical):
-        message = MESSAGE.match(line[0]) if line else None
-        signal_line = SIGNAL.match(line[0]) if line else None
-        if message:
-            found.append(Message(len(found), int(message[1]), message[2].decode(), [], int(message[3])))
-        elif signal_line and found:
-            found[-1].signals.append(signal_line[1].decode())
+    for head in HEADS.finditer(canonical):
+        if head[1]:
+            found.append(Message(len(found), int(head[1]), head[2].decode(), [], int(head[3])))
+        elif head[4]:
+            found[-1].signals.append(head[4].decode())
     return found
 
 

@@ -103,16 +103,23 @@ function showMessages() {
       const button = made("button", null, { onclick: () => openMessage(it.place) });
       const frames = made("small"), cycle = made("small");
       button.append(made("span", it.name), made("code", hex(it)), frames, cycle);
-      return { message: it, button, frames, cycle };
+      return { message: it, isCurrent: false, button, frames, cycle };
     });
     by("messages").replaceChildren(...page.items.map(it => { const item = made("li"); item.append(it.button); return item; }));
+    showFrames();
   }
-  for (const { message, button, frames, cycle } of page.items) {
+  for (const item of page.items) {
+    const isCurrent = item.message.place === page.place;
+    if (item.isCurrent === isCurrent) continue;
+    item.isCurrent = isCurrent;
+    item.button.ariaCurrent = isCurrent ? "true" : null;
+  }
+}
+function showFrames() {
+  for (const { message, frames, cycle } of page.items) {
     const came = page.counts.get(String(message.number));
     put(frames, came ? `${came.count} frames` : "no frames");
     put(cycle, came && came.cycle !== null ? `${(came.cycle * 1000).toFixed(1)} ms` : "");
-    const current = message.place === page.place ? "true" : null;
-    if (button.ariaCurrent !== current) button.ariaCurrent = current;
   }
 }
 // puts a text into an element, if it isn't there already
@@ -128,7 +135,7 @@ function openMessage(place) {
 }
 function showCounts(counts) {
   page.counts = new Map(Object.entries(counts));
-  if (page.state) showMessages();
+  showFrames();
   showValues();
 }
 // the diagnostics, those that are new first; of very many the first ones

@@ -9,6 +9,7 @@ from __future__ import annotations
 import array
 import collections
 import contextlib
+import itertools
 import os
 import re
 import subprocess
@@ -27,8 +28,9 @@ RING = 200_000
 MOST_BYTES = 4096
 # how many of the last objects of a message are kept, for its plots
 RECENT = 120
-# how many live lines are counted at once (all their objects have room in a pipe)
+# how many live lines are counted at once (all their objects have room in a pipe), and how many at most before others have a turn
 BATCH = 100
+MOST_COUNTED = 2_000
 # how many texts of before and after are kept
 UNDONE = 100
 # how many diagnostics a page shows
@@ -202,11 +204,18 @@ class Desk:
         return done.stdout
 
     def message(self, place: int) -> str:
-        """The object of a message, as the program writes it."""
-        lines = self.said("dump", "--json").split(b"\n")
-        if not 0 <= place < len(lines) - 2:
+        """The object of a message, as the program writes it. What it would write of later ones isn't waited for."""
+        if not 0 <= place < len(self.messages):
             raise Refused(f"there is no message {place}")
-        return lines[place].decode()
+        with self.printed() as path:
+            words = [tools.program(), "dump", "--json", "--", path]
+            with subprocess.Popen(words, stdin=subprocess.DEVNULL, stdout=subprocess.PIPE) as running:
+                assert running.stdout
+                line = next(itertools.islice(running.stdout, place, None), b"")
+                running.kill()
+        if not line.endswith(b"\n"):
+            raise Refused(f"there is no message {place}")
+        return line.decode()
 
     def remedies(self) -> dict[str, str]:
         """The remedy of each diagnostic that a page shows, by its words."""
@@ -412,21 +421,26 @@ class LiveCounts(Counts):
         super().__init__()
         self.desk, self.version = desk, desk.version
         self.running = desk.decoder(desk.text)
+        self.waiting: collections.deque[bytes] = collections.deque()
 
     def close(self) -> None:
         self.running.kill()
         self.running.wait()
 
     def count(self, lines: list[bytes]) -> None:
-        """Counts lines, by the database as it is now: after an edit all that is kept is counted anew."""
+        """Counts lines, by the database as it is now: after an edit all that is kept is counted anew. Of many only the first are
+        counted at once, and the others by later calls."""
+        most = max(MOST_COUNTED, 2 * len(lines))
         if self.version != self.desk.version:
             self.close()
             self.version, self.found = self.desk.version, {}
             self.running = self.desk.decoder(self.desk.text)
             lines = self.desk.log.lines(self.desk.log.first, self.desk.log.count)
+            self.waiting.clear()
+        self.waiting.extend(lines)
         assert self.running.stdin and self.running.stdout
-        for at in range(0, len(lines), BATCH):
-            batch = [it[:MOST_BYTES] for it in lines[at : at + BATCH]]
+        for _ in range(0, min(len(self.waiting), most), BATCH):
+            batch = [self.waiting.popleft()[:MOST_BYTES] for _ in range(min(BATCH, len(self.waiting)))]
             self.running.stdin.write(b"".join(it + b"\n" for it in batch))
             self.running.stdin.flush()
             for _ in batch:
