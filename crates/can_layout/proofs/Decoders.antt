@@ -1,5 +1,5 @@
 -- A scale is for as many bits as the signal has.
-use Rattle.std.proofs.Common.{◌≡◌, ℕ, Bool, true, false, length, Option, Some, None, if◌then◌else◌, ap, sym}
+use Rattle.std.proofs.Common.{◌≡◌, ℕ, Bool, true, false, length, Option, Some, None, if◌then◌else◌, refl, ap, sym}
 use Rattle.std.specs.Option.{option_map_or}
 use Rattle.dbc_values.specs.Decimals.{Decimal}
 use Rattle.dbc_values.specs.Scales.{Scale, scale_of}
@@ -17,3 +17,7 @@ scale_length factor offset count false scale is = absurd (let no : None ≡ Some
 pub all_bits : (field : Field) → length (bits_of field) ≡ field.length
 unfolding bits_of
 all_bits field = bit_count field
+
+pub length_of : (factor offset : Decimal) (count : ℕ) → (scale_of factor offset count).length ≡ count
+unfolding scale_of
+length_of factor offset count = refl

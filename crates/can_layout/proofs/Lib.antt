@@ -2,6 +2,7 @@ pub mod Chains
 pub mod Decoders
 pub mod EntryOrders
 pub mod EntryPlaces
+pub mod Layouts
 pub mod Meters
 pub mod Names
 pub mod Placed

@@ -8,4 +8,5 @@ pub mod Searches
 pub mod Plans
 pub mod Presence
 pub mod Pictures
+pub mod Layouts
 pub mod Meters

@@ -8,8 +8,7 @@ use crate::naming::ready_unit;
 use can_bits::{Field, Steps};
 use dbc_records::{Entry, Signal};
 use dbc_values::{Copied, Memory, Scale, Text};
-use ready_texts::ReadyText;
-use std::alloc::Global;
+use ready_texts::{Draft, ReadyText};
 use std::marker::Model;
 use std::rc::Rc;
 
@@ -55,9 +54,9 @@ impl Model for Decoder {
 }
 
 impl Decoder {
-    /// How the values of a signal are read, by a scale for as many bits and by its named values.
+    /// How the values of a signal are read, by a scale for as many bits and by its named values. Its texts are made in the draft.
     pub(crate) fn of(
-        alloc: Global,
+        draft: &mut Draft,
         signal: &Signal,
         scale: Scale,
         named: Option<Rc<Named>>,
@@ -71,9 +70,9 @@ impl Decoder {
           entries = entries_in (option_map (λ one. one.value) named);
         }) }
     {
-        let bits = Steps::of(alloc, Field::of(signal));
+        let bits = Steps::of(draft.allocator(), Field::of(signal));
         let unit = signal.unit.copy()?;
-        let unit_text = ready_unit(alloc, unit.as_bytes())?;
+        let unit_text = ready_unit(draft, unit.as_bytes())?;
         Ok(Decoder {
             named,
             signed: signal.signed,

@@ -4,13 +4,29 @@ ghost use Rattle.std.specs.Option.{option_map};
 ghost use Rattle.can_layout.specs.Pictures.{picture_of};
 ghost use Rattle.can_layout.specs.Meters.{with_picture, repeated, AtMost};
 
+use crate::layout::Layout;
 use crate::legend::picture_in;
 use crate::meter::Meter;
-use can_mux::MessageRows;
+use crate::sharing::Sharing;
 use can_rows::{Indexed, Lookup};
 use dbc_records::{Database, Message};
 use dbc_values::Memory;
 use std::alloc::Global;
+
+// The picture of a message. The meter counts it, also where memory is refused.
+fn picture_sharing<L: Lookup>(
+    alloc: Global,
+    sharing: &Sharing<'_, L>,
+    message: &Message,
+    meter: &mut Meter,
+) -> Result<Vec<u8>, Memory>
+    ensures picture { IfOk result (λ picture. picture.items ≡ picture_of sharing.now message.now) }
+    ensures counted { meter.new ≡ with_picture meter.old }
+{
+    meter.count_picture();
+    let layout = Layout::of(alloc, sharing, message)?;
+    picture_in(alloc, &layout)
+}
 
 /// The picture of a message, by the rows of a database: a [`Database`] goes through them for each signal, an [`Indexed`] one
 /// finds them. The meter counts it, also where memory is refused.
@@ -23,12 +39,7 @@ pub fn picture_with<L: Lookup>(
     ensures picture { IfOk result (λ picture. picture.items ≡ picture_of (L.whole lookup.now) message.now) }
     ensures counted { meter.new ≡ with_picture meter.old }
 {
-    meter.count_picture();
-    picture_in(
-        alloc,
-        &MessageRows::of(lookup, message.head.number),
-        message,
-    )
+    picture_sharing(alloc, &Sharing::none(lookup), message, meter)
 }
 
 /// The picture of the message at a place. It goes through the rows of the database for each signal. The meter counts it,

@@ -1,12 +1,15 @@
 //! The picture of a message, and its legend.
 ghost use Rattle.std.specs.Prelude.{◌≡◌, ◌++◌, IfOk, OnOk, decimal};
 ghost use Rattle.can_bits.specs.Grids.{right};
+ghost use Rattle.std.specs.List.{flat_map, enumerate_from};
+ghost use Rattle.can_mux.specs.Switches.{aboves_of};
 ghost use Rattle.can_layout.specs.Pictures.{signal_text, legend_line, legend_text, picture_in};
+ghost use Rattle.can_layout.specs.Layouts.{legend_by};
 
-use crate::refusal::{Cause, cause_of};
+use crate::layout::{Layout, SignalLayout};
 use crate::text::{push_bytes, push_cause, push_span, push_title, push_walk};
 use can_bits::{fields_of, push_grid, push_right};
-use can_mux::{Above, MessageRows, Walk, aboves_of, walk_of};
+use can_mux::{Above, Walk, walk_of};
 use can_rows::Lookup;
 use dbc_records::{Message, Signal};
 use dbc_values::Memory;
@@ -39,53 +42,63 @@ fn push_legend_line(
     text: &mut Vec<u8>,
     signals: &[Signal],
     place: usize,
-    signal: &Signal,
-    cause: Option<Cause>,
+    layout: &SignalLayout<'_>,
     walk: &Walk,
 ) -> Result<(), Memory>
-    ensures { OnOk result (text.new.items ≡ text.old.items ++ legend_line signals.now place signal.now cause walk.now) }
+    ensures { OnOk result (text.new.items ≡ text.old.items ++ legend_line signals.now place layout.now.signal layout.now.cause
+        walk.now) }
 {
-    push_signal(text, place, signal)?;
-    push_cause(text, cause)?;
+    push_signal(text, place, layout.signal())?;
+    push_cause(text, layout.cause())?;
     push_walk(text, signals, walk)?;
     push_bytes(text, b"\n")
 }
 
 // A line for each signal.
-fn push_legend<L: Lookup>(
-    alloc: Global,
+fn push_lines(
     text: &mut Vec<u8>,
-    rows: &MessageRows<'_, L>,
-    aboves: &[Above],
-    size: u16,
     signals: &[Signal],
+    aboves: &[Above],
+    layouts: &[SignalLayout<'_>],
 ) -> Result<(), Memory>
-    ensures { OnOk result (text.new.items ≡ text.old.items ++ legend_text rows.now aboves.now size signals.now) }
+    ensures { OnOk result (text.new.items ≡ text.old.items ++ flat_map (λ placed. legend_by signals.now aboves.now placed.0
+        placed.1) (enumerate_from 0 layouts.now)) }
 {
-    for (place, signal) in signals.iter().enumerate() {
-        let walk = walk_of(alloc, aboves, place)?;
-        let cause = cause_of(rows, size, signal);
-        push_legend_line(text, signals, place, signal, cause, &walk)?;
+    for (place, layout) in layouts.iter().enumerate() {
+        let walk = walk_of(*text.allocator(), aboves, place)?;
+        push_legend_line(text, signals, place, layout, &walk)?;
     }
     Ok(())
 }
 
-/// The picture of a message, by the rows of its number.
+// The same of a message that is laid out so.
+fn push_legend<L: Lookup>(text: &mut Vec<u8>, layout: &Layout<'_, L>) -> Result<(), Memory>
+    ensures { OnOk result (text.new.items ≡ text.old.items ++ legend_text layout.now.rows
+        (aboves_of layout.now.rows layout.now.message.signals) layout.now.message.head.size layout.now.message.signals) }
+{
+    let signals = layout.message().signals.as_slice();
+    push_lines(text, signals, layout.aboves(), layout.signals())?;
+    Ok(())
+}
+
+// Room for the picture of most messages: a line of 38 bytes for each byte, and one for each signal.
+fn room_for(message: &Message) -> usize {
+    64 + 40 * usize::from(message.head.size) + 48 * message.signals.as_slice().len().min(256)
+}
+
+/// The picture of a message that is laid out so.
 #[tactic(auto, unfolding(crate::specs::Pictures::picture_in))]
 pub(crate) fn picture_in<L: Lookup>(
     alloc: Global,
-    rows: &MessageRows<'_, L>,
-    message: &Message,
+    layout: &Layout<'_, L>,
 ) -> Result<Vec<u8>, Memory>
-    ensures { IfOk result (λ picture. picture.items ≡ picture_in rows.now message.now) }
+    ensures { IfOk result (λ picture. picture.items ≡ picture_in layout.now.rows layout.now.message) }
 {
-    let size = message.head.size;
-    let signals = message.signals.as_slice();
-    let fields = fields_of(alloc, signals)?;
-    let aboves = aboves_of(alloc, rows, signals)?;
-    let mut text = Vec::new(alloc);
+    let message = layout.message();
+    let fields = fields_of(alloc, message.signals.as_slice())?;
+    let mut text = Vec::with_capacity(alloc, room_for(message))?;
     push_title(&mut text, &message.head)?;
-    push_grid(&mut text, size, fields.as_slice())?;
-    push_legend(alloc, &mut text, rows, aboves.as_slice(), size, signals)?;
+    push_grid(&mut text, message.head.size, fields.as_slice())?;
+    push_legend(&mut text, layout)?;
     Ok(text)
 }

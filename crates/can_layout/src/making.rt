@@ -1,16 +1,37 @@
 //! Plans of one message, and of all.
 ghost use Rattle.std.specs.Prelude.{◌≡◌, ◌<◌, IfOk, OnOk, Some, length, map, slice_get};
 ghost use Rattle.std.specs.Option.{option_map};
+ghost use Rattle.can_rows.specs.Rows.{rows_of};
 ghost use Rattle.can_layout.specs.Plans.{plan_of};
-ghost use Rattle.can_layout.specs.Meters.{with_plan, repeated, AtMost};
+ghost use Rattle.can_layout.specs.Pictures.{picture_of};
+ghost use Rattle.can_layout.specs.Meters.{with_plan, with_picture, repeated, AtMost};
 
+use crate::layout::Layout;
+use crate::legend::picture_in;
 use crate::meter::Meter;
 use crate::plan::{Plan, plan_in};
-use crate::sharing::{PlanRows, SharedRows, Sharing};
+use crate::sharing::{SharedRows, Sharing};
 use can_rows::{Indexed, Lookup};
 use dbc_records::{Database, Message};
 use dbc_values::Memory;
 use std::alloc::Global;
+
+// How a message is laid out, for a plan, which is counted.
+fn layout_for_plan<'a, L: Lookup>(
+    alloc: Global,
+    sharing: &'a Sharing<'a, L>,
+    message: &'a Message,
+    meter: &mut Meter,
+) -> Result<Layout<'a, L>, Memory>
+    ensures layout { IfOk result (λ layout. layout ≡ record {
+      rows = rows_of message.now.head.number sharing.now;
+      message = message.now;
+    }) }
+    ensures counted { meter.new ≡ with_plan meter.old }
+{
+    meter.count_plan();
+    Layout::of(alloc, sharing, message)
+}
 
 /// The plan of a message, by the rows of a database: a [`Database`] goes through them for each signal, an [`Indexed`] one
 /// finds them. The meter counts it, also where memory is refused.
@@ -36,8 +57,26 @@ pub fn plan_sharing<L: Lookup>(
     ensures plan { IfOk result (λ plan. plan ≡ plan_of sharing.now message.now) }
     ensures counted { meter.new ≡ with_plan meter.old }
 {
-    meter.count_plan();
-    plan_in(alloc, &PlanRows::of(sharing, message.head.number), message)
+    let layout = layout_for_plan(alloc, sharing, message, meter)?;
+    plan_in(alloc, &layout)
+}
+
+/// The plan and the picture of a message, made of one layout of it. The meter counts both, also where memory is refused.
+pub fn plan_and_picture<L: Lookup>(
+    alloc: Global,
+    sharing: &Sharing<'_, L>,
+    message: &Message,
+    meter: &mut Meter,
+) -> Result<(Plan, Vec<u8>), Memory>
+    ensures plan { IfOk result (λ made. made.0 ≡ plan_of sharing.now message.now) }
+    ensures picture { IfOk result (λ made. made.1.items ≡ picture_of sharing.now message.now) }
+    ensures counted { meter.new ≡ with_plan (with_picture meter.old) }
+{
+    meter.count_picture();
+    let layout = layout_for_plan(alloc, sharing, message, meter)?;
+    let plan = plan_in(alloc, &layout)?;
+    let picture = picture_in(alloc, &layout)?;
+    Ok((plan, picture))
 }
 
 /// The plan of the message at a place. It goes through the rows of the database for each signal. The meter counts it, also

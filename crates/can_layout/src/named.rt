@@ -6,8 +6,7 @@ use crate::entries::{EntrySearch, entry_of, search_of_many};
 use crate::naming::ready_names;
 use dbc_records::{Entries, Entry};
 use dbc_values::Memory;
-use ready_texts::ReadyText;
-use std::alloc::Global;
+use ready_texts::{Draft, ReadyText};
 use std::marker::Model;
 
 /// The named values of a signal, found by their raw values.
@@ -34,12 +33,12 @@ impl Model for Named {
 }
 
 impl Named {
-    /// These named values.
-    pub(crate) fn of(alloc: Global, entries: Entries) -> Result<Named, Memory>
+    /// These named values. Their texts are made in the draft.
+    pub(crate) fn of(draft: &mut Draft, entries: Entries) -> Result<Named, Memory>
         ensures { IfOk result (λ named. named ≡ entries) }
     {
-        let search = search_of_many(alloc, &entries)?;
-        let names = ready_names(alloc, &search, entries.as_slice())?;
+        let search = search_of_many(draft.allocator(), &entries)?;
+        let names = ready_names(draft, &search, entries.as_slice())?;
         Ok(Named {
             names,
             entries,

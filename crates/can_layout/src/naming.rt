@@ -7,7 +7,6 @@ use crate::entries::{EntrySearch, entry_of};
 use dbc_records::Entry;
 use dbc_values::Memory;
 use ready_texts::{Draft, ReadyText, push_bytes, push_shown};
-use std::alloc::Global;
 
 // At most so many raw values have their names kept ready.
 const MOST: usize = 64;
@@ -27,12 +26,12 @@ fn push_unit(text: &mut Draft, unit: &[u8]) -> Result<(), Memory>
 }
 
 /// What is written of a unit, kept ready.
-pub(crate) fn ready_unit(alloc: Global, unit: &[u8]) -> Result<ReadyText, Memory>
+pub(crate) fn ready_unit(draft: &mut Draft, unit: &[u8]) -> Result<ReadyText, Memory>
     ensures { IfOk result (λ ready. ready ≡ unit_text unit.now) }
 {
-    let mut text = Draft::new(alloc);
-    push_unit(&mut text, unit)?;
-    ReadyText::of(alloc, text.as_slice())
+    draft.clear();
+    push_unit(draft, unit)?;
+    ReadyText::of(draft.allocator(), draft.as_slice())
 }
 
 /// The first entry for a raw value.
@@ -49,7 +48,7 @@ pub fn first_entry(entries: &[Entry], raw: i128) -> Option<&Entry>
 
 // The name of a raw value, kept ready.
 fn ready_name(
-    alloc: Global,
+    draft: &mut Draft,
     search: &Option<EntrySearch>,
     entries: &[Entry],
     raw: i128,
@@ -60,15 +59,15 @@ fn ready_name(
     let Some(entry) = entry_of(search, entries, raw) else {
         return Ok(None);
     };
-    let mut text = Draft::new(alloc);
-    push_shown(&mut text, entry.text.as_bytes())?;
-    let ready = ReadyText::of(alloc, text.as_slice())?;
+    draft.clear();
+    push_shown(draft, entry.text.as_bytes())?;
+    let ready = ReadyText::of(draft.allocator(), draft.as_slice())?;
     Ok(Some(ready))
 }
 
 /// The names of the first raw values, kept ready. There are as many of them as entries, but not more than a few.
 pub(crate) fn ready_names(
-    alloc: Global,
+    draft: &mut Draft,
     search: &Option<EntrySearch>,
     entries: &[Entry],
 ) -> Result<Vec<Option<ReadyText>>, Memory>
@@ -76,9 +75,9 @@ pub(crate) fn ready_names(
     ensures { IfOk result (λ names. AreNames entries.now names.items) }
 {
     let count = entries.len().min(MOST);
-    let mut names = Vec::with_capacity(alloc, count)?;
+    let mut names = Vec::with_capacity(draft.allocator(), count)?;
     for raw in 0..count as u8 {
-        names.push(ready_name(alloc, search, entries, i128::from(raw))?)?;
+        names.push(ready_name(draft, search, entries, i128::from(raw))?)?;
     }
     Ok(names)
 }

@@ -1,30 +1,30 @@
 //! Decode plans.
 ghost use Rattle.std.specs.Prelude.{◌≡◌, ℕ, List, [], ◌<◌, ◌≤◌, IfOk, IfSome, Some, None, true, length, map, slice_get, option_map};
-ghost use Rattle.can_layout.specs.Plans.{reading_of, chain_of, row_of, plan_rows, label_of, plan_in, raw_at};
+ghost use Rattle.can_layout.specs.Plans.{reading_unless, chain_of, plan_rows, label_of, plan_in, raw_at};
+ghost use Rattle.can_layout.specs.Layouts.{row_by};
 ghost use Rattle.can_layout.specs.Plans.{raw_value_at, has_number, is_met, are_met, is_present};
 ghost use Rattle.can_layout.specs.Presence.{AreKnown, ArePlain, AreChained, AreRuns, IsRunOf, IsLongestRun, IsAsked, chain_at};
 ghost use Rattle.can_layout.specs.Presence.{AreAsked, AreAllAsked, raw_of, switch_raw, is_among, is_top, are_plain};
 ghost use Rattle.can_layout.specs.declared.runs.Run.{Run as PlainRun};
-ghost use Rattle.std.specs.List.{list_any};
+ghost use Rattle.std.specs.List.{list_any, enumerate_from};
 ghost use Rattle.dbc_records.specs.Ranges.{in_range};
 ghost use Rattle.can_mux.specs.Walks.{walk_of};
 ghost use Rattle.can_mux.specs.declared.above.Above.{Above as PlainAbove};
-ghost use Rattle.can_mux.specs.Switches.{aboves_of};
 
 use crate::asked::{Asked, MAX_KEPT, Switches};
 use crate::decoder::Decoder;
+use crate::layout::{Layout, SignalLayout};
 use crate::order::{Order, order_of, slots_unless_in_row};
 use crate::presence::known_at;
-use crate::refusal::cause_of;
 use crate::row::{Reading, Row};
 use crate::runs::{Run, runs_of};
 use crate::sharing::PlanRows;
 use crate::switch_chain::Chain;
 use can_bits::Field;
-use can_mux::{Above, Link, above_at, aboves_of};
+use can_mux::{Above, Link, above_at};
 use can_rows::Lookup;
-use dbc_records::{Message, Range, Signal};
-use dbc_values::{Copied, List, Memory, Scale};
+use dbc_records::Range;
+use dbc_values::{Copied, List, Memory};
 use ready_texts::{Draft, ReadyText, push_bytes};
 use std::alloc::Global;
 use std::marker::Model;
@@ -63,38 +63,36 @@ impl Model for Plan {
         × (length a.runs.items < length a.rows → ArePlain a.rows) × (a.plain ≡ are_plain a.rows) };
 }
 
-#[tactic(auto, unfolding(crate::specs::Plans::cause_of))]
 fn reading_of<L: Lookup>(
-    alloc: Global,
+    draft: &mut Draft,
     rows: &PlanRows<'_, L>,
-    size: u16,
-    signal: &Signal,
+    layout: &SignalLayout<'_>,
 ) -> Result<Reading, Memory>
-    ensures { IfOk result (λ reading. reading ≡ reading_of rows.now size signal.now) }
+    ensures { IfOk result (λ reading. reading ≡ reading_unless layout.now.cause rows.now layout.now.signal) }
 {
-    if let Some(cause) = cause_of(&rows.rows(), size, signal) {
-        return Ok(Reading::Refused(cause));
+    let signal = layout.signal;
+    match layout.scale {
+        Ok(scale) => {
+            let named = rows.named(draft, &signal.name)?;
+            let decoder = Decoder::of(draft, signal, scale, named)?;
+            Ok(Reading::Read(decoder))
+        }
+        Err(cause) => Ok(Reading::Refused(cause)),
     }
-    let Some(scale) = Scale::of(&signal.factor, &signal.offset, signal.length) else {
-        return Ok(Reading::Refused(crate::refusal::Cause::Scale));
-    };
-    let named = rows.named(alloc, &signal.name)?;
-    let decoder = Decoder::of(alloc, signal, scale, named)?;
-    Ok(Reading::Read(decoder))
 }
 
 fn row_of<L: Lookup>(
-    alloc: Global,
+    draft: &mut Draft,
     rows: &PlanRows<'_, L>,
     chain: Option<Chain>,
-    size: u16,
-    signal: &Signal,
+    layout: &SignalLayout<'_>,
 ) -> Result<Row, Memory>
     ensures { IfOk result (λ row. (aboves : List PlainAbove) (place : ℕ) → chain ≡ chain_of (walk_of aboves place)
-        → row ≡ row_of rows.now aboves size place signal.now) }
+        → row ≡ row_by rows.now aboves place layout.now) }
 {
+    let signal = layout.signal;
     let name = signal.name.copy()?;
-    let reading = reading_of(alloc, rows, size, signal)?;
+    let reading = reading_of(draft, rows, layout)?;
     Ok(Row {
         name,
         field: Field::of(signal),
@@ -103,39 +101,53 @@ fn row_of<L: Lookup>(
     })
 }
 
-fn plan_rows<L: Lookup>(
-    alloc: Global,
+// A row for each signal. Texts are made in the draft.
+fn rows_by<L: Lookup>(
+    draft: &mut Draft,
     rows: &PlanRows<'_, L>,
     aboves: &Rc<List<Above>>,
-    size: u16,
-    signals: &[Signal],
+    signals: &[SignalLayout<'_>],
 ) -> Result<List<Row>, Memory>
-    ensures { IfOk result (λ made. made ≡ plan_rows rows.now aboves.now.value size signals.now) }
+    ensures { IfOk result (λ made. made ≡ map (λ placed. row_by rows.now aboves.now.value placed.0 placed.1)
+        (enumerate_from 0 signals.now)) }
 {
-    let mut made = List::with_capacity(alloc, signals.len())?;
-    for (place, signal) in signals.iter().enumerate() {
+    let mut made = List::with_capacity(draft.allocator(), signals.len())?;
+    for (place, layout) in signals.iter().enumerate() {
         let chain = Chain::of(aboves, place)?;
-        made.push(row_of(alloc, rows, chain, size, signal)?)?;
+        made.push(row_of(draft, rows, chain, layout)?)?;
     }
     Ok(made)
 }
 
-fn label_of(alloc: Global, row: &Row) -> Result<ReadyText, Memory>
-    ensures { IfOk result (λ label. label ≡ label_of row.now) }
+// The same of a message that is laid out so.
+fn plan_rows<L: Lookup>(
+    draft: &mut Draft,
+    layout: &Layout<'_, L>,
+    aboves: &Rc<List<Above>>,
+) -> Result<List<Row>, Memory>
+    ensures { IfOk result (λ made. made ≡ plan_rows layout.now.rows aboves.now.value layout.now.message.head.size
+        layout.now.message.signals) }
 {
-    let mut text = Draft::new(alloc);
-    push_bytes(&mut text, b", ")?;
-    push_bytes(&mut text, row.name.as_bytes())?;
-    push_bytes(&mut text, b": ")?;
-    ReadyText::of(alloc, text.as_slice())
+    let made = rows_by(draft, layout.rows(), aboves, layout.signals())?;
+    Ok(made)
 }
 
-fn labels_of(alloc: Global, rows: &[Row]) -> Result<Vec<ReadyText>, Memory>
+fn label_of(draft: &mut Draft, row: &Row) -> Result<ReadyText, Memory>
+    ensures { IfOk result (λ label. label ≡ label_of row.now) }
+{
+    draft.clear();
+    push_bytes(draft, b", ")?;
+    push_bytes(draft, row.name.as_bytes())?;
+    push_bytes(draft, b": ")?;
+    ReadyText::of(draft.allocator(), draft.as_slice())
+}
+
+fn labels_of(draft: &mut Draft, rows: &[Row]) -> Result<Vec<ReadyText>, Memory>
     ensures { IfOk result (λ labels. labels.items ≡ map label_of rows.now) }
 {
-    let mut labels = Vec::with_capacity(alloc, rows.len())?;
+    let mut labels = Vec::with_capacity(draft.allocator(), rows.len())?;
     for row in rows {
-        labels.push(label_of(alloc, row)?)?;
+        labels.push(label_of(draft, row)?)?;
     }
     Ok(labels)
 }
@@ -177,27 +189,21 @@ fn runs_unless(
     }
 }
 
-/// The plan of a message, by the rows of its number.
+/// The plan of a message that is laid out so.
 #[tactic(auto, unfolding(crate::specs::Plans::plan_in))]
-pub(crate) fn plan_in<L: Lookup>(
-    alloc: Global,
-    rows: &PlanRows<'_, L>,
-    message: &Message,
-) -> Result<Plan, Memory>
-    ensures { IfOk result (λ plan. plan ≡ plan_in rows.now message.now) }
+pub(crate) fn plan_in<L: Lookup>(alloc: Global, layout: &Layout<'_, L>) -> Result<Plan, Memory>
+    ensures { IfOk result (λ plan. plan ≡ plan_in layout.now.rows layout.now.message) }
 {
-    let size = message.head.size;
-    let signals = message.signals.as_slice();
-    let aboves = aboves_of(alloc, &rows.rows(), signals)?;
-    let aboves = Rc::new(alloc, aboves)?;
-    let made = plan_rows(alloc, rows, &aboves, size, signals)?;
-    let labels = labels_of(alloc, made.as_slice())?;
+    let mut draft = Draft::new(alloc);
+    let aboves = layout.shared_aboves()?;
+    let made = plan_rows(&mut draft, layout, &aboves)?;
+    let labels = labels_of(&mut draft, made.as_slice())?;
     let plain = are_plain(made.as_slice());
     let runs = runs_unless(alloc, plain, made.as_slice(), aboves.as_ref().as_slice())?;
     let order = order_of(alloc, &runs)?;
     let slots = slots_unless_in_row(alloc, &runs)?;
     Ok(Plan {
-        size,
+        size: layout.message().head.size,
         rows: made,
         labels,
         aboves,

@@ -1,7 +1,9 @@
 //! Why a signal can't be decoded.
-ghost use Rattle.std.specs.Prelude.{◌≡◌};
+ghost use Rattle.std.specs.Prelude.{◌≡◌, IfOk};
 ghost use Rattle.can_rows.specs.Rows.{first_float, is_float_row};
+ghost use Rattle.dbc_values.specs.Scales.{scale_of};
 ghost use Rattle.can_layout.specs.Plans.{cause_of};
+ghost use Rattle.can_layout.specs.Layouts.{cause_in};
 ghost use Rattle.can_layout.specs.Pictures.{cause_word};
 
 use can_bits::Field;
@@ -46,8 +48,31 @@ fn is_float<L: Lookup>(rows: &MessageRows<'_, L>, signal: &Signal) -> bool
     }
 }
 
-// The first cause that holds, in a message of that many bytes.
+// The scale of a signal in a message of that many bytes, or the first cause that keeps it from being decoded.
 #[tactic(auto, unfolding(crate::specs::Plans::cause_of))]
+pub(crate) fn scale_of<L: Lookup>(
+    rows: &MessageRows<'_, L>,
+    size: u16,
+    signal: &Signal,
+) -> Result<Scale, Cause>
+    ensures cause { cause_in result ≡ cause_of rows.now size signal.now }
+    ensures scale { IfOk result (λ scale. scale ≡ scale_of signal.now.factor signal.now.offset signal.now.length) }
+{
+    if Field::of(signal).is_outside(usize::from(size)) {
+        Err(Cause::Outside)
+    } else if is_float(rows, signal) {
+        Err(Cause::Float)
+    } else if signal.length > Scale::MAX_LENGTH {
+        Err(Cause::Long)
+    } else {
+        match Scale::of(&signal.factor, &signal.offset, signal.length) {
+            Some(scale) => Ok(scale),
+            None => Err(Cause::Scale),
+        }
+    }
+}
+
+// The first cause that holds, in a message of that many bytes.
 pub(crate) fn cause_of<L: Lookup>(
     rows: &MessageRows<'_, L>,
     size: u16,
@@ -55,15 +80,8 @@ pub(crate) fn cause_of<L: Lookup>(
 ) -> Option<Cause>
     ensures { result ≡ cause_of rows.now size signal.now }
 {
-    if Field::of(signal).is_outside(usize::from(size)) {
-        Some(Cause::Outside)
-    } else if is_float(rows, signal) {
-        Some(Cause::Float)
-    } else if signal.length > Scale::MAX_LENGTH {
-        Some(Cause::Long)
-    } else if Scale::of(&signal.factor, &signal.offset, signal.length).is_none() {
-        Some(Cause::Scale)
-    } else {
-        None
+    match scale_of(rows, size, signal) {
+        Ok(_) => None,
+        Err(cause) => Some(cause),
     }
 }

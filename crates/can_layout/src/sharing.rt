@@ -10,26 +10,28 @@ use can_mux::MessageRows;
 use can_rows::{Index, Lookup};
 use dbc_records::{Database, Message, ValueRow};
 use dbc_values::{Copied, Memory, Name};
+use ready_texts::Draft;
 use std::alloc::Global;
 use std::marker::Model;
 use std::rc::Rc;
 
 // The named values of a row.
-fn named_in(alloc: Global, row: &ValueRow) -> Result<Rc<Named>, Memory>
+fn named_in(draft: &mut Draft, row: &ValueRow) -> Result<Rc<Named>, Memory>
     ensures { IfOk result (λ named. named.value ≡ row.now.entries) }
 {
     let entries = row.entries.copy()?;
-    let named = Rc::new(alloc, Named::of(alloc, entries)?)?;
+    let named = Named::of(draft, entries)?;
+    let named = Rc::new(draft.allocator(), named)?;
     Ok(named)
 }
 
 // The same, where there is a row.
-fn named_of(alloc: Global, row: Option<&ValueRow>) -> Result<Option<Rc<Named>>, Memory>
+fn named_of(draft: &mut Draft, row: Option<&ValueRow>) -> Result<Option<Rc<Named>>, Memory>
     ensures { IfOk result (λ named. entries_in (option_map (λ one. one.value) named) ≡ entries_of (option_map (λ row. row.now)
         row.entry)) }
 {
     match row {
-        Some(row) => Ok(Some(named_in(alloc, row)?)),
+        Some(row) => Ok(Some(named_in(draft, row)?)),
         None => Ok(None),
     }
 }
@@ -104,9 +106,10 @@ fn named_by<'a>(
     ensures { IfOk result (λ named. map row_of named.items ≡ filter (λ row. is_shared numbers.now row.number) rows.now) }
 {
     let mut all = Vec::new(alloc);
+    let mut draft = Draft::new(alloc);
     for row in rows {
         if is_shared(numbers, row.number) {
-            let named = named_in(alloc, row)?;
+            let named = named_in(&mut draft, row)?;
             all.push(NamedRow { row, named })?;
         }
     }
@@ -259,13 +262,18 @@ impl<'a, L: Lookup> Sharing<'a, L> {
     }
 
     // The named values of a signal.
-    fn named(&self, alloc: Global, number: u32, signal: &Name) -> Result<Option<Rc<Named>>, Memory>
+    fn named(
+        &self,
+        draft: &mut Draft,
+        number: u32,
+        signal: &Name,
+    ) -> Result<Option<Rc<Named>>, Memory>
         ensures { IfOk result (λ named. entries_in (option_map (λ one. one.value) named) ≡ entries_of (first_values signal.now
             (rows_of number self.now))) }
     {
         match self.shared_row(number, signal) {
             Some(shared) => Ok(Some(shared.named.clone()?)),
-            None => named_of(alloc, self.lookup.values(number, signal)),
+            None => named_of(draft, self.lookup.values(number, signal)),
         }
     }
 }
@@ -300,11 +308,15 @@ impl<'a, L: Lookup> PlanRows<'a, L> {
         MessageRows::of(self.sharing.lookup(), self.number)
     }
 
-    /// The named values of a signal.
-    pub(crate) fn named(&self, alloc: Global, signal: &Name) -> Result<Option<Rc<Named>>, Memory>
+    /// The named values of a signal. Their texts are made in the draft.
+    pub(crate) fn named(
+        &self,
+        draft: &mut Draft,
+        signal: &Name,
+    ) -> Result<Option<Rc<Named>>, Memory>
         ensures { IfOk result (λ named. entries_in (option_map (λ one. one.value) named) ≡ entries_of (first_values signal.now
             self.now)) }
     {
-        self.sharing.named(alloc, self.number, signal)
+        self.sharing.named(draft, self.number, signal)
     }
 }

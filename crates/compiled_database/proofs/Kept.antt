@@ -56,7 +56,7 @@ pub picture_there : (database : Database) (message : Option Message) (one : Comp
 picture_there database None one is = absurd (cc)
 picture_there database (Some message) one is = ap (option_map (λ (c : Compiled). c.picture)) is
 
--- what stands at a place of a mapped list
+-- what stands at an index of a mapped list
 pub at_place : {X Y Z : Type 0} (f : X → Z) (g : Y → Z) (xs : List X) (ys : List Y) (i : ℕ) → map f xs ≡ map g ys
     → option_map f (slice_get xs i) ≡ option_map g (slice_get ys i)
 at_place f g xs ys i same = sym (slice_get-map f xs i) ∙ ap (λ zs. slice_get zs i) same ∙ slice_get-map g ys i

@@ -7,7 +7,7 @@ use Rattle.can_layout.specs.Pictures.{picture_of}
 use Rattle.can_layout.specs.Meters.{Meter}
 use Rattle.edit_reach.specs.Touched.{is_among}
 
--- the plan and the picture of a message
+-- the plan and the diagram of a message
 pub record Compiled : Type 0 where
   pub plan : Plan
   pub picture : List ℕ
@@ -23,7 +23,7 @@ is_here numbers message = is_among numbers message.head.number
 abbrev pub count_here : List ℕ → Database → ℕ
 count_here numbers database = count_by (is_here numbers) database.messages
 
--- meanwhile at most so many plans and as many pictures were counted, and at most so many decoded lines; no count fell
+-- meanwhile at most so many plans and as many diagrams were counted, and at most so many decoded lines; no count fell
 pub record Raised (made decoded : ℕ) (before after : Meter) : Type 0 where
   pub no_plan_lost : before.plans ≤ after.plans
   pub no_picture_lost : before.pictures ≤ after.pictures

@@ -14,7 +14,7 @@ pub record AreDiagnosed (database : Database) (diagnostics : List Diagnostic) (c
   pub diagnosed : diagnostics ≡ all_faults database
   pub counted : counts ≡ map (counts_of database) database.messages
 
--- these are the diagnostics of the database, and the plans and pictures of its messages with an index of these
+-- these are the diagnostics of the database, and the plans and diagrams of its messages with an index of these
 pub record IsShown (database : Database) (diagnostics : List Diagnostic) (counts : List FaultCounts) (compiled : List Compiled)
     (messages : MessageIndex) : Type 0 where
   pub diagnosed : AreDiagnosed database diagnostics counts

@@ -75,7 +75,7 @@ impl<'a> Accepted<'a> {
         self.numbers.as_slice()
     }
 
-    /// Makes what is shown of the database after it. Only of messages that have one of its numbers are plans and pictures made.
+    /// Makes what is shown of the database after it. Only of messages that have one of its numbers are plans and diagrams made.
     pub fn remade(self, alloc: Global, meter: &mut Meter) -> Result<Remade<'a>, Memory>
         ensures same { IfOk result (λ remade. remade ≡ self.entry) }
         ensures made { Raised (count_here (numbers_of self.entry) self.entry.after) 0 meter.old meter.new }

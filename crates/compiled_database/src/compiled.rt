@@ -2,19 +2,19 @@
 ghost use Rattle.std.specs.Prelude.{◌≡◌, IfOk, map, length};
 ghost use Rattle.compiled_database.specs.Compiled.{compiled_of, Raised};
 
-use can_layout::{Lookup, Meter, Plan, SharedRows, Sharing, picture_with, plan_sharing};
+use can_layout::{Lookup, Meter, Plan, SharedRows, Sharing, plan_and_picture};
 use dbc_records::Message;
 use dbc_values::Memory;
 use std::alloc::Global;
 use std::marker::Model;
 use std::rc::Rc;
 
-/// The plan and the picture of a message.
+/// The plan and the diagram of a message.
 #[derive(Drop)]
 pub(crate) struct Compiled {
     /// Its decode plan.
     pub plan: Plan,
-    /// Its picture.
+    /// Its diagram.
     pub picture: Vec<u8>,
 }
 
@@ -26,7 +26,7 @@ impl Model for Compiled {
     ghost view = { λ a. record { plan = a.plan; picture = a.picture.items } };
 }
 
-/// Those of a message, by the rows of a database.
+/// Those of a message, by the entries of a database.
 pub(crate) fn compiled_with<L: Lookup>(
     alloc: Global,
     sharing: &Sharing<'_, L>,
@@ -36,8 +36,7 @@ pub(crate) fn compiled_with<L: Lookup>(
     ensures compiled { IfOk result (λ compiled. compiled.value ≡ compiled_of sharing.now message.now) }
     ensures made { Raised 1 0 meter.old meter.new }
 {
-    let plan = plan_sharing(alloc, sharing, message, meter)?;
-    let mut picture = picture_with(alloc, sharing.lookup(), message, meter)?;
+    let (plan, mut picture) = plan_and_picture(alloc, sharing, message, meter)?;
     picture.shrink_to_fit();
     let compiled = Rc::new(alloc, Compiled { plan, picture })?;
     Ok(compiled)
@@ -60,7 +59,7 @@ fn compiled_of<L: Lookup>(
     Ok(all)
 }
 
-/// Those of all messages, in order. Their plans share these rows.
+/// Those of all messages, in order. Their plans share these entries.
 pub(crate) fn compiled_all<L: Lookup>(
     alloc: Global,
     lookup: &L,

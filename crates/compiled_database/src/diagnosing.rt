@@ -130,7 +130,7 @@ fn push_messages<'a, L: Lookup>(
     Ok(())
 }
 
-/// All diagnostics of a database whose rows are found by `lookup`.
+/// All diagnostics of a database whose entries are found by `lookup`.
 pub(crate) fn diagnose<L: Lookup>(alloc: Global, lookup: &L) -> Result<Diagnosed, Memory>
     ensures { IfOk result (λ made. AreDiagnosed (L.whole lookup.now) made.diagnostics.items made.counts.items) }
 {

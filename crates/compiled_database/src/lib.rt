@@ -1,7 +1,7 @@
-//! A database with all that is shown of it: its diagnostics, and the plan and the picture of each message.
+//! A database with all that is shown of it: its diagnostics, and the plan and the diagram of each message.
 //!
 //! [`Shown::of`] makes all of it. An edit is first [`Accepted`], and then [`Accepted::remade`] makes anew what the edit can change.
-//! The plans, the pictures and the own diagnostics of all other messages are kept.
+//! The plans, the diagrams and the own diagnostics of all other messages are kept.
 #![tactic(auto)]
 
 mod accepted;

@@ -81,7 +81,7 @@ fn merged<L: Lookup>(
     Ok(all)
 }
 
-// What is compiled of the messages of the database that an accepted edit gives. Their plans share these rows.
+// What is compiled of the messages of the database that an accepted edit gives. Their plans share these entries.
 fn recompiled<L: Lookup>(
     alloc: Global,
     accepted: &Accepted<'_>,
@@ -101,8 +101,8 @@ fn recompiled<L: Lookup>(
     merged(accepted.numbers(), &kept, &sharing, messages, meter)
 }
 
-/// What is made of the database that an accepted edit gives, by one index of its rows. Only of messages that have one of the
-/// edit's numbers are plans, pictures and own diagnostics made.
+/// What is made of the database that an accepted edit gives, by one index of its entries. Only of messages that have one of the
+/// edit's numbers are plans, diagrams and own diagnostics made.
 pub(crate) fn parts_after(
     alloc: Global,
     accepted: &Accepted<'_>,

@@ -82,7 +82,7 @@ fn push_merged<'a, L: Lookup>(
     Ok(())
 }
 
-/// All diagnostics of the database that an accepted edit gives, whose rows are found by `lookup`. Of messages that have none of
+/// All diagnostics of the database that an accepted edit gives, whose entries are found by `lookup`. Of messages that have none of
 /// the edit's numbers their own ones are copied.
 pub(crate) fn diagnose_after<L: Lookup>(
     alloc: Global,

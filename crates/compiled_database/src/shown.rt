@@ -23,12 +23,12 @@ use std::alloc::Global;
 use std::marker::Model;
 use std::rc::Rc;
 
-/// What is made of a database: its diagnostics, and the plans and pictures of its messages with an index of these.
+/// What is made of a database: its diagnostics, and the plans and diagrams of its messages with an index of these.
 #[derive(Drop)]
 pub(crate) struct Parts {
     /// The diagnostics, and how many are of each message.
     pub diagnosed: Diagnosed,
-    /// The plan and the picture of each message, in order.
+    /// The plan and the diagram of each message, in order.
     pub compiled: Vec<Rc<Compiled>>,
     /// The index of the messages.
     pub messages: MessageIndex,
@@ -61,7 +61,7 @@ pub(crate) fn messages_of(database: &Database) -> &[Message]
     database.messages.as_slice()
 }
 
-// What is made of a database, by one index of its rows.
+// What is made of a database, by one index of its entries.
 fn parts_of(alloc: Global, database: &Database, meter: &mut Meter) -> Result<Parts, Memory>
     ensures parts { IfOk result (λ parts. IsShown database.now parts.diagnosed.diagnostics.items parts.diagnosed.counts.items
         (map (λ one. one.value) parts.compiled.items) parts.messages) }
@@ -131,7 +131,7 @@ impl Shown {
         self.parts.compiled.as_slice()
     }
 
-    // What is compiled of the message at a place.
+    // What is compiled of the message at an index.
     fn compiled_at(&self, place: usize) -> &Compiled
         requires { place < length self.now.messages }
         ensures { Some result.now ≡ option_map (compiled_of self.now) (slice_get self.now.messages place) }
@@ -140,7 +140,7 @@ impl Shown {
         &compiled[place]
     }
 
-    /// The decode plan of the message at a place.
+    /// The decode plan of the message at an index.
     #[tactic(auto, using(crate::proofs::Kept::plan_there))]
     pub fn plan(&self, place: usize) -> &Plan
         requires { place < length self.now.messages }
@@ -149,7 +149,7 @@ impl Shown {
         &self.compiled_at(place).plan
     }
 
-    /// The picture of the message at a place.
+    /// The diagram of the message at an index.
     #[tactic(auto, using(crate::proofs::Kept::picture_there))]
     pub fn picture(&self, place: usize) -> &[u8]
         requires { place < length self.now.messages }

@@ -1,23 +1,6 @@
-use Rattle.std.proofs.Common.{◌≡◌, ℕ, length, sym, ◌∙◌, arith}
-use Rattle.dbc_records.specs.Records.{Signal}
-use Rattle.can_layout.specs.Plans.{row_of}
-use Rattle.can_layout.specs.declared.row.Row.{Row}
-use Rattle.can_layout.proofs.Placed.{more_placed, all_placed}
+use Rattle.can_layout.proofs.Layouts.{rows_of_layouts}
 use Rattle.can_layout.proofs.plan.plan_rows.Goals as goal
 
-pub loop-place-preserved : goal.loop-place-preserved
-loop-place-preserved g c =
-    rw (
-      c.in_ok-push.ensures.ok,
-      c.in_ok-row_of.ensures c.args.aboves.now.value c.loop-place.place c.in_ok-chain.ensures,
-      c.loop-place.invariant,
-      c.index-signals-place.is,
-    )
-    (sym (more_placed (λ (placed : ℕ × Signal). row_of c.args.rows.now c.args.aboves.now.value c.args.size placed.0 placed.1)
-    c.args.signals.now c.loop-place.place c.index-signals-place.result c.loop-place-test.true))
-
 pub returns : goal.returns
-returns g c =
-    let done : c.loop-place.place ≡ length c.args.signals.now = omega (arith, c.loop-place-test.false, c.loop-place.auto) in
-    let row : ℕ × Signal → Row = λ placed. row_of c.args.rows.now c.args.aboves.now.value c.args.size placed.0 placed.1 in
-    c.loop-place.invariant ∙ all_placed row c.args.signals.now c.loop-place.place done
+returns g c = rows_of_layouts c.args.layout.now.rows c.args.aboves.now.value _ _ c.in_ok-made.made c.signals.result.now
+    (rw c.rows.ensures at c.in_ok-made.ensures) c.signals.ensures

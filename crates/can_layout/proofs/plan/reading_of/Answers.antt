@@ -1,10 +1,10 @@
-use Rattle.std.proofs.Common.{◌≡◌, sym, ap, ◌∙◌}
-use Rattle.dbc_records.specs.Records.{Signal}
-use Rattle.can_layout.proofs.Decoders.{scale_length}
+use Rattle.std.proofs.Common.{◌≡◌, ap, ◌∙◌}
+use Rattle.dbc_values.specs.Scales.{Scale, scale_of}
+use Rattle.can_layout.proofs.Decoders.{length_of}
 use Rattle.can_layout.proofs.plan.reading_of.Goals as goal
 
-pub of-requires-2 : goal.of-requires-2
-of-requires-2 g c =
-    let scaled : c.in-Some-of.scale.length ≡ c.signal.inside.length = scale_length _ _ _ _ c.in-Some-of.scale (sym c.of.ensures
-    ∙ c.in-Some-of.is) in
-    scaled ∙ ap (λ (signal : Signal). signal.length) c.signal.view_is
+pub of-requires : goal.of-requires
+of-requires g c =
+    let signal = c.layout.inside.signal.now in
+    let is : c.in-Ok.scale ≡ scale_of signal.factor signal.offset signal.length = rw c.in-Ok.is at c.layout.invariant in
+    ap (λ (scale : Scale). scale.length) is ∙ length_of signal.factor signal.offset signal.length

@@ -1,0 +1,50 @@
+-- How a message is laid out: what its plan and its picture are both made of.
+use Rattle.std.specs.Prelude.{◌≡◌, ℕ, List, map, Option, Some, None, Result, Ok, Err}
+use Rattle.dbc_values.specs.Scales.{Scale}
+use Rattle.dbc_records.specs.Records.{Signal, Message}
+use Rattle.can_bits.specs.Bits.{field_of}
+use Rattle.can_rows.specs.Rows.{SignalRows}
+use Rattle.can_mux.specs.Walks.{walk_of}
+use Rattle.can_mux.specs.Switches.{aboves_of}
+use Rattle.can_mux.specs.declared.above.Above.{Above}
+use Rattle.can_layout.specs.Plans.{cause_of, chain_of, reading_unless}
+use Rattle.can_layout.specs.Pictures.{legend_line}
+use Rattle.can_layout.specs.declared.refusal.Cause.{Cause}
+use Rattle.can_layout.specs.declared.row.Row.{Row}
+
+-- a signal, and what keeps it from being decoded
+pub record SignalLayout : Type 0 where
+  pub signal : Signal
+  pub cause : Option Cause
+
+abbrev pub layout_of : SignalRows → ℕ → Signal → SignalLayout
+layout_of rows size signal = record { signal = signal; cause = cause_of rows size signal }
+
+-- a scale, or what keeps a signal from having one
+abbrev pub cause_in : Result Scale Cause → Option Cause
+cause_in (Ok scale) = None
+cause_in (Err cause) = Some cause
+
+-- a message with the rows of its number
+pub record Layout : Type 0 where
+  pub rows : SignalRows
+  pub message : Message
+
+-- what is kept of it
+abbrev pub IsLayout : Layout → List Above → List SignalLayout → Type 0
+IsLayout layout aboves signals = (aboves ≡ aboves_of layout.rows layout.message.signals)
+    × (signals ≡ map (layout_of layout.rows layout.message.head.size) layout.message.signals)
+
+-- the row of the signal at a place
+abbrev pub row_by : SignalRows → List Above → ℕ → SignalLayout → Row
+row_by rows aboves place layout =
+    record {
+      name = layout.signal.name;
+      field = field_of layout.signal;
+      chain = chain_of (walk_of aboves place);
+      reading = reading_unless layout.cause rows layout.signal;
+    }
+
+-- its line of the legend
+abbrev pub legend_by : List Signal → List Above → ℕ → SignalLayout → List ℕ
+legend_by signals aboves place layout = legend_line signals place layout.signal layout.cause (walk_of aboves place)
