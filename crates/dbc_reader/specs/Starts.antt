@@ -113,7 +113,7 @@ pub record HaveStarts (database : Database) (starts : Starts) : Type 0 where
 -- ---- lists that grow with those of a database
 
 -- one start more if there are fewer
-abbrev pub extended : List Start → ℕ → Start → List Start
+unfoldable pub extended : List Start → ℕ → Start → List Start
 extended starts count start = if nat_lt (length starts) count then starts ++ start ∷ [] else starts
 
 -- each list that is shorter than the database's has one start more

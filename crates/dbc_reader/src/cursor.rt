@@ -22,6 +22,11 @@ pub struct Cursor<'t> {
 }
 
 impl<'t> Cursor<'t> {
+    // How many bytes `items_ahead` looks at, and how many items it counts.
+    const MAX_BYTES_AHEAD: usize = 256;
+
+    const MAX_ITEMS_AHEAD: usize = 16;
+
     /// The beginning of a text.
     #[tactic(auto, unfolding(crate::specs::Reading::Cursors::left_at))]
     pub fn new(text: &'t [u8]) -> Cursor<'t>
@@ -118,6 +123,21 @@ impl<'t> Cursor<'t> {
             }
             Next::Fault(line) => Err(Stopped::at(line, Cause::Token)),
         }
+    }
+
+    /// How many items the list has of which the first begins here: one more than there are commas in the rest of the line. It
+    /// counts no more than some sixteen items. The number is a hint of the memory that they need, and may be wrong.
+    pub fn items_ahead(self) -> usize {
+        let mut items = 1;
+        for byte in self.after.rest().iter().take(Self::MAX_BYTES_AHEAD) {
+            if *byte == b'\n' {
+                break;
+            }
+            if *byte == b',' && items < Self::MAX_ITEMS_AHEAD {
+                items += 1;
+            }
+        }
+        items
     }
 
     /// Where the token that is here begins; where the text ends if there is none.

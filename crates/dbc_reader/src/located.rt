@@ -14,7 +14,7 @@ ghost use Rattle.dbc_reader.specs.Reading.Located.{located_into, all_located_int
 use crate::cursor::Cursor;
 use crate::keyword::Keyword;
 use crate::messages::{head, signal};
-use crate::reader::{empty_database, fault_of, timing, version};
+use crate::reader::{empty_database, fault_of, set_timing, timing, version};
 use crate::start::{Start, Starts};
 use crate::statements::add_statement;
 use crate::stopped::Stopped;
@@ -67,14 +67,14 @@ fn message(
 fn add_message(
     alloc: Global,
     at: &mut Cursor<'_>,
-    database: &mut Database,
-    positions: &mut Starts,
+    read: &mut (Database, Starts),
 ) -> Result<(), Stopped>
     requires { starts (has_word (codes "BO_")) (left_at at.old) ≡ true }
-    ensures { MakesTo result (database.new, positions.new) (left_at at.new) (message_with_starts_into
-        (database.old, positions.old) (left_at at.old)) }
+    ensures { MakesTo result read.new (left_at at.new) (message_with_starts_into read.old (left_at
+        at.old)) }
 {
-    let message = message(alloc, at, database.messages.len(), &mut positions.signals)?;
+    let (database, starts) = read;
+    let message = message(alloc, at, database.messages.len(), &mut starts.signals)?;
     database.messages.push(message)?;
     Ok(())
 }
@@ -84,17 +84,15 @@ fn add_with_signals(
     alloc: Global,
     at: &mut Cursor<'_>,
     keyword: Keyword,
-    database: &mut Database,
-    positions: &mut Starts,
+    read: &mut (Database, Starts),
 ) -> Result<(), Stopped>
     requires { keyword_at (left_at at.old) ≡ Some keyword }
-    ensures { MakesTo result (database.new, positions.new) (left_at at.new) (with_signals_into (database.old, positions.old)
-        (left_at at.old)) }
+    ensures { MakesTo result read.new (left_at at.new) (with_signals_into read.old (left_at at.old)) }
 {
     if at.starts_word(b"BO_") {
-        add_message(alloc, at, database, positions)
+        add_message(alloc, at, read)
     } else {
-        add_statement(alloc, at, keyword, database)
+        add_statement(alloc, at, keyword, &mut read.0)
     }
 }
 
@@ -104,16 +102,14 @@ fn add_located(
     alloc: Global,
     at: &mut Cursor<'_>,
     keyword: Keyword,
-    database: &mut Database,
-    positions: &mut Starts,
+    read: &mut (Database, Starts),
 ) -> Result<(), Stopped>
     requires { keyword_at (left_at at.old) ≡ Some keyword }
-    ensures { MakesTo result (database.new, positions.new) (left_at at.new) (located_into (database.old, positions.old)
-        (left_at at.old)) }
+    ensures { MakesTo result read.new (left_at at.new) (located_into read.old (left_at at.old)) }
 {
     let start = at.start();
-    add_with_signals(alloc, at, keyword, database, positions)?;
-    positions.catch_up(database, start)?;
+    add_with_signals(alloc, at, keyword, read)?;
+    read.1.catch_up(&read.0, start)?;
     Ok(())
 }
 
@@ -122,14 +118,12 @@ fn add_located(
 fn add_all_located(
     alloc: Global,
     at: &mut Cursor<'_>,
-    database: &mut Database,
-    positions: &mut Starts,
+    read: &mut (Database, Starts),
 ) -> Result<(), Stopped>
-    ensures { MakesTo result (database.new, positions.new) (left_at at.new) (all_located_into (database.old, positions.old)
-        (left_at at.old)) }
+    ensures { MakesTo result read.new (left_at at.new) (all_located_into read.old (left_at at.old)) }
 {
     'statements: while let Some(keyword) = at.keyword() {
-        add_located(alloc, at, keyword, database, positions)?;
+        add_located(alloc, at, keyword, read)?;
     }
     Ok(())
 }
@@ -139,15 +133,14 @@ fn add_all_located(
 fn add_timed_located(
     alloc: Global,
     at: &mut Cursor<'_>,
-    database: &mut Database,
-    positions: &mut Starts,
+    read: &mut (Database, Starts),
 ) -> Result<(), Stopped>
-    ensures { MakesTo result (database.new, positions.new) (left_at at.new) (timed_located_into (database.old, positions.old)
-        (left_at at.old)) }
+    ensures { MakesTo result read.new (left_at at.new) (timed_located_into read.old (left_at at.old)) }
 {
     if at.starts_word(b"BS_") {
-        database.bit_timing = timing(at)?;
-        add_all_located(alloc, at, database, positions)?;
+        let timing = timing(at)?;
+        set_timing(&mut read.0, timing);
+        add_all_located(alloc, at, read)?;
     }
     Ok(())
 }
@@ -157,12 +150,11 @@ fn located_database(alloc: Global, at: &mut Cursor<'_>) -> Result<(Database, Sta
     ensures { GivesTo result (left_at at.new) (located_database_at (left_at at.old)) }
 {
     let version = version(alloc, at)?;
-    let mut database = empty_database(alloc, version);
-    let mut positions = Starts::new(alloc);
-    add_all_located(alloc, at, &mut database, &mut positions)?;
-    add_timed_located(alloc, at, &mut database, &mut positions)?;
+    let mut read = (empty_database(alloc, version), Starts::new(alloc));
+    add_all_located(alloc, at, &mut read)?;
+    add_timed_located(alloc, at, &mut read)?;
     at.end()?;
-    Ok((database, positions))
+    Ok(read)
 }
 
 /// The database that a text spells and where its statements begin, or the first fault of the text, as for

@@ -185,12 +185,17 @@ fn starts_receiver(at: Cursor<'_>) -> bool
     }
 }
 
-// The first receiver and all further ones.
+// The first receiver and all further ones, with memory for so many to begin with.
 #[tactic(auto, using(crate::proofs::Turns::Lists::receivers_on, crate::proofs::Turns::Lists::receivers_fail_first, crate::proofs::Turns::Lists::receivers_fail, crate::proofs::Turns::Lists::receivers_end, crate::proofs::Turns::Lists::receivers_less))]
-fn receivers_behind(alloc: Global, at: &mut Cursor<'_>, first: Name) -> Result<List<Name>, Stopped>
+fn receivers_behind(
+    alloc: Global,
+    at: &mut Cursor<'_>,
+    first: Name,
+    count: usize,
+) -> Result<List<Name>, Stopped>
     ensures { GivesTo result (left_at at.new) (receivers_from (first ∷ []) (left_at at.old)) }
 {
-    let mut names = List::new(alloc);
+    let mut names = List::with_capacity(alloc, count)?;
     names.push(first)?;
     'receivers: while starts_receiver(*at) {
         comma(at)?;
@@ -206,8 +211,9 @@ fn receivers_behind(alloc: Global, at: &mut Cursor<'_>, first: Name) -> Result<L
 pub fn receivers(alloc: Global, at: &mut Cursor<'_>) -> Result<List<Name>, Stopped>
     ensures { GivesTo result (left_at at.new) (receivers_at (left_at at.old)) }
 {
+    let list = *at;
     match name_if_any(alloc, at)? {
-        Some(first) => receivers_behind(alloc, at, first),
+        Some(first) => receivers_behind(alloc, at, first, list.items_ahead()),
         None => Ok(List::new(alloc)),
     }
 }

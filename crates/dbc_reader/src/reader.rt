@@ -75,6 +75,15 @@ pub(crate) fn timing(at: &mut Cursor<'_>) -> Result<Option<[Decimal; 3]>, Stoppe
     }
 }
 
+// Sets the bit timing of a database.
+pub(crate) fn set_timing(database: &mut Database, timing: Option<[Decimal; 3]>)
+    requires fits { IsTrue (timing_fits timing) }
+    requires valid { IfSome timing IsBitTiming }
+    ensures { database.new ≡ record database.old { bit_timing = timing } }
+{
+    database.bit_timing = timing;
+}
+
 // A database of this version, with nothing else.
 pub(crate) fn empty_database(alloc: Global, version: Text) -> Database
     ensures { result ≡ empty_database version }
@@ -103,7 +112,8 @@ fn add_timed(alloc: Global, at: &mut Cursor<'_>, database: &mut Database) -> Res
     ensures { MakesTo result database.new (left_at at.new) (timed_into database.old (left_at at.old)) }
 {
     if at.starts_word(b"BS_") {
-        database.bit_timing = timing(at)?;
+        let timing = timing(at)?;
+        set_timing(database, timing);
         add_statements(alloc, at, database)?;
     }
     Ok(())

@@ -47,6 +47,7 @@ pub struct Starts {
 }
 
 // Adds the start if there are fewer of them.
+#[tactic(auto, unfolding(crate::specs::Starts::extended))]
 fn extend(starts: &mut List<Start>, count: usize, start: Start) -> Result<(), Memory>
     ensures { OnOk result (starts.new ≡ extended starts.old count start) }
 {

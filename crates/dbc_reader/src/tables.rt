@@ -83,12 +83,17 @@ fn range(at: &mut Cursor<'_>) -> Result<Range, Stopped>
     Ok(Range { first, last })
 }
 
-// The first range and all further ones, which stand here behind commas.
+// The first range and all further ones, which stand here behind commas, with memory for so many to begin with.
 #[tactic(auto, using(crate::proofs::Turns::Lists::ranges_on, crate::proofs::Turns::Lists::ranges_fail_first, crate::proofs::Turns::Lists::ranges_fail, crate::proofs::Turns::Lists::ranges_end, crate::proofs::Turns::Lists::ranges_less))]
-fn ranges_behind(alloc: Global, at: &mut Cursor<'_>, first: Range) -> Result<List<Range>, Stopped>
+fn ranges_behind(
+    alloc: Global,
+    at: &mut Cursor<'_>,
+    first: Range,
+    count: usize,
+) -> Result<List<Range>, Stopped>
     ensures { GivesTo result (left_at at.new) (ranges_from (first ∷ []) (left_at at.old)) }
 {
-    let mut ranges = List::new(alloc);
+    let mut ranges = List::with_capacity(alloc, count)?;
     ranges.push(first)?;
     'further: while at.starts_mark(b',') {
         mark(at, b',')?;
@@ -105,8 +110,9 @@ fn ranges(alloc: Global, at: &mut Cursor<'_>) -> Result<List<Range>, Stopped>
     ensures value { GivesTo result (left_at at.new) (ranges_at (left_at at.old)) }
     ensures fits { IfOk result (λ ranges. IsTrue (ranges_fit ranges)) }
 {
+    let list = *at;
     let first = range(at)?;
-    ranges_behind(alloc, at, first)
+    ranges_behind(alloc, at, first, list.items_ahead())
 }
 
 /// Takes a row of extended multiplexing, behind `SG_MUL_VAL_`.

@@ -277,6 +277,40 @@ up_to front cut rest line stands end = stands ∙ ap (λ (behind : Cut). front �
 same_read : (a b : Database × Starts) (c d : Cut) → value a c ≡ Ok (b, d) → a ≡ b
 same_read a b c d e = ap (λ (x : (Database × Starts) × Cut). x.0) (ok_is (a, c) (b, d) e)
 
+-- what the tokens of a whole text spell
+abbrev SpelledFrom : Cut → Database × Starts → Type 0
+SpelledFrom cut s = (tokens : List Token) × (line : ℕ) × (cut ≡ (tokens ▸▸ End line)) × SpellsFrom tokens s.0 s.1
+
+whole_spelled : (cut : Cut) (text : List ℕ × Cut) (x : (Database × Starts) × Cut) (version : Versioned cut text)
+    → Gathered version.version text.1 x → (line : ℕ) → x.1 ≡ End line → IsDatabase x.0.0 → SpelledFrom cut x.0
+whole_spelled cut text x version all line end proper = (
+  version.spelt.front ++ all.front,
+  line,
+  up_to (version.spelt.front ++ all.front) cut x.1 line (version.spelt.stands
+      ∙ ap (λ (c : Cut). version.spelt.front ▸▸ c) all.stands
+      ∙ sym (all_then_twice version.spelt.front all.front x.1)) end,
+  record {
+    spells = record {
+      version = version.version;
+      statements = all.statements;
+      spelled = spelled_both (version_form version.version) (flat_map form all.statements) version.spelt.front all.front
+          version.spelt.spelled all.spelled;
+      placed = all.placed;
+      one_timing = all.one_timing;
+      gathered = all.is;
+      proper = proper;
+    };
+    version = version.spelt.front;
+    rest = all.front;
+    parts = refl;
+    spelled = version.spelt.spelled;
+    located = all.located;
+    statements = all.same;
+    begin = all.begin;
+    gathered = all.found;
+  },
+)
+
 pub located_sound : (cut : Cut) (s : Database × Starts) (rest : Cut) → located_database_at cut ≡ Ok (s, rest) → IsDatabase s.0
     → (tokens : List Token) × (line : ℕ) × (cut ≡ (tokens ▸▸ End line)) × SpellsFrom tokens s.0 s.1
 unfolding located_database_at
@@ -289,35 +323,10 @@ located_sound cut s rest e proper =
     let version = version_spelt cut a.0 a.1 in
     let first = subst (λ (text : List ℕ). Joins (empty_database text, no_starts) a.0.1 b.0) (sym version.is)
     (all_join (empty_database a.0.0, no_starts) a.0.1 b.0 (none_matched a.0.0) b.1) in
-    let all = all_gathered version.version a.0.1 b.0 c.0 first c.1
-    (subst (λ (s : Database × Starts). IsDatabase s.0) (sym same) proper) in
+    let whole = subst (λ (s : Database × Starts). IsDatabase s.0) (sym same) proper in
     let end = ends_there c.0.1 f.0 f.1 in
-    let stands = version.spelt.stands ∙ ap (λ (c : Cut). version.spelt.front ▸▸ c) all.stands
-    ∙ sym (all_then_twice version.spelt.front all.front c.0.1) in (
-      version.spelt.front ++ all.front,
-      end.0,
-      up_to (version.spelt.front ++ all.front) cut c.0.1 end.0 stands end.1,
-      record {
-        spells = record {
-          version = version.version;
-          statements = all.statements;
-          spelled = spelled_both (version_form version.version) (flat_map form all.statements) version.spelt.front all.front
-              version.spelt.spelled all.spelled;
-          placed = all.placed;
-          one_timing = all.one_timing;
-          gathered = sym (ap (λ (s : Database × Starts). s.0) same) ∙ all.is;
-          proper = proper;
-        };
-        version = version.spelt.front;
-        rest = all.front;
-        parts = refl;
-        spelled = version.spelt.spelled;
-        located = all.located;
-        statements = all.same;
-        begin = all.begin;
-        gathered = sym (ap (λ (s : Database × Starts). s.1) same) ∙ all.found;
-      },
-    )
+    subst (SpelledFrom cut) same
+    (whole_spelled cut a.0 c.0 version (all_gathered version.version a.0.1 b.0 c.0 first c.1 whole) end.0 end.1 whole)
 
 pub database_sound : (cut : Cut) (d : Database) (rest : Cut) → database_at cut ≡ Ok (d, rest) → IsDatabase d → (tokens : List Token)
     × (line : ℕ) × (cut ≡ (tokens ▸▸ End line)) × Spells tokens d

@@ -153,48 +153,61 @@ record Finds (s : Database × Starts) (cut : Cut) (x : (Database × Starts) × C
   begin : SignalsBeginAt adding.statement adding.spelt.front signals
   found : x.0.1 ≡ record s.1 { signals = s.1.signals ++ signals }
 
+-- a message was read, and where its signals begin, after those that began before
+record FindsMessage (before : List Start) (cut : Cut) (x : (Message × List Start) × Cut) : Type 0 where
+  head : List Token
+  signals : List Token
+  added : List Start
+  stands : cut ≡ ((head ++ signals) ▸▸ x.1)
+  spelled : Spelled (of_layout (head_layout x.0.0.head)) head
+  begin : BeginAt signal_form x.0.0.signals signals added
+  found : x.0.1 ≡ before ++ added
+
+message_found : (count : ℕ) (before : List Start) (cut : Cut) (x : (Message × List Start) × Cut)
+    → message_with_starts count before cut ≡ Ok x → FindsMessage before cut x
+unfolding message_with_starts
+message_found count before cut x e =
+    let h = and_then_ok (head_at count cut) _ x e in
+    let g = and_then_ok (signals_with_starts ([], before) h.0.1) _ x h.2 in
+    let head = (head_sound count).spelt cut h.0 h.1 in
+    let all = all_signals ([], before) h.0.1 g.0 g.1 in
+    subst (λ (y : (Message × List Start) × Cut). FindsMessage before cut y)
+    (ok_is ((record { head = h.0.0; signals = g.0.0.0 }, g.0.0.1), g.0.1) x g.2) (record {
+      head = head.front;
+      signals = all.front;
+      added = all.added;
+      stands = head.stands ∙ ap (λ (c : Cut). head.front ▸▸ c) all.stands ∙ sym (all_then_twice head.front all.front g.0.1);
+      spelled = head.spelled;
+      begin = subst (λ (signals : List Signal). BeginAt signal_form signals all.front all.added) (sym all.signals) all.begin;
+      found = all.found;
+    })
+
 message_finds : (s : Database × Starts) (cut : Cut) (x : (Database × Starts) × Cut) → message_with_starts_into s cut ≡ Ok x
     → Finds s cut x
-unfolding message_with_starts_into message_with_starts
+unfolding message_with_starts_into
 message_finds s cut x e =
     let m = and_then_ok (message_with_starts (length s.0.messages) s.1.signals cut) _ x e in
-    let h = and_then_ok (head_at (length s.0.messages) cut) _ m.0 m.1 in
-    let g = and_then_ok (signals_with_starts ([], s.1.signals) h.0.1) _ m.0 h.2 in
-    let head = (head_sound (length s.0.messages)).spelt cut h.0 h.1 in
-    let all = all_signals ([], s.1.signals) h.0.1 g.0 g.1 in
-    let message : Message = record { head = h.0.0; signals = g.0.0.0 } in
-    let begin : BeginAt signal_form g.0.0.0 all.front all.added =
-    subst (λ (signals : List Signal). BeginAt signal_form signals all.front all.added) (sym all.signals) all.begin in
-    let made = ok_is ((message, g.0.0.1), g.0.1) m.0 g.2 in
-    let here : Finds s cut ((with_list Messages s.0 (s.0.messages ++ message ∷ []), record s.1 { signals = g.0.0.1 }), g.0.1) =
-    record {
+    let here = message_found (length s.0.messages) s.1.signals cut m.0 m.1 in
+    let message : Message = m.0.0.0 in
+    subst (λ (y : (Database × Starts) × Cut). Finds s cut y)
+    (ok_is ((with_list Messages s.0 (s.0.messages ++ message ∷ []), record s.1 { signals = m.0.0.1 }), m.0.1) x m.2) (record {
       adding = record {
         statement = OfMessage message;
         spelt = record {
-          front = head.front ++ all.front;
-          stands = head.stands ∙ ap (λ (c : Cut). head.front ▸▸ c) all.stands ∙ sym (all_then_twice head.front all.front g.0.1);
-          spelled = spelled_both (of_layout (head_layout h.0.0)) (flat_map signal_form g.0.0.0) head.front all.front head.spelled
-              (begin_spelled signal_form g.0.0.0 all.front all.added begin);
+          front = here.head ++ here.signals;
+          stands = here.stands;
+          spelled = spelled_both (of_layout (head_layout message.head)) (flat_map signal_form message.signals) here.head
+              here.signals here.spelled (begin_spelled signal_form message.signals here.signals here.added here.begin);
         };
         joins = record_joined Messages s.0 message;
         no_timing = refl;
         before = λ behind h. tt;
         ends = λ behind none. tt;
       };
-      signals = all.added;
-      begin = (head.front, all.front, refl, head.spelled, begin);
-      found = ap (λ (list : List Start). record s.1 { signals = list }) all.found;
-    } in
-    subst (λ (y : (Database × Starts) × Cut). Finds s cut y)
-    (ap (λ (w : (Message × List Start) × Cut). (
-      (
-        with_list Messages s.0 (s.0.messages
-            ++ w.0.0 ∷ []),
-        record s.1 { signals = w.0.1 },
-      ),
-      w.1,
-    ))
-    made ∙ ok_is ((with_list Messages s.0 (s.0.messages ++ m.0.0.0 ∷ []), record s.1 { signals = m.0.0.1 }), m.0.1) x m.2) here
+      signals = here.added;
+      begin = (here.head, here.signals, refl, here.spelled, here.begin);
+      found = ap (λ (list : List Start). record s.1 { signals = list }) here.found;
+    })
 
 -- a statement that doesn't begin as a message does is none
 has_no_signals : (statement : AnyStatement) (front : List Token) (cut rest : Cut) → cut ≡ (front ▸▸ rest)

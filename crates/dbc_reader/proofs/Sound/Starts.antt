@@ -86,6 +86,7 @@ at_most_one kind (OfKind other row) = one_at_most kind other row
 
 extended_by : {A : Type 0} (starts : List Start) (records added : List A) (start : Start) → length starts ≡ length records
     → length added ≤ 1 → extended starts (length (records ++ (added ++ []))) start ≡ starts ++ (map (λ _. start) added ++ [])
+unfolding extended
 extended_by starts records [] start same few =
     let none : nat_lt (length starts) (length (records ++ [])) ≡ false =
     le-ltb (length starts) (length (records ++ [])) (rw (append-nil records) (omega (arith, same))) in

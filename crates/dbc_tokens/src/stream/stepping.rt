@@ -67,6 +67,13 @@ impl<'a> Tokens<'a> {
         }
     }
 
+    /// The bytes that are left: for a reader that looks further ahead than one token.
+    pub fn rest(self) -> &'a [u8]
+        ensures { result.now ≡ self.entry.rest.now }
+    {
+        self.rest
+    }
+
     /// What comes next, and the tokens that are left after it: for a reader that looks at one token at a time.
     #[inline(always)]
     pub fn advance(self) -> (Next<'a>, Tokens<'a>)

@@ -8,6 +8,6 @@ use Rattle.dbc_reader.proofs.located.add_all_located.Goals as goal
 pub returns-in_err-add_located : goal.returns-in_err-add_located
 returns-in_err-add_located c =
     let p = err_from_is_err_and c.from_residual.result c.from_residual.ensures.1 in
-    rw (p.1, p.2) (located_fail _ (c.statements.database, c.statements.positions) (left_at c.statements.at) _
+    rw (p.1, p.2) (located_fail _ c.statements.read (left_at c.statements.at) _
     (statement_begins c.in-Some.keyword (left_at c.statements.at) (sym c.keyword.ensures ∙ c.in-Some.is))
     c.in_err-add_located.ensures c.statements.invariant)
