@@ -1,5 +1,5 @@
 -- What contracts see of classes, patterns and what was seen: those of the first fault. And which classes a pattern begins with.
-use Rattle.std.specs.Prelude.{◌≡◌, ℕ, Bool, true, false, ◌||◌, List, [], ◌∷◌, ◌++◌, map, codes}
+use Rattle.std.specs.Prelude.{◌≡◌, ℕ, Bool, true, false, ◌||◌, List, [], ◌∷◌, ◌++◌, map, reverse, codes}
 use Rattle.std.specs.Prelude.{Option, Some, None, Result, Ok, Err, if◌then◌else◌}
 use Rattle.std.specs.Borrow.{Bor}
 use Rattle.dbc_tokens.specs.declared.fault.Cause.{Cause}
@@ -16,7 +16,6 @@ use Rattle.fault_places.specs.declared.keyword.Keyword.{Keyword}
 use Rattle.fault_places.specs.declared.keyword.Keyword.TheVariants as keywords
 use Rattle.fault_places.specs.declared.pattern.Pattern.{Pattern as PatternOfCode}
 use Rattle.fault_places.specs.declared.pattern.Pattern.TheVariants as patterns
-use Rattle.fault_places.specs.declared.pattern.Taken.{Taken}
 use Rattle.fault_places.specs.declared.seen.Seen.{Seen as SeenOfCode}
 
 -- the word as it stands in a text
@@ -73,12 +72,12 @@ joined (p ∷ others) = p then joined others
 abbrev pub patterns_of : List (Bor PatternOfCode) → List Pattern
 patterns_of left = map (λ pattern. pattern_of pattern.now) left
 
+-- these patterns one behind the other, the last at the front
+abbrev pub stacked : List (Bor PatternOfCode) → Pattern
+stacked left = joined (reverse (patterns_of left))
+
 abbrev pub seen_of : SeenOfCode → Seen
 seen_of seen = record { messages = seen.messages; signals = map (λ name. name.now) seen.signals.items }
-
--- the class that took a token, and what it left
-abbrev pub taken_of : Taken → Class × Pattern
-taken_of taken = (class_of taken.class, joined (map (λ pattern. pattern_of pattern.now) taken.left.items))
 
 -- a refusal of what passes no test
 abbrev pub refusal_of : Bool → Option Cause

@@ -2,7 +2,7 @@
 ghost use Rattle.std.specs.Prelude.{◌≡◌, Ok, Err, codes};
 ghost use Rattle.dbc_tokens.specs.Views.{token_of};
 ghost use Rattle.dbc_reader.specs.Classes.{whole_of, order_of, tag_of};
-ghost use Rattle.dbc_reader.specs.Pattern.{verdict, has, plain, judged_so};
+ghost use Rattle.dbc_reader.specs.Pattern.{verdict, plain, judged_so};
 ghost use Rattle.fault_places.specs.Patterns.{class_of, seen_of, cause_of, refusal_of};
 
 use crate::keyword::Keyword;
@@ -100,12 +100,5 @@ impl Class {
             Class::BeginsSignal => seen.signal_refusal(token),
             Class::SignalName => seen.name_refusal(token),
         }
-    }
-
-    /// Whether the token is one of the class, though it may break a rule.
-    pub fn has(self, token: Token<'_>, seen: &Seen<'_>) -> bool
-        ensures { result ≡ has (class_of self) (token_of token.entry) (seen_of seen.now) }
-    {
-        !matches!(self.refusal(token, seen), Some(Cause::Statement))
     }
 }

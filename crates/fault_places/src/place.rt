@@ -101,7 +101,7 @@ pub fn fault_place(
         match spot.next {
             Next::Token(token) => {
                 let here = spot.here.split_at(token.bytes.len());
-                if let Some(cause) = walk.step(alloc, token)? {
+                if let Some(cause) = walk.step(token)? {
                     return found(alloc, &walk, before, here, fault_in(token.line, cause));
                 }
                 spot = Spot::of(here.1, spot.after);

@@ -1,13 +1,15 @@
 //! A walk over the tokens of a text: what is left of the pattern, and what was seen.
-ghost use Rattle.std.specs.Prelude.{◌≡◌, map, IfOk};
+//!
+//! The patterns that are left are a stack, so that a token takes no memory: the one at the front is the last.
+ghost use Rattle.std.specs.Prelude.{◌≡◌, Bool, map, IfOk};
 ghost use Rattle.dbc_tokens.specs.Views.{token_of};
-ghost use Rattle.dbc_reader.specs.Pattern.{verdict, may_end, nothing_seen};
-ghost use Rattle.fault_places.specs.Patterns.{class_of, pattern_of, taken_of, firsts, Answers};
-ghost use Rattle.fault_places.specs.Places.{seen_so, step};
-ghost use Rattle.fault_places.specs.Walks.{state_of};
+ghost use Rattle.dbc_reader.specs.Pattern.{◌then◌, may_end, nothing_seen};
+ghost use Rattle.fault_places.specs.Patterns.{class_of, pattern_of, firsts, Answers};
+ghost use Rattle.fault_places.specs.Places.{step};
+ghost use Rattle.fault_places.specs.Walks.{state_of, step_by, Steps, is_unfit};
 
 use crate::class::Class;
-use crate::pattern::{Pattern, Taken, firsts, may_end, take};
+use crate::pattern::{Pattern, firsts, may_end};
 use crate::seen::Seen;
 use dbc_tokens::{Cause, Token};
 use dbc_values::Memory;
@@ -20,9 +22,16 @@ pub struct Walk<'p, 't> {
     seen: Seen<'t>,
 }
 
+// Whether a token was refused since no pattern takes it: another pattern may.
+fn is_unfit(refusal: Option<Cause>) -> bool
+    ensures { result ≡ is_unfit refusal }
+{
+    matches!(refusal, Some(Cause::Statement))
+}
+
 impl<'p, 't> Walk<'p, 't> {
     /// The beginning of a text.
-    #[tactic(auto, using(crate::proofs::Joined::left_push))]
+    #[tactic(auto, using(crate::proofs::Joined::stacked_one))]
     pub fn over(alloc: Global, pattern: &'p Pattern) -> Result<Walk<'p, 't>, Memory>
         ensures { IfOk result (λ walk. state_of walk ≡ (pattern_of pattern.now, nothing_seen)) }
     {
@@ -34,34 +43,99 @@ impl<'p, 't> Walk<'p, 't> {
         })
     }
 
-    // Goes on behind the token, which was taken so, or says why it breaks a rule.
-    #[tactic(auto, using(crate::proofs::Places::seen_ok, crate::proofs::Places::seen_err))]
-    fn go_on(&mut self, taken: Taken<'p>, token: Token<'t>) -> Result<Option<Cause>, Memory>
-        ensures { IfOk result (λ refusal. Answers (seen_so (taken_of taken.entry).1 (verdict (taken_of taken.entry).0
-            (token_of token.entry) (state_of self.old).1)) refusal (state_of self.old) (state_of self.new)) }
+    // Takes the token by this pattern, with all that is left behind it, or says why it can't.
+    #[cycle(take)]
+    fn take(&mut self, pattern: &'p Pattern, token: Token<'t>) -> Result<Option<Cause>, Memory>
+        ensures { IfOk result (λ refusal. Steps (step_by (pattern_of pattern.now) (state_of self.old) (token_of token.entry))
+            refusal self.old self.new) }
     {
-        match self.seen.see(taken.class, token)? {
-            Some(cause) => Ok(Some(cause)),
-            None => {
-                self.left = taken.left;
-                Ok(None)
+        match pattern {
+            Pattern::Done => Ok(Some(Cause::Statement)),
+            Pattern::Then(class, next) => match self.seen.see(*class, token)? {
+                Some(cause) => Ok(Some(cause)),
+                None => {
+                    self.left.push(next)?;
+                    Ok(None)
+                }
+            },
+            Pattern::Either(first, second, next) => {
+                let refusal = self.take_then(first, next, token)?;
+                if !is_unfit(refusal) {
+                    return Ok(refusal);
+                }
+                let refusal = self.take_then(second, next, token)?;
+                if !is_unfit(refusal) {
+                    return Ok(refusal);
+                }
+                if first.may_end() || second.may_end() {
+                    return Ok(self.take(next, token)?);
+                }
+                Ok(refusal)
+            }
+            Pattern::Repeat(each, next) => {
+                let refusal = self.take_then(each, pattern, token)?;
+                if !is_unfit(refusal) {
+                    return Ok(refusal);
+                }
+                Ok(self.take(next, token)?)
+            }
+        }
+    }
+
+    // The same with the next pattern between the two.
+    #[cycle(take)]
+    fn take_then(
+        &mut self,
+        pattern: &'p Pattern,
+        next: &'p Pattern,
+        token: Token<'t>,
+    ) -> Result<Option<Cause>, Memory>
+        ensures { IfOk result (λ refusal. Steps (step_by (pattern_of pattern.now)
+            (pattern_of next.now then (state_of self.old).0, (state_of self.old).1) (token_of token.entry))
+            refusal self.old self.new) }
+    {
+        self.left.push(next)?;
+        match self.take(pattern, token)? {
+            None => Ok(None),
+            Some(cause) => {
+                self.left.pop();
+                Ok(Some(cause))
             }
         }
     }
 
     /// Takes the token, or says why it can't stand here.
-    #[tactic(auto, using(crate::proofs::Places::step_none, crate::proofs::Places::step_some))]
-    pub fn step(&mut self, alloc: Global, token: Token<'t>) -> Result<Option<Cause>, Memory>
+    #[cycle(step)]
+    pub fn step(&mut self, token: Token<'t>) -> Result<Option<Cause>, Memory>
         ensures { IfOk result (λ refusal. Answers (step (state_of self.old) (token_of token.entry)) refusal (state_of self.old)
             (state_of self.new)) }
     {
-        match take(alloc, self.left.as_slice(), token, &self.seen)? {
-            Some(taken) => {
-                let refusal = self.go_on(taken, token)?;
-                Ok(refusal)
+        let Some(first) = self.left.pop() else {
+            return Ok(Some(Cause::Statement));
+        };
+        match self.step_from(first, token)? {
+            None => Ok(None),
+            Some(cause) => {
+                self.left.push(first)?;
+                Ok(Some(cause))
             }
-            None => Ok(Some(Cause::Statement)),
         }
+    }
+
+    // The same with this pattern at the front.
+    #[cycle(step)]
+    fn step_from(&mut self, first: &'p Pattern, token: Token<'t>) -> Result<Option<Cause>, Memory>
+        ensures { IfOk result (λ refusal. Answers (step (pattern_of first.now then (state_of self.old).0, (state_of self.old).1)
+            (token_of token.entry)) refusal (state_of self.old) (state_of self.new)) }
+    {
+        let refusal = self.take(first, token)?;
+        if !is_unfit(refusal) {
+            return Ok(refusal);
+        }
+        if first.may_end() {
+            return Ok(self.step(token)?);
+        }
+        Ok(refusal)
     }
 
     /// Whether the text may end here.

@@ -1,7 +1,7 @@
-use Rattle.std.proofs.Common.{sym, ◌∙◌, ap, ◌++◌, append_assoc, append-nil, cond, []}
+use Rattle.std.proofs.Common.{true, false, sym, ◌∙◌, ap, ◌++◌, append_assoc, append-nil}
 use Rattle.std.specs.Prelude.{map}
 use Rattle.fault_places.specs.Patterns.{class_of, pattern_of, firsts}
-use Rattle.fault_places.proofs.Joined.{firsts_cons, others_of}
+use Rattle.fault_places.proofs.Joined.{firsts_last, others_of}
 use Rattle.fault_places.proofs.pattern.+add_firsts.Goals as goal
 
 pub returns-in_ok-add_firsts-2 : goal.returns-in_ok-add_firsts-2
@@ -10,14 +10,13 @@ returns-in_ok-add_firsts-2 t c =
     let first = firsts (pattern_of c.first-item.result.now) in
     let others = firsts (others_of c.args.left.now) in
     c.in_ok-add_firsts-2.ensures ∙ ap (λ z. z ++ others) c.in_ok-add_firsts.ensures ∙ append_assoc old first others
-    ∙ sym (ap (λ z. old ++ z) (firsts_cons c.args.left.now c.first-item.result c.in-len1-up.len_at_least c.first-item.is
-    ∙ ap (λ b. first ++ cond b others []) (sym c.may_end.ensures ∙ c.if-may_end.true)))
+    ∙ ap (λ z. old ++ z) (firsts_last c.args.left.now c.first-item.result true c.in-len1-up.len_at_least c.first-item.is
+    (sym c.may_end.ensures ∙ c.if-may_end.true))
 
 pub returns-else-may_end : goal.returns-else-may_end
 returns-else-may_end t c =
     let old = map class_of c.args.found.now.items in
     let first = firsts (pattern_of c.first-item.result.now) in
-    let others = firsts (others_of c.args.left.now) in
     c.in_ok-add_firsts.ensures
-    ∙ sym (ap (λ z. old ++ z) (firsts_cons c.args.left.now c.first-item.result c.in-len1-up.len_at_least c.first-item.is
-    ∙ ap (λ b. first ++ cond b others []) (sym c.may_end.ensures ∙ c.if-may_end.false) ∙ append-nil first))
+    ∙ ap (λ z. old ++ z) (sym (append-nil first) ∙ firsts_last c.args.left.now c.first-item.result false
+    c.in-len1-up.len_at_least c.first-item.is (sym c.may_end.ensures ∙ c.if-may_end.false))
