@@ -3,7 +3,7 @@ use Rattle.std.proofs.Common.{◌≡◌, ℕ, Bool, List, [], ◌∷◌, map, le
 use Rattle.std.specs.List.{list_any, range_with_len}
 use Rattle.std.proofs.lemmas.List.FromFn.{length-map-range_with_len}
 
--- as many ways up as signals
+-- as many multiplexing chains as signals
 pub as_many : {X : Type 0} (f : ℕ → X) (items : List X) (count : ℕ) → items ≡ map f (range_with_len 0 count) → length items ≡ count
 as_many f items count is = ap length is ∙ length-map-range_with_len f 0 count
 

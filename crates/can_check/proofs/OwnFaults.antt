@@ -45,7 +45,7 @@ all_in_order database =
     ap (λ (found : List Diagnostic). found ++ row_faults database)
     (flat_map-same (message_faults database) (head_then_own database) (message_in_order database) database.messages)
 
--- ---- by the nodes and the rows of a number alone
+-- ---- by the nodes and the entries of a number alone
 
 others-same : (one other : Database) (rows : SignalRows) (m : Message) (walks : List Walk) → one.nodes ≡ other.nodes
     → other_faults one rows m walks ≡ other_faults other rows m walks

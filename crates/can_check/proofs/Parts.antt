@@ -1,4 +1,4 @@
--- What is found of a list: of the items before one, of this one, and of those behind.
+-- What is found of a list: of the items before one, of this one, and of those after.
 use Rattle.std.proofs.Common.{◌≡◌, ℕ, zero, suc, ◌+◌, ◌-◌, ◌<◌, List, [], ◌∷◌, ◌++◌, take, drop, length, get_or, refl, sym, ap, ◌∙◌}
 use Rattle.std.proofs.Common.{append-nil, take-append-drop, arith}
 use Rattle.std.specs.List.{flat_map, range_with_len}

@@ -1,9 +1,12 @@
--- What is told of named values, each by its number.
-use Rattle.std.proofs.Common.{◌≡◌, ◌++◌, Bool, true, false, List, [], ◌∷◌, refl, ap, ◌∙◌}
+-- What is reported of value descriptions, each by its number.
+use Rattle.std.proofs.Common.{◌≡◌, ◌++◌, Bool, true, false, List, [], ◌∷◌, refl, ap, sym, ◌∙◌}
+use Rattle.std.proofs.lemmas.List.{append-nil}
 use Rattle.std.specs.Prelude.{ℤ, map, if◌then◌else◌}
 use Rattle.std.specs.List.{flat_map}
 use Rattle.std.specs.Ordering.{int_eq}
-use Rattle.dbc_records.specs.Records.{Head, Signal, Entry}
+use Rattle.dbc_records.specs.Databases.{Database}
+use Rattle.dbc_records.specs.Records.{Head, Signal, Message, Entry}
+use Rattle.can_rows.specs.Rows.{rows_of}
 use Rattle.can_diagnostics.specs.Diagnostics.{of_value}
 use Rattle.can_diagnostics.specs.declared.code.Code.{Code}
 use Rattle.can_diagnostics.specs.declared.code.Code.TheVariants as codes
@@ -11,12 +14,14 @@ use Rattle.can_diagnostics.specs.declared.diagnostic.Diagnostic.{Diagnostic}
 use Rattle.can_references.specs.Finding.{where_true, stands_in, each_after}
 use Rattle.can_references.specs.RawRanges.{is_out_of_range, numbers_out_of_range}
 use Rattle.can_references.specs.Values.{number_repeated, numbers_repeated}
-use Rattle.can_check.specs.MessageFaults.{out_of_range, repeated_value, repeated_among}
+use Rattle.can_references.proofs.Pushing.{pushed_then}
+use Rattle.can_check.specs.MessageFaults.{named, out_of_range, repeated_value, repeated_among, repeated_in}
+use Rattle.can_check.specs.MessageFaults.{values_out_of_range, repeated_values, value_faults}
 
 abbrev told : Code → Head → Signal → List ℤ → List Diagnostic
 told code head signal values = flat_map (λ value. of_value code head signal value ∷ []) values
 
--- a value that is told where a test holds, and behind it others
+-- a value that is reported where a test holds, and after it others
 told_first : (code : Code) (head : Head) (signal : Signal) (test : Bool) (value : ℤ) (values : List ℤ) (others : List Diagnostic)
     → told code head signal values ≡ others
     → told code head signal ((if test then value ∷ [] else []) ++ values)
@@ -55,3 +60,32 @@ pub told_repeated : (head : Head) (signal : Signal) (entries : List Entry) (old 
 told_repeated head signal entries old now values pushed are =
     pushed ∙ ap (λ v. old ++ told codes.RepeatedValue head signal v) are
     ∙ ap (λ more. old ++ more) (told_after head signal [] (map (λ entry. entry.number) entries))
+
+-- if no number is repeated, nothing is reported
+pub none_repeated : (head : Head) (signal : Signal) (entries : List Entry) → numbers_repeated entries ≡ []
+    → repeated_among head signal entries ≡ []
+none_repeated head signal entries none =
+    sym (told_after head signal [] (map (λ entry. entry.number) entries))
+    ∙ ap (λ (v : List ℤ). told codes.RepeatedValue head signal v) none
+
+-- what is reported of a message's value descriptions: those out of range, then those repeated, if there are any
+pub told_values : (database : Database) (m : Message) (head : Head) (signals : List Signal) (old now : List Diagnostic)
+    → head ≡ m.head → signals ≡ m.signals
+    → now ≡ old ++ flat_map (λ (signal : Signal). flat_map (out_of_range head signal)
+    (named (rows_of head.number database) signal)) signals
+    → flat_map (repeated_in (rows_of head.number database) head) signals ≡ []
+    → now ≡ old ++ value_faults (rows_of m.head.number database) m
+unfolding value_faults values_out_of_range repeated_values
+told_values database m head signals old now h s pushed none =
+    pushed_then old now now _ _
+    (sym (append-nil now) ∙ ap (λ (more : List Diagnostic). now ++ more) (sym (rw (h, s) at none))) (rw (h, s) at pushed)
+
+pub told_with_repeated : (database : Database) (m : Message) (head : Head) (signals : List Signal) (old mid now : List Diagnostic)
+    → head ≡ m.head → signals ≡ m.signals
+    → mid ≡ old ++ flat_map (λ (signal : Signal). flat_map (out_of_range head signal)
+    (named (rows_of head.number database) signal)) signals
+    → now ≡ mid ++ flat_map (repeated_in (rows_of head.number database) head) signals
+    → now ≡ old ++ value_faults (rows_of m.head.number database) m
+unfolding value_faults values_out_of_range repeated_values
+told_with_repeated database m head signals old mid now h s pushed more =
+    pushed_then old mid now _ _ (rw (h, s) at more) (rw (h, s) at pushed)

@@ -1,5 +1,5 @@
--- What is doubtful of a message and its signals, by rising codes; in a code the message itself, then its signals in order.
--- Source: the DBC file format, "Message Definitions", "Signal Definitions". Which of it is told is the profile of candesk.
+-- The diagnostics of a message and its signals, by ascending code; within a code the message itself, then its signals in order.
+-- Source: the DBC file format, "Message Definitions", "Signal Definitions". Which of it is reported is the profile of candesk.
 use Rattle.std.specs.Prelude.{ℤ, Bool, false, List, [], ◌∷◌, ◌++◌, Option, Some, None, map, slice_get, if◌then◌else◌}
 use Rattle.std.specs.List.{flat_map, enumerate_from}
 use Rattle.std.specs.Ordering.{int_eq}
@@ -31,7 +31,7 @@ abbrev pub walk_passes : (Walk → Bool) → Option Walk → Bool
 walk_passes test None = false
 walk_passes test (Some walk) = test walk
 
--- the signals whose ways up, which stand at their places, pass a test
+-- the signals whose multiplexing chains, which stand at their indices, pass a test
 abbrev pub walks_where : Code → Head → (Walk → Bool) → List Signal → List Walk → List Diagnostic
 walks_where code head test signals walks =
     flat_map (λ placed. where_true (walk_passes test (slice_get walks placed.0)) (of_signal code head placed.1))
@@ -53,15 +53,15 @@ pair_at m pair = pair_between m.head (slice_get m.signals pair.first) (slice_get
 unfoldable pub overlaps : Message → List Walk → List Diagnostic
 overlaps m walks = if is_pseudo m.head then [] else flat_map (pair_at m) (overlapping (map field_of m.signals) walks)
 
--- a multiplexed signal has no switch
+-- a multiplexed signal has no multiplexor
 unfoldable pub no_switch : Message → List Walk → List Diagnostic
 no_switch m walks = walks_where codes.NoSwitch m.head has_no_switch m.signals walks
 
--- the first row of its multiplexing says what can't be
+-- the first entry of its multiplexing says what can't be
 unfoldable pub bad_mux_row : SignalRows → Message → List Diagnostic
 bad_mux_row rows m = signals_where codes.BadMuxRow m.head (λ signal. is_bad_row m.signals (first_mux signal.name rows)) m.signals
 
--- its switches stand in a circle
+-- its multiplexors stand in a circle
 unfoldable pub switch_loop : Message → List Walk → List Diagnostic
 switch_loop m walks = walks_where codes.SwitchLoop m.head is_loop m.signals walks
 
@@ -74,16 +74,16 @@ long m = signals_where codes.Long m.head is_long m.signals
 unfoldable pub no_scale : Message → List Diagnostic
 no_scale m = signals_where codes.Scale m.head has_no_scale m.signals
 
--- ---- named values
+-- ---- value descriptions
 
--- the named values of a signal, by its first row
+-- the value descriptions of a signal, by its first entry
 abbrev pub named : SignalRows → Signal → List Entry
 named rows signal = entries_of (first_values signal.name rows)
 
 abbrev pub out_of_range : Head → Signal → Entry → List Diagnostic
 out_of_range head signal entry = where_true (is_out_of_range signal entry) (of_value codes.ValueOutOfRange head signal entry.number)
 
--- a named value that the signal never has
+-- a value description that the signal never has
 unfoldable pub values_out_of_range : SignalRows → Message → List Diagnostic
 values_out_of_range rows m = flat_map (λ signal. flat_map (out_of_range m.head signal) (named rows signal)) m.signals
 
@@ -97,7 +97,7 @@ repeated_among head signal entries = each_after (repeated_value head signal) [] 
 abbrev pub repeated_in : SignalRows → Head → Signal → List Diagnostic
 repeated_in rows head signal = repeated_among head signal (named rows signal)
 
--- a named value that stood earlier in its row
+-- a value description that stood earlier in its entry
 unfoldable pub repeated_values : SignalRows → Message → List Diagnostic
 repeated_values rows m = flat_map (repeated_in rows m.head) m.signals
 
@@ -142,7 +142,7 @@ own_by database rows m walks = outside m ++ (overlaps m walks ++ other_faults da
 abbrev pub own_with : Database → SignalRows → Message → List Diagnostic
 own_with database rows m = own_by database rows m (walks_of rows m.signals)
 
--- codes 5 to 15: of all the database these read only the message, the rows of its number and the nodes
+-- codes 5 to 15: of all the database these read only the message, the entries of its number and the nodes
 unfoldable pub own_faults : Database → Message → List Diagnostic
 own_faults database m = own_with database (rows_of m.head.number database) m
 

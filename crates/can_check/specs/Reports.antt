@@ -1,4 +1,4 @@
--- Diagnostics that are handed on, some at a time.
+-- Diagnostics that are reported, some at a time.
 use Rattle.std.specs.Prelude.{◌≡◌, List, [], ◌++◌, Result, MatchResult}
 use Rattle.std.proofs.Common.{sym, ap, ◌∙◌, append_assoc, append-nil}
 use Rattle.can_diagnostics.specs.declared.diagnostic.Diagnostic.{Diagnostic}

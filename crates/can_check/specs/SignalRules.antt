@@ -1,4 +1,4 @@
--- What may be doubtful of a signal: each a test.
+-- The rules that a signal may break: each a test.
 -- Source: the DBC file format, "Signal Definitions", "Extended Multiplexing", "Signal Extended Value Type Definitions".
 use Rattle.std.specs.Prelude.{ℕ, ◌&&◌, ◌||◌, nat_lt, nat_le, Bool, true, false, not, List, Option, Some, None}
 use Rattle.std.specs.List.{list_any}
@@ -16,13 +16,13 @@ use Rattle.can_mux.specs.declared.walk.Walk.TheVariants as walks
 
 -- ---- multiplexing
 
--- the signal's own switch is not in the message
+-- the signal's own multiplexor is not in the message
 abbrev pub has_no_switch : Walk → Bool
 has_no_switch (walks.Chain links) = false
 has_no_switch (walks.Absent own) = own
 has_no_switch walks.Loop = false
 
--- the way up from the signal comes to one for the second time
+-- the multiplexing chain from the signal comes to one for the second time
 abbrev pub is_loop : Walk → Bool
 is_loop (walks.Chain links) = false
 is_loop (walks.Absent own) = false
@@ -39,7 +39,7 @@ can_switch (tags.Both n) = true
 abbrev pub is_no_switch : List ℕ → Signal → Bool
 is_no_switch name signal = bytes_eq signal.name name && not (can_switch signal.tag)
 
--- a row with a range that holds no number, or with a switch that is in the message and has no `M`
+-- an entry with a range that holds no number, or with a multiplexor that is in the message and has no `M`
 abbrev pub is_bad_row : List Signal → Option MuxRow → Bool
 is_bad_row signals None = false
 is_bad_row signals (Some row) = list_any is_empty_range row.ranges || list_any (is_no_switch row.switch) signals

@@ -1,4 +1,4 @@
-//! All that is doubtful, of one message and of a whole database.
+//! All diagnostics of one message and of a whole database.
 ghost use Rattle.std.specs.Prelude.{◌≡◌, ◌++◌, ◌<◌, IfOk, OnOk, Some, length, slice_get, option_map};
 ghost use Rattle.std.specs.List.{flat_map};
 ghost use Rattle.can_rows.specs.Rows.{rows_of};
@@ -82,7 +82,7 @@ pub(crate) fn push_other_faults<'a, L: Lookup>(
     push_value_faults(found, known, message)
 }
 
-// Hands on what stands before the overlaps of a message.
+// Reports what stands before the overlaps of a message.
 fn report_place_faults<'a, L: Lookup, T: Report>(
     to: &mut T,
     alloc: Global,
@@ -97,7 +97,7 @@ fn report_place_faults<'a, L: Lookup, T: Report>(
     }
 }
 
-// Hands on what stands behind the overlaps of a message.
+// Reports what stands after the overlaps of a message.
 fn report_other_faults<'a, L: Lookup, T: Report>(
     to: &mut T,
     known: &Known<'a, L>,
@@ -114,7 +114,7 @@ fn report_other_faults<'a, L: Lookup, T: Report>(
     }
 }
 
-// Hands on the diagnostics of a message, by the ways up of its signals. The table for overlaps is empty before and after.
+// Reports the diagnostics of a message, by its signals' multiplexing chains. The table for overlaps is empty before and after.
 fn report_by_walks<'a, L: Lookup, T: Report>(
     to: &mut T,
     known: &Known<'a, L>,
@@ -132,7 +132,7 @@ fn report_by_walks<'a, L: Lookup, T: Report>(
     Ok(occupancy)
 }
 
-/// Hands on the diagnostics of a message, by what is known of its database. The table for overlaps is empty before and after.
+/// Reports the diagnostics of a message, by what is known of its database. The table for overlaps is empty before and after.
 #[tactic(auto, using(crate::proofs::Counts::as_many), unfolding(crate::specs::MessageFaults::message_faults))]
 pub fn report_message<'a, L: Lookup, T: Report>(
     to: &mut T,
@@ -146,7 +146,7 @@ pub fn report_message<'a, L: Lookup, T: Report>(
     report_by_walks(to, known, occupancy, message, &walks)
 }
 
-// Hands on the diagnostics of messages, in order.
+// Reports the diagnostics of messages, in order.
 fn report_messages<'a, L: Lookup, T: Report>(
     to: &mut T,
     alloc: Global,
@@ -162,7 +162,7 @@ fn report_messages<'a, L: Lookup, T: Report>(
     Ok(())
 }
 
-// Hands on the diagnostics of rows.
+// Reports the diagnostics of entries.
 fn report_rows<L: Lookup, T: Report>(
     to: &mut T,
     alloc: Global,
@@ -177,7 +177,7 @@ fn report_rows<L: Lookup, T: Report>(
     }
 }
 
-// Hands on all diagnostics of what is known.
+// Reports all diagnostics of what is known.
 #[tactic(auto, unfolding(crate::specs::AllFaults::all_faults))]
 fn report_known<L: Lookup, T: Report>(
     to: &mut T,
@@ -190,7 +190,7 @@ fn report_known<L: Lookup, T: Report>(
     report_rows(to, alloc, known)
 }
 
-// Hands on all diagnostics of a database whose rows are found by `lookup`.
+// Reports all diagnostics of a database whose entries are found by `lookup`.
 fn report_with<L: Lookup, T: Report>(to: &mut T, alloc: Global, lookup: &L) -> Result<(), Stop>
     ensures { Takes T.Took T.Stopped to.old to.new result (all_faults (L.whole lookup.now)) }
 {
@@ -200,8 +200,8 @@ fn report_with<L: Lookup, T: Report>(to: &mut T, alloc: Global, lookup: &L) -> R
     }
 }
 
-/// Hands on all diagnostics of a database, in the order of [`all_faults`], each as soon as it is found: of a message, what stands
-/// before its overlaps, the overlaps of each signal with later ones, and what stands behind them; and those of the rows at once.
+/// Reports all diagnostics of a database, in the order of [`all_faults`], each as soon as it is found: of a message, what stands
+/// before its overlaps, the overlaps of each signal with later ones, and what stands after them; and those of the entries at once.
 pub fn report_all<T: Report>(alloc: Global, database: &Database, to: &mut T) -> Result<(), Stop>
     ensures { Takes T.Took T.Stopped to.old to.new result (all_faults database.now) }
 {
@@ -211,7 +211,7 @@ pub fn report_all<T: Report>(alloc: Global, database: &Database, to: &mut T) -> 
     }
 }
 
-/// All diagnostics of a database, as [`all_faults`] has them, where its rows are already found by `lookup`.
+/// All diagnostics of a database, as [`all_faults`] has them, where its entries are already found by `lookup`.
 pub fn all_faults_with<L: Lookup>(alloc: Global, lookup: &L) -> Result<Vec<Diagnostic>, Memory>
     ensures { IfOk result (λ found. found.items ≡ all_faults (L.whole lookup.now)) }
 {
@@ -222,7 +222,7 @@ pub fn all_faults_with<L: Lookup>(alloc: Global, lookup: &L) -> Result<Vec<Diagn
     }
 }
 
-/// All diagnostics of a database: those of each message in order, and then those of the rows. The time grows about as the
+/// All diagnostics of a database: those of each message in order, and then those of the entries. The time grows about as the
 /// database and the list do, whatever numbers, names and keys stand in it.
 pub fn all_faults(alloc: Global, database: &Database) -> Result<Vec<Diagnostic>, Memory>
     ensures { IfOk result (λ found. found.items ≡ all_faults database.now) }
@@ -248,7 +248,7 @@ fn faults_in<'a, L: Lookup>(
     }
 }
 
-// The diagnostics of the message at a place, by what finds the rows of its database.
+// The diagnostics of the message at an index, by what finds the entries of its database.
 fn faults_at(alloc: Global, indexed: &Indexed<'_>, place: usize) -> Result<Vec<Diagnostic>, Memory>
     requires { place < length indexed.now.messages }
     ensures { IfOk result (λ found. Some found.items ≡ option_map (message_faults indexed.now) (slice_get indexed.now.messages
@@ -264,7 +264,7 @@ fn faults_at(alloc: Global, indexed: &Indexed<'_>, place: usize) -> Result<Vec<D
     }
 }
 
-/// The diagnostics of the message at a place: codes 1 to 15. The whole database is indexed for it.
+/// The diagnostics of the message at an index: codes 1 to 15. The whole database is indexed for it.
 pub fn message_faults(
     alloc: Global,
     database: &Database,

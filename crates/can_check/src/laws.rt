@@ -9,7 +9,7 @@ ghost use Rattle.can_check.specs.MessageFaults.{message_faults, own_faults, head
 ghost use Rattle.can_check.specs.AllFaults.{all_faults};
 
 /// The diagnostics of a message are those of its head and then its own, and those of a database are the ones of its messages, in
-/// order, and then the ones of its rows.
+/// order, and then the ones of its entries.
 pub fn faults_in_order()
     ensures message { (database : Database) (message : Message) → message_faults database message
         ≡ head_then_own database message }
@@ -17,7 +17,7 @@ pub fn faults_in_order()
         ++ row_faults database }
 {}
 
-/// A message's own diagnostics are the same by two databases that have the same rows of its number and the same nodes.
+/// A message's own diagnostics are the same by two databases that have the same entries of its number and the same nodes.
 pub fn own_rows_and_nodes_alone()
     ensures { (one other : Database) (message : Message) → rows_of message.head.number one ≡ rows_of message.head.number other
         → one.nodes ≡ other.nodes → own_faults one message ≡ own_faults other message }

@@ -33,7 +33,7 @@ pub(crate) fn push_outside(found: &mut Vec<Diagnostic>, message: &Message) -> Re
     )
 }
 
-// The way up from a signal at a place passes a test.
+// The multiplexing chain from a signal at an index passes a test.
 fn passes_at<T: WalkTest>(test: &T, walks: &[Walk], place: usize) -> bool
     ensures { result ≡ walk_passes (T.passes test.now) (slice_get walks.now place) }
 {
@@ -59,7 +59,7 @@ fn push_if(
     Ok(())
 }
 
-// Adds the diagnostic of each signal whose way up passes a test.
+// Adds the diagnostic of each signal whose multiplexing chain passes a test.
 fn push_walks<T: WalkTest>(
     found: &mut Vec<Diagnostic>,
     code: Code,
@@ -126,7 +126,7 @@ fn push_switch_loop(
     )
 }
 
-/// Adds what is doubtful of what stands above the signals of a message: codes 7 to 9.
+/// Adds the diagnostics of the multiplexing chains of a message's signals: codes 7 to 9.
 #[tactic(auto, using(can_references::proofs::Pushing::pushed_then), unfolding(crate::specs::MessageFaults::switch_faults))]
 pub(crate) fn push_switch_faults<L: Lookup>(
     found: &mut Vec<Diagnostic>,

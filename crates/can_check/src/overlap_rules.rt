@@ -16,7 +16,7 @@ use dbc_records::{Head, Message, Signal};
 use dbc_values::Memory;
 use std::alloc::Global;
 
-// The signal at a place.
+// The signal at an index.
 fn signal_at(message: &Message, place: usize) -> Option<&Signal>
     ensures { option_map (λ signal. signal.now) result ≡ slice_get message.now.signals place }
 {
@@ -55,7 +55,7 @@ fn push_pairs(found: &mut Vec<Diagnostic>, message: &Message, pairs: &[Pair]) ->
     Ok(())
 }
 
-// The pairs of the signal at a place with later ones.
+// The pairs of the signal at an index with later ones.
 fn pairs_of(
     alloc: Global,
     message: &Message,
@@ -73,7 +73,7 @@ fn pairs_of(
     Ok(found)
 }
 
-// Hands on the pairs of the signal at a place with later ones.
+// Reports the pairs of the signal at an index with later ones.
 fn report_pairs<T: Report>(
     to: &mut T,
     alloc: Global,
@@ -91,7 +91,7 @@ fn report_pairs<T: Report>(
     }
 }
 
-// Hands on the pairs of all signals, each with later ones.
+// Reports the pairs of all signals, each with later ones.
 fn report_marked<T: Report>(
     to: &mut T,
     alloc: Global,
@@ -109,7 +109,7 @@ fn report_marked<T: Report>(
     Ok(())
 }
 
-// Hands on the pairs of signals that lie in these fields. Most lie one behind the other, and then there are none.
+// Reports the pairs of signals that lie in these fields. Most lie one after the other, and then there are none.
 fn report_laid<T: Report>(
     to: &mut T,
     occupancy: Occupancy,
@@ -132,7 +132,7 @@ fn report_laid<T: Report>(
     Ok(marked.cleared())
 }
 
-/// Hands on the pairs of signals that overlap: code 6. The table for them is empty before and after.
+/// Reports the pairs of signals that overlap: code 6. The table for them is empty before and after.
 #[tactic(auto, unfolding(crate::specs::MessageFaults::overlaps, dbc_records::specs::Records::signals_fit))]
 pub(crate) fn report_overlaps<T: Report>(
     to: &mut T,

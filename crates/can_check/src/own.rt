@@ -31,7 +31,7 @@ fn push_overlaps(
     }
 }
 
-// Adds a message's own diagnostics, by the ways up of its signals. The table for overlaps is empty before and after.
+// Adds a message's own diagnostics, by the multiplexing chains of its signals. The table for overlaps is empty before and after.
 #[tactic(auto, using(crate::proofs::OwnFaults::pushed_thrice))]
 fn push_by_walks<'a, L: Lookup>(
     found: &mut Vec<Diagnostic>,

@@ -12,7 +12,7 @@ pub enum Stop {
     /// What takes them failed.
     #[error("42 Write")]
     Write,
-    /// An allocation was refused.
+    /// Out of memory.
     #[error("90 Memory")]
     Memory,
 }
@@ -40,17 +40,17 @@ pub trait Report: Drop {
     // These were to be taken, and a beginning of them was.
     ghost Stopped: { Self → Self → Why → List Found → Type 0 };
 
-    /// Takes diagnostics, behind those before.
+    /// Takes diagnostics, after those before.
     fn take(&mut self, found: Vec<Diagnostic>) -> Result<(), Stop>
         ensures { Takes Took Stopped self.old self.new result found.items };
 
     // To take none changes nothing.
     ghost took_none: { (here : Self) → Took here here [] };
 
-    // One part is taken behind another.
+    // One part is taken after another.
     ghost took_then: { (old mid new : Self) (xs ys : List Found) → Took old mid xs → Took mid new ys → Took old new (xs ++ ys) };
 
-    // It stops at a part behind another.
+    // It stops at a part after another.
     ghost stopped_behind: { (old mid new : Self) (why : Why) (xs ys : List Found) → Took old mid xs → Stopped mid new why ys
         → Stopped old new why (xs ++ ys) };
 

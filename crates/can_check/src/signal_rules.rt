@@ -88,10 +88,10 @@ fn is_bad_row(signals: &[Signal], row: Option<&MuxRow>) -> bool
     }
 }
 
-/// The first row of the signal's multiplexing says what can't be.
+/// The first entry of the signal's multiplexing says what can't be.
 #[derive(Drop)]
 pub(crate) struct HasBadRow<'a, L: Lookup> {
-    /// The rows of the message's number.
+    /// The entries of the message's number.
     pub rows: &'a MessageRows<'a, L>,
     /// The signals of the message.
     pub signals: &'a [Signal],
@@ -119,7 +119,7 @@ fn is_float_row(row: Option<&FloatRow>) -> bool
 /// The values of the signal are floats.
 #[derive(Drop)]
 pub(crate) struct IsFloat<'a, L: Lookup> {
-    /// The rows of the message's number.
+    /// The entries of the message's number.
     pub rows: &'a MessageRows<'a, L>,
 }
 

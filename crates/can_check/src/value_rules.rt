@@ -1,9 +1,9 @@
-//! Named values.
-ghost use Rattle.std.specs.Prelude.{◌≡◌, [], ◌∷◌, ◌++◌, OnOk};
+//! Value descriptions.
+ghost use Rattle.std.specs.Prelude.{◌≡◌, false, [], ◌∷◌, ◌++◌, IfOk, OnOk};
 ghost use Rattle.std.specs.List.{flat_map};
 ghost use Rattle.can_diagnostics.specs.Diagnostics.{of_value};
 ghost use Rattle.can_rows.specs.Rows.{rows_of};
-ghost use Rattle.can_check.specs.MessageFaults.{named, out_of_range, values_out_of_range, repeated_in, repeated_values};
+ghost use Rattle.can_check.specs.MessageFaults.{named, out_of_range, repeated_in};
 ghost use Rattle.can_check.specs.MessageFaults.{value_faults};
 
 use can_diagnostics::{Code, Diagnostic};
@@ -29,62 +29,52 @@ fn push_each(
     Ok(())
 }
 
-// Adds the named values that a signal never has. They are gathered in `values`, whatever is there before.
+// Adds the value descriptions that a signal never has, and returns whether one of their numbers may be repeated. They are gathered
+// in `values`, whatever is there before.
 #[inline(always)]
-#[tactic(auto, using(crate::proofs::Told::told_out_of_range))]
 fn push_out_of_range<'a, L: Lookup>(
     found: &mut Vec<Diagnostic>,
     values: &mut Vec<i128>,
     known: &Known<'a, L>,
     head: &Head,
     signal: &'a Signal,
-) -> Result<(), Memory>
-    ensures { OnOk result (found.new.items ≡ found.old.items ++ flat_map (out_of_range head.now signal.now)
+) -> Result<bool, Memory>
+    ensures found { OnOk result (found.new.items ≡ found.old.items ++ flat_map (out_of_range head.now signal.now)
         (named (rows_of head.now.number known.now) signal.now)) }
+    ensures repeated { IfOk result (λ repeats. repeats ≡ false → repeated_in (rows_of head.now.number known.now) head.now
+        signal.now ≡ []) }
 {
     values.clear();
-    known.push_out_of_range(values, head.number, signal)?;
-    push_each(
-        found,
-        Code::ValueOutOfRange,
-        head,
-        signal,
-        values.as_slice(),
-    )?;
-    Ok(())
+    let repeats = known.push_out_of_range(values, head.number, signal)?;
+    let out_of_range = values.as_slice();
+    push_each(found, Code::ValueOutOfRange, head, signal, out_of_range)?;
+    Ok(repeats)
 }
 
+// The same of signals, in order.
 fn push_all_out_of_range<'a, L: Lookup>(
     found: &mut Vec<Diagnostic>,
     known: &Known<'a, L>,
     head: &Head,
     signals: &'a [Signal],
-) -> Result<(), Memory>
-    ensures { OnOk result (found.new.items ≡ found.old.items ++ flat_map (λ signal. flat_map (out_of_range head.now signal)
-        (named (rows_of head.now.number known.now) signal)) signals.now) }
+) -> Result<bool, Memory>
+    ensures found { OnOk result (found.new.items ≡ found.old.items ++ flat_map (λ signal. flat_map
+        (out_of_range head.now signal) (named (rows_of head.now.number known.now) signal)) signals.now) }
+    ensures repeated { IfOk result (λ repeats. repeats ≡ false → flat_map (repeated_in (rows_of head.now.number known.now)
+        head.now) signals.now ≡ []) }
 {
     let mut values = Vec::new(*found.allocator());
+    let mut repeats = false;
     for signal in signals {
-        push_out_of_range(found, &mut values, known, head, signal)?;
+        if push_out_of_range(found, &mut values, known, head, signal)? {
+            repeats = true;
+        }
     }
-    Ok(())
+    Ok(repeats)
 }
 
-#[tactic(auto, unfolding(crate::specs::MessageFaults::values_out_of_range))]
-fn push_values_out_of_range<'a, L: Lookup>(
-    found: &mut Vec<Diagnostic>,
-    known: &Known<'a, L>,
-    message: &'a Message,
-) -> Result<(), Memory>
-    ensures { OnOk result (found.new.items ≡ found.old.items ++ values_out_of_range (rows_of message.now.head.number known.now)
-        message.now) }
-{
-    push_all_out_of_range(found, known, &message.head, message.signals.as_slice())
-}
-
-// Adds the named values whose number stood earlier. They are gathered in `values`, whatever is there before.
+// Adds the value descriptions of a signal whose number is repeated. They are gathered in `values`, whatever is there before.
 #[inline(always)]
-#[tactic(auto, using(crate::proofs::Told::told_repeated))]
 fn push_repeated<'a, L: Lookup>(
     found: &mut Vec<Diagnostic>,
     values: &mut Vec<i128>,
@@ -101,6 +91,7 @@ fn push_repeated<'a, L: Lookup>(
     Ok(())
 }
 
+// The same of signals, in order.
 fn push_all_repeated<'a, L: Lookup>(
     found: &mut Vec<Diagnostic>,
     known: &Known<'a, L>,
@@ -117,20 +108,8 @@ fn push_all_repeated<'a, L: Lookup>(
     Ok(())
 }
 
-#[tactic(auto, unfolding(crate::specs::MessageFaults::repeated_values))]
-fn push_repeated_values<'a, L: Lookup>(
-    found: &mut Vec<Diagnostic>,
-    known: &Known<'a, L>,
-    message: &'a Message,
-) -> Result<(), Memory>
-    ensures { OnOk result (found.new.items ≡ found.old.items ++ repeated_values (rows_of message.now.head.number known.now)
-        message.now) }
-{
-    push_all_repeated(found, known, &message.head, message.signals.as_slice())
-}
-
-/// Adds what is doubtful of named values: codes 14 and 15.
-#[tactic(auto, using(can_references::proofs::Pushing::pushed_then), unfolding(crate::specs::MessageFaults::value_faults))]
+/// Adds the diagnostics of value descriptions: codes 14 and 15. Signals are gone through again only if a
+/// number may be repeated.
 pub(crate) fn push_value_faults<'a, L: Lookup>(
     found: &mut Vec<Diagnostic>,
     known: &Known<'a, L>,
@@ -139,6 +118,9 @@ pub(crate) fn push_value_faults<'a, L: Lookup>(
     ensures { OnOk result (found.new.items ≡ found.old.items ++ value_faults (rows_of message.now.head.number known.now)
         message.now) }
 {
-    push_values_out_of_range(found, known, message)?;
-    push_repeated_values(found, known, message)
+    let signals = message.signals.as_slice();
+    if push_all_out_of_range(found, known, &message.head, signals)? {
+        push_all_repeated(found, known, &message.head, signals)?;
+    }
+    Ok(())
 }

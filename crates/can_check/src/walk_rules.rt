@@ -1,4 +1,4 @@
-//! The ways up from signals, and tests of them.
+//! The multiplexing chains from signals, and tests of them.
 ghost use Rattle.std.specs.Prelude.{◌≡◌, IfOk};
 ghost use Rattle.can_rows.specs.Rows.{rows_of};
 ghost use Rattle.can_mux.specs.Switches.{walks_of};
@@ -11,7 +11,7 @@ use dbc_records::Message;
 use dbc_values::Memory;
 use std::alloc::Global;
 
-/// The ways up from the signals of a message, in order.
+/// The multiplexing chains from the signals of a message, in order.
 pub(crate) fn walks_in<'a, L: Lookup>(
     alloc: Global,
     known: &Known<'a, L>,
@@ -23,19 +23,19 @@ pub(crate) fn walks_in<'a, L: Lookup>(
     message_walks(alloc, &rows, message.signals.as_slice())
 }
 
-/// A test of ways up.
+/// A test of multiplexing chains.
 pub(crate) trait WalkTest {
     ghost use Rattle.std.specs.Prelude.{Bool};
     ghost use Rattle.can_mux.specs.declared.walk.Walk.{Walk as PlainWalk};
 
-    // Whether a way up passes.
+    // Whether a multiplexing chain passes.
     ghost passes: { Self → PlainWalk → Bool };
 
     fn is_passed(&self, walk: &Walk) -> bool
         ensures { result ≡ passes self.now walk.now };
 }
 
-/// The signal's own switch is not in the message.
+/// The signal's own multiplexor is not in the message.
 #[derive(Drop)]
 pub(crate) struct HasNoSwitch;
 
@@ -50,7 +50,7 @@ impl WalkTest for HasNoSwitch {
     }
 }
 
-/// The way up comes to a signal for the second time.
+/// The multiplexing chain comes to a signal for the second time.
 #[derive(Drop)]
 pub(crate) struct IsLoop;
 

@@ -1,9 +1,10 @@
 -- Named values whose number stood earlier among them, and rows of many named values.
 -- Source: the DBC file format, "Signal Value Descriptions (Value Encodings)". It gives each value one description; which of them
 -- are told is the profile of candesk.
-use Rattle.std.specs.Prelude.{ℤ, nat_lt, Bool, List, [], ◌∷◌, map, length, if◌then◌else◌}
+use Rattle.std.specs.Prelude.{ℤ, nat_lt, Bool, not, is_some, List, [], ◌∷◌, map, length, if◌then◌else◌}
 use Rattle.std.specs.Ordering.{int_eq}
 use Rattle.dbc_records.specs.Records.{Entry, ValueRow}
+use Rattle.dbc_records.specs.Orders.{entry_order}
 use Rattle.can_references.specs.Finding.{stands_in, each_after}
 
 -- a number that stood earlier
@@ -13,6 +14,10 @@ number_repeated before number = if stands_in int_eq number before then number �
 -- the numbers of named values that stood earlier among them, in order
 abbrev pub numbers_repeated : List Entry → List ℤ
 numbers_repeated entries = each_after number_repeated [] (map (λ entry. entry.number) entries)
+
+-- whether one may repeat a number: they neither rise nor fall
+abbrev pub may_repeat : List Entry → Bool
+may_repeat entries = not (is_some (entry_order entries))
 
 -- a row of so many named values that they aren't gone through for each message
 abbrev pub has_many : ValueRow → Bool

@@ -1,5 +1,5 @@
 //! What the whole of a database says of numbers, names and nodes, found by keys.
-ghost use Rattle.std.specs.Prelude.{◌≡◌, ◌==◌, ◌++◌, IfOk, IfSome, OnOk, Some, map};
+ghost use Rattle.std.specs.Prelude.{◌≡◌, ◌==◌, ◌++◌, false, [], IfOk, IfSome, OnOk, Some, map};
 ghost use Rattle.std.specs.List.{flat_map};
 ghost use Rattle.std.specs.List.Sorted.{IsPermutation};
 ghost use Rattle.std.specs.Str.{bytes_eq};
@@ -10,11 +10,11 @@ ghost use Rattle.can_references.specs.Finding.{is_shared, stands_in};
 ghost use Rattle.can_references.specs.Known.{numbers_of, names_of, groups_of, signals_in, signals_of, defined_in, perhaps};
 ghost use Rattle.can_references.specs.Known.{is_known_node};
 ghost use Rattle.can_references.specs.RawRanges.{numbers_out_of_range};
-ghost use Rattle.can_references.specs.Values.{numbers_repeated};
+ghost use Rattle.can_references.specs.Values.{numbers_repeated, may_repeat};
 
 use crate::many_rows::{FEW, ManyRows};
 use crate::many_values::ManyValues;
-use crate::values::{push_out_of_range, push_repeated};
+use crate::values::{may_repeat, push_out_of_range, push_repeated};
 use can_keys::{Names, Numbers, SignalNames};
 use can_rows::{Lookup, group_in};
 use dbc_records::{AttrDef, Database, Message, Signal};
@@ -264,23 +264,32 @@ impl<'a, L: Lookup> Known<'a, L> {
         self.many.kept(number, signal.name.as_bytes())
     }
 
-    /// Adds the numbers of the named values of a signal that it never has, in the order of the text.
+    /// Adds the numbers of a signal's value descriptions that it never has, in the order of the text. Returns whether one of the
+    /// numbers may be repeated.
     #[inline(always)]
     pub fn push_out_of_range(
         &self,
         found: &mut Vec<i128>,
         number: u32,
         signal: &'a Signal,
-    ) -> Result<(), Memory>
-        ensures { OnOk result (found.new.items ≡ found.old.items ++ numbers_out_of_range signal.now (entries_of
+    ) -> Result<bool, Memory>
+        ensures found { OnOk result (found.new.items ≡ found.old.items ++ numbers_out_of_range signal.now (entries_of
             (first_values signal.now.name (rows_of number self.now)))) }
+        ensures flag { IfOk result (λ repeats. repeats ≡ may_repeat (entries_of (first_values signal.now.name (rows_of number
+            self.now)))) }
+        ensures none { IfOk result (λ repeats. repeats ≡ false → numbers_repeated (entries_of (first_values signal.now.name
+            (rows_of number self.now))) ≡ []) }
     {
         if let Some(many) = self.many_values(number, signal) {
-            return many.push_out_of_range(found, signal);
+            many.push_out_of_range(found, signal)?;
+            return Ok(many.may_repeat());
         }
         match self.lookup.values(number, &signal.name) {
-            Some(row) => push_out_of_range(found, signal, &row.entries),
-            None => Ok(()),
+            Some(row) => {
+                push_out_of_range(found, signal, &row.entries)?;
+                Ok(may_repeat(&row.entries))
+            }
+            None => Ok(false),
         }
     }
 

@@ -1,10 +1,10 @@
 //! Rows of many named values, with what is found of them once, however many messages have them.
-ghost use Rattle.std.specs.Prelude.{◌≡◌, ◌++◌, IfOk, OnOk};
+ghost use Rattle.std.specs.Prelude.{◌≡◌, false, [], ◌++◌, IfOk, OnOk};
 ghost use Rattle.can_references.specs.RawRanges.{numbers_out_of_range};
-ghost use Rattle.can_references.specs.Values.{numbers_repeated};
+ghost use Rattle.can_references.specs.Values.{numbers_repeated, may_repeat};
 
 use crate::spans::{Spans, spans_of};
-use crate::values::push_repeated;
+use crate::values::{may_repeat, push_repeated};
 use dbc_records::{Entries, Signal, ValueRow};
 use dbc_values::Memory;
 use std::alloc::Global;
@@ -66,6 +66,15 @@ impl<'a> ManyValues<'a> {
         let row = self.row;
         self.spans
             .push_out_of_range(found, signal, row.entries.as_slice())
+    }
+
+    /// Whether one of the numbers may be repeated.
+    pub(crate) fn may_repeat(&self) -> bool
+        ensures flag { result ≡ may_repeat self.now.entries }
+        ensures none { result ≡ false → numbers_repeated self.now.entries ≡ [] }
+    {
+        let row = self.row;
+        may_repeat(&row.entries)
     }
 
     /// Adds the numbers that stood earlier among them.

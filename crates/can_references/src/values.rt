@@ -1,7 +1,7 @@
 //! The named values of one row: which a signal never has, and which repeat a number.
-ghost use Rattle.std.specs.Prelude.{◌≡◌, ◌-◌, ◌∷◌, ◌++◌, [], OnOk, length, slice_get, option_map};
+ghost use Rattle.std.specs.Prelude.{◌≡◌, false, ◌-◌, ◌∷◌, ◌++◌, [], OnOk, length, slice_get, option_map};
 ghost use Rattle.can_references.specs.RawRanges.{numbers_out_of_range, has_at, has_both_ends};
-ghost use Rattle.can_references.specs.Values.{number_repeated, numbers_repeated};
+ghost use Rattle.can_references.specs.Values.{number_repeated, numbers_repeated, may_repeat};
 
 use crate::raw_range::is_out_of_range;
 use crate::spans::push_each;
@@ -73,6 +73,17 @@ fn push_repeated_unordered(found: &mut Vec<i128>, entries: &[Entry]) -> Result<(
         push_entry(found, &mut seen, entry)?;
     }
     Ok(())
+}
+
+/// Whether one of the numbers may be repeated: they neither rise nor fall.
+pub(crate) fn may_repeat(entries: &Entries) -> bool
+    ensures flag { result ≡ may_repeat entries.now }
+    ensures none { result ≡ false → numbers_repeated entries.now ≡ [] }
+{
+    match entries.order() {
+        Some(_) => false,
+        None => true,
+    }
 }
 
 /// Adds the numbers that stood earlier. There are none where the numbers rise or fall, as they mostly do.
