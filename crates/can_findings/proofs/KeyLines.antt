@@ -1,4 +1,4 @@
--- The first row of a key, found among the rows of its number, begins in the line of the first key.
+-- The first entry of a key, found among the entries of its number, begins in the line of the first key.
 use Rattle.std.proofs.Common.{◌≡◌, ◌==◌, ◌&&◌, ℕ, true, false, List, [], ◌∷◌, Some, cond, filter, map, bytes_eq, refl}
 use Rattle.std.specs.List.{find}
 use Rattle.std.specs.Option.{option_map}

@@ -1,4 +1,4 @@
--- What is found of rows, one part of them after another.
+-- What is found of entries, one part of them after another.
 use Rattle.std.proofs.Common.{◌≡◌, ℕ, List, [], ◌∷◌, ◌++◌, map, sym, ap, ◌∙◌, append_assoc, append-nil}
 use Rattle.dbc_records.specs.Databases.{Database}
 use Rattle.can_diagnostics.specs.declared.row_key.RowKey.{RowKey}
@@ -24,6 +24,6 @@ findings_then d found mid now before seen xs ys q p e =
     ∙ ap (λ s. found ++ (findings_after d before xs ++ findings_after d s ys)) e
     ∙ ap (λ r. found ++ r) (sym (findings_after-append d before xs ys))
 
--- one list behind another
+-- one list after another
 pub pushed_then : (old mid new xs ys : List Finding) → new ≡ mid ++ ys → mid ≡ old ++ xs → new ≡ old ++ (xs ++ ys)
 pushed_then old mid new xs ys q p = q ∙ ap (λ (t : List Finding). t ++ ys) p ∙ append_assoc old xs ys

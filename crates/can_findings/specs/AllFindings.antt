@@ -7,7 +7,7 @@ use Rattle.can_findings.specs.RowLines.{row_lines_of}
 use Rattle.can_findings.specs.MessageLocations.{message_findings}
 use Rattle.can_findings.specs.RowLocations.{all_rows, findings_after}
 
--- of each message in order, and then of the rows
+-- of each message in order, and then of the entries
 unfoldable pub all_findings : Database → Starts → List Finding
 all_findings database starts =
     message_findings database (row_lines_of database starts) database.messages starts.messages starts.signals

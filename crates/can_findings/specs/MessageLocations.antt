@@ -1,4 +1,4 @@
--- Where what is doubtful of messages stands in the text.
+-- The lines of the text that diagnostics of messages are about.
 use Rattle.std.specs.Prelude.{ℕ, List, [], ◌∷◌, ◌++◌, Option, Some, None, map, take, drop, length, if◌then◌else◌}
 use Rattle.std.specs.Str.{bytes_eq}
 use Rattle.dbc_records.specs.Records.{Signal, Message}
@@ -16,18 +16,18 @@ use Rattle.dbc_reader.specs.declared.start.Start.{Start}
 use Rattle.can_findings.specs.Fronts.{first_line, behind_first}
 use Rattle.can_findings.specs.RowLines.{KeyLine, RowLines, key_lines, line_of_key}
 
--- the line of the signal of the name, where the signals begin in these lines; 0 where there is none
+-- the line of the signal of the name, where the signals begin in these lines; 0 if there is none
 abbrev pub signal_line : List ℕ → List Signal → List Start → ℕ
 signal_line name [] starts = 0
 signal_line name (signal ∷ signals) starts =
     if bytes_eq signal.name name then first_line starts else signal_line name signals (behind_first starts)
 
--- the names of a message's signals, each with the line in which the signal begins. They are of one message, so no number is told
+-- the names of a message's signals, each with the line in which the signal begins; its number is left out
 abbrev pub signal_lines : List Signal → List Start → List KeyLine
 signal_lines signals starts = key_lines (λ _. 0) (λ signal. signal.name) signals starts
 
--- The rows of which one is at fault where the code is told of a signal: a signal's row of multiplexing names its switch, and its
--- float row makes its values floats.
+-- The entries of which one is at fault if the code is reported of a signal: its multiplexing entry names its multiplexor, and its
+-- float entry makes its values floats.
 abbrev pub rows_at_fault : Code → RowLines → List KeyLine
 rows_at_fault codes.NoSwitch rows = rows.muxes
 rows_at_fault codes.BadMuxRow rows = rows.muxes
@@ -35,13 +35,13 @@ rows_at_fault codes.SwitchLoop rows = rows.muxes
 rows_at_fault codes.Float rows = rows.floats
 rows_at_fault code rows = []
 
--- the line of the row, if there is one, or else that of the signal
+-- the line of the entry, if there is one, or else that of the signal
 abbrev pub line_or : Option ℕ → ℕ → ℕ
 line_or None line = line
 line_or (Some row_line) line = row_line
 
--- The line of the message, of the signal or of the signal's row that it speaks of, or those of both signals. A named value stands
--- in the first row of its signal.
+-- The line of the message, of the signal or of the signal's entry that it is about, or those of both signals. A value description
+-- is in the first entry of its signal.
 abbrev pub location_of : RowLines → List Signal → ℕ → List Start → Code → Subject → Location
 location_of rows signals line starts code (subjects.Message number name) = locations.Line line
 location_of rows signals line starts code (subjects.Sender number name node) = locations.Line line

@@ -1,4 +1,4 @@
--- Where what is doubtful of rows stands in the text.
+-- The lines of the text that diagnostics of entries are about.
 use Rattle.std.specs.Prelude.{ℕ, List, [], ◌∷◌, ◌++◌, map}
 use Rattle.dbc_records.specs.Databases.{Database}
 use Rattle.can_diagnostics.specs.Keys.{key_of_table, key_of_comment, key_of_definition, key_of_default, key_of_attribute}
@@ -12,11 +12,11 @@ use Rattle.dbc_reader.specs.declared.start.Start.{Start}
 use Rattle.dbc_reader.specs.declared.start.Starts.{Starts}
 use Rattle.can_findings.specs.Fronts.{first_line, behind_first}
 
--- a row that begins in this line
+-- an entry that begins in this line
 abbrev pub findings_at : ℕ → Diagnostic → Finding
 findings_at line diagnostic = record { location = locations.Line line; diagnostic = diagnostic }
 
--- keys of rows, each with the line in which the row begins
+-- keys of entries, each with the line in which the entry begins
 abbrev pub keys_at : List RowKey → List Start → List (RowKey × ℕ)
 keys_at [] starts = []
 keys_at (key ∷ keys) starts = (key, first_line starts) ∷ keys_at keys (behind_first starts)
@@ -24,13 +24,13 @@ keys_at (key ∷ keys) starts = (key, first_line starts) ∷ keys_at keys (behin
 abbrev pub keys_in : List (RowKey × ℕ) → List RowKey
 keys_in rows = map (λ row. row.0) rows
 
--- of rows, given those before them
+-- of entries, given those before them
 abbrev pub findings_after : Database → List RowKey → List (RowKey × ℕ) → List Finding
 findings_after database before [] = []
 findings_after database before (row ∷ rows) =
     map (findings_at row.1) (row_fault database before row.0) ++ findings_after database (before ++ row.0 ∷ []) rows
 
--- ---- all rows, kind by kind in the order in which they are printed
+-- ---- all entries, kind by kind in the order in which they are printed
 
 unfoldable pub front_rows : Database → Starts → List (RowKey × ℕ)
 front_rows d starts = keys_at (map key_of_table d.tables) starts.tables ++ keys_at (map key_of_comment d.comments) starts.comments

@@ -1,4 +1,4 @@
-//! All that is doubtful in a database, with its lines.
+//! All diagnostics of a database, with their lines.
 ghost use Rattle.std.specs.Prelude.{◌≡◌, IfOk};
 ghost use Rattle.can_findings.specs.RowLines.{row_lines_of};
 ghost use Rattle.can_findings.specs.AllFindings.{all_findings};
@@ -14,7 +14,7 @@ use dbc_records::Database;
 use dbc_values::Memory;
 use std::alloc::Global;
 
-// By what is known of the database, and the lines of its rows.
+// By what is known of the database, and the lines of its entries.
 #[tactic(auto, using(crate::proofs::Rows::pushed_then), unfolding(crate::specs::AllFindings::all_findings))]
 fn findings_by<L: Lookup>(
     alloc: Global,
@@ -38,7 +38,7 @@ fn findings_by<L: Lookup>(
     Ok(findings)
 }
 
-// By what is known of the database, and the keys of its rows.
+// By what is known of the database, and the keys of its entries.
 fn findings_by_keys<L: Lookup>(
     alloc: Global,
     known: &Known<'_, L>,

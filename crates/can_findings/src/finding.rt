@@ -24,7 +24,7 @@ pub struct Finding {
     pub diagnostic: Diagnostic,
 }
 
-// The words before a number of a line, it, and those behind it.
+// The words before a number of a line, it, and those after it.
 #[tactic(auto, using(byte_devices::proofs::Outs::sends), unfolding(crate::specs::Remedies::number_text))]
 fn write_number<W: Sink>(
     out: &mut Out<'_, W>,

@@ -4,7 +4,7 @@ ghost use Rattle.can_findings.specs.Fronts.{first_line, behind_first};
 
 use dbc_reader::Start;
 
-/// Its line; 0 where there is none.
+/// Its line; 0 if there is none.
 pub(crate) fn first_line(starts: &[Start]) -> u64
     ensures { result ≡ first_line starts.now }
 {
@@ -14,7 +14,7 @@ pub(crate) fn first_line(starts: &[Start]) -> u64
     }
 }
 
-/// Those behind it.
+/// Those after it.
 pub(crate) fn behind_first(starts: &[Start]) -> &[Start]
     ensures { result.now ≡ behind_first starts.now }
 {

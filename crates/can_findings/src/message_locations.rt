@@ -1,4 +1,4 @@
-//! What is doubtful of messages, with its lines.
+//! The diagnostics of messages, with their lines.
 ghost use Rattle.std.specs.Prelude.{◌≡◌, ◌++◌, IfOk, OnOk, map};
 ghost use Rattle.can_check.specs.MessageFaults.{message_faults};
 ghost use Rattle.can_findings.specs.declared.finding.Location.TheVariants as locations;
@@ -66,7 +66,7 @@ fn signal_line(name: &Name, here: &Lined<'_>) -> u64
     }
 }
 
-// The line of the row at fault, where the code is told of a signal and means one.
+// The line of the entry at fault, where the code is reported of a signal and means one.
 fn line_at_fault(rows: &KeyedLines<'_>, code: Code, number: u32, signal: &Name) -> Option<u64>
     ensures { result ≡ line_of_key number signal.now (rows_at_fault code rows.now) }
 {
@@ -77,7 +77,7 @@ fn line_at_fault(rows: &KeyedLines<'_>, code: Code, number: u32, signal: &Name) 
     }
 }
 
-// The line of the row, if there is one, or else that of the signal.
+// The line of the entry, if there is one, or else that of the signal.
 fn line_or(row_line: Option<u64>, here: &Lined<'_>, signal: &Name) -> Location
     ensures { result ≡ locations.Line (line_or row_line (signal_line signal.now here.now.message.now.signals
         here.now.signals.now)) }
@@ -159,7 +159,7 @@ fn push_found(
     push_findings(findings, &lined, rows, found)
 }
 
-// Adds what is doubtful of a message. The table for overlaps is empty before and after.
+// Adds the diagnostics of a message. The table for overlaps is empty before and after.
 fn push_message<'a, L: Lookup>(
     findings: &mut Vec<Finding>,
     known: &Known<'a, L>,
@@ -186,7 +186,7 @@ fn push_message<'a, L: Lookup>(
     Ok(occupancy)
 }
 
-/// Adds what is doubtful of messages, in order.
+/// Adds the diagnostics of messages, in order.
 pub(crate) fn push_messages<'a, L: Lookup>(
     findings: &mut Vec<Finding>,
     known: &Known<'a, L>,

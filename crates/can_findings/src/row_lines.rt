@@ -1,4 +1,4 @@
-//! The lines in which rows of signals begin, found by the keys of the rows.
+//! The lines in which entries of signals begin, found by the keys of the entries.
 ghost use Rattle.std.specs.Prelude.{◌≡◌, IfOk, map};
 ghost use Rattle.can_findings.specs.RowLines.{key_line, key_lines, line_of_key, row_lines_of};
 
@@ -10,7 +10,7 @@ use dbc_values::{Checked, Memory, Name};
 use std::alloc::Global;
 use std::marker::Model;
 
-/// The key of a row, and the line in which it begins.
+/// The key of an entry, and the line in which it begins.
 #[derive(Drop)]
 pub struct RowLine<'a> {
     /// The number of the message.
@@ -41,7 +41,7 @@ impl<'a> Keyed for RowLine<'a> {
     }
 }
 
-// The keys of rows that begin in these lines.
+// The keys of entries that begin in these lines.
 fn row_lines<'a, R: Keyed>(
     alloc: Global,
     rows: &'a [R],
@@ -62,7 +62,7 @@ fn row_lines<'a, R: Keyed>(
     Ok(made)
 }
 
-/// The keys of the rows of signals, and the lines in which they begin.
+/// The keys of the entries of signals, and the lines in which they begin.
 #[derive(Drop)]
 pub(crate) struct SignalRowLines<'a> {
     values: Vec<RowLine<'a>>,
@@ -84,7 +84,7 @@ impl<'a> Model for SignalRowLines<'a> {
 }
 
 impl<'a> SignalRowLines<'a> {
-    /// Those of a database whose rows begin in these lines.
+    /// Those of a database whose entries begin in these lines.
     pub(crate) fn of(
         alloc: Global,
         database: &'a Database,
@@ -103,7 +103,7 @@ impl<'a> SignalRowLines<'a> {
     }
 }
 
-/// The lines of the rows of signals, by their keys.
+/// The lines of the entries of signals, by their keys.
 #[derive(Drop)]
 pub(crate) struct KeyedLines<'a> {
     values: Index<'a, RowLine<'a>>,
@@ -124,7 +124,7 @@ impl<'a> Model for KeyedLines<'a> {
     } };
 }
 
-/// The line of the first row of the key.
+/// The line of the first entry of the key.
 pub(crate) fn line_in(index: &Index<'_, RowLine<'_>>, number: u32, signal: &Name) -> Option<u64>
     ensures { result ≡ line_of_key number signal.now (map key_line index.now) }
 {
@@ -135,7 +135,7 @@ pub(crate) fn line_in(index: &Index<'_, RowLine<'_>>, number: u32, signal: &Name
 }
 
 impl<'a> KeyedLines<'a> {
-    /// The lines of these rows.
+    /// The lines of these entries.
     pub(crate) fn of(alloc: Global, rows: &'a SignalRowLines<'a>) -> Result<KeyedLines<'a>, Memory>
         ensures { IfOk result (λ keyed. keyed ≡ rows.now) }
     {
@@ -149,21 +149,21 @@ impl<'a> KeyedLines<'a> {
         })
     }
 
-    /// The line of the first row of named values of a signal.
+    /// The line of the first entry of value descriptions of a signal.
     pub(crate) fn values(&self, number: u32, signal: &Name) -> Option<u64>
         ensures { result ≡ line_of_key number signal.now self.now.values }
     {
         line_in(&self.values, number, signal)
     }
 
-    /// The line of the first row of a signal's float type.
+    /// The line of the first entry of a signal's float type.
     pub(crate) fn float(&self, number: u32, signal: &Name) -> Option<u64>
         ensures { result ≡ line_of_key number signal.now self.now.floats }
     {
         line_in(&self.floats, number, signal)
     }
 
-    /// The line of the first row of a signal's multiplexing.
+    /// The line of the first entry of a signal's multiplexing.
     pub(crate) fn mux(&self, number: u32, signal: &Name) -> Option<u64>
         ensures { result ≡ line_of_key number signal.now self.now.muxes }
     {

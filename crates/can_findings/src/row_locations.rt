@@ -1,4 +1,4 @@
-//! What is doubtful of rows, with its lines.
+//! The diagnostics of entries, with their lines.
 ghost use Rattle.std.specs.Prelude.{◌≡◌, [], ◌∷◌, ◌++◌, OnOk, map};
 ghost use Rattle.can_references.specs.RowFaults.{row_fault};
 ghost use Rattle.can_findings.specs.RowLocations.{findings_at, keys_at, keys_in, findings_after, front_rows, attribute_rows};
@@ -15,7 +15,7 @@ use dbc_reader::{Start, Starts};
 use dbc_records::Database;
 use dbc_values::{List, Memory};
 
-// Adds diagnostics of a row that begins in this line.
+// Adds diagnostics of an entry that begins in this line.
 fn push_at(findings: &mut Vec<Finding>, line: u64, found: Vec<Diagnostic>) -> Result<(), Memory>
     ensures { OnOk result (findings.new.items ≡ findings.old.items ++ map (findings_at line) found.items) }
 {
@@ -29,7 +29,7 @@ fn push_at(findings: &mut Vec<Finding>, line: u64, found: Vec<Diagnostic>) -> Re
     Ok(())
 }
 
-// Adds what is doubtful of a row, given the rows before it, and takes it among them.
+// Adds the diagnostics of an entry, given the entries before it, and adds it to those.
 fn push_row_at<'a, L: Lookup, R: Row>(
     findings: &mut Vec<Finding>,
     known: &Known<'a, L>,
@@ -46,7 +46,7 @@ fn push_row_at<'a, L: Lookup, R: Row>(
     push_at(findings, line, found)
 }
 
-// Adds what is doubtful of rows of one kind, which begin in these lines, given the rows before them.
+// Adds the diagnostics of entries of one kind, which begin in these lines, given the entries before them.
 fn push_rows_at<'a, L: Lookup, R: Row>(
     findings: &mut Vec<Finding>,
     known: &Known<'a, L>,
@@ -130,7 +130,7 @@ fn push_signal_rows<'a, L: Lookup>(
     push_rows_at(findings, known, seen, &database.muxes, &starts.muxes)
 }
 
-/// Adds what is doubtful of all rows, kind by kind.
+/// Adds the diagnostics of all entries, kind by kind.
 #[tactic(auto, using(crate::proofs::Rows::findings_then), unfolding(crate::specs::RowLocations::all_rows))]
 pub(crate) fn push_all_rows<'a, L: Lookup>(
     findings: &mut Vec<Finding>,

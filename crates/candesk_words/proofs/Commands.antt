@@ -126,7 +126,7 @@ pub has-flag : (E : Type 0) (found : ArgMatches) (name : Text) (read : Option Bo
 has-flag E found name read none value = read-flag E (one_text (found_of found) name) read none value
     ∙ ap (λ (text : Option Text). option_map_or (λ t. bytes_eq t (codes "true")) text false) (one_text-rows (found_of found) name)
 
--- ---- the lines that are retained
+-- ---- the lines that are kept
 
 abbrev keep_of : Option Text → Option Keep
 keep_of text = option_map_or (λ t. option_map (λ count. Last count) (count_in t)) text (Some All)
@@ -184,7 +184,7 @@ of_read (Some t) (Ok (Some count)) none value = let h = (value t refl).0 in
     ap (option_map (λ count. Last count)) (count-read t count h.0.0 h.0.1 h.1)
 of_read (Some t) (Err e) none value = rw (count-unread t (value t refl).0) refl
 
--- what is read says which lines are retained
+-- what is read says which lines are kept
 pub keep-read : (found : ArgMatches) (read : Result (Option ℕ) ParseIntError) → (one_text (found_of found) (codes "keep") ≡ None
     → read ≡ Ok None)
     → ((t : Text) → one_text (found_of found) (codes "keep") ≡ Some t → TriesOne Gives t read)

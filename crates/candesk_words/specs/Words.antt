@@ -1,4 +1,4 @@
--- Which words of the command line are which job. How words are read at all, with options, `--` and `help`, is told by the
+-- Which arguments are which job. How arguments are read at all, with options, `--` and `help`, is defined by the
 -- definitions of clap for a command line with these commands and options.
 use Rattle.std.specs.Prelude.{◌≡◌, ◌≢◌, ⊤, ℕ, Bool, true, false, List, [], codes, Option, Some, None, option_and_then, option_map}
 use Rattle.std.specs.Prelude.{Result, Ok, Err, ◌⊎◌, if◌then◌else◌}
@@ -103,7 +103,7 @@ command_named name =
 abbrev pub has_flag : Text → List Row → Bool
 has_flag name rows = option_map_or (λ text. bytes_eq text (codes "true")) (one_of name rows) false
 
--- the number of lines that the value of `--keep` spells in decimal, behind a `+` or none; none where that is no number of lines
+-- the number of lines that the value of `--keep` spells in decimal, after a `+` or none; none where that is no number of lines
 abbrev pub count_in : Text → Option ℕ
 count_in text = if is_unsigned_in 1 most_lines text then Some (digits_value 10 (without_leading_plus text)) else None
 
@@ -122,7 +122,7 @@ form_by true true = None
 abbrev pub form_found : List Row → Option Form
 form_found rows = form_by (has_flag (codes "json") rows) (has_flag (codes "csv") rows)
 
--- what a job says: the command, its FILE, whether `--short` is there, which lines are retained, and what is written
+-- what a job says: the command, its FILE, whether `--short` is there, which lines are kept, and what is written
 abbrev pub Said : Type 0
 Said = Command × Text × Bool × Keep × Form
 

@@ -13,13 +13,13 @@ use std::alloc::{AllocError, Global};
 /// What the program can do with a database.
 #[derive(Clone, Copy, Debug, PartialEq, Eq)]
 pub enum Command {
-    /// Says what is doubtful in the database.
+    /// Reports problems in the database.
     Check,
     /// Decodes the log on standard input.
     Decode,
-    /// Draws the messages of the database.
+    /// Draws the layout of each message.
     Dump,
-    /// Explains the faults of the database text, or what is doubtful in the database.
+    /// Explains why the database text is rejected, or the diagnostics of the database.
     Explain,
     /// Prints the canonical text of the database.
     Print,
@@ -48,7 +48,7 @@ pub struct Job {
     /// Whether what is there of frames that are shorter than their message is shown, as `--short` asks for; false for
     /// commands without the flag.
     pub short: bool,
-    /// Which lines are retained, as `--keep` asks for; all for commands without the option.
+    /// Which lines are kept, as `--keep` asks for; all for commands without the option.
     pub keep: Keep,
     /// What is written, as `--json` or `--csv` asks for; text for commands without these flags.
     pub form: Form,
@@ -61,7 +61,7 @@ pub enum NoJob {
     Usage,
     /// They ask for help or for the version, and this is its text.
     Help(String),
-    /// An allocation was refused.
+    /// Out of memory.
     Memory,
 }
 
@@ -166,9 +166,9 @@ fn job_in(alloc: Global, matches: &ArgMatches<'_>) -> Result<Job, NoJob>
     })
 }
 
-/// Reads the words after the program's name. Options stand before or behind FILE, `--` ends them, `help` is the
+/// Reads the words after the program's name. Options stand before or after FILE, `--` ends them, `help` is the
 /// word for `--help`, and `--version` and `-V` stand before a command alone. `decode` and `session` alone take `--short`, `decode`
-/// takes `--json` or `--csv`, `dump` takes `--json`, and `session` alone takes `--keep`, with a whole number from 1 to 1,048,576.
+/// takes `--json` or `--csv`, `dump` takes `--json`, and `session` alone takes `--keep`, with an integer from 1 to 1,048,576.
 pub fn job_of<'a>(alloc: Global, words: &'a [&'a str]) -> Result<Job, NoJob>
     ensures { IsJobOf (map (λ word. word.now) words.now) result }
 {

@@ -1,4 +1,4 @@
-//! The command line, as clap is told of it.
+//! The command line, as clap gets it.
 ghost use Rattle.std.specs.Prelude.{◌≡◌, false, codes, IfOk};
 ghost use Rattle.clap.specs.Words.{app_of};
 ghost use Rattle.clap.specs.declared.builder.command.Command.TheViews.{out-Command};
@@ -60,7 +60,7 @@ fn on_frames<'a>(
     let short = Arg::new(alloc, "short")
         .long("short")
         .action(ArgAction::SetTrue)
-        .help("Show what is there of frames that are shorter than their message");
+        .help("Decode frames that are shorter than their message as far as they go");
     on_file(alloc, name, about, notes)?.arg(short)
 }
 
@@ -73,11 +73,11 @@ fn on_decode<'a>(alloc: Global, about: &'a str, notes: &'a str) -> Result<Comman
     let json = Arg::new(alloc, "json")
         .long("json")
         .action(ArgAction::SetTrue)
-        .help("Write an object of JSON for each line");
+        .help("Write a JSON object for each line");
     let csv = Arg::new(alloc, "csv")
         .long("csv")
         .action(ArgAction::SetTrue)
-        .help("Write a row of CSV for each signal");
+        .help("Write a CSV row for each signal");
     on_frames(alloc, "decode", about, notes)?
         .arg(json)?
         .arg(csv)
@@ -92,7 +92,7 @@ fn on_dump<'a>(alloc: Global, about: &'a str, notes: &'a str) -> Result<Command<
     let json = Arg::new(alloc, "json")
         .long("json")
         .action(ArgAction::SetTrue)
-        .help("Write an object of JSON for each message, and one for the rest");
+        .help("Write a JSON object for each message, and one for the rest");
     on_file(alloc, "dump", about, notes)?.arg(json)
 }
 
@@ -107,7 +107,7 @@ fn on_session<'a>(alloc: Global, about: &'a str, notes: &'a str) -> Result<Comma
         .value_name("N")
         .action(ArgAction::Set)
         .value_parser(ValueParser::unsigned(1, LineCount::MOST))
-        .help("Retain the last N lines, from 1 to 1048576; without it all are retained");
+        .help("Keep only the last N lines, from 1 to 1048576");
     on_frames(alloc, "session", about, notes)?.arg(keep)
 }
 
@@ -123,7 +123,7 @@ fn with_command<'a>(line: Command<'a>, command: Command<'a>) -> Result<Command<'
 fn with_check<'a>(alloc: Global, line: Command<'a>) -> Result<Command<'a>, AllocError>
     ensures { IfOk result (λ longer. app_of longer ≡ with_command (app_of line.entry) (on_file (codes "check"))) }
 {
-    let about = "Says what is doubtful in a database on standard output";
+    let about = "Report problems in a database";
     let command = on_file(alloc, "check", about, notes::CHECK)?;
     with_command(line, command)
 }
@@ -131,7 +131,7 @@ fn with_check<'a>(alloc: Global, line: Command<'a>) -> Result<Command<'a>, Alloc
 fn with_decode<'a>(alloc: Global, line: Command<'a>) -> Result<Command<'a>, AllocError>
     ensures { IfOk result (λ longer. app_of longer ≡ with_command (app_of line.entry) on_decode) }
 {
-    let about = "Decodes a log of `candump -L` on standard input";
+    let about = "Decode a log of `candump -L` from standard input";
     let command = on_decode(alloc, about, notes::DECODE)?;
     with_command(line, command)
 }
@@ -139,7 +139,7 @@ fn with_decode<'a>(alloc: Global, line: Command<'a>) -> Result<Command<'a>, Allo
 fn with_dump<'a>(alloc: Global, line: Command<'a>) -> Result<Command<'a>, AllocError>
     ensures { IfOk result (λ longer. app_of longer ≡ with_command (app_of line.entry) on_dump) }
 {
-    let about = "Draws the messages of a database, bit by bit, on standard output";
+    let about = "Draw the layout of each message, bit by bit";
     let command = on_dump(alloc, about, notes::DUMP)?;
     with_command(line, command)
 }
@@ -147,7 +147,7 @@ fn with_dump<'a>(alloc: Global, line: Command<'a>) -> Result<Command<'a>, AllocE
 fn with_explain<'a>(alloc: Global, line: Command<'a>) -> Result<Command<'a>, AllocError>
     ensures { IfOk result (λ longer. app_of longer ≡ with_command (app_of line.entry) (on_file (codes "explain"))) }
 {
-    let about = "Explains why a database is refused, or what is doubtful in it, on standard output";
+    let about = "Explain why a database is rejected, or what `check` reports";
     let command = on_file(alloc, "explain", about, notes::EXPLAIN)?;
     with_command(line, command)
 }
@@ -155,7 +155,7 @@ fn with_explain<'a>(alloc: Global, line: Command<'a>) -> Result<Command<'a>, All
 fn with_print<'a>(alloc: Global, line: Command<'a>) -> Result<Command<'a>, AllocError>
     ensures { IfOk result (λ longer. app_of longer ≡ with_command (app_of line.entry) (on_file (codes "print"))) }
 {
-    let about = "Prints a database as its canonical text on standard output";
+    let about = "Print a database as its canonical text";
     let command = on_file(alloc, "print", about, notes::PRINT)?;
     with_command(line, command)
 }
@@ -163,7 +163,7 @@ fn with_print<'a>(alloc: Global, line: Command<'a>) -> Result<Command<'a>, Alloc
 fn with_session<'a>(alloc: Global, line: Command<'a>) -> Result<Command<'a>, AllocError>
     ensures { IfOk result (λ longer. app_of longer ≡ with_command (app_of line.entry) on_session) }
 {
-    let about = "Edits a database and retains a log by a script on standard input";
+    let about = "Edit a database and keep a log, by a script on standard input";
     let command = on_session(alloc, about, notes::SESSION)?;
     with_command(line, command)
 }

@@ -2,20 +2,18 @@
 
 /// Of `check`.
 pub const CHECK: &str = "\
-Standard input is not read. Standard output has a line for each thing that is doubtful in the database: its number and
-word, and where it is. The status is 1 where there is one.
+Writes a line for each problem: its code, the code's name, and what it is about. The exit status is 1 if there are any.
 
-Example, of a message whose sender is no node:
-  $ printf 'BU_: Ecu\\nBO_ 1 A: 0 N\\n' > doubtful.dbc
-  $ candesk check doubtful.dbc
+Example: a message whose sender isn't a node:
+  $ printf 'BU_: Ecu\\nBO_ 1 A: 0 N\\n' > sender.dbc
+  $ candesk check sender.dbc
   13 UnknownNode 1 A N";
 
 /// Of `decode`.
 pub const DECODE: &str = "\
-Standard input is a log as `candump -L` writes it. Standard output has each of its lines, and behind a line with a data
-frame what the frame says by the database. A frame that is shorter than its message is refused; with `--short`, what of
-it is there is shown. With `--json`, each line is an object of JSON that says the same. With `--csv`, each signal that is
-shown is a row of CSV.
+Reads a log as `candump -L` writes it. Writes each line, followed by the decoded message if the line has a data frame. A
+frame that is shorter than its message is not decoded; with `--short`, the signals that it still has are. With `--json`,
+each line becomes a JSON object; with `--csv`, each decoded signal becomes a CSV row.
 
 Example:
   $ candesk decode examples/wheel.dbc < examples/wheel.log
@@ -23,9 +21,9 @@ Example:
 
 /// Of `dump`.
 pub const DUMP: &str = "\
-Standard input is not read. Standard output is a picture of each message: its name, number and size, then a line for
-each byte with a cell for each bit, then a line for each signal, by whose number the cells name it. With `--json`, each
-message is an object of JSON with its signals, and a last object has everything that belongs to no message.
+Writes a layout diagram of each message: its name, identifier and length (DLC), a line for each byte with a cell for each
+bit, and a line for each signal, whose number is what the cells show. With `--json`, each message is a JSON object with
+its signals, and a last object has everything that belongs to no message.
 
 Example:
   $ candesk dump examples/wheel.dbc
@@ -36,24 +34,24 @@ Example:
 
 /// Of `explain`.
 pub const EXPLAIN: &str = "\
-Standard input is not read. Where the database is refused, standard output has the line of its first fault with a mark
-under the token, what was found, what may stand there, and the usual reason with its remedy; then, as guesses, the same of
-faults behind it. Else it has what `check` writes, each line with its remedy. The status is 1 where there is anything.
+If the database is rejected, writes the line of its first error with the token underlined, what was found, what is
+expected, and the usual reason with its remedy; then the same, as guesses, for later errors. Otherwise writes what
+`check` reports, with the line of each problem and its remedy. The exit status is 1 if there is any.
 
-Example, of a limit that is no number:
-  $ printf 'BO_ 1 A: 1 N\\n SG_ S : 0|8@1+ (1,0) [0|inf] \"\"\\n' > far.dbc
-  $ candesk explain far.dbc
+Example: a limit that isn't a number:
+  $ printf 'BO_ 1 A: 1 N\\n SG_ S : 0|8@1+ (1,0) [0|inf] \"\"\\n' > limit.dbc
+  $ candesk explain limit.dbc
   line 2: 2 Statement
    SG_ S : 0|8@1+ (1,0) [0|inf] \"\"
                            ^~~
   found: the word inf
   expected: '-', '+' or a number
-  reason: inf and nan are no numbers; where it is a limit of a signal, [0|0] says that there is none
+  reason: inf and nan are not numbers; as limits of a signal, [0|0] means that there are none
   candesk: line 2: 2 Statement";
 
 /// Of `print`.
 pub const PRINT: &str = "\
-Standard input is not read. Standard output is the database in its one canonical form.
+Writes the database in its one canonical form.
 
 Example:
   $ candesk print examples/wheel.dbc
@@ -66,12 +64,12 @@ Example:
 
 /// Of `session`.
 pub const SESSION: &str = "\
-Standard input is a script, a command a line: edits of the database, lines of a log that are retained, and what to show.
-Standard output has a reply to each: what was asked for and `ok`, or why the command is refused. After each edit all is
-shown as it is by the database as it is then. With `--short`, what is there of frames that are shorter than their
-message is shown too. With `--keep N` the last N lines are retained, and the oldest goes for a new one.
+Reads a script, one command per line: edits of the database, lines of a log to keep, and what to show. Answers each with
+what was asked for and `ok`, or why the command is refused. After an edit, everything is shown as the edited database has
+it. With `--short`, frames that are shorter than their message show the signals that they still have. With `--keep N`, only
+the last N lines are kept.
 
-Commands, where P is the place of a message and Q that of a signal in it, from 0, and N is a message's number:
+Commands; P is the index of a message and Q that of a signal in it, from 0, and N is a message's identifier:
   log LINE                show lines            show diagnostics                   show layout P
   print
   add-message P BO_ ..    remove-message P      change-message P NAME SIZE SENDER  renumber P N

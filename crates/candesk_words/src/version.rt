@@ -1,4 +1,4 @@
-//! What `--version` says behind the program's name.
+//! What `--version` says after the program's name.
 
 /// The version, and in parentheses what the program was built from. A proof of the whole program replaces the word there by the
 /// first digits of its digest (`room_for` in `scripts/proving.py`).

@@ -1,4 +1,4 @@
--- One text put behind another.
+-- One text put after another.
 use Rattle.std.proofs.Common.{◌≡◌, ℕ, List, ◌++◌, ap, ◌∙◌, append_assoc}
 
 -- the later part stands first, so that the tactics find what lies between

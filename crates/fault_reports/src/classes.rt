@@ -1,4 +1,4 @@
-//! What may stand at a place, in words.
+//! What is expected at the location of a fault, in words.
 
 use crate::words::{push_all, push_number};
 use dbc_values::Memory;
@@ -45,25 +45,25 @@ fn push_class(text: &mut Vec<u8>, class: Class) -> Result<(), Memory> {
         Class::Mark(mark) => push_all(text, &[b"'", &[mark], b"'"]),
         Class::Name => push_all(text, &[b"a name"]),
         Class::Symbol => push_all(text, &[b"a word"]),
-        Class::String => push_all(text, &[b"a text in quotes"]),
+        Class::String => push_all(text, &[b"a quoted string"]),
         Class::Whole(least, most) => {
-            push_all(text, &[b"a whole number from "])?;
+            push_all(text, &[b"an integer from "])?;
             push_number(text, least)?;
             push_all(text, &[b" to "])?;
             push_number(text, most)
         }
         Class::Number(_) => push_all(text, &[b"a number"]),
         Class::Order => push_all(text, &[b"0 or 1"]),
-        Class::Tag => push_all(text, &[b"a tag such as M or m0"]),
+        Class::Tag => push_all(text, &[b"a multiplexer indicator such as M or m0"]),
         Class::Piece => push_all(text, &[b"any other token"]),
         Class::KeptWord => push_all(text, &[b"a statement"]),
         Class::BeginsMessage => push_all(text, &[b"'BO_'"]),
         Class::BeginsSignal => push_all(text, &[b"'SG_'"]),
-        Class::SignalName => push_all(text, &[b"the name of a further signal"]),
+        Class::SignalName => push_all(text, &[b"the name of another signal"]),
     }
 }
 
-/// Puts what may stand at a place behind the text, as a list in words.
+/// Puts what is expected at the location of a fault after the text, as a list in words.
 pub fn push_classes(alloc: Global, text: &mut Vec<u8>, classes: &[Class]) -> Result<(), Memory> {
     let told = told(alloc, classes)?;
     let mut left = told.as_slice();

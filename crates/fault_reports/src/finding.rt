@@ -8,10 +8,10 @@ use fault_places::Place;
 // The most bytes of a token that are shown.
 const LONGEST: usize = 60;
 
-// Puts a token behind the text.
+// Puts a token after the text.
 fn push_token(text: &mut Vec<u8>, token: &[u8]) -> Result<(), Memory> {
     let kind: &[u8] = match token {
-        [b'"', ..] => b"a text in quotes, ",
+        [b'"', ..] => b"the string ",
         _ if is_keyword(token) => b"the keyword ",
         [first, ..] if is_letter(*first) => b"the word ",
         [b'0'..=b'9' | b'.', ..] => b"the number ",
@@ -25,27 +25,24 @@ fn push_token(text: &mut Vec<u8>, token: &[u8]) -> Result<(), Memory> {
     push_all(text, &[b"..."])
 }
 
-// Puts a byte at which no token begins behind the text.
+// Puts a byte at which no token begins after the text.
 fn push_byte(text: &mut Vec<u8>, b: u8) -> Result<(), Memory> {
     match b {
         b'"' => push_all(text, &[b"a quote that is never closed"]),
-        b'!'..=b'~' => push_all(text, &[b"'", &[b], b"', with which no token begins"]),
+        b'!'..=b'~' => push_all(text, &[b"'", &[b], b"', which begins no token"]),
         _ => {
             let hex = b"0123456789ABCDEF";
             let digits = [hex[usize::from(b / 16)], hex[usize::from(b % 16)]];
-            push_all(
-                text,
-                &[b"the byte 0x", &digits, b", with which no token begins"],
-            )
+            push_all(text, &[b"the byte 0x", &digits, b", which begins no token"])
         }
     }
 }
 
-/// Puts what was found at the place of a fault behind the text.
+/// Puts what was found at the place of a fault after the text.
 pub fn push_found(text: &mut Vec<u8>, place: &Place<'_>) -> Result<(), Memory> {
     match (place.fault.cause, place.behind) {
         (Cause::Token, [b, ..]) => push_byte(text, *b),
-        _ if place.token.is_empty() => push_all(text, &[b"the end of the text"]),
+        _ if place.token.is_empty() => push_all(text, &[b"the end of the file"]),
         _ => push_token(text, place.token),
     }
 }

@@ -1,4 +1,4 @@
-//! Where a text is gone on with behind a fault.
+//! Where a text is gone on with after a fault.
 ghost use Rattle.std.specs.Prelude.{◌<◌, length, IfSome};
 
 use crate::words::is_keyword;
@@ -35,7 +35,7 @@ fn beginning_of(line: &[u8]) -> Option<Beginning> {
     }
 }
 
-// The bytes behind the first line.
+// The bytes after the first line.
 fn next_line(bytes: &[u8]) -> Option<&[u8]>
     ensures { IfSome result (λ rest. length rest.now < length bytes.now) }
 {

@@ -1,7 +1,7 @@
 //! What is said of the faults of a text: each with its line, a mark under the token, what was found, what may stand there, and the
 //! usual reason in real files with its remedy.
 //!
-//! [`fault_report`] says it of the first fault, and of those behind it that can be guessed at.
+//! [`fault_report`] says it of the first fault, and of those after it that can be guessed at.
 #![tactic(auto)]
 
 mod classes;

@@ -32,7 +32,7 @@ fn goes_on(b: u8) -> bool {
     (0x80..0xC0).contains(&b)
 }
 
-// Puts a blank behind the text for each character, but tabs as they are.
+// Puts a blank after the text for each character, but tabs as they are.
 fn push_blanks(text: &mut Vec<u8>, bytes: &[u8], utf8: bool) -> Result<(), Memory> {
     for b in bytes {
         match *b {
@@ -45,7 +45,7 @@ fn push_blanks(text: &mut Vec<u8>, bytes: &[u8], utf8: bool) -> Result<(), Memor
     Ok(())
 }
 
-// Puts a mark behind the text for each character of a token, and one where there is none.
+// Puts a mark after the text for each character of a token, and one if there is none.
 fn push_mark(text: &mut Vec<u8>, token: &[u8], utf8: bool) -> Result<(), Memory> {
     text.push(b'^')?;
     if let [_, others @ ..] = token {
@@ -68,7 +68,7 @@ fn first_of(bytes: &[u8], most: usize) -> &[u8] {
     bytes.split_at(most.min(bytes.len())).0
 }
 
-/// Puts the line of a fault behind the text, and a line with a mark under its token. Of a long line what is near is shown.
+/// Puts the line of a fault after the text, and a line with a mark under its token. Of a long line what is near is shown.
 pub fn push_marked_line(text: &mut Vec<u8>, place: &Place<'_>) -> Result<(), Memory> {
     let line = last_line(place.before);
     let before = last_of(line, BEFORE);

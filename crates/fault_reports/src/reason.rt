@@ -32,7 +32,7 @@ pub enum Reason {
     MarkInName,
     /// A keyword as a name.
     KeywordAsName,
-    /// A comma behind the last receiver.
+    /// A comma after the last receiver.
     LastComma,
     /// No semicolon before.
     NoSemicolon,
@@ -59,39 +59,38 @@ impl Reason {
     pub fn words(self) -> &'static [u8] {
         match self {
             Reason::ByteOrderMark =>
-                b"the file begins with a byte order mark; candesk-format --mend takes it away",
-            Reason::Utf16 => b"the file is UTF-16; save it in an encoding of single bytes",
+                b"the file begins with a byte order mark; candesk-format --mend removes it",
+            Reason::Utf16 => b"the file is UTF-16; save it in a single-byte encoding",
             Reason::ControlZ =>
-                b"Ctrl-Z ended files once; candesk-format --mend takes it away at the end",
+                b"Ctrl-Z, once a mark for the end of a file; candesk-format --mend removes it there",
             Reason::OpenQuote => {
-                b"no quote behind it closes the text, or each has a backslash right before it; no text can end in a backslash"
+                b"no closing quote follows, or a backslash escapes each; a string can't end in a backslash"
             }
             Reason::PastAscii =>
-                b"outside of quotes no byte past ASCII may stand, as of a name with an umlaut; rename it",
+                b"non-ASCII byte outside a quoted string (an umlaut in a name?); rename it",
             Reason::StrayByte =>
-                b"names have letters, digits and underscores alone, and texts stand in quotes",
+                b"names have only letters, digits and underscores; text belongs in quotes",
             Reason::NoNumber =>
-                b"inf and nan are no numbers; where it is a limit of a signal, [0|0] says that there is none",
+                b"inf and nan are not numbers; as limits of a signal, [0|0] means that there are none",
             Reason::LongNumber =>
-                b"the number has an exponent past 400 or over 36 digits; write the one that is meant",
-            Reason::Fraction => b"a whole number has to stand there",
+                b"the number has an exponent above 400 or more than 36 digits; write the intended one",
+            Reason::Fraction => b"an integer is required here",
             Reason::DigitFirst => b"a name begins with a letter or an underscore; rename it",
-            Reason::MarkInName => b"names have letters, digits and underscores alone; rename it",
+            Reason::MarkInName => b"names have only letters, digits and underscores; rename it",
             Reason::KeywordAsName =>
                 b"a keyword can't be a name; rename it, or look for what is missing before it",
             Reason::LastComma =>
-                b"a comma stands behind the last receiver; candesk-format --mend takes it away",
-            Reason::NoSemicolon => b"the semicolon of the statement before is missing",
-            Reason::SecondTiming => b"a text has one BS_ at most; take the second away",
-            Reason::LateVersion => b"VERSION may stand at the beginning alone; put it there",
+                b"a comma follows the last receiver; candesk-format --mend removes it",
+            Reason::NoSemicolon => b"the semicolon of the previous statement is missing",
+            Reason::SecondTiming => b"a file has at most one BS_; remove the second",
+            Reason::LateVersion => b"VERSION is allowed only at the beginning; move it there",
             Reason::NoStatement =>
-                b"no statement begins with it; take the statement away, or look for what is missing before it",
-            Reason::CutOff => b"the file ends within a statement; it may have been cut off",
-            Reason::RepeatedSignal => b"a message has two signals of one name; rename one",
-            Reason::MessagesFull => b"a database has 65,535 messages at most; split it",
-            Reason::SignalsFull => b"a message has 999 signals at most; split it",
-            Reason::Limit =>
-                b"the number is beyond what its place can hold; write the one that is meant",
+                b"no statement begins with this; remove it, or look for what is missing before it",
+            Reason::CutOff => b"the file ends inside a statement; it may be truncated",
+            Reason::RepeatedSignal => b"a message has two signals of the same name; rename one",
+            Reason::MessagesFull => b"a database has at most 65,535 messages; split it",
+            Reason::SignalsFull => b"a message has at most 999 signals; split it",
+            Reason::Limit => b"the number is out of range here; write the intended one",
         }
     }
 
@@ -180,7 +179,7 @@ fn reason_of_number(token: &[u8]) -> Option<Reason> {
     }
 }
 
-// Whether a mark stands right behind a word.
+// Whether a mark stands right after a word.
 fn is_in_name(place: &Place<'_>) -> bool {
     match (place.before, place.token) {
         ([.., last], [b'-' | b'+' | b'(' | b'[' | b'@', ..]) => is_word_byte(*last),

@@ -17,7 +17,7 @@ use fault_places::{Beginning, Place, fault_place};
 use itoa::Buffer;
 use std::alloc::Global;
 
-/// The first fault of a text, and what is said of it and of those behind it that can be guessed at.
+/// The first fault of a text, and what is said of it and of those after it that can be guessed at.
 #[derive(Debug, Drop)]
 pub struct Report<'t> {
     /// Where the first fault stands.
@@ -45,7 +45,7 @@ fn cause_words(cause: Cause) -> &'static [u8]
     }
 }
 
-// Puts what is said first of a fault behind the text: its line, and its number and word.
+// Puts what is said first of a fault after the text: its line, and its number and word.
 #[tactic(auto, using(crate::proofs::Pushed::pushed_then), unfolding(crate::specs::Headlines::headline))]
 fn push_headline(text: &mut Vec<u8>, line: u64, cause: Cause) -> Result<(), Memory>
     ensures { OnOk result (text.new.items ≡ text.old.items ++ headline line cause) }
@@ -59,7 +59,7 @@ fn push_headline(text: &mut Vec<u8>, line: u64, cause: Cause) -> Result<(), Memo
     Ok(())
 }
 
-// Puts what else is said of a fault behind the text.
+// Puts what else is said of a fault after the text.
 fn push_fault(alloc: Global, text: &mut Vec<u8>, place: &Place<'_>) -> Result<(), Memory> {
     push_marked_line(text, place)?;
     push_all(text, &[b"found: "])?;
@@ -83,7 +83,7 @@ fn line_feeds(bytes: &[u8]) -> u64 {
     count
 }
 
-// Puts what is said of the faults that are guessed at behind the text: those behind the first, which stands in this line.
+// Puts what is said of the faults that are guessed at after the text: those after the first, which stands in this line.
 fn push_guesses(
     alloc: Global,
     text: &mut Vec<u8>,
@@ -107,10 +107,10 @@ fn push_guesses(
         line = fault_line.saturating_add(line_feeds(place.token));
         behind = place.behind;
     }
-    push_all(text, &[b"\nNo more is guessed at.\n"])
+    push_all(text, &[b"\nNo further guesses.\n"])
 }
 
-// What is said of a text's first fault behind its line and its cause, and of those behind it.
+// What is said of a text's first fault after its line and its cause, and of those after it.
 fn words_behind(alloc: Global, place: &Place<'_>) -> Result<Vec<u8>, Memory> {
     let mut words = Vec::new(alloc);
     push_fault(alloc, &mut words, place)?;
@@ -118,7 +118,7 @@ fn words_behind(alloc: Global, place: &Place<'_>) -> Result<Vec<u8>, Memory> {
     Ok(words)
 }
 
-// What is said of a text's first fault, and of those behind it.
+// What is said of a text's first fault, and of those after it.
 fn words_of(alloc: Global, place: &Place<'_>) -> Result<Vec<u8>, Memory>
     ensures { IfOk result (λ words. BeginsSo place.now.fault words.items) }
 {
@@ -130,7 +130,7 @@ fn words_of(alloc: Global, place: &Place<'_>) -> Result<Vec<u8>, Memory>
 }
 
 /// What is said of the faults of a text, if it has any: of the first one, and, as guesses, of those that are met where one goes on
-/// with the next line behind a fault that begins with a statement's word. The words begin with the first one's line and cause.
+/// with the next line after a fault that begins with a statement's word. The words begin with the first one's line and cause.
 pub fn fault_report(alloc: Global, text: &[u8]) -> Result<Option<Report<'_>>, Memory>
     ensures place { IfOk result (λ report. IsPlace grammar.text text.now (option_map (λ r. found_of r.place) report)) }
     ensures words { IfOk result (λ report. IfSome report (λ r. BeginsSo r.place.fault r.words.items)) }

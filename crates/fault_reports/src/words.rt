@@ -3,7 +3,7 @@
 use dbc_values::{Memory, is_name, is_word};
 use itoa::Buffer;
 
-/// Puts the pieces behind the text.
+/// Puts the pieces after the text.
 pub fn push_all(text: &mut Vec<u8>, pieces: &[&[u8]]) -> Result<(), Memory> {
     for piece in pieces {
         text.extend_from_slice(piece)?;
@@ -11,7 +11,7 @@ pub fn push_all(text: &mut Vec<u8>, pieces: &[&[u8]]) -> Result<(), Memory> {
     Ok(())
 }
 
-/// Puts the number behind the text, in decimal.
+/// Puts the number after the text, in decimal.
 pub fn push_number(text: &mut Vec<u8>, number: u64) -> Result<(), Memory> {
     let mut digits = Buffer::new();
     text.extend_from_slice(digits.format(number).as_bytes())?;
@@ -26,7 +26,7 @@ fn shown(b: u8) -> u8 {
     }
 }
 
-/// Puts bytes of a database behind the text as they are shown, but no CR.
+/// Puts bytes of a database after the text as they are shown, but no CR.
 pub fn push_shown(text: &mut Vec<u8>, bytes: &[u8]) -> Result<(), Memory> {
     for b in bytes {
         if *b != b'\r' {

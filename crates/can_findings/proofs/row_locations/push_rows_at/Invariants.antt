@@ -2,7 +2,7 @@ use Rattle.std.proofs.Common.{◌≡◌, ◌++◌, map, length}
 use Rattle.can_findings.specs.RowLocations.{keys_at, keys_in, findings_after}
 use Rattle.can_findings.proofs.row_locations.push_rows_at.Given as goal
 
--- what is left is put behind what was found, and its keys behind those that were seen
+-- what is left is put after what was found, and its keys after those that were seen
 abbrev pub invariant-rows : goal.invariant-rows
 invariant-rows g l = record {
   findings : l.findings.items ++ findings_after l.known l.seen (keys_at (map g.R.Row.key_of l.left) l.further)
