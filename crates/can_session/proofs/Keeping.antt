@@ -1,4 +1,4 @@
--- One line more where only some are retained.
+-- One line more where only some are kept.
 use Rattle.std.proofs.Common.{◌≡◌, ◌<◌, ◌≤◌, ◌+◌, ◌-◌, ℕ, false, List, [], ◌∷◌, ◌++◌, length, Ok, drop, refl, ap, arith}
 use Rattle.std.proofs.Common.{length-append}
 use Rattle.std.proofs.lemmas.Bool.{leb-false, le-ltb}
@@ -8,7 +8,7 @@ use Rattle.kept_lines.specs.declared.keep.Keep.TheVariants.{All, Last}
 use Rattle.can_session.specs.States.{longest_line, with_line}
 use Rattle.kept_lines.specs.Keeping.{most_kept, kept, is_full}
 
--- with as many as are retained the first goes
+-- with as many as are kept the first goes
 pub one_goes : {X : Type 0} (keep : Keep) (lines : List X) (line : X) → length lines ≤ most_kept keep → is_full keep (length lines)
     ≡ false
     → most_kept keep < length lines + 1 → kept keep (lines ++ line ∷ []) ≡ drop 1 (lines ++ line ∷ [])

@@ -10,7 +10,7 @@ use Rattle.session_log.specs.Logs.{IsDecoded}
 abbrev pub AreDecoded : Bus → List Line → Type 0
 AreDecoded bus lines = All (IsDecoded bus) lines
 
--- so are the lines of a session, and they are no more than are retained
+-- so are the lines of a session, and they are no more than are kept
 pub record IsOpen (bus : Bus) (keep : Keep) (lines : List Line) : Type 0 where
   pub decoded : AreDecoded bus lines
   pub few : length lines ≤ most_kept keep

@@ -18,13 +18,13 @@ use Rattle.kept_lines.specs.declared.keep.Keep.TheVariants.{All}
 use Rattle.kept_lines.specs.Keeping.{kept, is_full}
 use Rattle.compiled_database.specs.Compiled.{count_here, Raised, nothing_made}
 
--- what is chosen as the session is opened, and what commands change: the database, and the retained lines in order of arrival
+-- what is chosen as the session is opened, and what commands change: the database, and the kept lines in order of arrival
 pub record State : Type 0 where
   pub options : Options
   pub database : Database
   pub lines : List (List ℕ)
 
--- the choices where nothing else is said: frames that are shorter than their message are refused, and all lines are retained
+-- the choices where nothing else is said: frames that are shorter than their message are refused, and all lines are kept
 abbrev pub usual : Options
 usual = record { short = Refuse; keep = All }
 
@@ -35,7 +35,7 @@ pub record Open : Type 0 where
 
 -- ---- the first state
 
--- The state of a text's database without lines, with the choices, for which at most as many plans and pictures were counted as
+-- The state of a text's database without lines, with the choices, for which at most as many plans and diagrams were counted as
 -- there
 -- are messages. Or the first fault of the text, or memory ran out.
 abbrev pub Opens : List ℕ → Options → Result Open ReadFault → Type 0
@@ -55,7 +55,7 @@ Applies edit before answer after =
     (λ _. (edited before.database edit ≡ Ok after.database) × (after.lines ≡ before.lines) × (after.options ≡ before.options))
     (λ refusal. IsRefusal (edited before.database edit) refusal × (after ≡ before))
 
--- An accepted edit raises the counts of plans and pictures at most by the messages of the edited database that have one of its
+-- An accepted edit raises the counts of plans and diagrams at most by the messages of the edited database that have one of its
 -- numbers, and that of lines at most by the lines that it touches, also where memory runs out. A refused one raises none.
 abbrev pub RaisedBy : Result Database Refusal → List ℕ → List (List ℕ) → Meter → Meter → Type 0
 RaisedBy defined numbers lines before after =
@@ -69,7 +69,7 @@ RaisedBy defined numbers lines before after =
 abbrev pub longest_line : ℕ
 longest_line = 4096
 
--- the retained lines with one more, or why it is refused
+-- the kept lines with one more, or why it is refused
 abbrev pub with_line : Keep → List (List ℕ) → List ℕ → Result (List (List ℕ)) Refusal
 with_line keep lines line =
     if is_full keep (length lines) then Err refusals.LogFull

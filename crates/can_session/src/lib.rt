@@ -1,8 +1,8 @@
-//! The open session: a database that is edited, a log that is retained, and what is shown of both at every moment.
+//! The open session: a database that is edited, a log that is kept, and what is shown of both at every moment.
 //!
 //! After each edit and each line a [`Session`] shows what compiling its database from scratch, and decoding each line with it,
 //! would
-//! show: the diagnostics, the decode plans, the pictures and the decoded texts. What is refused leaves all of it as it was. An edit
+//! show: the diagnostics, the decode plans, the diagrams and the decoded texts. What is refused leaves all of it as it was. An edit
 //! makes anew only what it can change.
 #![tactic(auto)]
 

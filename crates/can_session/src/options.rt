@@ -11,7 +11,7 @@ use std::hash::RandomState;
 pub struct Options {
     /// What is said of frames that are shorter than their message.
     pub short: Short,
-    /// Which lines are retained.
+    /// Which lines are kept.
     pub keep: Keep,
 }
 

@@ -30,13 +30,13 @@ use std::alloc::Global;
 use std::hash::RandomState;
 use std::marker::Model;
 
-// The most bytes of a retained line.
+// The most bytes of a kept line.
 const LONGEST_LINE: usize = 4_096;
 
 // The room for longer texts isn't kept from one line to the next.
 const MAX_DRAFT_SIZE: usize = 4_096;
 
-/// A database that is edited and a log that is retained, with all that is shown of both.
+/// A database that is edited and a log that is kept, with all that is shown of both.
 ///
 /// What the readers lend is at every moment what making it from the database and the lines alone gives. They take no memory, and
 /// raise no count of the meter.
@@ -130,7 +130,7 @@ const NO_MEMORY: ReadFault = ReadFault {
 
 impl Session {
     /// The session of a text's database, in which frames that are shorter than their message are refused and all lines are
-    /// retained. Where the text has no database, its first fault is answered; that memory ran out is a fault of line 0.
+    /// kept. Where the text has no database, its first fault is answered; that memory ran out is a fault of line 0.
     pub fn open(alloc: Global, text: &[u8]) -> Result<Session, ReadFault>
         ensures { Opens text.now usual result }
     {
@@ -160,7 +160,7 @@ impl Session {
     }
 
     /// Does an edit. A refused one changes nothing but the meter; want of memory comes after all other refusals. Plans and
-    /// pictures are made only of messages that have one of the edit's numbers, and only lines whose frames these concern are
+    /// diagrams are made only of messages that have one of the edit's numbers, and only lines whose frames these concern are
     /// decoded again.
     pub fn apply(&mut self, edit: &Edit) -> Result<(), Refusal>
         ensures step { Applies edit.now self.old.state result self.new.state }
@@ -178,7 +178,7 @@ impl Session {
     }
 
     /// Retains a line, which holds no LF, as the session's choice says. A refused one changes nothing but the meter: a line has at
-    /// most 4,096 bytes, and where all lines are retained there is room for 1,048,576. Where the last ones are, the oldest goes for
+    /// most 4,096 bytes, and where all lines are kept there is room for 1,048,576. Where the last ones are, the oldest goes for
     /// a new one, and no log is full. Want of memory comes last.
     pub fn add_line(&mut self, line: &[u8]) -> Result<(), Refusal>
         ensures step { Adds line.now self.old.state result self.new.state }
@@ -218,14 +218,14 @@ impl Session {
         self.shown.database()
     }
 
-    /// All that is doubtful in the database.
+    /// All diagnostics of the database.
     pub fn diagnostics(&self) -> &[Diagnostic]
         ensures { result.now ≡ all_faults self.now.state.database }
     {
         self.shown.diagnostics()
     }
 
-    /// The decode plan of the message at a place.
+    /// The decode plan of the message at an index.
     pub fn plan(&self, place: usize) -> &Plan
         requires { place < length self.now.state.database.messages }
         ensures { Some result.now ≡ option_map (plan_of self.now.state.database) (slice_get self.now.state.database.messages
@@ -234,7 +234,7 @@ impl Session {
         self.shown.plan(place)
     }
 
-    /// The picture of the message at a place.
+    /// The diagram of the message at an index.
     pub fn picture(&self, place: usize) -> &[u8]
         requires { place < length self.now.state.database.messages }
         ensures { Some result.now ≡ option_map (picture_of self.now.state.database) (slice_get self.now.state.database.messages
@@ -243,14 +243,14 @@ impl Session {
         self.shown.picture(place)
     }
 
-    /// How many lines are retained.
+    /// How many lines are kept.
     pub fn line_count(&self) -> usize
         ensures { result ≡ length self.now.state.lines }
     {
         self.log.len()
     }
 
-    /// The line at a place, in order of arrival: 0 is the oldest that is retained.
+    /// The line at an index, in order of arrival: 0 is the oldest that is kept.
     pub fn line(&self, n: usize) -> &[u8]
         requires { n < length self.now.state.lines }
         ensures { Some result.now ≡ slice_get self.now.state.lines n }
@@ -258,7 +258,7 @@ impl Session {
         self.log.line(n).bytes.as_slice()
     }
 
-    /// The decoded text of the line at a place, of which 0 is the oldest that is retained: what decoding it by itself gives, with
+    /// The decoded text of the line at an index, of which 0 is the oldest that is kept: what decoding it by itself gives, with
     /// the database as it is and by the session's choice.
     pub fn decoded(&self, n: usize) -> &[u8]
         requires { n < length self.now.state.lines }
@@ -268,7 +268,7 @@ impl Session {
         self.log.line(n).decoded.as_slice()
     }
 
-    /// How often plans and pictures were made, and lines decoded.
+    /// How often plans and diagrams were made, and lines decoded.
     pub fn meter(&self) -> &Meter
         ensures { result.now ≡ self.now.meter }
     {

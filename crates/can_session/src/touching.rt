@@ -15,7 +15,7 @@ use ready_texts::Draft;
 use session_log::{Fresh, Log};
 use std::alloc::Global;
 
-// The text of the line at a place, made in `draft`.
+// The text of the line at an index, made in `draft`.
 fn fresh_at(
     draft: &mut Draft,
     bus: &ShownBus<'_>,

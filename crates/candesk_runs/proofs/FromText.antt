@@ -64,7 +64,7 @@ explained text database starts read old new (Err (run.Stream streams.Read)) done
 explained text database starts read old new (Err (run.Stream streams.Memory)) done = absurd done
 explained text database starts read old new (Err run.Memory) done = done
 
--- rows behind the names of the columns
+-- entries after the names of the columns
 pub behind_header : (bus : Bus) (before after : Unread) (old begun new : Written) (result : Result ℕ RunFault)
     → Wrote old begun header_text → WritesRows bus before after begun new result → WritesCsv bus before after old new result
 behind_header bus before after old begun new (Ok count) wrote rows = (begun, wrote, rows)

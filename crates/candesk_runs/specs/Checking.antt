@@ -16,7 +16,7 @@ use Rattle.candesk_runs.specs.declared.checking.Verdict.TheVariants as verdicts
 use Rattle.candesk_runs.specs.declared.fault.RunFault.{RunFault}
 use Rattle.candesk_runs.specs.declared.fault.RunFault.TheVariants as faults
 use Rattle.line_stream.specs.declared.fault.StreamFault.TheVariants as streams
-use Rattle.candesk_runs.specs.Statuses.{done, doubtful}
+use Rattle.candesk_runs.specs.Statuses.{done, has_diagnostics}
 
 -- a line for each
 abbrev pub found_text : List Diagnostic → List ℕ
@@ -25,12 +25,12 @@ found_text found = flat_map (λ diagnostic. line_text diagnostic ++ codes "\n") 
 -- by what was found
 abbrev pub verdict_of : {X : Type 0} → List X → Verdict
 verdict_of [] = verdicts.Clean
-verdict_of (first ∷ others) = verdicts.Doubtful
+verdict_of (first ∷ others) = verdicts.HasDiagnostics
 
 -- the verdict on what is found first and what is found then
 abbrev pub verdict_then : Verdict → Verdict → Verdict
 verdict_then verdicts.Clean later = later
-verdict_then verdicts.Doubtful later = verdicts.Doubtful
+verdict_then verdicts.HasDiagnostics later = verdicts.HasDiagnostics
 
 -- The lines of all were written, or a beginning of them and then a put failed. Or the lines of some first ones were written, and
 -- then memory ran out. It ends so after the database was read.
@@ -42,7 +42,7 @@ Says found old new (Err (faults.Stream fault)) = ⊥
 Says found old new (Err faults.Memory) = (first later : List Diagnostic) × (found ≡ first ++ later)
     × Wrote old new (found_text first)
 
--- The text has a database, and what is doubtful in it was so said. Or nothing was written, and the fault is the first of the text,
+-- The text has a database, and its diagnostics were written so. Or nothing was written, and the fault is the first of the text,
 -- or says that memory ran out.
 abbrev pub ChecksAll : List ℕ → Written → Written → Result Verdict RunFault → Type 0
 ChecksAll text old new (Ok verdict) = (database : Database) × HasDatabase text database
@@ -57,7 +57,7 @@ ChecksAll text old new (Err faults.Memory) = (database : Database) × HasDatabas
 -- the exit status of a verdict
 abbrev pub verdict_status : Verdict → ℕ
 verdict_status verdicts.Clean = done
-verdict_status verdicts.Doubtful = doubtful
+verdict_status verdicts.HasDiagnostics = has_diagnostics
 
 -- ---- lines that wait before a sink
 

@@ -11,11 +11,11 @@ use Rattle.candesk_runs.specs.declared.fault.RunFault.{RunFault}
 use Rattle.candesk_runs.specs.declared.fault.RunFault.TheVariants as faults
 use Rattle.line_stream.specs.declared.fault.StreamFault.TheVariants as streams
 
--- the pictures of messages, one after another
+-- the diagrams of messages, one after another
 abbrev pub pictures_text : Database → List Message → List ℕ
 pictures_text database messages = flat_map (picture_of database) messages
 
--- All pictures were written, or a beginning of them and then a put failed. Or those of some first messages were, each
+-- All diagrams were written, or a beginning of them and then a put failed. Or those of some first messages were, each
 -- whole, and then memory ran out. It ends so after the database was read.
 abbrev pub Draws : Database → List Message → Written → Written → Result (Unit {0}) RunFault → Type 0
 Draws database messages old new (Ok u) = Wrote old new (pictures_text database messages)
@@ -24,7 +24,7 @@ Draws database messages old new (Err (faults.Stream streams.Write)) = Broke old 
 Draws database messages old new (Err (faults.Stream fault)) = ⊥
 Draws database messages old new (Err faults.Memory) = (count : ℕ) × Wrote old new (pictures_text database (take count messages))
 
--- The text has a database whose pictures were so written. Or nothing was written, and the fault is the first of the text, or says
+-- The text has a database whose diagrams were so written. Or nothing was written, and the fault is the first of the text, or says
 -- that memory ran out.
 abbrev pub DumpsPictures : List ℕ → Written → Written → Result (Unit {0}) RunFault → Type 0
 DumpsPictures text old new (Ok u) = (database : Database) × HasDatabase text database × Draws database database.messages old new

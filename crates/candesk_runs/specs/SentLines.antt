@@ -19,11 +19,11 @@ both_texts xs ys = flat_map-append (λ diagnostic. line_text diagnostic ++ codes
 
 no_more : (verdict : Verdict) → verdict ≡ verdict_then verdict verdicts.Clean
 no_more verdicts.Clean = refl
-no_more verdicts.Doubtful = refl
+no_more verdicts.HasDiagnostics = refl
 
 both_verdicts : (before : Verdict) (xs ys : List Diagnostic) → verdict_then (verdict_then before (verdict_of xs)) (verdict_of ys)
     ≡ verdict_then before (verdict_of (xs ++ ys))
-both_verdicts verdicts.Doubtful xs ys = refl
+both_verdicts verdicts.HasDiagnostics xs ys = refl
 both_verdicts verdicts.Clean [] ys = refl
 both_verdicts verdicts.Clean (x ∷ xs) ys = refl
 

@@ -14,9 +14,9 @@ done = 0
 abbrev pub refused : ℕ
 refused = 1
 
--- something in the database is doubtful
-abbrev pub doubtful : ℕ
-doubtful = 1
+-- the database has diagnostics
+abbrev pub has_diagnostics : ℕ
+has_diagnostics = 1
 
 -- the words are no job
 abbrev pub usage : ℕ

@@ -1,4 +1,4 @@
-//! A database text in, a line for each thing that is doubtful in it out.
+//! A database text in, a line for each of its diagnostics out.
 ghost use Rattle.std.specs.Prelude.{◌≡◌};
 ghost use Rattle.can_check.specs.AllFaults.{all_faults};
 ghost use Rattle.candesk_runs.specs.Checking.{verdict_of, verdict_then, Flushes, Says, ChecksAll};
@@ -16,10 +16,10 @@ use std::alloc::Global;
 /// What is said of a database as a whole.
 #[derive(Clone, Copy, Debug, PartialEq, Eq)]
 pub enum Verdict {
-    /// Nothing is doubtful.
+    /// There are no diagnostics.
     Clean,
-    /// Something is.
-    Doubtful,
+    /// There are some.
+    HasDiagnostics,
 }
 
 /// The verdict on a database in which these things were found.
@@ -28,7 +28,7 @@ pub fn verdict_of<T>(found: &[T]) -> Verdict
 {
     match found {
         [] => Verdict::Clean,
-        [_, ..] => Verdict::Doubtful,
+        [_, ..] => Verdict::HasDiagnostics,
     }
 }
 
@@ -45,7 +45,7 @@ fn verdict_then(first: Verdict, later: Verdict) -> Verdict
 {
     match first {
         Verdict::Clean => later,
-        Verdict::Doubtful => Verdict::Doubtful,
+        Verdict::HasDiagnostics => Verdict::HasDiagnostics,
     }
 }
 
@@ -119,8 +119,8 @@ fn say_all<W: Sink>(alloc: Global, database: &Database, sink: &mut W) -> Result<
     }
 }
 
-/// Reads the database text to its end, looks at all of the database, and writes a line for each thing that is doubtful in it, in
-/// the order of messages and then of rows, each as soon as it is found.
+/// Reads the database text to its end, checks all of the database, and writes a line for each of its diagnostics, in
+/// the order of messages and then of entries, each as soon as it is found.
 #[inline(never)]
 pub fn check_run<W: Sink>(alloc: Global, text: &[u8], sink: &mut W) -> Result<Verdict, RunFault>
     ensures { ChecksAll text.now (W.written sink.old) (W.written sink.new) result }

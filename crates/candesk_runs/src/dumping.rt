@@ -1,4 +1,4 @@
-//! A database text in, the pictures of its messages out.
+//! A database text in, the diagrams of its messages out.
 ghost use Rattle.candesk_runs.specs.Dumping.{Draws, DumpsPictures};
 
 use crate::fault::RunFault;
@@ -9,7 +9,7 @@ use dbc_records::{Database, Message};
 use line_stream::StreamFault;
 use std::alloc::Global;
 
-// Writes the picture of each message as soon as it is made.
+// Writes the diagram of each message as soon as it is made.
 fn draw<L: Lookup, W: Sink>(
     alloc: Global,
     lookup: &L,
@@ -30,7 +30,7 @@ fn draw<L: Lookup, W: Sink>(
     Ok(())
 }
 
-// Writes the pictures of all messages, by an index of the rows.
+// Writes the diagrams of all messages, by an index of the entries.
 fn draw_all<W: Sink>(alloc: Global, database: &Database, sink: &mut W) -> Result<(), RunFault>
     ensures { Draws database.now database.now.messages (W.written sink.old) (W.written sink.new) result }
 {
@@ -40,7 +40,7 @@ fn draw_all<W: Sink>(alloc: Global, database: &Database, sink: &mut W) -> Result
     draw(alloc, &indexed, database.messages.as_slice(), sink)
 }
 
-/// Reads the database text to its end, and then writes the pictures of its messages in order, each as soon as it is made.
+/// Reads the database text to its end, and then writes the diagrams of its messages in order, each as soon as it is made.
 #[inline(never)]
 pub fn dump_run<W: Sink>(alloc: Global, text: &[u8], sink: &mut W) -> Result<(), RunFault>
     ensures { DumpsPictures text.now (W.written sink.old) (W.written sink.new) result }

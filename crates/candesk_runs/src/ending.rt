@@ -17,13 +17,13 @@ pub mod status {
     pub const DONE: u8 = 0;
     /// The database was refused.
     pub const REFUSED: u8 = 1;
-    /// Something in the database is doubtful.
-    pub const DOUBTFUL: u8 = 1;
+    /// The database has diagnostics.
+    pub const HAS_DIAGNOSTICS: u8 = 1;
     /// The words are no job.
     pub const USAGE: u8 = 2;
     /// A file, a read or a write failed, or a line was too long.
     pub const DEVICE: u8 = 3;
-    /// An allocation was refused.
+    /// Out of memory.
     pub const MEMORY: u8 = 4;
 }
 
@@ -85,7 +85,7 @@ pub fn ended_with_verdict<E: Sink>(outcome: Result<Verdict, RunFault>, errors: &
 {
     match outcome {
         Ok(Verdict::Clean) => status::DONE,
-        Ok(Verdict::Doubtful) => status::DOUBTFUL,
+        Ok(Verdict::HasDiagnostics) => status::HAS_DIAGNOSTICS,
         Err(fault) => report_fault(errors, fault),
     }
 }

@@ -15,7 +15,7 @@ use fault_reports::fault_report;
 use line_stream::StreamFault;
 use std::alloc::Global;
 
-// Writes diagnostics behind their lines, with their remedies.
+// Writes diagnostics after their lines, with their remedies.
 fn explain_all<W: Sink>(found: &[Finding], sink: &mut W) -> Result<Verdict, RunFault>
     ensures { ExplainsAll found.now (W.written sink.old) (W.written sink.new) result }
 {
@@ -60,9 +60,8 @@ fn explain_fault<W: Sink>(
     }
 }
 
-/// Reads the database text, and writes in words why it is refused: its first fault, and, as guesses, those behind it. Of a text
-/// that isn't refused it writes what is doubtful in the database, as `check` does, each behind the lines of the text in which what
-/// it speaks of begins, and with its remedy.
+/// Reads the database text, and explains why it is rejected: its first fault, and, as guesses, later ones. If it isn't rejected,
+/// writes the diagnostics of the database, as `check` does, each after the lines of the statements it is about, with its remedy.
 #[inline(never)]
 pub fn explain_run<W: Sink>(alloc: Global, text: &[u8], sink: &mut W) -> Result<Verdict, RunFault>
     ensures { ExplainsText text.now (W.written sink.old) (W.written sink.new) result }

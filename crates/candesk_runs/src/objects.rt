@@ -30,7 +30,7 @@ fn write_lines<L: Lookup, W: Sink>(
     Ok(())
 }
 
-// Writes the lines, by what finds the rows of the database.
+// Writes the lines, by what finds the entries of the database.
 fn write_dump<L: Lookup, W: Sink>(alloc: Global, lookup: &L, sink: &mut W) -> Result<(), RunFault>
     ensures { WritesLines (dump_lines (L.whole lookup.now)) (W.written sink.old) (W.written sink.new) result }
 {
@@ -40,7 +40,7 @@ fn write_dump<L: Lookup, W: Sink>(alloc: Global, lookup: &L, sink: &mut W) -> Re
     write_lines(alloc, &dump, sink)
 }
 
-// The same, by an index of the rows.
+// The same, by an index of the entries.
 fn write_database<W: Sink>(alloc: Global, database: &Database, sink: &mut W) -> Result<(), RunFault>
     ensures { WritesLines (dump_lines database.now) (W.written sink.old) (W.written sink.new) result }
 {

@@ -13,7 +13,7 @@ use dbc_tokens::Cause;
 use line_stream::StreamFault;
 use std::alloc::Global;
 
-// Writes the rows of each line.
+// Writes the entries of each line.
 fn stream_rows<R: Source, W: Sink>(
     alloc: Global,
     decoding: &CsvDecoding<'_>,
@@ -79,7 +79,7 @@ fn csv_of<R: Source, W: Sink>(
     }
 }
 
-/// As [`decode_run`](crate::decode_run), with a row of CSV for each signal that is shown in place of the decoded lines, behind a
+/// As [`decode_run`](crate::decode_run), with a row of CSV for each signal that is shown in place of the decoded lines, after a
 /// row that names the columns. That one is written before the log is read.
 #[inline(never)]
 pub fn decode_csv_run<R: Source, W: Sink>(

@@ -91,7 +91,7 @@ fn runs(rt: HostRuntime) -> Result<(), AllocError> {
 fn checks(rt: HostRuntime) -> Result<(), AllocError> {
     let mut to = sink(rt.alloc(), ALL);
     let verdict = check_run(rt.alloc(), b"BU_: Ecu\nBO_ 1 A: 0 N\n", &mut to);
-    assert!(rt; verdict == Ok(Verdict::Doubtful));
+    assert!(rt; verdict == Ok(Verdict::HasDiagnostics));
     assert!(rt; to.bytes() == b"13 UnknownNode 1 A N\n".as_slice());
     Ok(())
 }

@@ -10,7 +10,7 @@ use std::test::Fail;
 // A number that is no identifier, and a sender that isn't there.
 const DOUBTFUL: &[u8] = b"BU_: Ecu\nBO_ 2048 A: 8 N\n";
 
-// Whether the diagnostic at a place has the code.
+// Whether the diagnostic at an index has the code.
 fn has_code(found: &[Diagnostic], place: usize, code: Code) -> bool {
     match found.get(place) {
         Some(diagnostic) => diagnostic.code == code,
@@ -32,13 +32,13 @@ fn both_found(alloc: Global, database: &Database) -> Result<bool, Fail>
     )
 }
 
-fn is_doubtful(alloc: Global) -> Result<bool, Fail> {
+fn has_diagnostics(alloc: Global) -> Result<bool, Fail> {
     let database = database(alloc, DOUBTFUL)?;
     both_found(alloc, &database)
 }
 
 #[test]
 fn a_number_and_a_sender(rt: HostRuntime) -> Result<(), Fail> {
-    assert!(rt; is_doubtful(rt.alloc())?);
+    assert!(rt; has_diagnostics(rt.alloc())?);
     Ok(())
 }

@@ -202,7 +202,7 @@ fn all_made(alloc: Global, parts: &Parts) -> Result<[bool; 6], Fail> {
     ])
 }
 
-// Whoever has such parts of its own and leaves in many ways is long in proving, so they are handed on at once.
+// Whoever has such parts of its own and leaves in many ways is long in proving, so they are reported at once.
 fn made_of_parts(alloc: Global) -> Result<[bool; 6], Fail> {
     let parts = new_parts(alloc)?;
     all_made(alloc, &parts)

@@ -37,7 +37,7 @@ VAL_ 5 TwiceFew 130 \"a\" 128 \"b\" 128 \"c\" 126 \"d\" 124 \"e\" 122 \"f\" 120 
  116 \"i\" 114 \"j\" 112 \"k\" 110 \"l\" 108 \"m\" 106 \"n\" 104 \"o\" 102 \"p\";
 ";
 
-// The order of the entries of each row.
+// The order of the value descriptions of each entry.
 const ORDERS: [(usize, Option<EntryOrder>); 7] = [
     (0, Some(EntryOrder::Rising)),
     (1, Some(EntryOrder::Falling)),
@@ -48,7 +48,7 @@ const ORDERS: [(usize, Option<EntryOrder>); 7] = [
     (6, None),
 ];
 
-// Signals, raw values and their first texts; an empty one where there is none.
+// Signals, raw values and their first texts; an empty one if there is none.
 const FOUND: [(usize, i128, &[u8]); 30] = [
     (0, 100, b"a"),
     (0, 116, b"i"),
@@ -97,7 +97,7 @@ const LINES: [(&[u8], &[u8]); 3] = [
     ),
 ];
 
-// Whether the entries of each row are in the order, or in none.
+// Whether the value descriptions of each entry are in the order, or in none.
 fn are_in_orders(database: &Database) -> bool {
     for (place, order) in ORDERS {
         match database.values.as_slice().get(place) {
@@ -108,7 +108,7 @@ fn are_in_orders(database: &Database) -> bool {
     true
 }
 
-// How the signal at a place is read.
+// How the signal at an index is read.
 fn decoder_of(plan: &Plan, place: usize) -> Option<&Decoder> {
     if place >= plan.signals() {
         return None;

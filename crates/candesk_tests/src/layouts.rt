@@ -1,4 +1,4 @@
-//! That plans and pictures are made.
+//! That plans and diagrams are made.
 ghost use Rattle.std.specs.Prelude.{◌<◌, IsSome, IsTrue, length};
 ghost use Rattle.can_layout.specs.Plans.{signal_at};
 
@@ -29,7 +29,7 @@ fn first_raw(alloc: Global, database: &Database, bytes: &[u8]) -> Result<u64, Fa
     Ok(plan.raw(0, bytes))
 }
 
-// How many plans and pictures are made of all messages, and counted.
+// How many plans and diagrams are made of all messages, and counted.
 fn all_made(alloc: Global, database: &Database) -> Result<bool, Fail> {
     let mut meter = Meter::new();
     let plans = make_plans(alloc, database, &mut meter)?;
@@ -44,7 +44,7 @@ Message A 5 2
    0 S 8|8@1+
 ";
 
-// Whether the plan, the picture and those of all messages are right.
+// Whether the plan, the diagram and those of all messages are right.
 fn all_right(alloc: Global, database: &Database) -> Result<bool, Fail>
     requires { 0 < length database.now.messages }
 {
@@ -67,7 +67,7 @@ fn a_plan_and_a_picture(rt: HostRuntime) -> Result<(), Fail> {
     Ok(())
 }
 
-// A signal below a switch.
+// A signal below a multiplexor.
 const CHAINED: &[u8] =
     b"BO_ 5 A: 3 N\n SG_ S m1 : 16|8@1+ (1,0) [0|0] \"\"\n SG_ T M : 0|8@1+ (1,0) [0|0] \"\"\n";
 
@@ -82,7 +82,7 @@ fn has_first(database: &Database) -> bool
     }
 }
 
-// Whether one switch stands above the first signal.
+// Whether one multiplexor stands above the first signal.
 fn has_one_above(alloc: Global, database: &Database) -> Result<bool, Memory> {
     if !has_first(database) {
         return Ok(false);
@@ -104,7 +104,7 @@ fn a_way_up(rt: HostRuntime) -> Result<(), Fail> {
     Ok(())
 }
 
-// A signal below a switch below a switch, with many numbers of its own one.
+// A signal below a multiplexor below a multiplexor, with many numbers of its own one.
 const DEEP: &[u8] = b"\
 BO_ 5 A: 3 N
  SG_ S m0 : 16|8@1+ (1,0) [0|0] \"\"

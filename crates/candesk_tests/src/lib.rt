@@ -1,5 +1,5 @@
-//! Tests of checks, plans, pictures, decoding and whole runs: what no contract says of them. They stand apart, as a crate with
-//! tests is proved once more with them. So do those of the rows, diagnostics, keys, frames, ready texts and words below.
+//! Tests of checks, plans, diagrams, decoding and whole runs: what no contract says of them. They stand apart, as a crate with
+//! tests is proved once more with them. So do those of the entries, diagnostics, keys, frames, ready texts and words below.
 #![tactic(auto)]
 
 #[cfg(test)]

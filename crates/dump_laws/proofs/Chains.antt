@@ -1,4 +1,4 @@
--- The ranges of a chain are those of rows and tags.
+-- The ranges of a chain are those of entries and tags.
 use Rattle.std.proofs.Common.{◌≡◌, ℕ, zero, suc, ◌+◌, ◌<◌, ◌^◌, Bool, true, false, cond, List, [], ◌∷◌, Option, Some, None, map}
 use Rattle.std.proofs.Common.{filter, All}
 use Rattle.std.proofs.Common.{length, slice_get, refl, ap, sym, ◌∙◌, arith}
@@ -81,7 +81,7 @@ module _ (rows : SignalRows) (all : List Signal) (valid : All IsMuxRow rows.muxe
   bounded_at (signal ∷ signals) are zero = above_bounded signal (first_of IsSignal signal signals are)
   bounded_at (signal ∷ signals) are (suc place) = bounded_at signals (rest_of IsSignal signal signals are) place
 
--- ---- the way up
+-- ---- the multiplexing chain
 
 abbrev pub AreBounded : Option (List Link) → Type 0
 AreBounded chain = IfSome chain (AllByRecursion IsLink)

@@ -1,4 +1,4 @@
--- What is told of a signal is what its plan decodes it by.
+-- What is reported of a signal is what its plan decodes it by.
 use Rattle.std.proofs.Common.{◌≡◌, ℕ, zero, suc, ◌+◌, ◌-◌, ◌^◌, ◌<◌, ◌≤◌, Bool, true, false, if◌then◌else◌, List, [], ◌∷◌, Some}
 use Rattle.std.proofs.Common.{None}
 use Rattle.std.proofs.Common.{Option, length, map, slice_get, get_or, refl, sym, ap, ◌∙◌, subst, arith, All}
@@ -77,7 +77,7 @@ bits_at_their_places field i d within =
     (sym (get_or-map-range_with_len (bit_at field) 0 field.length i i d (omega (arith, within, count)) (omega arith)))
     (bit_at_its_place field i (omega (arith, within, count)))
 
--- ---- rows
+-- ---- entries
 
 module _ {A : Type 0} (f : ℕ × Signal → A) where
   row_from : (from place : ℕ) (signals : List Signal) (signal : Signal) → slice_get signals place ≡ Some signal

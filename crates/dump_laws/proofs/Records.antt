@@ -124,7 +124,7 @@ definition_reads definition is =
     object_reads 2 ((codes "object", or_null object_json definition.object) ∷ (name ++ form))
     (object, both_read 2 name form (texts_read 2 (codes "name") definition.name) formed)
 
--- ---- rows of signals
+-- ---- entries of signals
 
 pub range_reads : (range : Range) → IsRange range → Reads 1 (range_json range)
 range_reads range is =

@@ -23,11 +23,11 @@ MessagesParseBack = (database : Database) (message : Message) → IsDatabase dat
 abbrev pub RestParsesBack : Type 0
 RestParsesBack = (database : Database) → IsDatabase database → document (json_text (rest_json database)) ≡ Some (rest_json database)
 
--- a position is the one at its place, which is the power of two that the bit counts
+-- a position is the one at its index, which is the power of two that the bit counts
 abbrev pub IsAtItsPlace : List ℕ → Bit → Type 0
 IsAtItsPlace positions bit = (k : ℕ) → bit.weight ≡ 2 ^ k → slice_get positions k ≡ Some bit.position
 
--- what is told of a signal is what its plan decodes it by
+-- what is reported of a signal is what its plan decodes it by
 abbrev pub TellsReading : Database → Message → Signal → Row → Reading → Type 0
 TellsReading database message signal row (Refused cause) = refused_json row.reading ≡ string (cause_word cause)
 TellsReading database message signal row (Read decoder) =
@@ -35,8 +35,8 @@ TellsReading database message signal row (Read decoder) =
     × All (IsAtItsPlace (positions_of row.field)) decoder.bits
     × (entries_of (first_values signal.name (rows_of message.head.number database)) ≡ decoder.entries)
 
--- The signal at a place is told with the row of the plan there, so its positions, its chain and the reason why it can't be decoded
--- are the plan's, and its value descriptions are those that values are named by.
+-- The signal at an index is written with the entry of the plan there, so its positions, its chain and the reason why it can't be
+-- decoded are the plan's, and its value descriptions are those that values are named by.
 abbrev pub SignalsAreAsPlanned : Type 0
 SignalsAreAsPlanned = (database : Database) (message : Message) (place : ℕ) (signal : Signal)
     → slice_get message.signals place ≡ Some signal

@@ -15,7 +15,7 @@ pub fn rest_parses_back()
     ensures { RestParsesBack }
 {}
 
-/// What is told of a signal is what its plan decodes it by: positions, chain, the reason why it can't be decoded, and value
+/// What is reported of a signal is what its plan decodes it by: positions, chain, the reason why it can't be decoded, and value
 /// descriptions.
 pub fn signals_are_as_planned()
     ensures { SignalsAreAsPlanned }

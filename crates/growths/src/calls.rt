@@ -13,7 +13,7 @@ use dbc_records::Database;
 use std::alloc::Global;
 use std::fmt::Display;
 
-// The call has ended: says its answer, and hands on what it made.
+// The call has ended: says its answer, and reports what it made.
 fn told<T: Drop, E: Display + Drop, W: Sink>(sink: &mut W, answer: Result<T, E>) -> Option<T> {
     end(sink);
     match answer {

@@ -1,6 +1,6 @@
-//! growths: makes calls of candesk's libraries one by one, and tells of each what it answered and all that is lent behind it.
+//! growths: makes calls of candesk's libraries one by one, and tells of each what it answered and all that is lent after it.
 //!
-//! `growths WORD FILE` reads a database text. Right before a call it writes the line `begin`, and right behind it `end`, so that
+//! `growths WORD FILE` reads a database text. Right before a call it writes the line `begin`, and right after it `end`, so that
 //! what is
 //! preloaded can refuse the allocations of one call alone, or fail its reads and writes. It isn't installed, and what it writes is
 //! judged

@@ -73,7 +73,7 @@ pub(crate) struct Asked<'a> {
     pub input: &'a [u8],
     /// Whether the script that the source gives is served.
     pub serves: bool,
-    /// Whether only the last two lines are retained.
+    /// Whether only the last two lines are kept.
     pub bounded: bool,
 }
 

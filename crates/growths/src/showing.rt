@@ -30,7 +30,7 @@ pub(crate) fn show_diagnostics<W: Sink>(sink: &mut W, diagnostics: &[Diagnostic]
     let _ = write_lines(diagnostics, sink);
 }
 
-// A switch above a signal.
+// A multiplexor above a signal.
 fn show_link<W: Sink>(sink: &mut W, link: &Link) {
     let switch = link.switch;
     say(sink, format_args!("below {switch}"));
@@ -40,7 +40,7 @@ fn show_link<W: Sink>(sink: &mut W, link: &Link) {
     }
 }
 
-// The way up from a signal.
+// The multiplexing chain from a signal.
 fn show_chain<W: Sink>(sink: &mut W, chain: &Option<Chain>, most: usize) {
     let Some(chain) = chain else {
         say(sink, "never");
@@ -109,7 +109,7 @@ pub(crate) fn show_plan<W: Sink>(sink: &mut W, plan: &Plan) {
     }
 }
 
-// The plans and pictures of a session.
+// The plans and diagrams of a session.
 fn show_layouts<W: Sink>(sink: &mut W, session: &Session) {
     for place in 0..session.database().messages.len() {
         show_plan(sink, session.plan(place));

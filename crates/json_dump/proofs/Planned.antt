@@ -1,4 +1,4 @@
--- The rows of a plan, beside the signals of its message.
+-- The entries of a plan, beside the signals of its message.
 use Rattle.std.proofs.Common.{◌≡◌, ℕ, zero, suc, ◌+◌, ◌<◌, List, [], ◌∷◌, ◌++◌, Some, None, length, take, map, slice_get}
 use Rattle.std.proofs.Common.{option_and_then}
 use Rattle.std.proofs.Common.{refl, sym, ap, ◌∙◌, arith, append-nil}
@@ -38,7 +38,7 @@ rows_chained database message aboves above =
     (ap (λ aboves. plan_rows (rows_of message.head.number database) aboves message.head.size message.signals) (sym above)
     ∙ ap (λ (aboves : List Above). plan_rows (rows_of message.head.number database) aboves message.head.size message.signals) refl)
 
--- the chain of the row at a place
+-- the chain of the entry at an index
 pub chain_is : (rows : List Row) (aboves : List Above) (place : ℕ) (row : Row) → AreChained rows aboves
     → Some row ≡ slice_get rows place → row.chain ≡ chain_of (walk_of aboves place)
 chain_is rows aboves place row are here =

@@ -65,7 +65,7 @@ link_json signals link =
     object_of ((codes "switch", name_json (name_of (slice_get signals link.switch)))
     ∷ (codes "ranges", ranges_json link.ranges) ∷ [])
 
--- the switches above a signal, its own first; null if the signal is never there
+-- the multiplexors above a signal, its own first; null if the signal is never there
 abbrev pub chain_json : List Signal → Option (List Link) → Json
 chain_json signals chain = or_null (λ links. array_of (map (link_json signals) links)) chain
 
@@ -153,7 +153,7 @@ message_members database message = planned_members database (record { message = 
 abbrev pub message_json : Database → Message → Json
 message_json database message = object_of (message_members database message)
 
--- a signal of a message with its row of the plan
+-- a signal of a message with its entry of the plan
 pub record Placed : Type 0 where
   pub message : Message
   pub signal : Signal

@@ -52,7 +52,7 @@ is_at number (targets.Signal other signal) = other == number
 abbrev pub kept_at : {A V : Type 0} → (V → List A) → BTreeMap ℕ V → ℕ → List A
 kept_at items_of by_number number = option_map_or items_of (get nat_cmp by_number number) []
 
--- at each number are the rows that speak of the message of that number or of a signal of it, in order
+-- at each number are the entries that speak of the message of that number or of a signal of it, in order
 abbrev pub IsByNumber : {A V : Type 0} → (V → List A) → (A → Target) → BTreeMap ℕ V → List A → Type 0
 IsByNumber items_of target_of by_number rows =
     (number : ℕ) → kept_at items_of by_number number ≡ filter (λ row. is_at number (target_of row)) rows

@@ -40,7 +40,7 @@ impl Targeted for AttrRow {
     }
 }
 
-/// Rows of one number, in order.
+/// Entries of one number, in order.
 #[derive(Drop)]
 pub struct Rows<'a, T: Targeted> {
     rows: Vec<&'a T>,
@@ -77,7 +77,7 @@ impl<'a, T: Targeted> Rows<'a, T> {
         self.rows.len()
     }
 
-    /// The row at a place.
+    /// The entry at an index.
     pub fn row(&self, place: usize) -> &'a T
         requires { place < length self.now }
         ensures { Some result.now ≡ slice_get self.now place }
@@ -86,7 +86,7 @@ impl<'a, T: Targeted> Rows<'a, T> {
     }
 }
 
-/// Rows, and those of each message and its signals. Contracts see the rows.
+/// Entries, and those of each message and its signals. Contracts see the entries.
 #[derive(Drop)]
 pub struct ByNumber<'a, T: Targeted> {
     rows: &'a [T],
@@ -115,7 +115,7 @@ fn number_of(target: &Target) -> Option<u32>
     }
 }
 
-// Keeps a row at a number.
+// Keeps an entry at a number.
 fn keep_at<'a, T: Targeted>(
     alloc: Global,
     by_number: &mut BTreeMap<u32, Rows<'a, T>>,
@@ -130,7 +130,7 @@ fn keep_at<'a, T: Targeted>(
     Ok(())
 }
 
-// Keeps a row, if it speaks of a message or a signal.
+// Keeps an entry, if it speaks of a message or a signal.
 fn keep<'a, T: Targeted>(
     alloc: Global,
     by_number: &mut BTreeMap<u32, Rows<'a, T>>,
@@ -146,7 +146,7 @@ fn keep<'a, T: Targeted>(
     }
 }
 
-// The first of some rows that speaks of a message or a signal.
+// The first of some entries that speaks of a message or a signal.
 fn first_for<'a, T: Targeted>(rows: &Rows<'a, T>, subject: &Subject<'_>) -> Option<&'a T>
     ensures { option_map (λ row. row.now) result ≡ find (λ row. is_for subject.now (T.target_of row)) rows.now }
 {
@@ -160,7 +160,7 @@ fn first_for<'a, T: Targeted>(rows: &Rows<'a, T>, subject: &Subject<'_>) -> Opti
 }
 
 impl<'a, T: Targeted> ByNumber<'a, T> {
-    /// All rows by their numbers.
+    /// All entries by their numbers.
     pub fn of(alloc: Global, rows: &'a [T]) -> Result<ByNumber<'a, T>, Memory>
         ensures { IfOk result (λ index. index ≡ rows.now) }
     {
@@ -171,14 +171,14 @@ impl<'a, T: Targeted> ByNumber<'a, T> {
         Ok(ByNumber { rows, by_number })
     }
 
-    /// The rows of a message and its signals, in order, if there are any.
+    /// The entries of a message and its signals, in order, if there are any.
     pub fn at(&self, number: u32) -> Option<&Rows<'a, T>>
         ensures { option_map_or (λ kept. kept.now) result [] ≡ filter (λ row. is_at number (T.target_of row)) self.now }
     {
         self.by_number.get(&number)
     }
 
-    /// The first row of a message or a signal.
+    /// The first entry of a message or a signal.
     pub fn first(&self, subject: &Subject<'_>) -> Option<&'a T>
         ensures { option_map (λ row. row.now) result ≡ find (λ row. is_for subject.now (T.target_of row)) self.now }
     {

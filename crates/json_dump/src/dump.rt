@@ -53,7 +53,7 @@ fn message_at(database: &Database, place: usize) -> &Message
 }
 
 impl<'a, L: Lookup> Dump<'a, L> {
-    /// That of a database whose rows are found by `lookup`. It takes memory in proportion to the database.
+    /// That of a database whose entries are found by `lookup`. It takes memory in proportion to the database.
     pub fn of(alloc: Global, lookup: &'a L) -> Result<Dump<'a, L>, Memory>
         ensures { IfOk result (λ dump. dump ≡ L.whole lookup.now) }
     {
@@ -95,7 +95,7 @@ impl<'a, L: Lookup> Dump<'a, L> {
         line_of(text)
     }
 
-    // The line of the message at a place.
+    // The line of the message at an index.
     #[tactic(auto, using(crate::proofs::Lines::plan_is, crate::proofs::Lines::message_line_at))]
     fn message_line_at(&self, alloc: Global, place: usize) -> Result<Vec<u8>, Memory>
         requires { place < length self.now.messages }
@@ -106,7 +106,7 @@ impl<'a, L: Lookup> Dump<'a, L> {
         self.message_line(alloc, message, plan)
     }
 
-    /// The line at a place: an object and an LF.
+    /// The line at an index: an object and an LF.
     #[tactic(auto, using(crate::proofs::Lines::rest_line_at, crate::proofs::Lines::as_many_lines))]
     pub fn line(&self, alloc: Global, place: usize) -> Result<Vec<u8>, Memory>
         requires { place < length (dump_lines self.now) }

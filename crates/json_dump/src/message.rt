@@ -126,7 +126,7 @@ fn write_plan(text: &mut JsonText, signals: &[Signal], row: &Row, walk: &Walk) -
     write_chain(text, signals, walk)
 }
 
-/// What the objects of messages are made of: a database by its rows, and its comments and attributes. Contracts see the database.
+/// What the objects of messages are made of: a database, its entries, comments and attributes. Contracts see the database.
 #[derive(Drop)]
 pub(crate) struct Messages<'a, L: Lookup> {
     lookup: &'a L,
@@ -179,7 +179,7 @@ fn write_stated(text: &mut JsonText, signal: &Signal) -> Result<(), Memory>
     Ok(())
 }
 
-// A signal of a message with its row of the plan, and the way up to its multiplexors.
+// A signal of a message with its entry of the plan, and the multiplexing chain to its multiplexors.
 #[derive(Drop)]
 struct Placed<'a> {
     message: &'a Message,
@@ -277,7 +277,7 @@ impl<'a> Planned<'a> {
         })
     }
 
-    // How many signals there are, each with a row.
+    // How many signals there are, each with an entry.
     fn signals(&self) -> usize
         ensures count { result ≡ length self.now.plan.rows }
         ensures many { length self.now.plan.rows ≡ length self.now.message.signals }
@@ -286,7 +286,7 @@ impl<'a> Planned<'a> {
         plan.signals()
     }
 
-    // The signal at a place.
+    // The signal at an index.
     #[tactic(auto, using(crate::proofs::Planned::chain_is))]
     fn at(&self, alloc: Global, place: usize) -> Result<Placed<'a>, Memory>
         requires { place < length self.now.plan.rows }
@@ -307,7 +307,7 @@ impl<'a> Planned<'a> {
 }
 
 impl<'a, L: Lookup> Messages<'a, L> {
-    /// Those of a database whose rows are found by `lookup`.
+    /// Those of a database whose entries are found by `lookup`.
     pub fn of(alloc: Global, lookup: &'a L) -> Result<Messages<'a, L>, Memory>
         ensures { IfOk result (λ messages. messages ≡ L.whole lookup.now) }
     {

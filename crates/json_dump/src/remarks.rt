@@ -69,7 +69,7 @@ fn write_attribute_if(
     }
 }
 
-// The attributes among some rows that a subject has, one after another.
+// The attributes among some entries that a subject has, one after another.
 fn write_attributes_in(
     text: &mut JsonText,
     rows: &Rows<'_, AttrRow>,

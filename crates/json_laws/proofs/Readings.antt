@@ -96,7 +96,7 @@ value_number bytes signal fits =
     let raw = raw_value bytes signal.signed (bits_of (field_of signal)) in
     scaled_number (scaled scale raw) scale.places (scaled_text (scaled scale raw) scale.places) (value_exact bytes signal fits)
 
--- ---- what is told of a value
+-- ---- what is reported of a value
 
 abbrev name_keys : List (List ℕ)
 name_keys = codes "name" ∷ hex_key (codes "name") ∷ []

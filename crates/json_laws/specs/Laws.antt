@@ -42,7 +42,7 @@ abbrev pub ObjectsAreLines : Type 0
 ObjectsAreLines = (bus : Bus) (line : List ℕ) → IsDatabase bus.database → ShowsBytes bus.database → IsBytes line
     → IsOneLine (json_line bus line)
 
--- the number that is told of a value is the value itself, with nothing needless in it
+-- the number that is reported of a value is the value itself, with nothing needless in it
 abbrev pub IsExact : List ℕ → Reading → Type 0
 IsExact bytes (Refused cause) = ⊤
 IsExact bytes (Read decoder) =

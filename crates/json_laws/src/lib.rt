@@ -35,7 +35,7 @@ pub fn objects_are_lines()
     log_lines();
 }
 
-/// The number that is told of a signal is its exact value.
+/// The number that is reported of a signal is its exact value.
 pub fn values_are_exact()
     ensures { ValuesAreExact }
 {}

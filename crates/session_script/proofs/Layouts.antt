@@ -1,4 +1,4 @@
--- The reply with a picture.
+-- The reply with a diagram.
 use Rattle.std.proofs.Common.{◌≡◌, ◌++◌, ℕ, List, map, get_or, refl, sym, ◌∙◌}
 use Rattle.std.specs.Prelude.{Option, Some, None, option_map, slice_get}
 use Rattle.std.proofs.lemmas.Option.{slice_get-map, get_or_from_slice_get}

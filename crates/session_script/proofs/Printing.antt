@@ -1,4 +1,4 @@
--- One text printed behind another.
+-- One text printed after another.
 use Rattle.std.proofs.Common.{ℕ, List, ◌++◌}
 use Rattle.std.specs.Prelude.{Result, Ok, Err}
 use Rattle.std.specs.Result.{IsErr}

@@ -38,7 +38,7 @@ answer_text (Err refusal) = refused_text refusal
 unfoldable pub diagnostics_text : Database → List ℕ
 diagnostics_text database = flat_map (λ diagnostic. line_text diagnostic ++ codes "\n") (all_faults database) ++ ok_text
 
--- the picture and `ok`, where a message stands at the place
+-- the diagram and `ok`, where a message stands at the place
 unfoldable pub layout_text : Database → ℕ → List ℕ
 layout_text database place = option_map_or (λ message. picture_of database message ++ ok_text) (slice_get database.messages place)
     (refused_text refusals.NoMessage)

@@ -13,7 +13,7 @@ use can_session::{Refusal, Session};
 use dbc_model::print;
 use itoa::Buffer;
 
-/// `ok`, behind what was asked for.
+/// `ok`, after what was asked for.
 pub(crate) fn put_ok<W: Sink>(sink: &mut W) -> Result<(), WriteFault>
     ensures { Prints (W.written sink.old) (W.written sink.new) result ok_text }
 {
@@ -75,7 +75,7 @@ fn put_picture<W: Sink>(sink: &mut W, picture: &[u8]) -> Result<(), WriteFault>
     put_ok(sink)
 }
 
-// The picture of the message at a place, where there is one.
+// The diagram of the message at an index, where there is one.
 fn picture_at(session: &Session, place: usize) -> Option<&[u8]>
     ensures { option_map (λ picture. picture.now) result ≡ option_map (picture_of session.now.state.database)
         (slice_get session.now.state.database.messages place) }
@@ -87,7 +87,7 @@ fn picture_at(session: &Session, place: usize) -> Option<&[u8]>
     }
 }
 
-/// The picture of the message at a place.
+/// The diagram of the message at an index.
 #[tactic(auto, using(crate::proofs::Layouts::by_picture), unfolding(crate::specs::Replies::layout_text))]
 pub(crate) fn show_layout<W: Sink>(
     sink: &mut W,

@@ -63,8 +63,8 @@ fn line_room(alloc: Global) -> Result<Box<ArrayVec<u8, LONGEST>>, Memory>
 /// Runs a script to its end: each line is a command, and its reply is written before the next is done. It answers how many commands
 /// there are, up to `u64::MAX`. A line has at most 65,536 bytes.
 ///
-/// Where the script ends earlier, the session stands behind the commands whose replies were written, or, where a write failed,
-/// behind the one whose reply could not be written whole.
+/// Where the script ends earlier, the session stands after the commands whose replies were written, or, where a write failed,
+/// after the one whose reply could not be written whole.
 pub fn serve<R: Source, W: Sink>(
     alloc: Global,
     session: &mut Session,

@@ -7,7 +7,7 @@ use dbc_values::Name;
 use std::alloc::Global;
 use std::test::Fail;
 
-// a switch, and a signal below it by a row
+// a multiplexor, and a signal below it by an entry
 const TEXT: &[u8] = b"\
 BO_ 291 A: 2 N
  SG_ S M : 0|8@1+ (1,0) [0|0] \"\"
@@ -22,7 +22,7 @@ fn name(alloc: Global, bytes: &[u8]) -> Result<Name, Fail> {
     }
 }
 
-// Whether the first signal, and the switch of the first row, have the name.
+// Whether the first signal, and the multiplexor of the first entry, have the name.
 fn names_so(database: &Database, name: &[u8]) -> bool {
     let (Some(message), Some(row)) = (
         database.messages.as_slice().first(),

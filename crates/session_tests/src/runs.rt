@@ -1,4 +1,4 @@
-//! Runs of a session: commands, what it replies, and what it shows behind them.
+//! Runs of a session: commands, what it replies, and what it shows after them.
 
 use byte_devices::limp::Limp;
 use can_session::Short;
@@ -21,14 +21,14 @@ pub struct Standing {
     pub decoded: &'static [u8],
 }
 
-/// Commands, and what is seen behind them.
+/// Commands, and what is seen after them.
 #[derive(Clone, Copy)]
 pub struct Run {
     pub commands: &'static [u8],
     pub replies: &'static [u8],
     pub ended: Result<u64, StreamFault>,
     pub standing: Standing,
-    /// How many plans and pictures were made since the session was opened, and how many lines decoded.
+    /// How many plans and diagrams were made since the session was opened, and how many lines decoded.
     pub made: (u64, u64),
 }
 
@@ -91,7 +91,7 @@ fn does_all(
     Ok(true)
 }
 
-// The session of a text that retains its last lines.
+// The session of a text that keeps its last lines.
 fn open_bounded(alloc: Global, text: &[u8], keep: Keep) -> Option<Session> {
     let options = Options {
         short: Short::Refuse,
@@ -107,7 +107,7 @@ fn open(alloc: Global, text: &[u8], keep: Keep) -> Option<Session> {
     }
 }
 
-/// Whether a session of the text, which retains these lines, does the runs so. No other function has a session of its own, and
+/// Whether a session of the text, which keeps these lines, does the runs so. No other function has a session of its own, and
 /// this one hands it on at once: whoever has one and leaves in many ways is long in proving.
 pub fn all_done(
     alloc: Global,

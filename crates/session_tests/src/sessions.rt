@@ -127,7 +127,7 @@ log (0.0) c 12C#0105
 log (0.0) c 12D#00
 ";
 
-// A row of a switch touches the two lines of its message, a table none.
+// An entry of a multiplexor touches the two lines of its message, a table none.
 const ROW: &[u8] = b"\
 set-mux SG_MUL_VAL_ 300 B M 0-1;
 set-table VAL_TABLE_ T 0 \"zero\" ;
@@ -230,7 +230,7 @@ ok
 ok
 ";
 
-// A row of a switch touches the one line of its message that is still there.
+// An entry of a multiplexor touches the one line of its message that is still there.
 #[test]
 fn last_lines(rt: HostRuntime) -> Result<(), Fail> {
     let line = b"(0.0) c 12C#0105".as_slice();

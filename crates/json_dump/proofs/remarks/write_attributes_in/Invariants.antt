@@ -5,7 +5,7 @@ use Rattle.json_records.specs.Records.{own_attribute_json}
 use Rattle.json_dump.specs.Subjects.{is_for}
 use Rattle.json_dump.proofs.remarks.write_attributes_in.Given as goal
 
--- the rows so far
+-- the entries so far
 abbrev pub invariant-loop-place : goal.invariant-loop-place
 invariant-loop-place l =
     l.text ≡ l.initial.text ++ flat_map (λ row. json_tokens (own_attribute_json row))

@@ -3,7 +3,7 @@ use Rattle.std.specs.List.{flat_map}
 use Rattle.json.specs.Tree.{json_tokens}
 use Rattle.json_dump.proofs.rest.write_others_in.Given as goal
 
--- the rows so far
+-- the entries so far
 abbrev pub invariant-loop-place : goal.invariant-loop-place
 invariant-loop-place g l =
     l.text ≡ l.initial.text ++ flat_map (λ row. json_tokens (g.T.ToJson.json_of row))
