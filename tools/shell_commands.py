@@ -23,11 +23,11 @@ MESSAGE is a name, a number as in BO_ (0x.. too; without bit 31 where that is me
 list                                messages, with place, number, size and signals
 show diagnostics                    what `candesk check` would write
 show layout MESSAGE                 its picture
-show lines [N]                      the decoded lines that are retained, or the last N
+show lines [N]                      the decoded lines that are kept, or the last N
 print                               the database in its canonical form
-log FILE                            retains the lines of a log
-log (1.0) can0 123#00               retains this line
-log |COMMAND, log stop              retains each line of a command such as `candump -L can0` as it comes; ends that
+log FILE                            keeps the lines of a log
+log (1.0) can0 123#00               keeps this line
+log |COMMAND, log stop              keeps each line of a command such as `candump -L can0` as it comes; ends that
 add-message [MESSAGE] BO_ ..        before the message, or last
 remove-message MESSAGE
 change-message MESSAGE NAME SIZE SENDER
@@ -259,7 +259,7 @@ class Shell:
         self.say(HELP.rstrip("\n"))
 
     def do_undo(self, _: str) -> None:
-        """A session of its own on the database of before, with the lines that are retained."""
+        """A session of its own on the database of before, with the lines that are kept."""
         if not self.before:
             raise refused("there is nothing to undo")
         with tools.temporary_database() as file, self.changing:
@@ -332,11 +332,11 @@ class Shell:
         self.tell_log(all_taken, first_refusal)
 
     def tell_log(self, taken: int, refusal: bytes) -> None:
-        text = f"{tools.counted(taken, 'line')}; {len(self.session.kept)} retained"
+        text = f"{tools.counted(taken, 'line')}; {len(self.session.kept)} kept"
         self.say(text + (f"; others: {refusal.decode()}" if refusal else ""))
 
     def listen(self, command: str) -> None:
-        """Starts a command, each line of which is retained as it comes."""
+        """Starts a command, each line of which is kept as it comes."""
         if self.listening:
             raise refused("log stop ends what is listened to; then another can be")
         self.listening = subprocess.Popen(["sh", "-c", command], start_new_session=True,
@@ -359,7 +359,7 @@ class Shell:
                 os.killpg(self.listening.pid, signal.SIGTERM)
             self.listening.wait()
             self.listening = None
-            self.say(f"{len(self.session.kept)} retained")
+            self.say(f"{len(self.session.kept)} kept")
 
 
 # ---- statements kept verbatim
