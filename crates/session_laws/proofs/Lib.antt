@@ -2,3 +2,4 @@ pub mod Steps
 pub mod Memory
 pub mod Printed
 pub mod Scripts
+pub mod Lines

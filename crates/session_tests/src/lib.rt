@@ -12,3 +12,5 @@ mod scripts;
 mod sessions;
 #[cfg(test)]
 mod streams;
+#[cfg(test)]
+mod transcripts;
