@@ -23,8 +23,8 @@ LONGEST = 120
 
 # the exit statuses
 DONE, REFUSED, USAGE, DEVICE, MEMORY = range(5)
-# that of a database in which something is doubtful
-DOUBTFUL = REFUSED
+# that of a database with diagnostics
+HAS_DIAGNOSTICS = REFUSED
 
 # ---- texts
 
