@@ -13,6 +13,7 @@ use Rattle.session_script.specs.Replies.{Replies, Does, answer_text}
 use Rattle.session_script.specs.Serving.{longest_line, script_rules}
 use Rattle.session_laws.specs.Runs.{Command, Answer, Runs}
 use Rattle.session_laws.specs.Scripts.{given_for, reply_for, LineLeads, Lead, LeadAndReply, BreaksAtLine, ServeFollowsRun}
+use Rattle.session_laws.specs.Scripts.{LinesLead}
 use Rattle.session_laws.proofs.Steps.{runs_none, runs_edit, runs_line, runs-append}
 
 -- what a line asks for is done, and replied
@@ -69,6 +70,9 @@ lead_and_reply : (lines : List (List ℕ)) (before : State) (old : Written) (aft
     → streams.Runs Replies before lines after text → Wrote old new text → LeadAndReply lines before old after new
 lead_and_reply lines before old after new text ran wrote =
     record { text = text; lead = lead lines before after text ran; wrote = wrote }
+
+pub lines_lead : LinesLead
+lines_lead before after leads = (leads.lines, leads.text, lead leads.lines before after leads.text leads.ran)
 
 -- nothing waits from line to line, so a write fails at the reply to the line that was done last
 breaks_inside : (input : List ℕ) (before : State) (old : Written) (after : State) (new : Written)

@@ -4,7 +4,7 @@ ghost use Rattle.dbc_reader.specs.Texts.{IsRead};
 ghost use Rattle.session_laws.specs.Scripts.{ServesText};
 ghost use Rattle.session_laws.specs.Shown.{shown, FromScratch};
 
-use crate::laws::{serve_follows_run, shown_from_scratch};
+use crate::laws::{lines_lead, serve_follows_run, shown_from_scratch};
 use byte_devices::{Sink, Source};
 use can_session::{Options, Session};
 use dbc_tokens::ReadFault;
@@ -39,6 +39,7 @@ pub fn serve_text<R: Source, W: Sink>(
     let mut session = Session::open_with(alloc, text, options)?;
     let ended = serve(alloc, &mut session, source, sink);
     serve_follows_run();
+    lines_lead();
     shown_from_scratch(&session);
     Ok(Served { session, ended })
 }

@@ -1,5 +1,7 @@
 //! The script as a stream of lines.
 ghost use Rattle.std.specs.Prelude.{◌≡◌, [], IfOk};
+ghost use Rattle.line_stream.specs.Runs.{Leads};
+ghost use Rattle.session_script.specs.Replies.{Replies};
 ghost use Rattle.session_script.specs.Serving.{Serves};
 
 use crate::performing::reply;
@@ -63,16 +65,17 @@ fn line_room(alloc: Global) -> Result<Box<ArrayVec<u8, LONGEST>>, Memory>
 /// Runs a script to its end: each line is a command, and its reply is written before the next is done. It answers how many commands
 /// there are, up to `u64::MAX`. A line has at most 65,536 bytes.
 ///
-/// Where the script ends earlier, the session stands after the commands whose replies were written, or, where a write failed,
-/// after the one whose reply could not be written whole.
+/// If the script ends earlier, the session is as after the commands whose replies were written, or, if a write failed, as after the
+/// one whose reply could not be written whole. Even if the source doesn't tell its bytes, some lines led to it.
 pub fn serve<R: Source, W: Sink>(
     alloc: Global,
     session: &mut Session,
     source: &mut R,
     sink: &mut W,
 ) -> Result<u64, StreamFault>
-    ensures { Serves session.old.state (W.written sink.old) (R.unread source.old) (R.unread source.new) session.new.state
+    ensures serves { Serves session.old.state (W.written sink.old) (R.unread source.old) (R.unread source.new) session.new.state
         (W.written sink.new) result }
+    ensures leads { Leads Replies session.old.state session.new.state }
 {
     let Ok(mut line) = line_room(alloc) else {
         return Err(StreamFault::Memory);
