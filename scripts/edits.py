@@ -5,13 +5,14 @@ of a goal of its own function that it isn't proved, or of that function's proof 
 their contracts alone, which no edit of a body changes, so an edit opens no goal of another function. An edit that changes more than
 bodies of functions, such as a constant, is tried alone, as is one of which a check of several says nothing; alone, it is refused if
 any goal of the crate stays open. An edit that is refused only since a proof names what the edit took away tells nothing of a
-contract: it is hollow.
+contract: it is hollow, which is said, and fails nothing.
 """
 
 from __future__ import annotations
 
 import os
 import re
+import shutil
 import signal
 import subprocess
 import threading
@@ -19,6 +20,21 @@ from collections.abc import Iterable, Iterator
 from dataclasses import dataclass, field
 from enum import Enum
 
+import proving
+
+# The crates whose edits are tried in groups, by lanes. They are low and have many edits: above them a lane would have to check more
+# crates than its edits save, and a lane's checks take half a gigabyte a crate.
+LANES = (
+    (
+        "dbc_values", "dbc_records", "byte_devices", "kept_lines", "log_frames", "ready_texts", "line_stream", "json_texts",
+        "dbc_edits", "dbc_model", "candesk_words",
+    ),
+    ("dbc_tokens", "dbc_reader", "fault_places", "fault_reports"),
+    ("can_rows", "can_bits", "can_mux", "can_overlap", "can_diagnostics", "can_keys", "can_references", "can_check"),
+    ("can_layout", "can_choice", "can_decode"),
+)
+# what all lanes stand on
+BASE = ("dbc_values", "dbc_records")
 NAME = re.compile(r"[A-Za-z0-9_-][A-Za-z0-9_.-]*\.edit")
 # an item that is a function: its indent and its name
 HEAD = re.compile(r"^( *)(?:pub(?:\([^)]*\))? )?(?:const )?(?:unsafe )?fn (\w+)", re.M)
@@ -206,8 +222,8 @@ class Trial:
     """The trial of a crate's edits in a copy of the crates that nothing else uses meanwhile, where this one and all below are
     checked. `verdicts` then says by name what each came to, and `count` how many checks that took."""
 
-    def __init__(self, checks: Checks, folder: str, jobs: int = 1) -> None:
-        self.checks, self.folder, self.jobs, self.count = checks, folder, jobs, 0
+    def __init__(self, checks: Checks, folder: str) -> None:
+        self.checks, self.folder, self.count = checks, folder, 0
         self.verdicts: dict[str, Verdict] = {}
 
     def run(self) -> None:
@@ -233,7 +249,7 @@ class Trial:
         try:
             for file, source in before.items():
                 write(f"{self.folder}/{file}", merged(source, [it.texts[file] for it in edits if file in it.texts]))
-            return self.checks.run(self.folder, "check", "--jobs", str(self.jobs))
+            return self.checks.run(self.folder, "check")
         finally:
             for file, source in before.items():
                 write(f"{self.folder}/{file}", source)
@@ -270,68 +286,87 @@ def write(path: str, text: str) -> None:
         file.write(text)
 
 
-class Edits(threading.Thread):
-    """The trials of crates' edits. In one copy of the crates `rt all check` checks them, as many at once as `jobs` says. Then each
-    lane, in a copy of its own where a check begins with what was kept in the first, takes one crate after another. `passed` and
-    `failures` say at the end what came of it."""
+@dataclass(frozen=True)
+class Lane:
+    """The crates that a lane checks, lowest first, and those among them whose edits it tries."""
 
-    def __init__(self, proofs: str, lanes: list[str], tried: Iterable[str], jobs: int) -> None:
+    names: list[str]
+    tried: set[str]
+
+
+def lanes_of(tried: Iterable[str]) -> list[Lane]:
+    """For each lane that has crates to be tried, these and those below them."""
+    wanted = set(tried)
+    own = [[it for it in lane if it in wanted] for lane in LANES]
+    return [Lane(proving.with_below(*names), set(names)) for names in own if names]
+
+
+class Edits(threading.Thread):
+    """The trials of crates' edits in lanes, each in a copy of its own, as a check keeps all crates below its own from others. What
+    all lanes stand on is checked once, and copied. `passed` and `failures` say at the end what came of it."""
+
+    def __init__(self, rooms: list[str], lanes: list[Lane]) -> None:
         super().__init__(daemon=True)
-        self.proofs, self.lanes, self.jobs = proofs, lanes, jobs
-        self.lane_jobs = max(1, (os.cpu_count() or 1) // len(lanes))
-        # (those with most edits first, as they end last)
-        self.left = sorted(tried, key=lambda it: len(names_of(f"{lanes[0]}/crates/{it}")))
+        self.rooms, self.lanes = rooms, lanes
+        self.untried = {name for lane in lanes for name in lane.tried}
         self.passed, self.failures = 0, list[str]()
         self.checks, self.lock = Checks(), threading.Lock()
 
     def run(self) -> None:
         try:
-            said = self.checks.run(self.proofs, "all", "check", "--jobs", str(self.jobs))
-        except Stopped:
-            return
-        if not said.is_well:
-            print(said.text, flush=True)
-            self.note(0, ["no edit was tried, as `rt all check` doesn't prove the crates"])
-            return
-        threads = [threading.Thread(target=self.lane, args=(it,), daemon=True) for it in self.lanes]
-        for thread in threads:
-            thread.start()
-        for thread in threads:
-            thread.join()
+            self.share()
+        except (Stopped, OSError) as error:
+            print(f"prove: {error!r}", flush=True)
+        else:
+            threads = [threading.Thread(target=self.lane, args=it, daemon=True) for it in zip(self.rooms, self.lanes, strict=True)]
+            for thread in threads:
+                thread.start()
+            for thread in threads:
+                thread.join()
+        self.failures += [f"{it}: its edits were NOT TRIED" for it in sorted(self.untried)]
+
+    def share(self) -> None:
+        """Checks in the first lane's copy what all lanes stand on, and copies it into the others'."""
+        shared = [it for it in BASE if all(it in lane.names for lane in self.lanes)]
+        if not all(self.is_proved(self.rooms[0], it) for it in shared):
+            raise Stopped
+        for room in self.rooms[1:]:
+            for it in shared:
+                shutil.rmtree(f"{room}/crates/{it}")
+                shutil.copytree(f"{self.rooms[0]}/crates/{it}", f"{room}/crates/{it}")
 
     def stop(self) -> None:
         """Tries no more."""
         self.checks.stop()
 
-    def lane(self, room: str) -> None:
-        while name := self.next_crate():
-            try:
-                self.try_crate(name, f"{room}/crates/{name}")
-            except Stopped:
-                return
-            except Exception as error:
-                self.note(0, [f"{name}: its edits were NOT TRIED: {error!r}"])
-
-    def next_crate(self) -> str | None:
-        with self.lock:
-            return self.left.pop() if self.left else None
-
-    def try_crate(self, name: str, folder: str) -> None:
-        said = self.checks.run(folder, "check", "--jobs", str(self.lane_jobs))
-        if "logic=proved" not in said.text:
-            print(said.text, flush=True)
-            self.note(0, [f"{name}: `rt check` doesn't prove it, so its edits were NOT TRIED"])
+    def lane(self, room: str, lane: Lane) -> None:
+        try:
+            for name in lane.names:
+                if not self.is_proved(room, name):
+                    return
+                if name in lane.tried:
+                    self.try_crate(room, name)
+        except Stopped:
             return
-        trial = Trial(self.checks, folder, self.lane_jobs)
+
+    def is_proved(self, room: str, name: str) -> bool:
+        """Checks a crate, and answers whether those above it can follow."""
+        said = self.checks.run(f"{room}/crates/{name}", "check")
+        if "logic=proved" in said.text:
+            return True
+        print(f"{said.text}prove: `rt check` doesn't prove {name}", flush=True)
+        return False
+
+    def try_crate(self, room: str, name: str) -> None:
+        trial = Trial(self.checks, f"{room}/crates/{name}")
         trial.run()
-        bad = [f"{name}/{it}: {verdict.value}" for it, verdict in trial.verdicts.items() if verdict is not Verdict.REFUSED]
+        told = {it: f"{name}/{it}: {verdict.value}" for it, verdict in trial.verdicts.items() if verdict is not Verdict.REFUSED}
+        bad = [line for it, line in told.items() if trial.verdicts[it] is not Verdict.HOLLOW]
         refused = len(trial.verdicts) - len(bad)
         print(f"prove: {name}: {refused} of {len(trial.verdicts)} edits refused, in {trial.count} checks", flush=True)
-        self.note(refused, bad)
-
-    def note(self, passed: int, bad: list[str]) -> None:
-        for line in bad:
+        for line in told.values():
             print(f"prove: {line}", flush=True)
         with self.lock:
-            self.passed += passed
+            self.untried.discard(name)
+            self.passed += refused
             self.failures += bad
