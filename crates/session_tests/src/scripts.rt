@@ -6,8 +6,8 @@ use line_stream::StreamFault;
 use session_script::Keep;
 use std::test::Fail;
 
-// two messages of one number
-const SHARED: &[u8] = b"\
+/// Two messages of one number.
+pub(crate) const SHARED: &[u8] = b"\
 BU_: E
 BO_ 83 A: 1 E
  SG_ S : 0|8@1+ (1,0) [0|0] \"\"

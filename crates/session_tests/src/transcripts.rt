@@ -1,19 +1,11 @@
 //! Whole runs: what is answered, and what is shown after them, where memory is there.
 
+use crate::scripts::SHARED;
 use byte_devices::limp::Limp;
 use can_session::{Edit, Keep, Options, Refusal, Session, Short};
 use session_laws::{Command, Ran, Served, serve_text};
 use std::alloc::Global;
 use std::test::Fail;
-
-// two messages of one number
-const SHARED: &[u8] = b"\
-BU_: E
-BO_ 83 A: 1 E
- SG_ S : 0|8@1+ (1,0) [0|0] \"\"
-BO_ 83 B: 1 E
- SG_ S : 0|8@1+ (2,0) [0|0] \"\"
-";
 
 const LINE: &[u8] = b"(1.5) can0 053#2A";
 
