@@ -85,10 +85,9 @@ class Edit:
 
 @dataclass
 class Said:
-    """What a check said, and whether it ended well."""
+    """What a check said."""
 
     text: str
-    is_well: bool = False
     has_ended: bool = field(init=False)
     placed: list[tuple[str, int, str]] = field(init=False)
 
@@ -193,19 +192,18 @@ class Checks:
         self.running: set[subprocess.Popen[str]] = set()
         self.is_stopped = False
 
-    def run(self, folder: str, *words: str) -> Said:
-        """Runs `rt` with these words in a folder."""
+    def run(self, folder: str) -> Said:
+        """Checks the crate in a folder."""
         with self.lock:
             if self.is_stopped:
                 raise Stopped
             ran = subprocess.Popen(
-                ["rt", *words], cwd=folder, stdin=subprocess.DEVNULL, stdout=subprocess.PIPE, stderr=subprocess.STDOUT, text=True,
+                ["rt", "check"], cwd=folder, stdin=subprocess.DEVNULL, stdout=subprocess.PIPE, stderr=subprocess.STDOUT, text=True,
                 errors="replace", start_new_session=True,
             )
             self.running.add(ran)
         try:
-            text = ran.communicate()[0]
-            return Said(text, ran.returncode == 0)
+            return Said(ran.communicate()[0])
         finally:
             with self.lock:
                 self.running.discard(ran)
@@ -237,7 +235,7 @@ class Trial:
             self.verdicts |= {it.name: Verdict.REFUSED for it in refused}
             if not refused:
                 break
-            group, left = first_group([*left, *(it for it in group if it not in refused)] if refused != group else left)
+            group, left = first_group([*left, *(it for it in group if it not in refused)])
         for edit in edits:
             if edit.name not in self.verdicts:
                 self.verdicts[edit.name] = judged_alone(self.check([edit]))
@@ -249,7 +247,7 @@ class Trial:
         try:
             for file, source in before.items():
                 write(f"{self.folder}/{file}", merged(source, [it.texts[file] for it in edits if file in it.texts]))
-            return self.checks.run(self.folder, "check")
+            return self.checks.run(self.folder)
         finally:
             for file, source in before.items():
                 write(f"{self.folder}/{file}", source)
@@ -351,7 +349,7 @@ class Edits(threading.Thread):
 
     def is_proved(self, room: str, name: str) -> bool:
         """Checks a crate, and answers whether those above it can follow."""
-        said = self.checks.run(f"{room}/crates/{name}", "check")
+        said = self.checks.run(f"{room}/crates/{name}")
         if "logic=proved" in said.text:
             return True
         print(f"{said.text}prove: `rt check` doesn't prove {name}", flush=True)
