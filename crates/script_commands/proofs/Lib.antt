@@ -1,1 +1,7 @@
-pub mod LogLines
+mod LogLines
+mod Spaces
+mod WordTexts
+mod Bodies
+mod Verbs
+mod There
+mod Found
