@@ -3,3 +3,4 @@ pub mod Memory
 pub mod Printed
 pub mod Scripts
 pub mod Lines
+mod Meanings
