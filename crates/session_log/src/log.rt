@@ -6,7 +6,6 @@ ghost use Rattle.edit_reach.specs.Touched.{line_touched};
 ghost use Rattle.session_log.specs.Logs.{bytes_of, IsNumbered, IsDecoded, Completes};
 ghost use Rattle.session_log.specs.Places.{places_from};
 ghost use Rattle.session_log.specs.Indexes.{is_untouched_at, Covers};
-ghost use Rattle.session_log.specs.Kept.{IsLog};
 
 use crate::line::{Fresh, Line, exchange};
 use crate::log_hash::LogHash;
@@ -38,44 +37,6 @@ impl Model for Log {
     ghost view = { λ a. a.lines.items };
 
     ghost invariant = { λ a. IsLog a.first a.lines.items a.index };
-}
-
-// Retains a line, behind the others and in the index. Where memory is refused, the lines are as they were.
-fn retain(
-    alloc: Global,
-    first: usize,
-    lines: &mut VecDeque<Line>,
-    index: &mut LogIndex,
-    line: Line,
-) -> Result<(), Memory>
-    requires log { IsLog first lines.old.items index.old }
-    requires numbered { IsNumbered line }
-    ensures ok { OnOk result (lines.new.items ≡ lines.old.items ++ line ∷ []) }
-    ensures err { OnErr result (lines.new.items ≡ lines.old.items) }
-    ensures log { IsLog first lines.new.items index.new }
-{
-    lines.reserve(1)?;
-    if let Some(number) = line.number {
-        let serial = first.wrapping_add(lines.len());
-        index.add(alloc, number, serial)?;
-    }
-    lines.push_back_reserved(line);
-    Ok(())
-}
-
-// Lets the first line go, out of the lines and of the index, and answers the serial number of the next.
-fn drop_first(first: usize, lines: &mut VecDeque<Line>, index: &mut LogIndex) -> usize
-    requires { IsLog first lines.old.items index.old }
-    ensures lines { lines.new.items ≡ drop 1 lines.old.items }
-    ensures log { IsLog result lines.new.items index.new }
-{
-    let Some(line) = lines.pop_front() else {
-        return first;
-    };
-    if let Some(number) = line.number {
-        index.drop_first(number);
-    }
-    first.wrapping_add(1)
 }
 
 impl Log {
@@ -127,14 +88,26 @@ impl Log {
         ensures ok { OnOk result (self.new ≡ self.old ++ line ∷ []) }
         ensures err { OnErr result (self.new ≡ self.old) }
     {
-        retain(alloc, self.first, &mut self.lines, &mut self.index, line)
+        self.lines.reserve(1)?;
+        if let Some(number) = line.number {
+            let serial = self.first.wrapping_add(self.lines.len());
+            self.index.add(alloc, number, serial)?;
+        }
+        self.lines.push_back_reserved(line);
+        Ok(())
     }
 
     /// Lets the first line go.
     pub fn drop_first(&mut self)
         ensures { self.new ≡ drop 1 self.old }
     {
-        self.first = drop_first(self.first, &mut self.lines, &mut self.index);
+        let Some(line) = self.lines.pop_front() else {
+            return;
+        };
+        if let Some(number) = line.number {
+            self.index.drop_first(number);
+        }
+        self.first = self.first.wrapping_add(1);
     }
 
     // The places of the lines that a number touches.
