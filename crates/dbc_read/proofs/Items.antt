@@ -115,10 +115,10 @@ abbrev pub all_lexemes : Layout → List Lexeme
 all_lexemes layout = flat_map lexemes (items_of layout)
 
 -- the text of a layout has the tokens of its items
-pub record LayoutTokens (line : ℕ) (layout : Layout) : Type 0 where
+pub record LayoutTokens (line after : ℕ) (layout : Layout) : Type 0 where
   pub tokens : List Token
   pub at : ℕ
-  pub has : HasTokens line (layout_text layout) (tokens ▸▸ End at)
+  pub has : HasTokens line after (layout_text layout) (tokens ▸▸ End at)
   pub have : HaveLexemes (all_lexemes layout) tokens
 
 -- ---- what tokens of a layout spell

@@ -59,10 +59,10 @@ printed_uniquely : {A : Type 0} (IsSuch : A → Type 0) (layout : A → Layout) 
     → ((a : A) → IsSuch a → Line (layout a)) → ((a : A) → IsSuch a → Shows (layout a) (form a))
     → ((a b : A) → IsSuch a → IsSuch b → (tokens : List Token) → Spelled (form a) tokens → Spelled (form b) tokens → b ≡ a)
     → PrintedUniquely IsSuch layout form
-printed_uniquely IsSuch layout form neat shown alike a is line =
+printed_uniquely IsSuch layout form neat shown alike a is line after =
     let line_neat = neat a is in
     let apart : stand_apart (layout a) ≡ true = ap stand_apart (sym (append-nil (layout a))) ∙ line_neat.apart [] refl in
-    let tokens = layout_tokens (layout a) (items_printed (layout a) line_neat.items) apart line in
+    let tokens = layout_tokens (layout a) (items_printed (layout a) line_neat.items) apart line after in
     let spelled = (shown a is).shows tokens.tokens tokens.have in
     (tokens.tokens, tokens.at, tokens.has, spelled, λ other is_other spells. alike a other is is_other tokens.tokens spelled spells)
 

@@ -28,7 +28,7 @@ pub record SpellsFrom (tokens : List Token) (database : Database) (starts : Star
 -- the text is cut into tokens to its end, and they spell the database, with statements that begin there
 abbrev pub HasLocatedDatabase : List ℕ → Database → Starts → Type 0
 HasLocatedDatabase text database starts =
-    (tokens : List Token) × (line : ℕ) × HasTokens 1 text (tokens ▸▸ End line) × SpellsFrom tokens database starts
+    (tokens : List Token) × (line : ℕ) × HasTokens 1 0 text (tokens ▸▸ End line) × SpellsFrom tokens database starts
 
 -- the database of the text and where its statements begin, or the text's first fault; or memory ran out
 abbrev pub IsReadWithStarts : List ℕ → Result (Database × Starts) ReadFault → Type 0

@@ -15,12 +15,12 @@ use Rattle.dbc_reader.specs.Spelling.{AnyStatement, OfMessage, form, signal_form
 
 -- where a token is
 abbrev pub start_of : Token → Start
-start_of t = record { line = t.line }
+start_of t = record { line = t.line; left = t.left }
 
--- where the first of these tokens is; the last line if there is none
+-- where the first of these tokens is; the last line, with nothing left, if there is none
 unfoldable pub start_at : Cut → Start
-start_at (End line) = record { line = line }
-start_at (Fault line) = record { line = line }
+start_at (End line) = record { line = line; left = 0 }
+start_at (Fault line) = record { line = line; left = 0 }
 start_at (t ▸ cut) = start_of t
 
 -- The tokens are those of these items, one after another, each spelled by its form; and each item begins where its first token is.

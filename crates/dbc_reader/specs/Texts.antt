@@ -11,15 +11,15 @@ use Rattle.dbc_reader.specs.Grammar as grammar
 
 -- the text is cut into tokens to its end, and they spell the database
 abbrev pub HasDatabase : List ℕ → Database → Type 0
-HasDatabase text database = (tokens : List Token) × (line : ℕ) × HasTokens 1 text (tokens ▸▸ End line) × Spells tokens database
+HasDatabase text database = (tokens : List Token) × (line : ℕ) × HasTokens 1 0 text (tokens ▸▸ End line) × Spells tokens database
 
 abbrev pub HasStatement : List ℕ → Statement → Type 0
-HasStatement text statement = (tokens : List Token) × (line : ℕ) × HasTokens 1 text (tokens ▸▸ End line)
+HasStatement text statement = (tokens : List Token) × (line : ℕ) × HasTokens 1 0 text (tokens ▸▸ End line)
     × SpellsStatement tokens statement
 
 -- this is the first fault of the text's tokens against the pattern
 abbrev pub HasFirstFault : Pattern → List ℕ → ReadFault → Type 0
-HasFirstFault pattern text fault = (cut : Cut) × HasTokens 1 text cut × (first_fault pattern nothing_seen cut ≡ Some fault)
+HasFirstFault pattern text fault = (cut : Cut) × HasTokens 1 0 text cut × (first_fault pattern nothing_seen cut ≡ Some fault)
 
 -- the database of the text, or its first fault; or memory ran out
 abbrev pub IsRead : List ℕ → Result Database ReadFault → Type 0

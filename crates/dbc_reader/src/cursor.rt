@@ -146,9 +146,11 @@ impl<'t> Cursor<'t> {
         ensures { result ≡ start_at (left_at self.entry) }
     {
         match self.next {
-            Next::Token(token) => Start { line: token.line },
-            Next::End(line) => Start { line },
-            Next::Fault(line) => Start { line },
+            Next::Token(token) => Start {
+                line: token.line,
+                left: token.left,
+            },
+            Next::End(line) | Next::Fault(line) => Start { line, left: 0 },
         }
     }
 

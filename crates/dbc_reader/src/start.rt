@@ -11,6 +11,8 @@ use std::alloc::Global;
 pub struct Start {
     /// The line of its first token: 1 and the number of LF before it.
     pub line: u64,
+    /// How many bytes are left of the text from the first byte of that token on.
+    pub left: usize,
 }
 
 impl Checked for Start {

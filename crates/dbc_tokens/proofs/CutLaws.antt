@@ -55,29 +55,30 @@ breaks_there line rest some none = rest_none cut_of line rest (nothing (token_at
     long [] some = absurd (some refl)
     long (b ∷ rest) some = rw (ne_eqb (suc (length rest)) 0 (omega arith)) refl
 
-pub cut_unique : (line : ℕ) (text : List ℕ) (cut : Cut) → HasTokens line text cut → cut ≡ cut_of line text
+pub cut_unique : (line : ℕ) (text : List ℕ) (cut : Cut) → HasTokens line 0 text cut → cut ≡ cut_of line text
 cut_unique line text (End at) (is, e) =
     rw e (sym (ap (cut_of line) (sym (append-nil text)) ∙ at_gap line text [] is refl))
 cut_unique line text (Fault at) (gap, rest, whole, is, e, some, stop, none) =
     rw (whole, e) (sym (at_gap line gap rest is (none_gap rest stop) ∙ breaks_there (line + line_feeds gap) rest some none))
-cut_unique line text (t ▸ cut) (gap, rest, whole, is, e, token, others) =
+cut_unique line text (t ▸ cut) (gap, rest, whole, is, e, left, token, others) =
     let tail = cut_unique (t.line + line_feeds t.bytes) rest cut others in
     let there = rest_some cut_of (line + line_feeds gap) (t.bytes ++ rest) (t.kind, length t.bytes) (token_only t.kind t.bytes rest
     token) in
+    let here : t.left ≡ length (t.bytes ++ rest) = left ∙ omega arith in
     let step : cut_of line (gap ++ (t.bytes ++ rest)) ≡ t ▸ cut_of (t.line + line_feeds t.bytes) rest =
     at_gap line gap (t.bytes ++ rest) is (token_no_gap t.kind t.bytes rest token.token) ∙ there
-    ∙ rw (take_at t.bytes rest (length t.bytes) refl, drop_at t.bytes rest (length t.bytes) refl, ← e) refl in
+    ∙ rw (take_at t.bytes rest (length t.bytes) refl, drop_at t.bytes rest (length t.bytes) refl, ← e, ← here) refl in
     rw (whole, step, tail) refl
 
 -- ---- the scanner's list
 
 -- shorter texts have theirs
 abbrev CutsBelow : ℕ → Type 0
-CutsBelow n = (line : ℕ) (text : List ℕ) → length text < n → HasTokens line text (cut_of line text)
+CutsBelow n = (line : ℕ) (text : List ℕ) → length text < n → HasTokens line 0 text (cut_of line text)
 
 token_cut : (line : ℕ) (text gap : List ℕ) (b : ℕ) (rest : List ℕ) → text ≡ gap ++ b ∷ rest → IsGap gap (b ∷ rest)
     → gap_len false (b ∷ rest) ≡ 0 → CutsBelow (length text) → (o : Option (Kind × ℕ)) → IsFound (b ∷ rest) o → Positive o
-    → HasTokens line text (token_then cut_of (line + line_feeds gap) (b ∷ rest) o)
+    → HasTokens line 0 text (token_then cut_of (line + line_feeds gap) (b ∷ rest) o)
 token_cut line text gap b rest whole is stop shorter None f some = (
   gap,
   b ∷ rest,
@@ -100,12 +101,13 @@ token_cut line text gap b rest whole is stop shorter (Some t) f some =
       rw parts whole,
       rw parts is,
       refl,
+      ap length (sym parts) ∙ omega arith,
       longest,
       shorter _ others (omega (arith, ap length whole, length-append gap (b ∷ rest), length-drop t.1 (b ∷ rest))),
     )
 
 rest_cut : (line : ℕ) (text gap rest : List ℕ) → text ≡ gap ++ rest → IsGap gap rest → gap_len false rest ≡ 0
-    → CutsBelow (length text) → HasTokens line text (rest_then cut_of (line + line_feeds gap) rest)
+    → CutsBelow (length text) → HasTokens line 0 text (rest_then cut_of (line + line_feeds gap) rest)
 rest_cut line text gap [] whole is stop shorter = let e : text ≡ gap = whole ∙ append-nil gap in rw e (is, refl)
 rest_cut line text gap (b ∷ rest) whole is stop shorter = token_cut line text gap b rest whole is stop shorter (token_at (b ∷ rest))
     (token_found (b ∷ rest)) (token_at_positive (b ∷ rest))
@@ -118,5 +120,5 @@ cuts_below (suc n) line text lt =
     rw (cut_of-step line text) (rest_cut line text (take g text) (drop g text) (sym (take-append-drop g text)) front.0 front.1
     (λ l t s. cuts_below n l t (omega arith)))
 
-pub cut_is : (line : ℕ) (text : List ℕ) → HasTokens line text (cut_of line text)
+pub cut_is : (line : ℕ) (text : List ℕ) → HasTokens line 0 text (cut_of line text)
 cut_is line text = cuts_below (suc (length text)) line text (omega arith)

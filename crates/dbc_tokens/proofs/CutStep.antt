@@ -44,7 +44,7 @@ token_then-same : (n : ℕ) (f g : ℕ → List ℕ → Cut) (line b : ℕ) (res
     → length (b ∷ rest) ≤ n → SameBelow n f g → token_then f line (b ∷ rest) o ≡ token_then g line (b ∷ rest) o
 token_then-same n f g line b rest None positive le same = refl
 token_then-same n f g line b rest (Some t) positive le same =
-    ap (λ cut. record { kind = t.0; bytes = take t.1 (b ∷ rest); line = line } ▸ cut)
+    ap (λ cut. record { kind = t.0; bytes = take t.1 (b ∷ rest); line = line; left = length (b ∷ rest) } ▸ cut)
     (same _ _ (omega (arith, length-drop t.1 (b ∷ rest))))
 
 rest_then-same : (n : ℕ) (f g : ℕ → List ℕ → Cut) (line : ℕ) (rest : List ℕ) → length rest ≤ n → SameBelow n f g
@@ -87,7 +87,7 @@ rest_none go line (b ∷ rest) e = rw (ne_eqb (suc (length rest)) 0 (omega arith
 pub cut_token : (line : ℕ) (text : List ℕ) (n : ℕ) (gap rest bytes others : List ℕ) (t : Kind × ℕ) (a b : ℕ)
     → n ≡ gap_len false text → gap ≡ take n text → rest ≡ drop n text → a ≡ line_feeds gap
     → Some t ≡ token_at rest → bytes ≡ take t.1 rest → others ≡ drop t.1 rest → b ≡ line_feeds bytes
-    → cut_of line text ≡ record { kind = t.0; bytes = bytes; line = line + a } ▸ cut_of (line + a + b) others
+    → cut_of line text ≡ record { kind = t.0; bytes = bytes; line = line + a; left = length rest } ▸ cut_of (line + a + b) others
 cut_token line text n gap rest bytes others t a b n_is gap_is rest_is a_is t_is bytes_is others_is b_is =
     let there : token_at (drop (gap_len false text) text) ≡ Some t = rw (← n_is, ← rest_is) (sym t_is) in
     rw (b_is, bytes_is, others_is, a_is, gap_is, rest_is, n_is) (cut_of-step line text ∙ rest_some cut_of _ _ t there)

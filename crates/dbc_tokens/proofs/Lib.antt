@@ -12,3 +12,4 @@ mod LineTexts
 pub mod CutLaws
 pub mod Spots
 pub mod Places
+pub mod FromEach

@@ -143,7 +143,8 @@ plain_there (b ∷ s) t e =
 pub cut_at : (line : ℕ) (text : List ℕ) (n feeds : ℕ) (rest bytes others : List ℕ) (t : Kind × ℕ) → Plain rest t
     → n ≡ prefix_len is_blank text → feeds ≡ line_feeds (take n text) → rest ≡ drop n text
     → bytes ≡ take t.1 rest → others ≡ drop t.1 rest
-    → cut_of line text ≡ record { kind = t.0; bytes = bytes; line = line + feeds } ▸ cut_of (line + feeds) others
+    → cut_of line text ≡ record { kind = t.0; bytes = bytes; line = line + feeds; left = length rest }
+    ▸ cut_of (line + feeds) others
 cut_at line text n feeds rest bytes others t p n_is feeds_is rest_is bytes_is others_is =
     let none : gap_len false (drop (prefix_len is_blank text) text) ≡ 0 = rw (← n_is, ← rest_is) p.gap in
     let gap : n ≡ gap_len false text = omega (arith, n_is, none, gap_len-blanks text) in

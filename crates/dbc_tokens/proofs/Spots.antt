@@ -1,5 +1,5 @@
 -- What stands behind the gap at the front of a text.
-use Rattle.std.proofs.Common.{◌≡◌, ℕ, ◌+◌, false, List, [], ◌++◌, take, drop, refl, sym, ap, subst, ◌∙◌, arith}
+use Rattle.std.proofs.Common.{◌≡◌, ℕ, ◌+◌, false, List, [], ◌++◌, length, take, drop, refl, sym, ap, subst, ◌∙◌, arith}
 use Rattle.std.proofs.lemmas.List.{take-append-drop}
 use Rattle.dbc_tokens.specs.Tokens.{IsGap, IsLongest, BeginsNoGap, Token, Cut, ◌▸◌, line_feeds, HasTokens}
 use Rattle.dbc_tokens.specs.Reading.Scanner.{gap_len, rest_then, cut_of}
@@ -35,15 +35,18 @@ behind_gap line text gap here gap_is here_is =
 pub record IsFront (line : ℕ) (here : List ℕ) (t : Token) (cut : Cut) (rest : List ℕ) : Type 0 where
   pub parts : here ≡ t.bytes ++ rest
   pub in_line : t.line ≡ line
+  pub left : t.left ≡ length here
   pub longest : IsLongest t.kind t.bytes rest
   pub others : cut ≡ cut_of (t.line + line_feeds t.bytes) rest
 
 front_of : (line : ℕ) (here gap rest : List ℕ) (t : Token) (cut : Cut) → gap ≡ [] → here ≡ gap ++ (t.bytes ++ rest)
-    → t.line ≡ line + line_feeds gap → IsLongest t.kind t.bytes rest → HasTokens (t.line + line_feeds t.bytes) rest cut
+    → t.line ≡ line + line_feeds gap → t.left ≡ length (t.bytes ++ rest) + 0 → IsLongest t.kind t.bytes rest
+    → HasTokens (t.line + line_feeds t.bytes) 0 rest cut
     → IsFront line here t cut rest
-front_of line here gap rest t cut none whole e longest others = record {
+front_of line here gap rest t cut none whole e left longest others = record {
   parts = whole ∙ ap (λ (g : List ℕ). g ++ (t.bytes ++ rest)) none;
   in_line = e ∙ ap (λ (g : List ℕ). line + line_feeds g) none ∙ omega arith;
+  left = left ∙ omega (arith, ap (λ (x : List ℕ). length x) (whole ∙ ap (λ (g : List ℕ). g ++ (t.bytes ++ rest)) none));
   longest = longest;
   others = cut_unique (t.line + line_feeds t.bytes) rest cut others;
 }
@@ -52,5 +55,5 @@ front_of line here gap rest t cut none whole e longest others = record {
 pub token_front : (line : ℕ) (here : List ℕ) (t : Token) (cut : Cut) → BeginsNoGap here → cut_of line here ≡ t ▸ cut
     → (rest : List ℕ) × IsFront line here t cut rest
 token_front line here t cut none is =
-    let h = subst (HasTokens line here) is (cut_is line here) in
-    (h.1, front_of line here h.0 h.1 t cut (none h.0 (t.bytes ++ h.1) (sym h.2) h.3) h.2 h.4 h.5 h.6)
+    let h = subst (HasTokens line 0 here) is (cut_is line here) in
+    (h.1, front_of line here h.0 h.1 t cut (none h.0 (t.bytes ++ h.1) (sym h.2) h.3) h.2 h.4 h.5 h.6 h.7)

@@ -1,6 +1,7 @@
 -- Where the tokens of a text stand in it.
-use Rattle.std.specs.Prelude.{◌≡◌, ℕ, ◌+◌, List, [], ◌∷◌, ◌++◌}
+use Rattle.std.specs.Prelude.{◌≡◌, ℕ, ◌+◌, ◌-◌, List, [], ◌∷◌, ◌++◌, length, drop}
 use Rattle.dbc_tokens.specs.Tokens.{Token, Cut, End, Fault, ◌▸◌, line_feeds, HasTokens}
+use Rattle.dbc_tokens.specs.Reading.Scanner.{cut_of}
 
 -- the tokens, without how they end
 abbrev pub tokens_of : Cut → List Token
@@ -8,14 +9,20 @@ tokens_of (End at) = []
 tokens_of (Fault at) = []
 tokens_of (t ▸ cut) = t ∷ tokens_of cut
 
--- The bytes of each token are a part of the text that lies behind the token before it, and its line is told by the line
--- feeds that stand before it.
+-- The bytes of each token are a part of the text that lies behind the token before it, its line is told by the line feeds
+-- that stand before it, and it tells how many bytes are left from its first byte on.
 abbrev pub StandInOrder : ℕ → List ℕ → List Token → Type 0
 StandInOrder line text [] = Unit {0}
 StandInOrder line text (t ∷ tokens) =
     (before behind : List ℕ) × (text ≡ before ++ (t.bytes ++ behind)) × (t.line ≡ line + line_feeds before)
-    × StandInOrder (t.line + line_feeds t.bytes) behind tokens
+    × (t.left ≡ length (t.bytes ++ behind)) × StandInOrder (t.line + line_feeds t.bytes) behind tokens
 
 -- the tokens of a text stand in it in their order, none within another
 abbrev pub TokensInOrder : Type 0
-TokensInOrder = (line : ℕ) (text : List ℕ) (cut : Cut) → HasTokens line text cut → StandInOrder line text (tokens_of cut)
+TokensInOrder = (line : ℕ) (text : List ℕ) (cut : Cut) → HasTokens line 0 text cut → StandInOrder line text (tokens_of cut)
+
+-- from the first byte of each token on, the text has that token and those behind it
+abbrev pub TokensFromEach : List ℕ → Cut → Type 0
+TokensFromEach text (End at) = Unit {0}
+TokensFromEach text (Fault at) = Unit {0}
+TokensFromEach text (t ▸ cut) = (cut_of t.line (drop (length text - t.left) text) ≡ t ▸ cut) × TokensFromEach text cut

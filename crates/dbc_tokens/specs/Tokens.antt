@@ -60,11 +60,12 @@ BeginsNoGap bytes = (gap rest : List ℕ) → gap ++ rest ≡ bytes → IsGap ga
 
 -- ---- the tokens of a text
 
--- a token with the line of its first byte
+-- a token with the line of its first byte, and with how many bytes are left of the text from that byte on
 pub record Token : Type 0 where
   pub kind : Kind
   pub bytes : List ℕ
   pub line : ℕ
+  pub left : ℕ
 
 -- tokens in order, and how they end: with the text, in this line, or in this line where no token begins
 infixr 20 ◌▸◌
@@ -77,12 +78,13 @@ pub data Cut : Type 0 where
 abbrev pub line_feeds : List ℕ → ℕ
 line_feeds bytes = count_by is_line_feed bytes
 
--- a text whose first byte stands in this line has these tokens
-abbrev pub HasTokens : ℕ → List ℕ → Cut → Type 0
-HasTokens line text (End at) = IsGap text [] × (at ≡ line + line_feeds text)
-HasTokens line text (Fault at) =
+-- a text whose first byte stands in this line, with this many bytes after it, has these tokens
+abbrev pub HasTokens : ℕ → ℕ → List ℕ → Cut → Type 0
+HasTokens line after text (End at) = IsGap text [] × (at ≡ line + line_feeds text)
+HasTokens line after text (Fault at) =
     (gap rest : List ℕ) × (text ≡ gap ++ rest) × IsGap gap rest × (at ≡ line + line_feeds gap)
     × (rest ≢ []) × BeginsNoGap rest × BeginsNoToken rest
-HasTokens line text (t ▸ cut) =
+HasTokens line after text (t ▸ cut) =
     (gap rest : List ℕ) × (text ≡ gap ++ (t.bytes ++ rest)) × IsGap gap (t.bytes ++ rest) × (t.line ≡ line + line_feeds gap)
-    × IsLongest t.kind t.bytes rest × HasTokens (t.line + line_feeds t.bytes) rest cut
+    × (t.left ≡ length (t.bytes ++ rest) + after) × IsLongest t.kind t.bytes rest
+    × HasTokens (t.line + line_feeds t.bytes) after rest cut

@@ -13,7 +13,7 @@ use Rattle.dbc_tokens.specs.Reading.Scanner.{line_text_at, plain_token_at, cut_o
 
 -- a token without where it lies in memory
 abbrev pub token_of : tokens.Token → Token
-token_of t = record { kind = t.kind; bytes = t.bytes.now; line = t.line }
+token_of t = record { kind = t.kind; bytes = t.bytes.now; line = t.line; left = t.left }
 
 -- the tokens that are left
 abbrev pub left : Tokens → Cut

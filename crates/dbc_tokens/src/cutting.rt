@@ -8,7 +8,7 @@ use crate::stream::Tokens;
 
 /// The tokens of a text, whose first byte stands in line 1. No memory is taken.
 pub fn tokens(text: &[u8]) -> Tokens<'_>
-    ensures definition { HasTokens 1 text.now (left result) }
+    ensures definition { HasTokens 1 0 text.now (left result) }
     ensures scanner { left result ≡ cut_of 1 text.now }
 {
     Tokens::new(text)

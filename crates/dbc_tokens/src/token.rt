@@ -22,6 +22,8 @@ pub struct Token<'a> {
     pub bytes: &'a [u8],
     /// The line of its first byte: 1 and the number of LF before it.
     pub line: u64,
+    /// How many bytes are left of the text from its first byte on.
+    pub left: usize,
 }
 
 /// What comes next in a text.

@@ -85,44 +85,55 @@ seen_err p r cause e = ap (seen_so p) e
 leads_more : (tokens : List Token) (line : ℕ) (text : List ℕ) (state : State) (at : ℕ) (rest : List ℕ) (now : State)
     → Leads tokens line text state at rest now → (t : Token) (gap behind : List ℕ) (next : State)
     → rest ≡ gap ++ (t.bytes ++ behind) → IsGap gap (t.bytes ++ behind) → t.line ≡ at + line_feeds gap
-    → IsLongest t.kind t.bytes behind → step now t ≡ Ok next
+    → t.left ≡ length (t.bytes ++ behind) → IsLongest t.kind t.bytes behind → step now t ≡ Ok next
     → Leads (tokens ++ t ∷ []) line text state (t.line + line_feeds t.bytes) behind next
-leads_more [] line text state at rest now (a, b, c) t gap behind next parts is_gap in_line longest takes = (
+leads_more [] line text state at rest now (a, b, c) t gap behind next parts is_gap in_line left longest takes = (
   gap,
   behind,
   next,
   sym b ∙ parts,
   is_gap,
   in_line ∙ ap (λ (l : ℕ). l + line_feeds gap) a,
+  left,
   longest,
   ap (λ (s : State). step s t) (sym c) ∙ takes,
   (refl, refl, refl),
 )
-leads_more (u ∷ tokens) line text state at rest now (g, b, n, whole, is, l, long, took, others) t gap behind next parts is_gap
-    in_line longest takes = (
+leads_more (u ∷ tokens) line text state at rest now (g, b, n, whole, is, l, size, long, took, others) t gap behind next parts is_gap
+    in_line left longest takes = (
       g,
       b,
       n,
       whole,
       is,
       l,
+      size,
       long,
       took,
-      leads_more tokens (u.line + line_feeds u.bytes) b n at rest now others t gap behind next parts is_gap in_line longest takes,
+      leads_more tokens (u.line + line_feeds u.bytes) b n at rest now others t gap behind next parts is_gap in_line left longest
+          takes,
     )
 
 -- the text has these tokens, and those of the rest behind them
 leads_cut : (tokens : List Token) (line : ℕ) (text : List ℕ) (state : State) (at : ℕ) (rest : List ℕ) (now : State) (cut : Cut)
-    → Leads tokens line text state at rest now → HasTokens at rest cut → HasTokens line text (tokens ▸▸ cut)
+    → Leads tokens line text state at rest now → HasTokens at 0 rest cut → HasTokens line 0 text (tokens ▸▸ cut)
 leads_cut [] line text state at rest now cut (a, b, c) has = rw (← a, ← b) has
-leads_cut (t ∷ tokens) line text state at rest now cut (gap, behind, next, whole, is, l, long, took, others) has =
-    (gap, behind, whole, is, l, long, leads_cut tokens (t.line + line_feeds t.bytes) behind next at rest now cut others has)
+leads_cut (t ∷ tokens) line text state at rest now cut (gap, behind, next, whole, is, l, size, long, took, others) has = (
+  gap,
+  behind,
+  whole,
+  is,
+  l,
+  size ∙ omega arith,
+  long,
+  leads_cut tokens (t.line + line_feeds t.bytes) behind next at rest now cut others has,
+)
 
 -- the first fault is the first behind them
 leads_first : (tokens : List Token) (line : ℕ) (text : List ℕ) (state : State) (at : ℕ) (rest : List ℕ) (now : State) (cut : Cut)
     → Leads tokens line text state at rest now → first_fault state.0 state.1 (tokens ▸▸ cut) ≡ first_fault now.0 now.1 cut
 leads_first [] line text state at rest now cut (a, b, c) = ap (λ (s : State). first_fault s.0 s.1 cut) (sym c)
-leads_first (t ∷ tokens) line text state at rest now cut (gap, behind, next, whole, is, l, long, took, others) =
+leads_first (t ∷ tokens) line text state at rest now cut (gap, behind, next, whole, is, l, size, long, took, others) =
     first_behind state next t (tokens ▸▸ cut) took
     ∙ leads_first tokens (t.line + line_feeds t.bytes) behind next at rest now cut others
 
@@ -145,7 +156,7 @@ place_behind pattern text state tokens line rest cut leads is =
       parts = b.parts;
       is_gap = b.is_gap;
       no_gap = b.no_gap;
-      follow = subst (HasTokens (line + line_feeds gap) here) (sym (is ∙ b.same)) (cut_is (line + line_feeds gap) here);
+      follow = subst (HasTokens (line + line_feeds gap) 0 here) (sym (is ∙ b.same)) (cut_is (line + line_feeds gap) here);
     }
 
 -- the first place of a text
@@ -178,14 +189,15 @@ next_place pattern text here state t cut next rest behind at takes rest_is behin
     at.parts ∙ ap (λ (h : List ℕ). at.gap ++ h) (x.1.parts ∙ ap (λ (r : List ℕ). t.bytes ++ r) (sym same)) in
     let front : here ≡ t.bytes ++ rest = x.1.parts ∙ ap (λ (r : List ℕ). t.bytes ++ r) (sym same) in
     let leads = leads_more at.tokens 1 text (pattern, nothing_seen) at.line at.rest state at.leads t at.gap rest next parts
-    (subst (IsGap at.gap) front at.is_gap) x.1.in_line (subst (IsLongest t.kind t.bytes) (sym same) x.1.longest) takes in
+    (subst (IsGap at.gap) front at.is_gap) x.1.in_line
+    (x.1.left ∙ ap (λ (b : List ℕ). length b) front) (subst (IsLongest t.kind t.bytes) (sym same) x.1.longest) takes in
     let is : cut ≡ cut_of (t.line + line_feeds t.bytes) rest = x.1.others
     ∙ ap (cut_of (t.line + line_feeds t.bytes)) (sym same) in
     rw behind_is (place_behind pattern text next (at.tokens ++ t ∷ []) (t.line + line_feeds t.bytes) rest cut leads is)
 
 -- the tokens behind a gap are those of the gap and what stands behind it
 gap_before : (line : ℕ) (rest gap here : List ℕ) (cut : Cut) → rest ≡ gap ++ here → IsGap gap here → BeginsNoGap here
-    → HasTokens (line + line_feeds gap) here cut → HasTokens line rest cut
+    → HasTokens (line + line_feeds gap) 0 here cut → HasTokens line 0 rest cut
 gap_before line rest gap here cut parts is none has =
     let stop = none_gap here none in
     let no : IsGap [] here = ([], refl, tt) in
@@ -193,10 +205,10 @@ gap_before line rest gap here cut parts is none has =
     let same : cut_of line rest ≡ cut_of (line + line_feeds gap) here =
     ap (cut_of line) parts ∙ at_gap line gap here is stop
     ∙ sym (at_gap (line + line_feeds gap) [] here no stop ∙ ap (λ l. rest_then cut_of l here) at) in
-    subst (HasTokens line rest) (same ∙ sym (cut_unique (line + line_feeds gap) here cut has)) (cut_is line rest)
+    subst (HasTokens line 0 rest) (same ∙ sym (cut_unique (line + line_feeds gap) here cut has)) (cut_is line rest)
 
 whole_tokens : (pattern : Pattern) (text here : List ℕ) (state : State) (cut : Cut) → (at : Stands pattern text here state cut)
-    → HasTokens 1 text (at.tokens ▸▸ cut)
+    → HasTokens 1 0 text (at.tokens ▸▸ cut)
 whole_tokens pattern text here state cut at =
     leads_cut at.tokens 1 text (pattern, nothing_seen) at.line at.rest state cut at.leads
     (gap_before at.line at.rest at.gap here cut at.parts at.is_gap at.no_gap at.follow)
@@ -205,7 +217,7 @@ whole_tokens pattern text here state cut at =
 leads_suffix : (tokens : List Token) (line : ℕ) (text : List ℕ) (state : State) (at : ℕ) (rest : List ℕ) (now : State)
     → Leads tokens line text state at rest now → (front : List ℕ) × (text ≡ front ++ rest)
 leads_suffix [] line text state at rest now (a, b, c) = ([], sym b)
-leads_suffix (t ∷ tokens) line text state at rest now (gap, behind, next, whole, is, l, long, took, others) =
+leads_suffix (t ∷ tokens) line text state at rest now (gap, behind, next, whole, is, l, size, long, took, others) =
     let x = leads_suffix tokens (t.line + line_feeds t.bytes) behind next at rest now others in (
       gap ++ (t.bytes ++ x.0),
       whole ∙ ap (λ (b : List ℕ). gap ++ (t.bytes ++ b)) x.1

@@ -1,5 +1,5 @@
 -- Where the first fault of a text stands, and the classes of which a token might have stood there.
-use Rattle.std.specs.Prelude.{◌≡◌, ℕ, ◌+◌, List, [], ◌∷◌, ◌++◌, Option, Some, None, Result, Ok, Err, if◌then◌else◌}
+use Rattle.std.specs.Prelude.{◌≡◌, ℕ, ◌+◌, List, [], ◌∷◌, ◌++◌, Option, Some, None, Result, Ok, Err, if◌then◌else◌, length}
 use Rattle.dbc_tokens.specs.declared.fault.Cause.{Cause}
 use Rattle.dbc_tokens.specs.declared.fault.Cause.TheVariants as causes
 use Rattle.dbc_tokens.specs.declared.fault.ReadFault.{ReadFault}
@@ -29,8 +29,8 @@ abbrev pub Leads : List Token → ℕ → List ℕ → State → ℕ → List �
 Leads [] line text state at rest now = (at ≡ line) × (rest ≡ text) × (now ≡ state)
 Leads (t ∷ tokens) line text state at rest now =
     (gap behind : List ℕ) × (next : State) × (text ≡ gap ++ (t.bytes ++ behind)) × IsGap gap (t.bytes ++ behind)
-    × (t.line ≡ line + line_feeds gap) × IsLongest t.kind t.bytes behind × (step state t ≡ Ok next)
-    × Leads tokens (t.line + line_feeds t.bytes) behind next at rest now
+    × (t.line ≡ line + line_feeds gap) × (t.left ≡ length (t.bytes ++ behind)) × IsLongest t.kind t.bytes behind
+    × (step state t ≡ Ok next) × Leads tokens (t.line + line_feeds t.bytes) behind next at rest now
 
 abbrev pub refused : ℕ → Result State Cause → Option ReadFault
 refused line (Ok state) = None
@@ -58,7 +58,7 @@ pub record Stands (pattern : Pattern) (text here : List ℕ) (state : State) (cu
   pub parts : rest ≡ gap ++ here
   pub is_gap : IsGap gap here
   pub no_gap : BeginsNoGap here
-  pub follow : HasTokens (line + line_feeds gap) here cut
+  pub follow : HasTokens (line + line_feeds gap) 0 here cut
 
 -- a fault, the bytes before its token, those of the token and those behind it, and the classes of which one might have stood there
 pub record Found : Type 0 where
@@ -80,5 +80,5 @@ pub record IsFoundAt (pattern : Pattern) (text : List ℕ) (found : Found) : Typ
 
 -- where the first fault of a text stands, if it has one
 abbrev pub IsPlace : Pattern → List ℕ → Option Found → Type 0
-IsPlace pattern text None = (cut : Cut) × HasTokens 1 text cut × (first_fault pattern nothing_seen cut ≡ None)
+IsPlace pattern text None = (cut : Cut) × HasTokens 1 0 text cut × (first_fault pattern nothing_seen cut ≡ None)
 IsPlace pattern text (Some found) = HasFirstFault pattern text found.fault × IsFoundAt pattern text found

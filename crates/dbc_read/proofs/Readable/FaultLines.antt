@@ -126,7 +126,7 @@ LinesWithin first last (t ▸ cut) = (first ≤ t.line) × (t.line ≤ last) × 
 feeds_both : (xs ys : List ℕ) → line_feeds (xs ++ ys) ≡ line_feeds xs + line_feeds ys
 feeds_both xs ys = sum_by-append (λ b. cond (is_line_feed b) 1 0) xs ys
 
-lines_so : (line last : ℕ) (text : List ℕ) (cut : Cut) → 1 ≤ line → line + line_feeds text ≤ last → HasTokens line text cut
+lines_so : (line last : ℕ) (text : List ℕ) (cut : Cut) → 1 ≤ line → line + line_feeds text ≤ last → HasTokens line 0 text cut
     → LinesWithin 1 last cut
 lines_so line last text (End at) low high (gap, e) = omega (arith, low, high, e)
 lines_so line last text (Fault at) low high (gap, rest, same, is, e, some, none, no_token) =
@@ -136,7 +136,7 @@ lines_so line last text (Fault at) low high (gap, rest, same, is, e, some, none,
     within_gap : (line last at all gap rest : ℕ) → all ≡ gap + rest → at ≡ line + gap → 1 ≤ line → line + all ≤ last → (1 ≤ at)
         × (at ≤ last)
     within_gap line last at all gap rest e f low high = omega (arith, e, f, low, high)
-lines_so line last text (t ▸ cut) low high (gap, rest, same, is, e, longest, others) =
+lines_so line last text (t ▸ cut) low high (gap, rest, same, is, e, left, longest, others) =
     let all = ap line_feeds same ∙ feeds_both gap (t.bytes ++ rest) in
     let behind = feeds_both t.bytes rest in
     let here = within_gap line last t.line (line_feeds text) (line_feeds gap) (line_feeds (t.bytes ++ rest)) (line_feeds t.bytes)

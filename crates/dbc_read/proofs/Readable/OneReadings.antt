@@ -48,7 +48,7 @@ module _ {A : Type 0} (pattern : Pattern) (Spell : List Token → A → Type 0)
     → first_fault pattern nothing_seen cut ≡ None)
     (alone : (tokens : List Token) (a b : A) → Spell tokens a → Spell tokens b → a ≡ b) where
   abbrev Has : List ℕ → A → Type 0
-  Has text a = (tokens : List Token) × (line : ℕ) × HasTokens 1 text (tokens ▸▸ End line) × Spell tokens a
+  Has text a = (tokens : List Token) × (line : ℕ) × HasTokens 1 0 text (tokens ▸▸ End line) × Spell tokens a
 
   same_text : (text : List ℕ) (a b : A) → Has text a → Has text b → a ≡ b
   same_text text a b (tokens, at, has, spells) (others, end, also, spell) =
@@ -69,7 +69,7 @@ module _ {A : Type 0} (pattern : Pattern) (Spell : List Token → A → Type 0)
           × NoSuch (Has text))
       by_fault None e =
           let spelled = none_where (cut_of 1 text) e in
-          let has : Has text spelled.2 = (spelled.0, spelled.1, subst (HasTokens 1 text) spelled.3 (cut_is 1 text), spelled.4) in
+          let has : Has text spelled.2 = (spelled.0, spelled.1, subst (HasTokens 1 0 text) spelled.3 (cut_is 1 text), spelled.4) in
           inl ((spelled.2, has, λ other has_other. same_text text other spelled.2 has_other has), no_fault pattern text e)
       by_fault (Some fault) e =
           inr (

@@ -141,7 +141,7 @@ canonical_has d is =
     let neat = database_neat d is in
     let apart : stand_apart (database_layout d) ≡ true = ap stand_apart (sym (append-nil (database_layout d)))
     ∙ neat.apart [] refl in
-    let tokens = layout_tokens (database_layout d) (items_printed (database_layout d) neat.items) apart 1 in (
+    let tokens = layout_tokens (database_layout d) (items_printed (database_layout d) neat.items) apart 1 0 in (
       tokens.tokens,
       tokens.at,
       tokens.has,

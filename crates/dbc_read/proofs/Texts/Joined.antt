@@ -3,6 +3,7 @@ use Rattle.std.proofs.Common.{◌≡◌, ℕ, ◌+◌, ◌<◌, ◌≤◌, true,
 use Rattle.std.proofs.Common.{append_assoc, arith, ◌⊎◌, inl, inr}
 use Rattle.std.specs.List.{list_all, flat_map}
 use Rattle.std.proofs.lemmas.Bool.{and_parts, not-true}
+use Rattle.std.proofs.lemmas.List.{length-append}
 use Rattle.std.proofs.lemmas.List.Concat.{flat_map-append}
 use Rattle.std.proofs.lemmas.List.Sums.{sum_by-append, sum_by-cons}
 use Rattle.dbc_tokens.specs.declared.token.Kind.{Kind}
@@ -189,20 +190,21 @@ behind_last kind gap bytes rest b others same is e =
 
 -- ---- the tokens of both
 
-abbrev Joins : ℕ → ℕ → List ℕ → List ℕ → List Token → Cut → Type 0
-Joins line at text more tokens cut = HasTokens line text (tokens ▸▸ End at) → HasTokens at more cut
-    → HasTokens line (text ++ more) (tokens ▸▸ cut)
+abbrev Joins : ℕ → ℕ → ℕ → List ℕ → List ℕ → List Token → Cut → Type 0
+Joins line at after text more tokens cut =
+    HasTokens line (length more + after) text (tokens ▸▸ End at) → HasTokens at after more cut
+    → HasTokens line after (text ++ more) (tokens ▸▸ cut)
 
 -- line feeds add up
 add_feeds : (line at end : ℕ) (s t : List ℕ) → at ≡ line + line_feeds s → end ≡ at + line_feeds t → end ≡ line + line_feeds (s ++ t)
 add_feeds line at end s t e f = omega (arith, e, f, feeds_append s t)
 
-gap_joins : (line at : ℕ) (text more : List ℕ) (cut : Cut) → last_of 0 text ≡ line_feed → Joins line at text more [] cut
-gap_joins line at text more (End end) last (is, e) (gap, f) = (
+gap_joins : (line at after : ℕ) (text more : List ℕ) (cut : Cut) → last_of 0 text ≡ line_feed → Joins line at after text more [] cut
+gap_joins line at after text more (End end) last (is, e) (gap, f) = (
   gap_join text more [] last is gap,
   add_feeds line at end text more e f,
 )
-gap_joins line at text more (Fault end) last (is, e) (gap, rest, same, more_is, f, some, none, no_token) = (
+gap_joins line at after text more (Fault end) last (is, e) (gap, rest, same, more_is, f, some, none, no_token) = (
   text ++ gap,
   rest,
   rw same (sym (append_assoc text gap rest)),
@@ -212,21 +214,33 @@ gap_joins line at text more (Fault end) last (is, e) (gap, rest, same, more_is, 
   none,
   no_token,
 )
-gap_joins line at text more (t ▸ cut) last (is, e) (gap, rest, same, more_is, f, longest, others) = (
+gap_joins line at after text more (t ▸ cut) last (is, e) (gap, rest, same, more_is, f, left, longest, others) = (
   text ++ gap,
   rest,
   rw same (sym (append_assoc text gap (t.bytes ++ rest))),
   gap_join text gap (t.bytes ++ rest) last is
       more_is,
   add_feeds line at t.line text gap e f,
+  left,
   longest,
   others,
 )
 
-joins : (line at : ℕ) (text more : List ℕ) (tokens : List Token) (cut : Cut) → last_of 0 text ≡ line_feed
-    → Joins line at text more tokens cut
-joins line at text more [] cut last has have = gap_joins line at text more cut last has have
-joins line at text more (t ∷ tokens) cut last (gap, rest, same, is, e, longest, others) have =
+-- the same bytes are left, those of the text behind the first among those after it or among its own
+left_same : (n after : ℕ) (bytes rest more : List ℕ) → n ≡ length (bytes ++ rest) + (length more + after)
+    → n ≡ length (bytes ++ (rest ++ more)) + after
+left_same n after bytes rest more e = omega (
+  arith,
+  e,
+  length-append bytes rest,
+  length-append bytes (rest ++ more),
+  length-append rest more,
+)
+
+joins : (line at after : ℕ) (text more : List ℕ) (tokens : List Token) (cut : Cut) → last_of 0 text ≡ line_feed
+    → Joins line at after text more tokens cut
+joins line at after text more [] cut last has have = gap_joins line at after text more cut last has have
+joins line at after text more (t ∷ tokens) cut last (gap, rest, same, is, e, left, longest, others) have =
     let x = token_begins t.kind t.bytes longest.token in
     let behind = behind_last t.kind gap t.bytes rest x.0 x.1 x.2 longest.token (ap (last_of 0) (sym same) ∙ last) in
     let whole : text ++ more ≡ gap ++ (t.bytes ++ (rest ++ more)) =
@@ -237,10 +251,11 @@ joins line at text more (t ∷ tokens) cut last (gap, rest, same, is, e, longest
       whole,
       gap_before gap t.bytes rest (rest ++ more) x.0 x.1 x.2 is,
       e,
+      left_same t.left after t.bytes rest more left,
       longest_more t.kind t.bytes rest more (some_feeds rest behind) longest,
-      joins (t.line + line_feeds t.bytes) at rest more tokens cut behind others have,
+      joins (t.line + line_feeds t.bytes) at after rest more tokens cut behind others have,
     )
 
 pub lines_join : LinesJoin
-lines_join line at text more tokens cut has have = joins line at (text ++ line_feed ∷ []) more tokens cut
+lines_join line at after text more tokens cut has have = joins line at after (text ++ line_feed ∷ []) more tokens cut
     (last_append 0 text (line_feed ∷ [])) has have

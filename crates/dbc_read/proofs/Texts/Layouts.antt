@@ -1,6 +1,6 @@
 -- The text of a layout has the tokens of its items.
-use Rattle.std.proofs.Common.{◌≡◌, ℕ, suc, ◌+◌, pos, negsuc, Bool, true, false, not, cond, ◌||◌, List, [], ◌∷◌, ◌++◌, refl, sym, ap}
-use Rattle.std.proofs.Common.{subst, ◌∙◌, append_assoc, arith, ◌⊎◌, inl, inr}
+use Rattle.std.proofs.Common.{◌≡◌, ℕ, suc, ◌+◌, pos, negsuc, Bool, true, false, not, cond, ◌||◌, List, [], ◌∷◌, ◌++◌, length, refl}
+use Rattle.std.proofs.Common.{sym, ap, subst, ◌∙◌, append_assoc, arith, ◌⊎◌, inl, inr}
 use Rattle.std.specs.Prelude.{codes, decimal, IsTrue}
 use Rattle.std.specs.List.{flat_map}
 use Rattle.std.proofs.lemmas.Bool.{and_parts}
@@ -34,17 +34,18 @@ counted line b bytes =
     join line one bytes all n e f = omega (arith, e, f)
 
 -- a blank before a text
-blank_before : (line b : ℕ) (text : List ℕ) (cut : Cut) → is_blank b ≡ true → HasTokens (line + line_feeds (b ∷ [])) text cut
-    → HasTokens line (b ∷ text) cut
-blank_before line b text (End at) blank (gap, e) = (gap_more b text [] blank gap, e ∙ counted line b text)
-blank_before line b text (Fault at) blank (gap, rest, same, is, e, some, none, no_token) =
+blank_before : (line after b : ℕ) (text : List ℕ) (cut : Cut) → is_blank b ≡ true
+    → HasTokens (line + line_feeds (b ∷ [])) after text cut → HasTokens line after (b ∷ text) cut
+blank_before line after b text (End at) blank (gap, e) = (gap_more b text [] blank gap, e ∙ counted line b text)
+blank_before line after b text (Fault at) blank (gap, rest, same, is, e, some, none, no_token) =
     (b ∷ gap, rest, ap (λ (l : List ℕ). b ∷ l) same, gap_more b gap rest blank is, e ∙ counted line b gap, some, none, no_token)
-blank_before line b text (t ▸ cut) blank (gap, rest, same, is, e, longest, others) = (
+blank_before line after b text (t ▸ cut) blank (gap, rest, same, is, e, left, longest, others) = (
   b ∷ gap,
   rest,
   ap (λ (l : List ℕ). b ∷ l) same,
   gap_more b gap (t.bytes ++ rest) blank is,
   e ∙ counted line b gap,
+  left,
   longest,
   others,
 )
@@ -52,9 +53,11 @@ blank_before line b text (t ▸ cut) blank (gap, rest, same, is, e, longest, oth
 -- ---- one token
 
 -- a token at the front of a text
-token_before : (line : ℕ) (t : Token) (rest : List ℕ) (cut : Cut) → t.line ≡ line → IsLongest t.kind t.bytes rest
-    → HasTokens (t.line + line_feeds t.bytes) rest cut → HasTokens line (t.bytes ++ rest) (t ▸ cut)
-token_before line t rest cut at longest others = ([], rest, refl, ([], refl, tt), at ∙ plus_none line, longest, others)
+token_before : (line after : ℕ) (t : Token) (rest : List ℕ) (cut : Cut) → t.line ≡ line → t.left ≡ length (t.bytes ++ rest) + after
+    → IsLongest t.kind t.bytes rest → HasTokens (t.line + line_feeds t.bytes) after rest cut
+    → HasTokens line after (t.bytes ++ rest) (t ▸ cut)
+token_before line after t rest cut at left longest others =
+    ([], rest, refl, ([], refl, tt), at ∙ plus_none line, left, longest, others)
   where
     plus_none : (n : ℕ) → n ≡ n + 0
     plus_none n = omega arith
@@ -98,32 +101,35 @@ abbrev text_of : List Lexeme → List ℕ
 text_of ls = flat_map (λ (l : Lexeme). l.bytes) ls
 
 -- tokens with these lexemes in front of a text
-pub record Before (line : ℕ) (ls : List Lexeme) (rest : List ℕ) (cut : ℕ → Cut) : Type 0 where
+pub record Before (line after : ℕ) (ls : List Lexeme) (rest : List ℕ) (cut : ℕ → Cut) : Type 0 where
   pub tokens : List Token
   pub behind : ℕ
   pub have : HaveLexemes ls tokens
-  pub has : HasTokens behind rest (cut behind) → HasTokens line (text_of ls ++ rest) (tokens ▸▸ cut behind)
+  pub has : HasTokens behind after rest (cut behind) → HasTokens line after (text_of ls ++ rest) (tokens ▸▸ cut behind)
 
-before_one : (line : ℕ) (l : Lexeme) (ls : List Lexeme) (rest : List ℕ) (cut : ℕ → Cut)
-    → IsLongest l.kind l.bytes (text_of ls ++ rest) → Before (line + line_feeds l.bytes) ls rest cut → Before line (l ∷ ls) rest cut
-before_one line l ls rest cut longest more =
-    let t : Token = record { kind = l.kind; bytes = l.bytes; line = line } in
+before_one : (line after : ℕ) (l : Lexeme) (ls : List Lexeme) (rest : List ℕ) (cut : ℕ → Cut)
+    → IsLongest l.kind l.bytes (text_of ls ++ rest) → Before (line + line_feeds l.bytes) after ls rest cut
+    → Before line after (l ∷ ls) rest cut
+before_one line after l ls rest cut longest more =
+    let left : ℕ = length (l.bytes ++ (text_of ls ++ rest)) + after in
+    let t : Token = record { kind = l.kind; bytes = l.bytes; line = line; left = left } in
     record {
       tokens = t ∷ more.tokens;
       behind = more.behind;
       have = (refl, refl, more.have);
-      has = λ others. subst (λ (text : List ℕ). HasTokens line text (t ▸ (more.tokens ▸▸ cut more.behind)))
+      has = λ others. subst (λ (text : List ℕ). HasTokens line after text (t ▸ (more.tokens ▸▸ cut more.behind)))
           (sym (append_assoc l.bytes (text_of ls) rest))
-          (token_before line t (text_of ls ++ rest) (more.tokens ▸▸ cut more.behind) refl longest (more.has others));
+          (token_before line after t (text_of ls ++ rest) (more.tokens ▸▸ cut more.behind) refl refl longest (more.has others));
     }
 
-before_all : (line : ℕ) (ls : List Lexeme) (rest : List ℕ) (cut : ℕ → Cut) → AreTokens ls → Ends ls rest → Before line ls rest cut
-before_all line [] rest cut are ends = record { tokens = []; behind = line; have = refl; has = λ others. others }
-before_all line (l ∷ []) rest cut are ends = before_one line l [] rest cut ends (before_all (line + line_feeds l.bytes) [] rest cut
-    tt tt)
-before_all line (l ∷ m ∷ ls) rest cut are ends =
-    before_one line l (m ∷ ls) rest cut (closed_longest l.kind l.bytes (text_of (m ∷ ls) ++ rest) (inl ends.0) are.0)
-    (before_all (line + line_feeds l.bytes) (m ∷ ls) rest cut are.1 ends.1)
+before_all : (line after : ℕ) (ls : List Lexeme) (rest : List ℕ) (cut : ℕ → Cut) → AreTokens ls → Ends ls rest
+    → Before line after ls rest cut
+before_all line after [] rest cut are ends = record { tokens = []; behind = line; have = refl; has = λ others. others }
+before_all line after (l ∷ []) rest cut are ends =
+    before_one line after l [] rest cut ends (before_all (line + line_feeds l.bytes) after [] rest cut tt tt)
+before_all line after (l ∷ m ∷ ls) rest cut are ends =
+    before_one line after l (m ∷ ls) rest cut (closed_longest l.kind l.bytes (text_of (m ∷ ls) ++ rest) (inl ends.0) are.0)
+    (before_all (line + line_feeds l.bytes) after (m ∷ ls) rest cut are.1 ends.1)
 
 -- ---- layouts
 
@@ -169,14 +175,15 @@ either_so : (a b : Bool) → (a || b) ≡ true → (a ≡ true) ⊎ (b ≡ true)
 either_so true b e = inl refl
 either_so false b e = inr e
 
-blank_more : (line b : ℕ) (e : Element) (layout : Layout) → is_blank b ≡ true → element_text e ≡ b ∷ [] → all_lexemes (e ∷ layout)
-    ≡ all_lexemes layout → LayoutTokens (line + line_feeds (b ∷ [])) layout → LayoutTokens line (e ∷ layout)
+blank_more : (line after b : ℕ) (e : Element) (layout : Layout) → is_blank b ≡ true → element_text e ≡ b ∷ []
+    → all_lexemes (e ∷ layout) ≡ all_lexemes layout → LayoutTokens (line + line_feeds (b ∷ [])) after layout
+    → LayoutTokens line after (e ∷ layout)
 unfolding layout_text
-blank_more line b e layout blank text same below = record {
+blank_more line after b e layout blank text same below = record {
   tokens = below.tokens;
   at = below.at;
-  has = subst (λ (front : List ℕ). HasTokens line (front ++ layout_text layout) (below.tokens ▸▸ End below.at)) (sym text)
-      (blank_before line b (layout_text layout) (below.tokens ▸▸ End below.at) blank below.has);
+  has = subst (λ (front : List ℕ). HasTokens line after (front ++ layout_text layout) (below.tokens ▸▸ End below.at)) (sym text)
+      (blank_before line after b (layout_text layout) (below.tokens ▸▸ End below.at) blank below.has);
   have = subst (λ (ls : List Lexeme). HaveLexemes ls below.tokens) (sym same) below.have;
 }
 
@@ -185,33 +192,36 @@ have_both [] ys u v h k = subst (λ (l : List Token). HaveLexemes ys (l ++ v)) (
 have_both (x ∷ xs) ys [] v h k = elim h [ ]
 have_both (x ∷ xs) ys (t ∷ u) v h k = (h.0, h.1, have_both xs ys u v h.2 k)
 
-item_more : (line : ℕ) (item : Item) (layout : Layout) → Printed item → (is_closed item ≡ true) ⊎ EndsToken (layout_text layout)
-    → ((line : ℕ) → LayoutTokens line layout) → LayoutTokens line (Is item ∷ layout)
+item_more : (line after : ℕ) (item : Item) (layout : Layout) → Printed item
+    → (is_closed item ≡ true) ⊎ EndsToken (layout_text layout) → ((line : ℕ) → LayoutTokens line after layout)
+    → LayoutTokens line after (Is item ∷ layout)
 unfolding layout_text items_of
-item_more line item layout printed either below =
-    let front = before_all line (lexemes item) (layout_text layout) (λ behind. (below behind).tokens ▸▸ End (below behind).at)
+item_more line after item layout printed either below =
+    let front = before_all line after (lexemes item) (layout_text layout) (λ behind. (below behind).tokens ▸▸ End (below behind).at)
     printed.are_tokens (ends_so item (layout_text layout) printed either) in
     let rest = below front.behind in
     record {
       tokens = front.tokens ++ rest.tokens;
       at = rest.at;
-      has = subst (λ (cut : Cut). HasTokens line (item_text item ++ layout_text layout) cut)
+      has = subst (λ (cut : Cut). HasTokens line after (item_text item ++ layout_text layout) cut)
           (sym (all_then_twice front.tokens rest.tokens (End rest.at)))
-          (subst (λ (text : List ℕ). HasTokens line (text ++ layout_text layout) (front.tokens ▸▸ (rest.tokens ▸▸ End rest.at)))
+          (subst (λ (text : List ℕ). HasTokens line after (text ++ layout_text layout)
+          (front.tokens ▸▸ (rest.tokens ▸▸ End rest.at)))
           (sym printed.text) (front.has rest.has));
       have = have_both (lexemes item) (all_lexemes layout) front.tokens rest.tokens front.have rest.have;
     }
 
-pub layout_tokens : (layout : Layout) → ArePrinted layout → stand_apart layout ≡ true → (line : ℕ) → LayoutTokens line layout
+pub layout_tokens : (layout : Layout) → ArePrinted layout → stand_apart layout ≡ true → (line after : ℕ)
+    → LayoutTokens line after layout
 unfolding layout_text items_of
-layout_tokens [] are apart line = record { tokens = []; at = line + 0; has = (([], refl, tt), refl); have = refl }
-layout_tokens (Space ∷ layout) are apart line = blank_more line 32 Space layout refl refl refl (layout_tokens layout are apart
-    (line + line_feeds (32 ∷ [])))
-layout_tokens (Tab ∷ layout) are apart line = blank_more line 9 Tab layout refl refl refl (layout_tokens layout are apart
-    (line + line_feeds (9 ∷ [])))
-layout_tokens (LineEnd ∷ layout) are apart line = blank_more line 10 LineEnd layout refl refl refl (layout_tokens layout are apart
-    (line + line_feeds (10 ∷ [])))
-layout_tokens (Is item ∷ layout) are apart line =
+layout_tokens [] are apart line after = record { tokens = []; at = line + 0; has = (([], refl, tt), refl); have = refl }
+layout_tokens (Space ∷ layout) are apart line after = blank_more line after 32 Space layout refl refl refl
+    (layout_tokens layout are apart (line + line_feeds (32 ∷ [])) after)
+layout_tokens (Tab ∷ layout) are apart line after = blank_more line after 9 Tab layout refl refl refl
+    (layout_tokens layout are apart (line + line_feeds (9 ∷ [])) after)
+layout_tokens (LineEnd ∷ layout) are apart line after = blank_more line after 10 LineEnd layout refl refl refl
+    (layout_tokens layout are apart (line + line_feeds (10 ∷ [])) after)
+layout_tokens (Is item ∷ layout) are apart line after =
     let parts = and_parts (is_closed item || ends_item layout) (stand_apart layout) apart in
     let either : (is_closed item ≡ true) ⊎ EndsToken (layout_text layout) =
     elim (either_so (is_closed item) (ends_item layout) parts.0) [
@@ -219,4 +229,4 @@ layout_tokens (Is item ∷ layout) are apart line =
       | inr ends ↦ inr
           (layout_ends layout are.1 ends)
     ] in
-    item_more line item layout are.0 either (layout_tokens layout are.1 parts.1)
+    item_more line after item layout are.0 either (λ at. layout_tokens layout are.1 parts.1 at after)

@@ -11,7 +11,6 @@ use Rattle.dbc_values.specs.Lexical.{is_name, is_keyword, kept_words}
 use Rattle.dbc_records.specs.Kept.{kept_fits}
 use Rattle.dbc_values.specs.Pieces.{is_piece, is_string}
 use Rattle.dbc_tokens.specs.declared.fault.Cause.TheVariants as causes
-use Rattle.dbc_tokens.specs.declared.token.Kind.{Kind}
 use Rattle.dbc_tokens.specs.Tokens.{Token, Cut, End, Fault, ◌▸◌}
 use Rattle.dbc_reader.specs.Reading.Databases.{record_into}
 use Rattle.dbc_reader.specs.Kinds.{Attributes, Comments, Defaults, Definitions, FloatTypes, KeptVerbatim, Messages, Multiplexings}
@@ -30,6 +29,7 @@ use Rattle.dbc_reader.specs.Reading.Tables.{values_at}
 use Rattle.dbc_reader.specs.Reading.Attributes.{comment_at, attribute_at}
 use Rattle.dbc_reader.proofs.Agrees.{Agrees, Follows, Begins, agree_bind, agree_then, agree_value, begins_one, begins_either}
 use Rattle.dbc_reader.proofs.Agrees.{either_first, either_second, either_end, either_fault, after_then}
+use Rattle.dbc_reader.proofs.Facts.Keywords.{worded}
 use Rattle.dbc_reader.proofs.Agrees.Kinds.{begins_word, begins_whole, word_agrees, mark_agrees, name_agrees, text_agrees, id_agrees}
 use Rattle.dbc_reader.proofs.Agrees.Kinds.{symbols_agree, names_agree, pieces_agree, entries_agree}
 use Rattle.dbc_reader.proofs.Facts.Names.{name_is_no_number, name_is_piece, string_is_piece}
@@ -121,25 +121,22 @@ attribute_more d seen has =
 
 -- ---- by the first word
 
-abbrev token_of_word : Kind → ℕ → List ℕ → Token
-token_of_word kind line bytes = record { kind = kind; bytes = bytes; line = line }
-
 -- reading a statement that begins with these bytes agrees with the pattern
-abbrev AgreesFor : Kind → ℕ → List ℕ → Type 0
-AgreesFor kind line bytes =
+abbrev AgreesFor : Token → List ℕ → Type 0
+AgreesFor u bytes =
     (d : Database) (seen : Seen) → Counted d seen → (q : Pattern) (cut : Cut)
-    → Follows Counted (statement_into d (token_of_word kind line bytes ▸ cut)) (first_fault q)
-    (first_fault (grammar.statement then q) seen (token_of_word kind line bytes ▸ cut))
+    → Follows Counted (statement_into d (worded u bytes ▸ cut)) (first_fault q)
+    (first_fault (grammar.statement then q) seen (worded u bytes ▸ cut))
 
-symbols_case : (kind : Kind) (line : ℕ) → AgreesFor kind line (codes "NS_")
+symbols_case : (u : Token) → AgreesFor u (codes "NS_")
 unfolding statement_into object_into value_row_into attribute_row_into begins_kept kept_fits has_object_word has_value_word
     has_attribute_word has_word has_kept_word has_name has_string has_piece is_piece is_string is_name is_keyword starts first_fault
-symbols_case kind line d seen has q cut = (symbols_more d seen has).follows q (token_of_word kind line (codes "NS_") ▸ cut)
+symbols_case u d seen has q cut = (symbols_more d seen has).follows q (worded u (codes "NS_") ▸ cut)
 
-nodes_case : (kind : Kind) (line : ℕ) → AgreesFor kind line (codes "BU_")
+nodes_case : (u : Token) → AgreesFor u (codes "BU_")
 unfolding statement_into object_into value_row_into attribute_row_into begins_kept kept_fits has_object_word has_value_word
     has_attribute_word has_word has_kept_word has_name has_string has_piece is_piece is_string is_name is_keyword starts first_fault
-nodes_case kind line d seen has q cut = (nodes_more d seen has).follows q (token_of_word kind line (codes "BU_") ▸ cut)
+nodes_case u d seen has q cut = (nodes_more d seen has).follows q (worded u (codes "BU_") ▸ cut)
 
 begins_a_message : Begins (has_word (codes "BO_")) grammar.message
 begins_a_message = begins_one (has_word (codes "BO_")) BeginsMessage _ (λ t seen. counted_class (has_word (codes "BO_") t)
@@ -157,137 +154,137 @@ pub begins_objects : Begins (λ t. has_word (codes "NS_") t || (has_word (codes 
 begins_objects = begins_either Done (begins_word (codes "NS_") _) (begins_either Done (begins_word (codes "BU_") _)
     begins_a_message)
 
-message_first : (kind : Kind) (line : ℕ) (seen : Seen) (q : Pattern) (cut : Cut) → first_fault (grammar.statement then q) seen
-    (token_of_word kind line (codes "BO_") ▸ cut) ≡ first_fault (grammar.message then q) seen (token_of_word kind line (codes "BO_")
+message_first : (u : Token) (seen : Seen) (q : Pattern) (cut : Cut) → first_fault (grammar.statement then q) seen
+    (worded u (codes "BO_") ▸ cut) ≡ first_fault (grammar.message then q) seen (worded u (codes "BO_")
     ▸ cut)
 unfolding has_word
-message_first kind line seen q cut =
-    let t = token_of_word kind line (codes "BO_") in
+message_first u seen q cut =
+    let t = worded u (codes "BO_") in
     let x = begins_objects.begins t seen refl in
     either_first grammar.objects _ q seen t cut x.0 x.1 ∙ either_second grammar.symbols (Either grammar.nodes grammar.message Done)
     q seen t cut refl refl ∙ either_second grammar.nodes grammar.message q seen t cut refl refl
 
-message_case : (kind : Kind) (line : ℕ) → AgreesFor kind line (codes "BO_")
+message_case : (u : Token) → AgreesFor u (codes "BO_")
 unfolding statement_into object_into value_row_into attribute_row_into begins_kept kept_fits has_object_word has_value_word
     has_attribute_word has_word has_kept_word has_name has_string has_piece is_piece is_string is_name is_keyword starts first_fault
-message_case kind line d seen has q cut =
-    let t = token_of_word kind line (codes "BO_") in
-    subst (λ total. Follows Counted (record_into Messages d (t ▸ cut)) (first_fault q) total) (sym (message_first kind line seen q
+message_case u d seen has q cut =
+    let t = worded u (codes "BO_") in
+    subst (λ total. Follows Counted (record_into Messages d (t ▸ cut)) (first_fault q) total) (sym (message_first u seen q
     cut))
     ((message_more d seen has).follows q (t ▸ cut))
 
-table_case : (kind : Kind) (line : ℕ) → AgreesFor kind line (codes "VAL_TABLE_")
+table_case : (u : Token) → AgreesFor u (codes "VAL_TABLE_")
 unfolding statement_into object_into value_row_into attribute_row_into begins_kept kept_fits has_object_word has_value_word
     has_attribute_word has_word has_kept_word has_name has_string has_piece is_piece is_string is_name is_keyword starts first_fault
-table_case kind line d seen has q cut = (table_more d seen has).follows q (token_of_word kind line (codes "VAL_TABLE_") ▸ cut)
+table_case u d seen has q cut = (table_more d seen has).follows q (worded u (codes "VAL_TABLE_") ▸ cut)
 
-float_case : (kind : Kind) (line : ℕ) → AgreesFor kind line (codes "SIG_VALTYPE_")
+float_case : (u : Token) → AgreesFor u (codes "SIG_VALTYPE_")
 unfolding statement_into object_into value_row_into attribute_row_into begins_kept kept_fits has_object_word has_value_word
     has_attribute_word has_word has_kept_word has_name has_string has_piece is_piece is_string is_name is_keyword starts first_fault
-float_case kind line d seen has q cut = (float_more d seen has).follows q (token_of_word kind line (codes "SIG_VALTYPE_") ▸ cut)
+float_case u d seen has q cut = (float_more d seen has).follows q (worded u (codes "SIG_VALTYPE_") ▸ cut)
 
-mux_case : (kind : Kind) (line : ℕ) → AgreesFor kind line (codes "SG_MUL_VAL_")
+mux_case : (u : Token) → AgreesFor u (codes "SG_MUL_VAL_")
 unfolding statement_into object_into value_row_into attribute_row_into begins_kept kept_fits has_object_word has_value_word
     has_attribute_word has_word has_kept_word has_name has_string has_piece is_piece is_string is_name is_keyword starts first_fault
-mux_case kind line d seen has q cut = (mux_more d seen has).follows q (token_of_word kind line (codes "SG_MUL_VAL_") ▸ cut)
+mux_case u d seen has q cut = (mux_more d seen has).follows q (worded u (codes "SG_MUL_VAL_") ▸ cut)
 
-definition_case : (kind : Kind) (line : ℕ) → AgreesFor kind line (codes "BA_DEF_")
+definition_case : (u : Token) → AgreesFor u (codes "BA_DEF_")
 unfolding statement_into object_into value_row_into attribute_row_into begins_kept kept_fits has_object_word has_value_word
     has_attribute_word has_word has_kept_word has_name has_string has_piece is_piece is_string is_name is_keyword starts first_fault
-definition_case kind line d seen has q cut = (definition_more d seen has).follows q (token_of_word kind line (codes "BA_DEF_") ▸
+definition_case u d seen has q cut = (definition_more d seen has).follows q (worded u (codes "BA_DEF_") ▸
     cut)
 
-default_case : (kind : Kind) (line : ℕ) → AgreesFor kind line (codes "BA_DEF_DEF_")
+default_case : (u : Token) → AgreesFor u (codes "BA_DEF_DEF_")
 unfolding statement_into object_into value_row_into attribute_row_into begins_kept kept_fits has_object_word has_value_word
     has_attribute_word has_word has_kept_word has_name has_string has_piece is_piece is_string is_name is_keyword starts first_fault
-default_case kind line d seen has q cut = (default_more d seen has).follows q (token_of_word kind line (codes "BA_DEF_DEF_") ▸ cut)
+default_case u d seen has q cut = (default_more d seen has).follows q (worded u (codes "BA_DEF_DEF_") ▸ cut)
 
 -- ---- kept statements, by their first word
 
-kept_bo_tx_bu : (kind : Kind) (line : ℕ) → AgreesFor kind line (codes "BO_TX_BU_")
+kept_bo_tx_bu : (u : Token) → AgreesFor u (codes "BO_TX_BU_")
 unfolding statement_into object_into value_row_into attribute_row_into begins_kept kept_fits has_object_word has_value_word
     has_attribute_word has_word has_kept_word has_name has_string has_piece is_piece is_string is_name is_keyword starts first_fault
-kept_bo_tx_bu kind line d seen has q cut = (kept_more d seen has).follows q (token_of_word kind line (codes "BO_TX_BU_") ▸ cut)
+kept_bo_tx_bu u d seen has q cut = (kept_more d seen has).follows q (worded u (codes "BO_TX_BU_") ▸ cut)
 
-kept_ev : (kind : Kind) (line : ℕ) → AgreesFor kind line (codes "EV_")
+kept_ev : (u : Token) → AgreesFor u (codes "EV_")
 unfolding statement_into object_into value_row_into attribute_row_into begins_kept kept_fits has_object_word has_value_word
     has_attribute_word has_word has_kept_word has_name has_string has_piece is_piece is_string is_name is_keyword starts first_fault
-kept_ev kind line d seen has q cut = (kept_more d seen has).follows q (token_of_word kind line (codes "EV_") ▸ cut)
+kept_ev u d seen has q cut = (kept_more d seen has).follows q (worded u (codes "EV_") ▸ cut)
 
-kept_envvar_data : (kind : Kind) (line : ℕ) → AgreesFor kind line (codes "ENVVAR_DATA_")
+kept_envvar_data : (u : Token) → AgreesFor u (codes "ENVVAR_DATA_")
 unfolding statement_into object_into value_row_into attribute_row_into begins_kept kept_fits has_object_word has_value_word
     has_attribute_word has_word has_kept_word has_name has_string has_piece is_piece is_string is_name is_keyword starts first_fault
-kept_envvar_data kind line d seen has q cut = (kept_more d seen has).follows q (token_of_word kind line (codes "ENVVAR_DATA_") ▸
+kept_envvar_data u d seen has q cut = (kept_more d seen has).follows q (worded u (codes "ENVVAR_DATA_") ▸
     cut)
 
-kept_ev_data : (kind : Kind) (line : ℕ) → AgreesFor kind line (codes "EV_DATA_")
+kept_ev_data : (u : Token) → AgreesFor u (codes "EV_DATA_")
 unfolding statement_into object_into value_row_into attribute_row_into begins_kept kept_fits has_object_word has_value_word
     has_attribute_word has_word has_kept_word has_name has_string has_piece is_piece is_string is_name is_keyword starts first_fault
-kept_ev_data kind line d seen has q cut = (kept_more d seen has).follows q (token_of_word kind line (codes "EV_DATA_") ▸ cut)
+kept_ev_data u d seen has q cut = (kept_more d seen has).follows q (worded u (codes "EV_DATA_") ▸ cut)
 
-kept_sig_group : (kind : Kind) (line : ℕ) → AgreesFor kind line (codes "SIG_GROUP_")
+kept_sig_group : (u : Token) → AgreesFor u (codes "SIG_GROUP_")
 unfolding statement_into object_into value_row_into attribute_row_into begins_kept kept_fits has_object_word has_value_word
     has_attribute_word has_word has_kept_word has_name has_string has_piece is_piece is_string is_name is_keyword starts first_fault
-kept_sig_group kind line d seen has q cut = (kept_more d seen has).follows q (token_of_word kind line (codes "SIG_GROUP_") ▸ cut)
+kept_sig_group u d seen has q cut = (kept_more d seen has).follows q (worded u (codes "SIG_GROUP_") ▸ cut)
 
-kept_sgtype : (kind : Kind) (line : ℕ) → AgreesFor kind line (codes "SGTYPE_")
+kept_sgtype : (u : Token) → AgreesFor u (codes "SGTYPE_")
 unfolding statement_into object_into value_row_into attribute_row_into begins_kept kept_fits has_object_word has_value_word
     has_attribute_word has_word has_kept_word has_name has_string has_piece is_piece is_string is_name is_keyword starts first_fault
-kept_sgtype kind line d seen has q cut = (kept_more d seen has).follows q (token_of_word kind line (codes "SGTYPE_") ▸ cut)
+kept_sgtype u d seen has q cut = (kept_more d seen has).follows q (worded u (codes "SGTYPE_") ▸ cut)
 
-kept_sgtype_val : (kind : Kind) (line : ℕ) → AgreesFor kind line (codes "SGTYPE_VAL_")
+kept_sgtype_val : (u : Token) → AgreesFor u (codes "SGTYPE_VAL_")
 unfolding statement_into object_into value_row_into attribute_row_into begins_kept kept_fits has_object_word has_value_word
     has_attribute_word has_word has_kept_word has_name has_string has_piece is_piece is_string is_name is_keyword starts first_fault
-kept_sgtype_val kind line d seen has q cut = (kept_more d seen has).follows q (token_of_word kind line (codes "SGTYPE_VAL_") ▸ cut)
+kept_sgtype_val u d seen has q cut = (kept_more d seen has).follows q (worded u (codes "SGTYPE_VAL_") ▸ cut)
 
-kept_sig_type_ref : (kind : Kind) (line : ℕ) → AgreesFor kind line (codes "SIG_TYPE_REF_")
+kept_sig_type_ref : (u : Token) → AgreesFor u (codes "SIG_TYPE_REF_")
 unfolding statement_into object_into value_row_into attribute_row_into begins_kept kept_fits has_object_word has_value_word
     has_attribute_word has_word has_kept_word has_name has_string has_piece is_piece is_string is_name is_keyword starts first_fault
-kept_sig_type_ref kind line d seen has q cut = (kept_more d seen has).follows q (token_of_word kind line (codes "SIG_TYPE_REF_") ▸
+kept_sig_type_ref u d seen has q cut = (kept_more d seen has).follows q (worded u (codes "SIG_TYPE_REF_") ▸
     cut)
 
-kept_sigtype_valtype : (kind : Kind) (line : ℕ) → AgreesFor kind line (codes "SIGTYPE_VALTYPE_")
+kept_sigtype_valtype : (u : Token) → AgreesFor u (codes "SIGTYPE_VALTYPE_")
 unfolding statement_into object_into value_row_into attribute_row_into begins_kept kept_fits has_object_word has_value_word
     has_attribute_word has_word has_kept_word has_name has_string has_piece is_piece is_string is_name is_keyword starts first_fault
-kept_sigtype_valtype kind line d seen has q cut =
-    (kept_more d seen has).follows q (token_of_word kind line (codes "SIGTYPE_VALTYPE_") ▸ cut)
+kept_sigtype_valtype u d seen has q cut =
+    (kept_more d seen has).follows q (worded u (codes "SIGTYPE_VALTYPE_") ▸ cut)
 
-kept_ba_def_sgtype : (kind : Kind) (line : ℕ) → AgreesFor kind line (codes "BA_DEF_SGTYPE_")
+kept_ba_def_sgtype : (u : Token) → AgreesFor u (codes "BA_DEF_SGTYPE_")
 unfolding statement_into object_into value_row_into attribute_row_into begins_kept kept_fits has_object_word has_value_word
     has_attribute_word has_word has_kept_word has_name has_string has_piece is_piece is_string is_name is_keyword starts first_fault
-kept_ba_def_sgtype kind line d seen has q cut = (kept_more d seen has).follows q (token_of_word kind line (codes "BA_DEF_SGTYPE_") ▸
+kept_ba_def_sgtype u d seen has q cut = (kept_more d seen has).follows q (worded u (codes "BA_DEF_SGTYPE_") ▸
     cut)
 
-kept_ba_sgtype : (kind : Kind) (line : ℕ) → AgreesFor kind line (codes "BA_SGTYPE_")
+kept_ba_sgtype : (u : Token) → AgreesFor u (codes "BA_SGTYPE_")
 unfolding statement_into object_into value_row_into attribute_row_into begins_kept kept_fits has_object_word has_value_word
     has_attribute_word has_word has_kept_word has_name has_string has_piece is_piece is_string is_name is_keyword starts first_fault
-kept_ba_sgtype kind line d seen has q cut = (kept_more d seen has).follows q (token_of_word kind line (codes "BA_SGTYPE_") ▸ cut)
+kept_ba_sgtype u d seen has q cut = (kept_more d seen has).follows q (worded u (codes "BA_SGTYPE_") ▸ cut)
 
-kept_ba_def_rel : (kind : Kind) (line : ℕ) → AgreesFor kind line (codes "BA_DEF_REL_")
+kept_ba_def_rel : (u : Token) → AgreesFor u (codes "BA_DEF_REL_")
 unfolding statement_into object_into value_row_into attribute_row_into begins_kept kept_fits has_object_word has_value_word
     has_attribute_word has_word has_kept_word has_name has_string has_piece is_piece is_string is_name is_keyword starts first_fault
-kept_ba_def_rel kind line d seen has q cut = (kept_more d seen has).follows q (token_of_word kind line (codes "BA_DEF_REL_") ▸ cut)
+kept_ba_def_rel u d seen has q cut = (kept_more d seen has).follows q (worded u (codes "BA_DEF_REL_") ▸ cut)
 
-kept_ba_rel : (kind : Kind) (line : ℕ) → AgreesFor kind line (codes "BA_REL_")
+kept_ba_rel : (u : Token) → AgreesFor u (codes "BA_REL_")
 unfolding statement_into object_into value_row_into attribute_row_into begins_kept kept_fits has_object_word has_value_word
     has_attribute_word has_word has_kept_word has_name has_string has_piece is_piece is_string is_name is_keyword starts first_fault
-kept_ba_rel kind line d seen has q cut = (kept_more d seen has).follows q (token_of_word kind line (codes "BA_REL_") ▸ cut)
+kept_ba_rel u d seen has q cut = (kept_more d seen has).follows q (worded u (codes "BA_REL_") ▸ cut)
 
-kept_ba_def_def_rel : (kind : Kind) (line : ℕ) → AgreesFor kind line (codes "BA_DEF_DEF_REL_")
+kept_ba_def_def_rel : (u : Token) → AgreesFor u (codes "BA_DEF_DEF_REL_")
 unfolding statement_into object_into value_row_into attribute_row_into begins_kept kept_fits has_object_word has_value_word
     has_attribute_word has_word has_kept_word has_name has_string has_piece is_piece is_string is_name is_keyword starts first_fault
-kept_ba_def_def_rel kind line d seen has q cut = (kept_more d seen has).follows q (token_of_word kind line (codes "BA_DEF_DEF_REL_")
+kept_ba_def_def_rel u d seen has q cut = (kept_more d seen has).follows q (worded u (codes "BA_DEF_DEF_REL_")
     ▸ cut)
 
-kept_cat_def : (kind : Kind) (line : ℕ) → AgreesFor kind line (codes "CAT_DEF_")
+kept_cat_def : (u : Token) → AgreesFor u (codes "CAT_DEF_")
 unfolding statement_into object_into value_row_into attribute_row_into begins_kept kept_fits has_object_word has_value_word
     has_attribute_word has_word has_kept_word has_name has_string has_piece is_piece is_string is_name is_keyword starts first_fault
-kept_cat_def kind line d seen has q cut = (kept_more d seen has).follows q (token_of_word kind line (codes "CAT_DEF_") ▸ cut)
+kept_cat_def u d seen has q cut = (kept_more d seen has).follows q (worded u (codes "CAT_DEF_") ▸ cut)
 
-kept_cat : (kind : Kind) (line : ℕ) → AgreesFor kind line (codes "CAT_")
+kept_cat : (u : Token) → AgreesFor u (codes "CAT_")
 unfolding statement_into object_into value_row_into attribute_row_into begins_kept kept_fits has_object_word has_value_word
     has_attribute_word has_word has_kept_word has_name has_string has_piece is_piece is_string is_name is_keyword starts first_fault
-kept_cat kind line d seen has q cut = (kept_more d seen has).follows q (token_of_word kind line (codes "CAT_") ▸ cut)
+kept_cat u d seen has q cut = (kept_more d seen has).follows q (worded u (codes "CAT_") ▸ cut)
 
 -- ---- statements of two kinds, by the token behind their first word
 
@@ -322,117 +319,117 @@ not_same a b e = elim (cases_Bool (bytes_eq b a)) [
       (sym is) in let both : true ≡ false = sym back ∙ e in cc)
 ]
 
-comment_kept : (kind : Kind) (line : ℕ) (d : Database) (seen : Seen) → Counted d seen → (q : Pattern) (kind2 : Kind) (line2 : ℕ)
+comment_kept : (u : Token) (d : Database) (seen : Seen) → Counted d seen → (q : Pattern) (u2 : Token)
     (cut : Cut)
-    → Follows Counted (statement_into d (token_of_word kind line (codes "CM_") ▸ (token_of_word kind2 line2 (codes "EV_") ▸ cut)))
-    (first_fault q) (first_fault (grammar.statement then q) seen (token_of_word kind line (codes "CM_") ▸
-    (token_of_word kind2 line2 (codes "EV_") ▸ cut)))
+    → Follows Counted (statement_into d (worded u (codes "CM_") ▸ (worded u2 (codes "EV_") ▸ cut)))
+    (first_fault q) (first_fault (grammar.statement then q) seen (worded u (codes "CM_") ▸
+    (worded u2 (codes "EV_") ▸ cut)))
 unfolding statement_into object_into value_row_into attribute_row_into begins_kept kept_fits has_object_word has_value_word
     has_attribute_word has_word has_kept_word has_name has_string has_piece is_piece is_string is_name is_keyword starts first_fault
-comment_kept kind line d seen has q kind2 line2 cut = (kept_more d seen has).follows q (token_of_word kind line (codes "CM_") ▸
-    (token_of_word kind2 line2 (codes "EV_") ▸ cut))
+comment_kept u d seen has q u2 cut = (kept_more d seen has).follows q (worded u (codes "CM_") ▸
+    (worded u2 (codes "EV_") ▸ cut))
 
-comment_first : (kind : Kind) (line : ℕ) (seen : Seen) (q : Pattern) (t : Token) (cut : Cut) → has_word (codes "EV_") t ≡ false
-    → first_fault (grammar.statement then q) seen (token_of_word kind line (codes "CM_") ▸ (t ▸ cut))
-    ≡ first_fault (plain_comment then q) seen (token_of_word kind line (codes "CM_") ▸ (t ▸ cut))
+comment_first : (u : Token) (seen : Seen) (q : Pattern) (t : Token) (cut : Cut) → has_word (codes "EV_") t ≡ false
+    → first_fault (grammar.statement then q) seen (worded u (codes "CM_") ▸ (t ▸ cut))
+    ≡ first_fault (plain_comment then q) seen (worded u (codes "CM_") ▸ (t ▸ cut))
 unfolding statement_into object_into value_row_into attribute_row_into begins_kept kept_fits has_object_word has_value_word
     has_attribute_word has_word has_kept_word has_name has_string has_piece is_piece is_string starts first_fault
-comment_first kind line seen q t cut e =
+comment_first u seen q t cut e =
     either_second (Word (codes "EV_") ⇒ grammar.kept_rest) (grammar.target then String ⇒ grammar.statement_end) q seen t cut
     (no_token (Word (codes "EV_")) grammar.kept_rest seen t (rw e refl)) refl
 
-comment_plain : (kind : Kind) (line : ℕ) (d : Database) (t : Token) (cut : Cut) → bytes_eq (codes "EV_") t.bytes ≡ false
-    → statement_into d (token_of_word kind line (codes "CM_") ▸ (t ▸ cut))
-    ≡ record_into Comments d (token_of_word kind line (codes "CM_") ▸
+comment_plain : (u : Token) (d : Database) (t : Token) (cut : Cut) → bytes_eq (codes "EV_") t.bytes ≡ false
+    → statement_into d (worded u (codes "CM_") ▸ (t ▸ cut))
+    ≡ record_into Comments d (worded u (codes "CM_") ▸
     (t ▸ cut))
 unfolding statement_into object_into value_row_into attribute_row_into begins_kept kept_fits has_object_word has_value_word
     has_attribute_word has_word has_kept_word has_name has_string has_piece is_piece is_string starts first_fault
-comment_plain kind line d t cut e = rw e refl
+comment_plain u d t cut e = rw e refl
 
-comment_case : (kind : Kind) (line : ℕ) → AgreesFor kind line (codes "CM_")
+comment_case : (u : Token) → AgreesFor u (codes "CM_")
 unfolding statement_into object_into value_row_into attribute_row_into begins_kept kept_fits has_object_word has_value_word
     has_attribute_word has_word has_kept_word has_name has_string has_piece is_piece is_string starts first_fault
-comment_case kind line d seen has q (End at) = (comment_more d seen has).follows q (token_of_word kind line (codes "CM_") ▸ End at)
-comment_case kind line d seen has q (Fault at) = (comment_more d seen has).follows q (token_of_word kind line (codes "CM_") ▸
+comment_case u d seen has q (End at) = (comment_more d seen has).follows q (worded u (codes "CM_") ▸ End at)
+comment_case u d seen has q (Fault at) = (comment_more d seen has).follows q (worded u (codes "CM_") ▸
     Fault at)
-comment_case kind line d seen has q (t ▸ cut) =
-    let first = token_of_word kind line (codes "CM_") in
+comment_case u d seen has q (t ▸ cut) =
+    let first = worded u (codes "CM_") in
     elim (cases_Bool (bytes_eq (codes "EV_") t.bytes)) [
       | inl same ↦
-          subst (λ bytes. Follows Counted (statement_into d (first ▸ (token_of_word t.kind t.line bytes ▸ cut))) (first_fault q)
-          (first_fault (grammar.statement then q) seen (first ▸ (token_of_word t.kind t.line bytes ▸ cut))))
-          ((bytes_eq-Decides (codes "EV_") t.bytes).0 same) (comment_kept kind line d seen has q t.kind t.line cut)
+          subst (λ bytes. Follows Counted (statement_into d (first ▸ (worded t bytes ▸ cut))) (first_fault q)
+          (first_fault (grammar.statement then q) seen (first ▸ (worded t bytes ▸ cut))))
+          ((bytes_eq-Decides (codes "EV_") t.bytes).0 same) (comment_kept u d seen has q t cut)
       | inr differ ↦
-          rw (comment_plain kind line d t cut differ, comment_first kind line seen q t cut (not_same (codes "EV_") t.bytes differ))
+          rw (comment_plain u d t cut differ, comment_first u seen q t cut (not_same (codes "EV_") t.bytes differ))
           ((comment_more d seen has).follows q (first ▸ (t ▸ cut)))
     ]
 
-attribute_kept : (kind : Kind) (line : ℕ) (d : Database) (seen : Seen) → Counted d seen → (q : Pattern) (t : Token)
-    → has_string t ≡ true → (kind3 : Kind) (line3 : ℕ) (cut : Cut)
-    → statement_into d (token_of_word kind line (codes "BA_") ▸ (t ▸ (token_of_word kind3 line3 (codes "EV_") ▸ cut)))
-    ≡ record_into KeptVerbatim d (token_of_word kind line (codes "BA_") ▸ (t ▸ (token_of_word kind3 line3 (codes "EV_") ▸ cut)))
+attribute_kept : (u : Token) (d : Database) (seen : Seen) → Counted d seen → (q : Pattern) (t : Token)
+    → has_string t ≡ true → (u3 : Token) (cut : Cut)
+    → statement_into d (worded u (codes "BA_") ▸ (t ▸ (worded u3 (codes "EV_") ▸ cut)))
+    ≡ record_into KeptVerbatim d (worded u (codes "BA_") ▸ (t ▸ (worded u3 (codes "EV_") ▸ cut)))
 unfolding statement_into object_into value_row_into attribute_row_into begins_kept kept_fits has_object_word has_value_word
     has_attribute_word has_word has_kept_word has_name has_string has_piece is_piece starts first_fault
-attribute_kept kind line d seen has q t e kind3 line3 cut = rw e refl
+attribute_kept u d seen has q t e u3 cut = rw e refl
 
-attribute_ends : (kind : Kind) (line : ℕ) (d : Database) (t : Token) (cut : Cut) → has_string t ≡ false
-    → statement_into d (token_of_word kind line (codes "BA_") ▸ (t ▸ cut))
-    ≡ record_into Attributes d (token_of_word kind line (codes "BA_")
+attribute_ends : (u : Token) (d : Database) (t : Token) (cut : Cut) → has_string t ≡ false
+    → statement_into d (worded u (codes "BA_") ▸ (t ▸ cut))
+    ≡ record_into Attributes d (worded u (codes "BA_")
     ▸ (t ▸ cut))
 unfolding statement_into object_into value_row_into attribute_row_into begins_kept kept_fits has_object_word has_value_word
     has_attribute_word has_word has_kept_word has_name has_string has_piece is_piece starts first_fault
-attribute_ends kind line d t cut e = rw e refl
+attribute_ends u d t cut e = rw e refl
 
 -- ---- named values
 
-values_kept : (kind : Kind) (line : ℕ) (d : Database) (t : Token) (cut : Cut) → has_name t ≡ true
-    → statement_into d (token_of_word kind line (codes "VAL_") ▸ (t ▸ cut))
-    ≡ record_into KeptVerbatim d (token_of_word kind line (codes "VAL_") ▸
+values_kept : (u : Token) (d : Database) (t : Token) (cut : Cut) → has_name t ≡ true
+    → statement_into d (worded u (codes "VAL_") ▸ (t ▸ cut))
+    ≡ record_into KeptVerbatim d (worded u (codes "VAL_") ▸
     (t ▸ cut))
 unfolding statement_into object_into value_row_into attribute_row_into begins_kept kept_fits has_object_word has_value_word
     has_attribute_word has_word has_kept_word has_name has_string has_piece is_piece is_string starts first_fault
-values_kept kind line d t cut e = rw e refl
+values_kept u d t cut e = rw e refl
 
-values_plain : (kind : Kind) (line : ℕ) (d : Database) (t : Token) (cut : Cut) → has_name t ≡ false
-    → statement_into d (token_of_word kind line (codes "VAL_") ▸ (t ▸ cut))
-    ≡ record_into ValueDescriptions d (token_of_word kind line (codes "VAL_")
+values_plain : (u : Token) (d : Database) (t : Token) (cut : Cut) → has_name t ≡ false
+    → statement_into d (worded u (codes "VAL_") ▸ (t ▸ cut))
+    ≡ record_into ValueDescriptions d (worded u (codes "VAL_")
     ▸ (t ▸ cut))
 unfolding statement_into object_into value_row_into attribute_row_into begins_kept kept_fits has_object_word has_value_word
     has_attribute_word has_word has_kept_word has_name has_string has_piece is_piece is_string starts first_fault
-values_plain kind line d t cut e = rw e refl
+values_plain u d t cut e = rw e refl
 
-values_first_kept : (kind : Kind) (line : ℕ) (seen : Seen) (q : Pattern) (t : Token) (cut : Cut) → has_name t ≡ true
-    → first_fault (grammar.statement then q) seen (token_of_word kind line (codes "VAL_") ▸ (t ▸ cut))
-    ≡ first_fault (grammar.kept_rest then q) seen (token_of_word kind line (codes "VAL_") ▸ (t ▸ cut))
+values_first_kept : (u : Token) (seen : Seen) (q : Pattern) (t : Token) (cut : Cut) → has_name t ≡ true
+    → first_fault (grammar.statement then q) seen (worded u (codes "VAL_") ▸ (t ▸ cut))
+    ≡ first_fault (grammar.kept_rest then q) seen (worded u (codes "VAL_") ▸ (t ▸ cut))
 unfolding statement_into object_into value_row_into attribute_row_into begins_kept kept_fits has_object_word has_value_word
     has_attribute_word has_word has_kept_word has_string has_piece is_piece is_string starts first_fault
-values_first_kept kind line seen q t cut e =
+values_first_kept u seen q t cut e =
     either_second (Whole 0 (2 ^ 32 - 1) ⇒ Name ⇒ grammar.entries) (Name ⇒ grammar.kept_rest) q seen t cut
     ((begins_whole 0 (2 ^ 32 - 1) _).stops t seen (name_is_no_number t e)) refl
     ∙ plain_token Name (grammar.kept_rest then q) seen t cut (rw e refl)
     ∙ sym (piece_more q seen t cut (name_is_piece t e))
 
-values_first_plain : (kind : Kind) (line : ℕ) (seen : Seen) (q : Pattern) (t : Token) (cut : Cut) → has_name t ≡ false
-    → first_fault (grammar.statement then q) seen (token_of_word kind line (codes "VAL_") ▸ (t ▸ cut))
-    ≡ first_fault (plain_values then q) seen (token_of_word kind line (codes "VAL_") ▸ (t ▸ cut))
+values_first_plain : (u : Token) (seen : Seen) (q : Pattern) (t : Token) (cut : Cut) → has_name t ≡ false
+    → first_fault (grammar.statement then q) seen (worded u (codes "VAL_") ▸ (t ▸ cut))
+    ≡ first_fault (plain_values then q) seen (worded u (codes "VAL_") ▸ (t ▸ cut))
 unfolding statement_into object_into value_row_into attribute_row_into begins_kept kept_fits has_object_word has_value_word
     has_attribute_word has_word has_kept_word has_string has_piece is_piece is_string starts first_fault
-values_first_plain kind line seen q t cut e =
+values_first_plain u seen q t cut e =
     either_last (Whole 0 (2 ^ 32 - 1) ⇒ Name ⇒ grammar.entries) (Name ⇒ grammar.kept_rest) q seen t cut
     (no_token Name grammar.kept_rest seen t (rw e refl)) refl refl
 
-values_case : (kind : Kind) (line : ℕ) → AgreesFor kind line (codes "VAL_")
+values_case : (u : Token) → AgreesFor u (codes "VAL_")
 unfolding statement_into object_into value_row_into attribute_row_into begins_kept kept_fits has_object_word has_value_word
     has_attribute_word has_word has_kept_word has_name has_string has_piece is_piece is_string starts first_fault
-values_case kind line d seen has q (End at) = (values_more d seen has).follows q (token_of_word kind line (codes "VAL_") ▸ End at)
-values_case kind line d seen has q (Fault at) = (values_more d seen has).follows q (token_of_word kind line (codes "VAL_") ▸
+values_case u d seen has q (End at) = (values_more d seen has).follows q (worded u (codes "VAL_") ▸ End at)
+values_case u d seen has q (Fault at) = (values_more d seen has).follows q (worded u (codes "VAL_") ▸
     Fault at)
-values_case kind line d seen has q (t ▸ cut) =
-    let first = token_of_word kind line (codes "VAL_") in
+values_case u d seen has q (t ▸ cut) =
+    let first = worded u (codes "VAL_") in
     elim (cases_Bool (has_name t)) [
-      | inl name ↦ rw (values_kept kind line d t cut name, values_first_kept kind line seen q t cut name)
+      | inl name ↦ rw (values_kept u d t cut name, values_first_kept u seen q t cut name)
           ((kept_more d seen has).follows q (first ▸ (t ▸ cut)))
-      | inr none ↦ rw (values_plain kind line d t cut none, values_first_plain kind line seen q t cut none)
+      | inr none ↦ rw (values_plain u d t cut none, values_first_plain u seen q t cut none)
           ((values_more d seen has).follows q (first ▸ (t ▸ cut)))
     ]
 
@@ -449,88 +446,87 @@ behind_name = grammar.target then (grammar.given then grammar.statement_end)
 abbrev ev_kept : Pattern
 ev_kept = Word (codes "EV_") ⇒ grammar.kept_rest
 
-attribute_short : (kind : Kind) (line : ℕ) (d : Database) (t : Token) (rest : Cut) → has_string t ≡ true
+attribute_short : (u : Token) (d : Database) (t : Token) (rest : Cut) → has_string t ≡ true
     → ((t3 : Token) (cut : Cut) → rest ≡ (t3 ▸ cut) → bytes_eq (codes "EV_") t3.bytes ≡ false)
-    → statement_into d (token_of_word kind line (codes "BA_") ▸ (t ▸ rest))
-    ≡ record_into Attributes d (token_of_word kind line (codes "BA_") ▸ (t ▸ rest))
+    → statement_into d (worded u (codes "BA_") ▸ (t ▸ rest))
+    ≡ record_into Attributes d (worded u (codes "BA_") ▸ (t ▸ rest))
 unfolding statement_into object_into value_row_into attribute_row_into begins_kept kept_fits has_object_word has_value_word
     has_attribute_word has_word has_kept_word has_name has_string has_piece is_piece starts first_fault
-attribute_short kind line d t (End at) e none = rw e refl
-attribute_short kind line d t (Fault at) e none = rw e refl
-attribute_short kind line d t (t3 ▸ cut) e none = rw (e, none t3 cut refl) refl
+attribute_short u d t (End at) e none = rw e refl
+attribute_short u d t (Fault at) e none = rw e refl
+attribute_short u d t (t3 ▸ cut) e none = rw (e, none t3 cut refl) refl
 
 -- behind the name the pattern is that of the plain attribute
-attribute_first : (kind : Kind) (line : ℕ) (seen : Seen) (q : Pattern) (t : Token) (rest : Cut) → has_string t ≡ true
+attribute_first : (u : Token) (seen : Seen) (q : Pattern) (t : Token) (rest : Cut) → has_string t ≡ true
     → first_fault (Either ev_kept behind_name q) seen rest ≡ first_fault (behind_name then q) seen rest
-    → first_fault (grammar.statement then q) seen (token_of_word kind line (codes "BA_") ▸ (t ▸ rest))
-    ≡ first_fault (plain_attribute then q) seen (token_of_word kind line (codes "BA_") ▸ (t ▸ rest))
+    → first_fault (grammar.statement then q) seen (worded u (codes "BA_") ▸ (t ▸ rest))
+    ≡ first_fault (plain_attribute then q) seen (worded u (codes "BA_") ▸ (t ▸ rest))
 unfolding statement_into object_into value_row_into attribute_row_into begins_kept kept_fits has_object_word has_value_word
     has_attribute_word has_word has_kept_word has_name has_piece is_piece is_string starts first_fault
-attribute_first kind line seen q t rest e behind =
+attribute_first u seen q t rest e behind =
     plain_token String (Either ev_kept behind_name q) seen t rest (rw e refl) ∙ behind
     ∙ sym (plain_token String (behind_name then q) seen t rest (rw e refl))
 
-attribute_no_name : (kind : Kind) (line : ℕ) (seen : Seen) (q : Pattern) (t : Token) (rest : Cut) → has_string t ≡ false
-    → first_fault (grammar.statement then q) seen (token_of_word kind line (codes "BA_") ▸ (t ▸ rest))
-    ≡ first_fault (plain_attribute then q) seen (token_of_word kind line (codes "BA_") ▸ (t ▸ rest))
+attribute_no_name : (u : Token) (seen : Seen) (q : Pattern) (t : Token) (rest : Cut) → has_string t ≡ false
+    → first_fault (grammar.statement then q) seen (worded u (codes "BA_") ▸ (t ▸ rest))
+    ≡ first_fault (plain_attribute then q) seen (worded u (codes "BA_") ▸ (t ▸ rest))
 unfolding statement_into object_into value_row_into attribute_row_into begins_kept kept_fits has_object_word has_value_word
     has_attribute_word has_word has_kept_word has_name has_piece is_piece is_string starts first_fault
-attribute_no_name kind line seen q t rest e = no_string (Either ev_kept behind_name q) seen t rest e
+attribute_no_name u seen q t rest e = no_string (Either ev_kept behind_name q) seen t rest e
     ∙ sym (no_string (behind_name then q) seen t rest e)
 
-attribute_first_kept : (kind : Kind) (line : ℕ) (seen : Seen) (q : Pattern) (t : Token) (kind3 : Kind) (line3 : ℕ) (cut : Cut)
+attribute_first_kept : (u : Token) (seen : Seen) (q : Pattern) (t : Token) (u3 : Token) (cut : Cut)
     → has_string t ≡ true
-    → first_fault (grammar.statement then q) seen (token_of_word kind line (codes "BA_") ▸
-    (t ▸ (token_of_word kind3 line3 (codes "EV_") ▸ cut)))
-    ≡ first_fault (grammar.kept_rest then q) seen (token_of_word kind line (codes "BA_") ▸
-    (t ▸ (token_of_word kind3 line3 (codes "EV_") ▸ cut)))
+    → first_fault (grammar.statement then q) seen (worded u (codes "BA_") ▸
+    (t ▸ (worded u3 (codes "EV_") ▸ cut)))
+    ≡ first_fault (grammar.kept_rest then q) seen (worded u (codes "BA_") ▸
+    (t ▸ (worded u3 (codes "EV_") ▸ cut)))
 unfolding statement_into object_into value_row_into attribute_row_into begins_kept kept_fits has_object_word has_value_word
     has_attribute_word has_word has_kept_word has_name has_piece is_piece is_string is_name is_keyword starts first_fault
-attribute_first_kept kind line seen q t kind3 line3 cut e =
-    plain_token String (Either ev_kept behind_name q) seen t (token_of_word kind3 line3 (codes "EV_") ▸ cut) (rw e refl)
-    ∙ sym (piece_more q seen t (token_of_word kind3 line3 (codes "EV_") ▸ cut) (string_is_piece t e))
+attribute_first_kept u seen q t u3 cut e =
+    plain_token String (Either ev_kept behind_name q) seen t (worded u3 (codes "EV_") ▸ cut) (rw e refl)
+    ∙ sym (piece_more q seen t (worded u3 (codes "EV_") ▸ cut) (string_is_piece t e))
 
 other_word : (t : Token) → bytes_eq (codes "EV_") t.bytes ≡ false → has_word (codes "EV_") t ≡ false
 unfolding has_word
 other_word t differ = not_same (codes "EV_") t.bytes differ
 
-attribute_named : (kind : Kind) (line : ℕ) (d : Database) (seen : Seen) → Counted d seen → (q : Pattern) (t : Token)
+attribute_named : (u : Token) (d : Database) (seen : Seen) → Counted d seen → (q : Pattern) (t : Token)
     → has_string t ≡ true → (rest : Cut)
-    → Follows Counted (statement_into d (token_of_word kind line (codes "BA_") ▸ (t ▸ rest))) (first_fault q)
-    (first_fault (grammar.statement then q) seen (token_of_word kind line (codes "BA_") ▸ (t ▸ rest)))
-attribute_named kind line d seen has q t e (End at) =
+    → Follows Counted (statement_into d (worded u (codes "BA_") ▸ (t ▸ rest))) (first_fault q)
+    (first_fault (grammar.statement then q) seen (worded u (codes "BA_") ▸ (t ▸ rest)))
+attribute_named u d seen has q t e (End at) =
     rw (
-      attribute_short kind line d t (End at) e (λ t3 cut is. absurd cc),
-      attribute_first kind line seen q t (End at) e
+      attribute_short u d t (End at) e (λ t3 cut is. absurd cc),
+      attribute_first u seen q t (End at) e
           (either_end ev_kept behind_name q seen at refl),
     )
-    ((attribute_more d seen has).follows q (token_of_word kind line (codes "BA_") ▸ (t ▸ End at)))
-attribute_named kind line d seen has q t e (Fault at) =
+    ((attribute_more d seen has).follows q (worded u (codes "BA_") ▸ (t ▸ End at)))
+attribute_named u d seen has q t e (Fault at) =
     rw (
-      attribute_short kind line d t (Fault at) e (λ t3 cut is. absurd cc),
-      attribute_first kind line seen q t (Fault at) e
+      attribute_short u d t (Fault at) e (λ t3 cut is. absurd cc),
+      attribute_first u seen q t (Fault at) e
           (either_fault ev_kept behind_name q seen at),
     )
-    ((attribute_more d seen has).follows q (token_of_word kind line (codes "BA_") ▸ (t ▸ Fault at)))
-attribute_named kind line d seen has q t e (t3 ▸ cut) =
-    let first = token_of_word kind line (codes "BA_") in
+    ((attribute_more d seen has).follows q (worded u (codes "BA_") ▸ (t ▸ Fault at)))
+attribute_named u d seen has q t e (t3 ▸ cut) =
+    let first = worded u (codes "BA_") in
     elim (cases_Bool (bytes_eq (codes "EV_") t3.bytes)) [
       | inl same ↦
-          subst (λ bytes. Follows Counted (statement_into d (first ▸ (t ▸ (token_of_word t3.kind t3.line bytes ▸ cut))))
+          subst (λ bytes. Follows Counted (statement_into d (first ▸ (t ▸ (worded t3 bytes ▸ cut))))
           (first_fault q) (first_fault (grammar.statement then q) seen
-          (first ▸ (t ▸ (token_of_word t3.kind t3.line bytes ▸ cut)))))
+          (first ▸ (t ▸ (worded t3 bytes ▸ cut)))))
           ((bytes_eq-Decides (codes "EV_") t3.bytes).0 same)
           (rw (
-            attribute_kept kind line d seen has q t e t3.kind t3.line cut,
-            attribute_first_kept kind line seen q t t3.kind
-                t3.line cut e,
+            attribute_kept u d seen has q t e t3 cut,
+            attribute_first_kept u seen q t t3 cut e,
           )
-          ((kept_more d seen has).follows q (first ▸ (t ▸ (token_of_word t3.kind t3.line (codes "EV_") ▸ cut)))))
+          ((kept_more d seen has).follows q (first ▸ (t ▸ (worded t3 (codes "EV_") ▸ cut)))))
       | inr differ ↦
           (let here : has_word (codes "EV_") t3 ≡ false = other_word t3 differ in
           rw (
-            attribute_short kind line d t (t3 ▸ cut) e (only t3 cut differ),
-            attribute_first kind line seen q t (t3 ▸ cut) e (either_second ev_kept behind_name q seen t3 cut
+            attribute_short u d t (t3 ▸ cut) e (only t3 cut differ),
+            attribute_first u seen q t (t3 ▸ cut) e (either_second ev_kept behind_name q seen t3 cut
                 (no_token (Word (codes "EV_")) grammar.kept_rest seen t3 (rw here refl)) refl),
           )
           ((attribute_more d seen has).follows q (first ▸ (t ▸ (t3 ▸ cut)))))
@@ -544,18 +540,18 @@ attribute_named kind line d seen has q t e (t3 ▸ cut) =
     only t3 cut differ t' cut' is = subst (λ (t : Token). bytes_eq (codes "EV_") t.bytes ≡ false) (same_token t3 t' cut cut' is)
         differ
 
-attribute_case : (kind : Kind) (line : ℕ) → AgreesFor kind line (codes "BA_")
+attribute_case : (u : Token) → AgreesFor u (codes "BA_")
 unfolding statement_into object_into value_row_into attribute_row_into begins_kept kept_fits has_object_word has_value_word
     has_attribute_word has_word has_kept_word has_name has_string has_piece is_piece is_string starts first_fault
-attribute_case kind line d seen has q (End at) = (attribute_more d seen has).follows q (token_of_word kind line (codes "BA_") ▸
+attribute_case u d seen has q (End at) = (attribute_more d seen has).follows q (worded u (codes "BA_") ▸
     End at)
-attribute_case kind line d seen has q (Fault at) = (attribute_more d seen has).follows q (token_of_word kind line (codes "BA_") ▸
+attribute_case u d seen has q (Fault at) = (attribute_more d seen has).follows q (worded u (codes "BA_") ▸
     Fault at)
-attribute_case kind line d seen has q (t ▸ cut) =
+attribute_case u d seen has q (t ▸ cut) =
     elim (cases_Bool (has_string t)) [
-      | inl name ↦ attribute_named kind line d seen has q t name cut
-      | inr none ↦ rw (attribute_ends kind line d t cut none, attribute_no_name kind line seen q t cut none)
-          ((attribute_more d seen has).follows q (token_of_word kind line (codes "BA_") ▸ (t ▸ cut)))
+      | inl name ↦ attribute_named u d seen has q t name cut
+      | inr none ↦ rw (attribute_ends u d t cut none, attribute_no_name u seen q t cut none)
+          ((attribute_more d seen has).follows q (worded u (codes "BA_") ▸ (t ▸ cut)))
     ]
 
 -- ---- all statements
@@ -581,36 +577,36 @@ either_true : (x y : Bool) → (x || y) ≡ true → (x ≡ true) ⊎ (y ≡ tru
 either_true true y e = inl refl
 either_true false y e = inr e
 
-kept_cases : (kind : Kind) (line : ℕ) → ForAll (AgreesFor kind line) kept_words
-kept_cases kind line = (
-  kept_bo_tx_bu kind line,
+kept_cases : (u : Token) → ForAll (AgreesFor u) kept_words
+kept_cases u = (
+  kept_bo_tx_bu u,
   (
-    kept_ev kind line,
+    kept_ev u,
     (
-      kept_envvar_data kind line,
+      kept_envvar_data u,
       (
-        kept_ev_data kind line,
+        kept_ev_data u,
         (
-          kept_sig_group kind line,
+          kept_sig_group u,
           (
-            kept_sgtype kind line,
+            kept_sgtype u,
             (
-              kept_sgtype_val kind line,
+              kept_sgtype_val u,
               (
-                kept_sig_type_ref kind line,
+                kept_sig_type_ref u,
                 (
-                  kept_sigtype_valtype kind line,
+                  kept_sigtype_valtype u,
                   (
-                    kept_ba_def_sgtype kind line,
+                    kept_ba_def_sgtype u,
                     (
-                      kept_ba_sgtype kind line,
+                      kept_ba_sgtype u,
                       (
-                        kept_ba_def_rel kind line,
+                        kept_ba_def_rel u,
                         (
-                          kept_ba_rel kind line,
+                          kept_ba_rel u,
                           (
-                            kept_ba_def_def_rel kind line,
-                            (kept_cat_def kind line, (kept_cat kind line, tt)),
+                            kept_ba_def_def_rel u,
+                            (kept_cat_def u, (kept_cat u, tt)),
                           ),
                         ),
                       ),
@@ -632,21 +628,21 @@ pub statement_agrees : (d : Database) (seen : Seen) (q : Pattern) (t : Token) (c
 unfolding begins_statement has_object_word has_value_word has_attribute_word has_kept_word
 statement_agrees d seen q t cut has e =
     elim (either_true (list_any (bytes_eq t.bytes) object_words) _ e) [
-      | inl object ↦ one_of (AgreesFor t.kind t.line) t.bytes object_words object (
-        symbols_case t.kind t.line,
-        (nodes_case t.kind t.line, (message_case t.kind t.line, tt)),
+      | inl object ↦ one_of (AgreesFor t) t.bytes object_words object (
+        symbols_case t,
+        (nodes_case t, (message_case t, tt)),
       ) d seen has q cut
       | inr e2 ↦ elim (either_true (list_any (bytes_eq t.bytes) value_words) _ e2) [
-        | inl row ↦ one_of (AgreesFor t.kind t.line) t.bytes value_words row (
-          table_case t.kind t.line,
-          (values_case t.kind t.line, (float_case t.kind t.line, (mux_case t.kind t.line, tt))),
+        | inl row ↦ one_of (AgreesFor t) t.bytes value_words row (
+          table_case t,
+          (values_case t, (float_case t, (mux_case t, tt))),
         ) d seen has q cut
         | inr e3 ↦ elim (either_true (list_any (bytes_eq t.bytes) attribute_words) (list_any (bytes_eq t.bytes) kept_words) e3) [
-          | inl note ↦ one_of (AgreesFor t.kind t.line) t.bytes attribute_words note (
-            comment_case t.kind t.line,
-            (definition_case t.kind t.line, (default_case t.kind t.line, (attribute_case t.kind t.line, tt))),
+          | inl note ↦ one_of (AgreesFor t) t.bytes attribute_words note (
+            comment_case t,
+            (definition_case t, (default_case t, (attribute_case t, tt))),
           ) d seen has q cut
-          | inr kept ↦ one_of (AgreesFor t.kind t.line) t.bytes kept_words kept (kept_cases t.kind t.line) d seen has q cut
+          | inr kept ↦ one_of (AgreesFor t) t.bytes kept_words kept (kept_cases t) d seen has q cut
         ]
       ]
     ]

@@ -10,7 +10,6 @@ use Rattle.std.proofs.lemmas.Slice.Eq.{bytes_eq-Decides}
 use Rattle.dbc_values.specs.Lexical.{is_kept_word}
 use Rattle.dbc_records.specs.Databases.{Database}
 use Rattle.dbc_records.specs.Kept.{kept_fits}
-use Rattle.dbc_tokens.specs.declared.token.Kind.{Kind}
 use Rattle.dbc_tokens.specs.Tokens.{Token, Cut, End, Fault, ◌▸◌}
 use Rattle.dbc_reader.specs.Reading.Databases.{record_into}
 use Rattle.dbc_reader.specs.Kinds.{Attributes, Comments, Defaults, Definitions, FloatTypes, KeptVerbatim, Messages, Multiplexings}
@@ -62,51 +61,52 @@ Reads keywords.Attribute cut = ((starts (has_word (codes "EV_")) (behind (behind
     → statement_into d cut ≡ record_into Attributes d (with_word (codes "BA_") (behind cut)))
 Reads keywords.Kept cut = begins_kept cut ≡ true
 
-abbrev a_word : Kind → ℕ → List ℕ → Token
-a_word kind line word = record { kind = kind; bytes = word; line = line }
+-- the token with these bytes
+abbrev pub worded : Token → List ℕ → Token
+worded u word = record u { bytes = word }
 
 abbrev ReadsWord : List ℕ → Keyword → Type 0
-ReadsWord word keyword = (kind : Kind) (line : ℕ) (cut : Cut) → Reads keyword (a_word kind line word ▸ cut)
+ReadsWord word keyword = (u : Token) (cut : Cut) → Reads keyword (worded u word ▸ cut)
 
 symbols_read : ReadsWord (codes "NS_") keywords.Symbols
 unfolding statement_into object_into value_row_into attribute_row_into has_object_word has_value_word has_attribute_word has_word
     has_kept_word starts word_at token_at begins_kept kept_fits symbols_into
-symbols_read kind line cut d = refl
+symbols_read u cut d = refl
 
 nodes_read : ReadsWord (codes "BU_") keywords.Nodes
 unfolding statement_into object_into value_row_into attribute_row_into has_object_word has_value_word has_attribute_word has_word
     has_kept_word starts word_at token_at begins_kept kept_fits nodes_into
-nodes_read kind line cut d = refl
+nodes_read u cut d = refl
 
 table_read : ReadsWord (codes "VAL_TABLE_") keywords.Table
 unfolding statement_into object_into value_row_into attribute_row_into has_object_word has_value_word has_attribute_word has_word
     has_kept_word starts word_at token_at begins_kept kept_fits record_into table_at
-table_read kind line cut d = refl
+table_read u cut d = refl
 
 float_read : ReadsWord (codes "SIG_VALTYPE_") keywords.Float
 unfolding statement_into object_into value_row_into attribute_row_into has_object_word has_value_word has_attribute_word has_word
     has_kept_word starts word_at token_at begins_kept kept_fits record_into float_at
-float_read kind line cut d = refl
+float_read u cut d = refl
 
 mux_read : ReadsWord (codes "SG_MUL_VAL_") keywords.Mux
 unfolding statement_into object_into value_row_into attribute_row_into has_object_word has_value_word has_attribute_word has_word
     has_kept_word starts word_at token_at begins_kept kept_fits record_into mux_at
-mux_read kind line cut d = refl
+mux_read u cut d = refl
 
 definition_read : ReadsWord (codes "BA_DEF_") keywords.Definition
 unfolding statement_into object_into value_row_into attribute_row_into has_object_word has_value_word has_attribute_word has_word
     has_kept_word starts word_at token_at begins_kept kept_fits record_into definition_at
-definition_read kind line cut d = refl
+definition_read u cut d = refl
 
 default_read : ReadsWord (codes "BA_DEF_DEF_") keywords.Default
 unfolding statement_into object_into value_row_into attribute_row_into has_object_word has_value_word has_attribute_word has_word
     has_kept_word starts word_at token_at begins_kept kept_fits record_into default_at
-default_read kind line cut d = refl
+default_read u cut d = refl
 
 message_read : ReadsWord (codes "BO_") keywords.Message
 unfolding statement_into object_into value_row_into attribute_row_into has_object_word has_value_word has_attribute_word has_word
     has_kept_word starts word_at token_at begins_kept kept_fits
-message_read kind line cut = (refl, λ d. refl)
+message_read u cut = (refl, λ d. refl)
 
 either_none : (a : Bool) → (a || false) ≡ a
 either_none true = refl
@@ -118,34 +118,34 @@ either_order true false = refl
 either_order false true = refl
 either_order false false = refl
 
-values_kept : (kind : Kind) (line : ℕ) (cut : Cut) → begins_kept (a_word kind line (codes "VAL_") ▸ cut) ≡ starts has_name cut
+values_kept : (u : Token) (cut : Cut) → begins_kept (worded u (codes "VAL_") ▸ cut) ≡ starts has_name cut
 unfolding has_word has_kept_word starts
-values_kept kind line cut = kept_by_tokens (a_word kind line (codes "VAL_") ▸ cut) ∙ either_none _
+values_kept u cut = kept_by_tokens (worded u (codes "VAL_") ▸ cut) ∙ either_none _
 
 values_read : ReadsWord (codes "VAL_") keywords.Values
 unfolding statement_into object_into value_row_into attribute_row_into has_object_word has_value_word has_attribute_word has_word
     has_kept_word starts word_at token_at record_into values_at
-values_read kind line cut = (λ e. values_kept kind line cut ∙ e, λ d e. rw (values_kept kind line cut, e) refl)
+values_read u cut = (λ e. values_kept u cut ∙ e, λ d e. rw (values_kept u cut, e) refl)
 
-comment_kept : (kind : Kind) (line : ℕ) (cut : Cut) → begins_kept (a_word kind line (codes "CM_") ▸ cut)
+comment_kept : (u : Token) (cut : Cut) → begins_kept (worded u (codes "CM_") ▸ cut)
     ≡ starts (has_word (codes "EV_")) cut
 unfolding has_word has_kept_word starts
-comment_kept kind line cut = kept_by_tokens (a_word kind line (codes "CM_") ▸ cut) ∙ either_none _
+comment_kept u cut = kept_by_tokens (worded u (codes "CM_") ▸ cut) ∙ either_none _
 
 comment_read : ReadsWord (codes "CM_") keywords.Comment
 unfolding statement_into object_into value_row_into attribute_row_into has_object_word has_value_word has_attribute_word has_word
     has_kept_word starts word_at token_at record_into comment_at
-comment_read kind line cut = (λ e. comment_kept kind line cut ∙ e, λ d e. rw (comment_kept kind line cut, e) refl)
+comment_read u cut = (λ e. comment_kept u cut ∙ e, λ d e. rw (comment_kept u cut, e) refl)
 
-attribute_kept : (kind : Kind) (line : ℕ) (cut : Cut) → begins_kept (a_word kind line (codes "BA_") ▸ cut)
+attribute_kept : (u : Token) (cut : Cut) → begins_kept (worded u (codes "BA_") ▸ cut)
     ≡ (starts (has_word (codes "EV_")) (behind cut) && starts has_string cut)
 unfolding has_word has_kept_word starts
-attribute_kept kind line cut = kept_by_tokens (a_word kind line (codes "BA_") ▸ cut) ∙ either_order (starts has_string cut) _
+attribute_kept u cut = kept_by_tokens (worded u (codes "BA_") ▸ cut) ∙ either_order (starts has_string cut) _
 
 attribute_read : ReadsWord (codes "BA_") keywords.Attribute
 unfolding statement_into object_into value_row_into attribute_row_into has_object_word has_value_word has_attribute_word has_word
     has_kept_word starts word_at token_at record_into attribute_at
-attribute_read kind line cut = (λ e. attribute_kept kind line cut ∙ e, λ d e. rw (attribute_kept kind line cut, e) refl)
+attribute_read u cut = (λ e. attribute_kept u cut ∙ e, λ d e. rw (attribute_kept u cut, e) refl)
 
 -- ---- each keyword
 
@@ -193,8 +193,8 @@ read_among : (words : List (List ℕ × Keyword)) (t : Token) (cut : Cut) (keywo
 read_among [] t cut keyword all e = begins_as_kept t cut (is_kept_word t.bytes) keyword refl e
 read_among (one ∷ others) t cut keyword all e = elim (cases_Bool (bytes_eq t.bytes one.0)) [
   | inl same ↦ (
-      let here : Reads one.1 (t ▸ cut) = subst (λ word. Reads one.1 (a_word t.kind t.line word ▸ cut))
-      (sym ((bytes_eq-Decides t.bytes one.0).0 same)) (all.0 t.kind t.line cut) in
+      let here : Reads one.1 (t ▸ cut) = subst (λ word. Reads one.1 (worded t word ▸ cut))
+      (sym ((bytes_eq-Decides t.bytes one.0).0 same)) (all.0 t cut) in
       subst (λ k. Reads k (t ▸ cut)) (is_first (bytes_eq t.bytes one.0) one.1 keyword (keyword_among others t.bytes) same e) here)
   | inr differ ↦ read_among others t cut keyword all.1 (is_later (bytes_eq t.bytes one.0) one.1 keyword
       (keyword_among others t.bytes) differ e)
@@ -248,9 +248,9 @@ unfolding starts has_word
 message_into_here d (End line) e = absurd cc
 message_into_here d (Fault line) e = absurd cc
 message_into_here d (t ▸ cut) e =
-    subst (λ (bytes : List ℕ). statement_into d (a_word t.kind t.line bytes ▸ cut)
-    ≡ record_into Messages d (a_word t.kind t.line bytes ▸ cut))
-    (sym ((bytes_eq-Decides t.bytes (codes "BO_")).0 e)) ((message_read t.kind t.line cut).1 d)
+    subst (λ (bytes : List ℕ). statement_into d (worded t bytes ▸ cut)
+    ≡ record_into Messages d (worded t bytes ▸ cut))
+    (sym ((bytes_eq-Decides t.bytes (codes "BO_")).0 e)) ((message_read t cut).1 d)
 
 pub values_kept_step : (cut : Cut) → keyword_at cut ≡ Some keywords.Values → starts has_name (behind cut) ≡ true
     → begins_kept cut ≡ true
@@ -327,28 +327,28 @@ no_statement_begins (t ▸ cut) e = keyword_there t ∙ rw e refl
 
 -- ---- statements that stand alone
 
-of_word : (R : Reader Statement) (word : List ℕ) → ((kind : Kind) (line : ℕ) (cut : Cut)
-    → one_of_six_at (a_word kind line word ▸ cut) ≡ R (a_word kind line word ▸ cut)) → (cut : Cut) → starts (has_word word) cut
+of_word : (R : Reader Statement) (word : List ℕ) → ((u : Token) (cut : Cut)
+    → one_of_six_at (worded u word ▸ cut) ≡ R (worded u word ▸ cut)) → (cut : Cut) → starts (has_word word) cut
     ≡ true → one_of_six_at cut ≡ R cut
 unfolding starts has_word
 of_word R word h (End line) e = absurd cc
 of_word R word h (Fault line) e = absurd cc
-of_word R word h (t ▸ cut) e = subst (λ bytes. one_of_six_at (a_word t.kind t.line bytes ▸ cut)
-    ≡ R (a_word t.kind t.line bytes ▸ cut)) (sym ((bytes_eq-Decides t.bytes word).0 e)) (h t.kind t.line cut)
+of_word R word h (t ▸ cut) e = subst (λ bytes. one_of_six_at (worded t bytes ▸ cut)
+    ≡ R (worded t bytes ▸ cut)) (sym ((bytes_eq-Decides t.bytes word).0 e)) (h t cut)
 
 pub table_alone : (cut : Cut) → starts (has_word (codes "VAL_TABLE_")) cut ≡ true
     → one_of_six_at cut ≡ table_alone_at (with_word (codes "VAL_TABLE_") (behind cut))
 unfolding one_of_six_at starts has_word table_at word_at token_at
 table_alone = of_word (λ cut. table_alone_at (with_word (codes "VAL_TABLE_") (behind cut))) (codes "VAL_TABLE_")
-    (λ kind line cut. refl)
+    (λ u cut. refl)
 
 pub values_alone : (cut : Cut) → starts (has_word (codes "VAL_")) cut ≡ true
     → one_of_six_at cut ≡ values_alone_at (with_word (codes "VAL_") (behind cut))
 unfolding one_of_six_at starts has_word values_at word_at token_at
-values_alone = of_word (λ cut. values_alone_at (with_word (codes "VAL_") (behind cut))) (codes "VAL_") (λ kind line cut. refl)
+values_alone = of_word (λ cut. values_alone_at (with_word (codes "VAL_") (behind cut))) (codes "VAL_") (λ u cut. refl)
 
 pub mux_alone : (cut : Cut) → starts (has_word (codes "SG_MUL_VAL_")) cut ≡ true
     → one_of_six_at cut ≡ mux_alone_at (with_word (codes "SG_MUL_VAL_") (behind cut))
 unfolding one_of_six_at starts has_word mux_at word_at token_at
 mux_alone = of_word (λ cut. mux_alone_at (with_word (codes "SG_MUL_VAL_") (behind cut))) (codes "SG_MUL_VAL_")
-    (λ kind line cut. refl)
+    (λ u cut. refl)

@@ -21,8 +21,8 @@ use Rattle.dbc_reader.proofs.Sound.Statements.{statement_sound}
 use Rattle.dbc_reader.proofs.Agrees.Statements.{statement_judges}
 use Rattle.dbc_reader.proofs.Agrees.Texts.{database_judges}
 
-pub tokens_of_cut : (text : List ℕ) (cut : Cut) → cut_of 1 text ≡ cut → HasTokens 1 text cut
-tokens_of_cut text cut same = subst (HasTokens 1 text) same (cut_is 1 text)
+pub tokens_of_cut : (text : List ℕ) (cut : Cut) → cut_of 1 text ≡ cut → HasTokens 1 0 text cut
+tokens_of_cut text cut same = subst (HasTokens 1 0 text) same (cut_is 1 text)
 
 fault_found : {A : Type 0} (pattern : Pattern) (text : List ℕ) (fault : ReadFault) (read : Result (A × Cut) ReadFault)
     → Judges read (first_fault pattern nothing_seen (cut_of 1 text)) → read ≡ Err fault → HasFirstFault pattern text fault

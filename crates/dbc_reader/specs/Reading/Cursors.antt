@@ -14,6 +14,6 @@ behind (End line) = End line
 behind (Fault line) = Fault line
 behind (t ▸ cut) = cut
 
--- a word, and these tokens behind it: what is read behind a word does not depend on the word's line
+-- a word, and these tokens behind it: what is read behind a word does not depend on where the word is
 abbrev pub with_word : List ℕ → Cut → Cut
-with_word word cut = record { kind = kinds.Word; bytes = word; line = 0 } ▸ cut
+with_word word cut = record { kind = kinds.Word; bytes = word; line = 0; left = 0 } ▸ cut

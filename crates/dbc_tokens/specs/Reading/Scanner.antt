@@ -101,7 +101,7 @@ line_text_at (b ∷ bytes) = if b == quote then option_map (λ n. (Text, 2 + n))
 -- the token that was found at the front, and then what `go` finds behind it
 abbrev pub token_then : (ℕ → List ℕ → Cut) → ℕ → List ℕ → Option (Kind × ℕ) → Cut
 token_then go line rest None = Fault line
-token_then go line rest (Some t) = record { kind = t.0; bytes = take t.1 rest; line = line } ▸ go
+token_then go line rest (Some t) = record { kind = t.0; bytes = take t.1 rest; line = line; left = length rest } ▸ go
     (line + line_feeds (take t.1 rest)) (drop t.1 rest)
 
 -- behind the gap: the end of the text, or the token there and then what `go` finds

@@ -120,9 +120,15 @@ impl<'a> Tokens<'a> {
         let line = self.line + feeds as u64;
         match plain_token_at(ahead) {
             Some((kind, len)) => {
+                let left = ahead.len();
                 let (bytes, rest) = ahead.split_at(len);
                 *self = Tokens { rest, line };
-                Some(Token { kind, bytes, line })
+                Some(Token {
+                    kind,
+                    bytes,
+                    line,
+                    left,
+                })
             }
             None => {
                 *self = Tokens { rest: ahead, line };
@@ -139,12 +145,18 @@ impl<'a> Tokens<'a> {
         ensures exact { is_some result ≡ line_text_comes self.old }
     {
         let (blanks, lines) = leading_blanks(self.rest);
-        let (_, rest) = self.rest.split_at(blanks);
-        let (kind, len) = line_text_at(rest)?;
+        let (_, ahead) = self.rest.split_at(blanks);
+        let (kind, len) = line_text_at(ahead)?;
         let line = self.line + lines as u64;
-        let (bytes, rest) = rest.split_at(len);
+        let left = ahead.len();
+        let (bytes, rest) = ahead.split_at(len);
         *self = Tokens { rest, line };
-        Some(Token { kind, bytes, line })
+        Some(Token {
+            kind,
+            bytes,
+            line,
+            left,
+        })
     }
 
     /// Takes what comes next: for a reader that looks at one token at a time.
@@ -157,10 +169,16 @@ impl<'a> Tokens<'a> {
         let line = self.line + gap_line_feeds(gap) as u64;
         match token_at(rest) {
             Some((kind, len)) => {
+                let left = rest.len();
                 let (bytes, rest) = rest.split_at(len);
                 let after = line + token_line_feeds(kind, bytes) as u64;
                 *self = Tokens { rest, line: after };
-                Next::Token(Token { kind, bytes, line })
+                Next::Token(Token {
+                    kind,
+                    bytes,
+                    line,
+                    left,
+                })
             }
             None => {
                 *self = Tokens { rest: &[], line };
