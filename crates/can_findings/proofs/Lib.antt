@@ -1,4 +1,4 @@
 pub mod Rows
-pub mod KeyLines
+pub mod KeyStarts
 pub mod Same
-pub mod SignalLines
+pub mod SignalStarts

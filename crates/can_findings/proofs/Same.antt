@@ -1,5 +1,5 @@
--- What is placed, without its lines.
-use Rattle.std.proofs.Common.{◌≡◌, ℕ, List, [], ◌∷◌, ◌++◌, map, take, drop, length, refl, ap, ◌∙◌}
+-- Findings without their locations.
+use Rattle.std.proofs.Common.{◌≡◌, List, [], ◌∷◌, ◌++◌, map, take, drop, length, refl, ap, ◌∙◌}
 use Rattle.std.specs.List.{flat_map}
 use Rattle.dbc_records.specs.Records.{Signal, Message}
 use Rattle.dbc_records.specs.Databases.{Database}
@@ -14,8 +14,8 @@ use Rattle.can_check.specs.AllFaults.{all_faults}
 use Rattle.can_findings.specs.declared.finding.Finding.{Finding}
 use Rattle.dbc_reader.specs.declared.start.Start.{Start}
 use Rattle.dbc_reader.specs.declared.start.Starts.{Starts}
-use Rattle.can_findings.specs.Fronts.{first_line, behind_first}
-use Rattle.can_findings.specs.RowLines.{RowLines, row_lines_of}
+use Rattle.can_findings.specs.Fronts.{first_start, behind_first}
+use Rattle.can_findings.specs.RowStarts.{RowStarts, row_starts_of}
 use Rattle.can_findings.specs.MessageLocations.{findings_in, message_findings}
 use Rattle.can_findings.specs.RowLocations.{findings_at, keys_at, keys_in, findings_after, front_rows, attribute_rows, signal_rows}
 use Rattle.can_findings.specs.RowLocations.{all_rows}
@@ -28,27 +28,27 @@ bare-append : (xs ys : List Finding) → bare (xs ++ ys) ≡ bare xs ++ bare ys
 bare-append [] ys = refl
 bare-append (x ∷ xs) ys = ap (λ (r : List Diagnostic). x.diagnostic ∷ r) (bare-append xs ys)
 
-bare-in : (rows : RowLines) (signals : List Signal) (line : ℕ) (starts : List Start) (found : List Diagnostic)
-    → bare (map (findings_in rows signals line starts) found) ≡ found
-bare-in rows signals line starts [] = refl
-bare-in rows signals line starts (d ∷ found) = ap (λ (r : List Diagnostic). d ∷ r) (bare-in rows signals line starts found)
+bare-in : (rows : RowStarts) (signals : List Signal) (start : Start) (starts : List Start) (found : List Diagnostic)
+    → bare (map (findings_in rows signals start starts) found) ≡ found
+bare-in rows signals start starts [] = refl
+bare-in rows signals start starts (d ∷ found) = ap (λ (r : List Diagnostic). d ∷ r) (bare-in rows signals start starts found)
 
-bare-at : (line : ℕ) (found : List Diagnostic) → bare (map (findings_at line) found) ≡ found
-bare-at line [] = refl
-bare-at line (d ∷ found) = ap (λ (r : List Diagnostic). d ∷ r) (bare-at line found)
+bare-at : (start : Start) (found : List Diagnostic) → bare (map (findings_at start) found) ≡ found
+bare-at start [] = refl
+bare-at start (d ∷ found) = ap (λ (r : List Diagnostic). d ∷ r) (bare-at start found)
 
-bare-messages : (d : Database) (rows : RowLines) (messages : List Message) (heads starts : List Start)
+bare-messages : (d : Database) (rows : RowStarts) (messages : List Message) (heads starts : List Start)
     → bare (message_findings d rows messages heads starts) ≡ flat_map (message_faults d) messages
 bare-messages d rows [] heads starts = refl
 bare-messages d rows (m ∷ messages) heads starts =
     let behind = message_findings d rows messages (behind_first heads) (drop (length m.signals) starts) in
     let own = take (length m.signals) starts in
-    bare-append (map (findings_in rows m.signals (first_line heads) own) (message_faults d m)) behind
-    ∙ ap (λ (r : List Diagnostic). r ++ bare behind) (bare-in rows m.signals (first_line heads) own (message_faults d m))
+    bare-append (map (findings_in rows m.signals (first_start heads) own) (message_faults d m)) behind
+    ∙ ap (λ (r : List Diagnostic). r ++ bare behind) (bare-in rows m.signals (first_start heads) own (message_faults d m))
     ∙ ap (λ (r : List Diagnostic). message_faults d m ++ r)
     (bare-messages d rows messages (behind_first heads) (drop (length m.signals) starts))
 
-bare-after : (d : Database) (before : List RowKey) (rows : List (RowKey × ℕ)) → bare (findings_after d before rows)
+bare-after : (d : Database) (before : List RowKey) (rows : List (RowKey × Start)) → bare (findings_after d before rows)
     ≡ each_after (row_fault d) before (keys_in rows)
 bare-after d before [] = refl
 bare-after d before (row ∷ rows) =
@@ -63,7 +63,7 @@ keys-at : (keys : List RowKey) (starts : List Start) → keys_in (keys_at keys s
 keys-at [] starts = refl
 keys-at (key ∷ keys) starts = ap (λ (r : List RowKey). key ∷ r) (keys-at keys (behind_first starts))
 
-keys-append : (xs ys : List (RowKey × ℕ)) → keys_in (xs ++ ys) ≡ keys_in xs ++ keys_in ys
+keys-append : (xs ys : List (RowKey × Start)) → keys_in (xs ++ ys) ≡ keys_in xs ++ keys_in ys
 keys-append [] ys = refl
 keys-append (x ∷ xs) ys = ap (λ (r : List RowKey). x.0 ∷ r) (keys-append xs ys)
 
@@ -108,10 +108,10 @@ keys-all d starts =
 pub same_faults : (d : Database) (starts : Starts) → map (λ (p : Finding). p.diagnostic) (all_findings d starts) ≡ all_faults d
 unfolding all_findings all_faults row_faults
 same_faults d starts =
-    let messages = message_findings d (row_lines_of d starts) d.messages starts.messages starts.signals in
+    let messages = message_findings d (row_starts_of d starts) d.messages starts.messages starts.signals in
     let rows = findings_after d [] (all_rows d starts) in
     bare-append messages rows
-    ∙ ap (λ (r : List Diagnostic). r ++ bare rows) (bare-messages d (row_lines_of d starts) d.messages starts.messages
+    ∙ ap (λ (r : List Diagnostic). r ++ bare rows) (bare-messages d (row_starts_of d starts) d.messages starts.messages
     starts.signals)
     ∙ ap (λ (r : List Diagnostic). flat_map (message_faults d) d.messages ++ r) (bare-after d [] (all_rows d starts)
     ∙ ap (each_after (row_fault d) []) (keys-all d starts))

@@ -1,11 +1,14 @@
 -- The first of some starts.
-use Rattle.std.specs.Prelude.{ℕ, List, [], ◌∷◌}
+use Rattle.std.specs.Prelude.{List, [], ◌∷◌}
 use Rattle.dbc_reader.specs.declared.start.Start.{Start}
 
--- its line; 0 if there is none
-abbrev pub first_line : List Start → ℕ
-first_line [] = 0
-first_line (start ∷ starts) = start.line
+-- of nothing
+abbrev pub no_start : Start
+no_start = record { line = 0; left = 0 }
+
+abbrev pub first_start : List Start → Start
+first_start [] = no_start
+first_start (start ∷ starts) = start
 
 -- those after it
 abbrev pub behind_first : List Start → List Start

@@ -1,6 +1,6 @@
 pub mod Fronts
 pub mod Remedies
-pub mod RowLines
+pub mod RowStarts
 pub mod MessageLocations
 pub mod RowLocations
 pub mod AllFindings

@@ -39,9 +39,9 @@ number_text before number behind = join (before ∷ decimal number ∷ behind �
 
 -- the line, or the two lines, in which what it speaks of begins
 unfoldable pub location_text : Location → List ℕ
-location_text (locations.Line line) = number_text (codes "line ") line (codes ": ")
-location_text (locations.Lines first second) = number_text (codes "lines ") first (codes " and ")
-    ++ number_text [] second (codes ": ")
+location_text (locations.One start) = number_text (codes "line ") start.line (codes ": ")
+location_text (locations.Both first second) = number_text (codes "lines ") first.line (codes " and ")
+    ++ number_text [] second.line (codes ": ")
 
 -- a diagnostic after its lines, and before its remedy
 unfoldable pub explained_text : Finding → List ℕ

@@ -1,12 +1,12 @@
-//! All diagnostics of a database, with their lines.
+//! All diagnostics of a database, with their locations.
 ghost use Rattle.std.specs.Prelude.{◌≡◌, IfOk};
-ghost use Rattle.can_findings.specs.RowLines.{row_lines_of};
+ghost use Rattle.can_findings.specs.RowStarts.{row_starts_of};
 ghost use Rattle.can_findings.specs.AllFindings.{all_findings};
 
 use crate::finding::Finding;
 use crate::message_locations::push_messages;
-use crate::row_lines::{KeyedLines, SignalRowLines};
 use crate::row_locations::push_all_rows;
+use crate::row_starts::{KeyedStarts, SignalRowStarts};
 use can_references::Known;
 use can_rows::{Indexed, Lookup};
 use dbc_reader::Starts;
@@ -14,15 +14,15 @@ use dbc_records::Database;
 use dbc_values::Memory;
 use std::alloc::Global;
 
-// By what is known of the database, and the lines of its entries.
+// By what is known of the database, and where its entries begin.
 #[tactic(auto, using(crate::proofs::Rows::pushed_then), unfolding(crate::specs::AllFindings::all_findings))]
 fn findings_by<L: Lookup>(
     alloc: Global,
     known: &Known<'_, L>,
     starts: &Starts,
-    rows: &KeyedLines<'_>,
+    rows: &KeyedStarts<'_>,
 ) -> Result<Vec<Finding>, Memory>
-    requires { rows.now ≡ row_lines_of known.now starts.now }
+    requires { rows.now ≡ row_starts_of known.now starts.now }
     ensures { IfOk result (λ finding. finding.items ≡ all_findings known.now starts.now) }
 {
     let database = known.database();
@@ -43,12 +43,12 @@ fn findings_by_keys<L: Lookup>(
     alloc: Global,
     known: &Known<'_, L>,
     starts: &Starts,
-    rows: &SignalRowLines<'_>,
+    rows: &SignalRowStarts<'_>,
 ) -> Result<Vec<Finding>, Memory>
-    requires { rows.now ≡ row_lines_of known.now starts.now }
+    requires { rows.now ≡ row_starts_of known.now starts.now }
     ensures { IfOk result (λ finding. finding.items ≡ all_findings known.now starts.now) }
 {
-    match KeyedLines::of(alloc, rows) {
+    match KeyedStarts::of(alloc, rows) {
         Ok(rows) => findings_by(alloc, known, starts, &rows),
         Err(Memory) => Err(Memory),
     }
@@ -62,7 +62,7 @@ fn findings_known<L: Lookup>(
 ) -> Result<Vec<Finding>, Memory>
     ensures { IfOk result (λ finding. finding.items ≡ all_findings known.now starts.now) }
 {
-    let rows = SignalRowLines::of(alloc, known.database(), starts)?;
+    let rows = SignalRowStarts::of(alloc, known.database(), starts)?;
     findings_by_keys(alloc, known, starts, &rows)
 }
 
@@ -79,8 +79,8 @@ fn findings_with<L: Lookup>(
     }
 }
 
-/// All diagnostics of a database, as `can_check` finds them, each with the lines in which what it speaks of begins. The lines are
-/// those of the database's text.
+/// All diagnostics of a database, as `can_check` finds them, each with where the statements or signals that it is about begin in
+/// the text of the database.
 pub fn all_findings(
     alloc: Global,
     database: &Database,

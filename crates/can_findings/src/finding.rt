@@ -4,15 +4,16 @@ ghost use Rattle.can_findings.specs.Remedies.{number_text, location_text};
 
 use byte_devices::{Out, Sink, WriteFault};
 use can_diagnostics::Diagnostic;
+use dbc_reader::Start;
 use itoa::Buffer;
 
-/// The lines in which the statements that a diagnostic is about begin.
+/// Where the statements that a diagnostic is about begin, or their signals.
 #[derive(Clone, Copy, Debug, PartialEq, Eq)]
 pub enum Location {
-    /// One statement begins in this line.
-    Line(u64),
-    /// Two statements begin in these lines.
-    Lines(u64, u64),
+    /// One begins there.
+    One(Start),
+    /// Two begin there.
+    Both(Start, Start),
 }
 
 /// A diagnostic, and where in the text of the database it is about.
@@ -39,7 +40,7 @@ fn write_number<W: Sink>(
     out.send_pieces(&pieces)
 }
 
-/// Writes the location at the beginning of a diagnostic's line.
+/// Writes the lines of the location at the beginning of a diagnostic's line.
 #[tactic(auto, using(byte_devices::proofs::Outs::sends), unfolding(crate::specs::Remedies::location_text))]
 pub(crate) fn write_location<W: Sink>(
     out: &mut Out<'_, W>,
@@ -48,10 +49,10 @@ pub(crate) fn write_location<W: Sink>(
     ensures { Sends W.written out.old out.new result (location_text location) }
 {
     match location {
-        Location::Line(line) => write_number(out, b"line ", line, b": "),
-        Location::Lines(first, second) => {
-            write_number(out, b"lines ", first, b" and ")?;
-            write_number(out, b"", second, b": ")
+        Location::One(start) => write_number(out, b"line ", start.line, b": "),
+        Location::Both(first, second) => {
+            write_number(out, b"lines ", first.line, b" and ")?;
+            write_number(out, b"", second.line, b": ")
         }
     }
 }

@@ -1,16 +1,23 @@
 //! The first of some starts.
 ghost use Rattle.std.specs.Prelude.{◌≡◌, take, drop};
-ghost use Rattle.can_findings.specs.Fronts.{first_line, behind_first};
+ghost use Rattle.can_findings.specs.Fronts.{no_start, first_start, behind_first};
 
 use dbc_reader::Start;
 
-/// Its line; 0 if there is none.
-pub(crate) fn first_line(starts: &[Start]) -> u64
-    ensures { result ≡ first_line starts.now }
+/// Where nothing begins. By [`all_have_starts`](dbc_reader::laws::all_have_starts) no finding has it.
+pub(crate) fn no_start() -> Start
+    ensures { result ≡ no_start }
+{
+    Start { line: 0, left: 0 }
+}
+
+/// The first; [`no_start`] if there is none.
+pub(crate) fn first_start(starts: &[Start]) -> Start
+    ensures { result ≡ first_start starts.now }
 {
     match starts {
-        [] => 0,
-        [start, ..] => start.line,
+        [] => no_start(),
+        [start, ..] => *start,
     }
 }
 

@@ -1,4 +1,4 @@
-//! The diagnostics of a database, each with the lines in which the statements that it is about begin, and with its remedy.
+//! The diagnostics of a database, each with where the statements that it is about begin, and with its remedy.
 //!
 //! [`all_findings`] finds what `can_check` finds, message by message and entry by entry, so it knows the index of each in the
 //! database; where they begin is what `dbc_reader` reports of the statements that it read. [`remedy`] is what to do about a code,
@@ -12,8 +12,8 @@ mod front;
 pub mod laws;
 mod message_locations;
 mod remedies;
-mod row_lines;
 mod row_locations;
+mod row_starts;
 
 pub use database_findings::all_findings;
 pub use explaining::write_explained;

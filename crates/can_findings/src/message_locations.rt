@@ -1,14 +1,15 @@
-//! The diagnostics of messages, with their lines.
+//! The diagnostics of messages, with their locations.
 ghost use Rattle.std.specs.Prelude.{◌≡◌, ◌++◌, IfOk, OnOk, map};
 ghost use Rattle.can_check.specs.MessageFaults.{message_faults};
 ghost use Rattle.can_findings.specs.declared.finding.Location.TheVariants as locations;
-ghost use Rattle.can_findings.specs.RowLines.{key_line, line_of_key};
-ghost use Rattle.can_findings.specs.MessageLocations.{signal_line, signal_lines, rows_at_fault, line_or, location_of, findings_in};
+ghost use Rattle.can_findings.specs.RowStarts.{key_start, start_of_key};
+ghost use Rattle.can_findings.specs.MessageLocations.{signal_start, signal_starts, rows_at_fault, start_or, location_of};
+ghost use Rattle.can_findings.specs.MessageLocations.{findings_in};
 ghost use Rattle.can_findings.specs.MessageLocations.{message_findings};
 
 use crate::finding::{Finding, Location};
-use crate::front::{behind_first, first_line, parted};
-use crate::row_lines::{KeyedLines, RowLine, line_in};
+use crate::front::{behind_first, first_start, no_start, parted};
+use crate::row_starts::{KeyedStarts, RowStart, start_in};
 use can_check::{Code, Diagnostic, Occupancy, Subject, report_message};
 use can_references::Known;
 use can_rows::{Index, Lookup};
@@ -17,58 +18,58 @@ use dbc_records::{Message, Signal};
 use dbc_values::{Memory, Name};
 use std::alloc::Global;
 
-// A message, and the lines in which it and its signals begin.
+// A message, and where it and its signals begin.
 #[derive(Clone, Copy)]
 struct Begun<'m, 'l> {
     message: &'m Message,
-    line: u64,
+    start: Start,
     signals: &'l [Start],
 }
 
-// The same, and the lines of its signals are found by their names.
+// The same, and where its signals begin is found by their names.
 #[derive(Drop)]
-struct Lined<'a> {
+struct Named<'a> {
     message: &'a Message,
-    line: u64,
+    start: Start,
     signals: &'a [Start],
-    index: Index<'a, RowLine<'a>>,
-    ghost indexed: { map key_line index ≡ signal_lines message.now.signals signals.now },
+    index: Index<'a, RowStart<'a>>,
+    ghost indexed: { map key_start index ≡ signal_starts message.now.signals signals.now },
 }
 
-// The names of a message's signals, each with the line in which the signal begins.
-fn signal_lines<'a>(
+// The names of a message's signals, each with where the signal begins.
+fn signal_starts<'a>(
     alloc: Global,
     signals: &'a [Signal],
     starts: &[Start],
-) -> Result<Vec<RowLine<'a>>, Memory>
-    ensures { IfOk result (λ made. map key_line made.items ≡ signal_lines signals.now starts.now) }
+) -> Result<Vec<RowStart<'a>>, Memory>
+    ensures { IfOk result (λ made. map key_start made.items ≡ signal_starts signals.now starts.now) }
 {
     let mut made = Vec::new(alloc);
     let (mut left, mut further) = (signals, starts);
     'signals: while let [signal, others @ ..] = left {
-        made.push(RowLine {
+        made.push(RowStart {
             number: 0,
             signal: signal.name.as_bytes(),
-            line: first_line(further),
+            start: first_start(further),
         })?;
         (left, further) = (others, behind_first(further));
     }
     Ok(made)
 }
 
-// The line of the signal of the name.
-fn signal_line(name: &Name, here: &Lined<'_>) -> u64
-    ensures { result ≡ signal_line name.now here.now.message.now.signals here.now.signals.now }
+// Where the signal of the name begins.
+fn signal_start(name: &Name, here: &Named<'_>) -> Start
+    ensures { result ≡ signal_start name.now here.now.message.now.signals here.now.signals.now }
 {
-    match line_in(&here.index, 0, name) {
-        Some(line) => line,
-        None => 0,
+    match start_in(&here.index, 0, name) {
+        Some(start) => start,
+        None => no_start(),
     }
 }
 
-// The line of the entry at fault, where the code is reported of a signal and means one.
-fn line_at_fault(rows: &KeyedLines<'_>, code: Code, number: u32, signal: &Name) -> Option<u64>
-    ensures { result ≡ line_of_key number signal.now (rows_at_fault code rows.now) }
+// Where the entry at fault begins, if the code is reported of a signal and means one.
+fn start_at_fault(rows: &KeyedStarts<'_>, code: Code, number: u32, signal: &Name) -> Option<Start>
+    ensures { result ≡ start_of_key number signal.now (rows_at_fault code rows.now) }
 {
     match code {
         Code::NoSwitch | Code::BadMuxRow | Code::SwitchLoop => rows.mux(number, signal),
@@ -77,51 +78,51 @@ fn line_at_fault(rows: &KeyedLines<'_>, code: Code, number: u32, signal: &Name) 
     }
 }
 
-// The line of the entry, if there is one, or else that of the signal.
-fn line_or(row_line: Option<u64>, here: &Lined<'_>, signal: &Name) -> Location
-    ensures { result ≡ locations.Line (line_or row_line (signal_line signal.now here.now.message.now.signals
+// Where the entry begins, if there is one, or else the signal.
+fn start_or(row_start: Option<Start>, here: &Named<'_>, signal: &Name) -> Location
+    ensures { result ≡ locations.One (start_or row_start (signal_start signal.now here.now.message.now.signals
         here.now.signals.now)) }
 {
-    match row_line {
-        Some(line) => Location::Line(line),
-        None => Location::Line(signal_line(signal, here)),
+    match row_start {
+        Some(start) => Location::One(start),
+        None => Location::One(signal_start(signal, here)),
     }
 }
 
-// The lines of two signals.
-fn lines_of(here: &Lined<'_>, first: &Name, second: &Name) -> Location
-    ensures { result ≡ locations.Lines (signal_line first.now here.now.message.now.signals here.now.signals.now)
-        (signal_line second.now here.now.message.now.signals here.now.signals.now) }
+// Where two signals begin.
+fn both_of(here: &Named<'_>, first: &Name, second: &Name) -> Location
+    ensures { result ≡ locations.Both (signal_start first.now here.now.message.now.signals here.now.signals.now)
+        (signal_start second.now here.now.message.now.signals here.now.signals.now) }
 {
-    Location::Lines(signal_line(first, here), signal_line(second, here))
+    Location::Both(signal_start(first, here), signal_start(second, here))
 }
 
 // Where what a diagnostic of a message speaks of begins.
-fn location_of(code: Code, subject: &Subject, here: &Lined<'_>, rows: &KeyedLines<'_>) -> Location
-    ensures { result ≡ location_of rows.now here.now.message.now.signals here.now.line here.now.signals.now code subject.now }
+fn location_of(code: Code, subject: &Subject, here: &Named<'_>, rows: &KeyedStarts<'_>) -> Location
+    ensures { result ≡ location_of rows.now here.now.message.now.signals here.now.start here.now.signals.now code subject.now }
 {
     match subject {
-        Subject::Message(..) | Subject::Sender(..) | Subject::Row(_) => Location::Line(here.line),
+        Subject::Message(..) | Subject::Sender(..) | Subject::Row(_) => Location::One(here.start),
         Subject::Signal(number, _, signal) => {
-            line_or(line_at_fault(rows, code, *number, signal), here, signal)
+            start_or(start_at_fault(rows, code, *number, signal), here, signal)
         }
-        Subject::Receiver(_, _, signal, _) => line_or(None, here, signal),
+        Subject::Receiver(_, _, signal, _) => start_or(None, here, signal),
         Subject::Value(number, _, signal, _) => {
-            line_or(rows.values(*number, signal), here, signal)
+            start_or(rows.values(*number, signal), here, signal)
         }
-        Subject::Pair(_, _, first, second) => lines_of(here, first, second),
+        Subject::Pair(_, _, first, second) => both_of(here, first, second),
     }
 }
 
 // Adds diagnostics of a message, each with its place.
 fn push_findings(
     findings: &mut Vec<Finding>,
-    here: &Lined<'_>,
-    rows: &KeyedLines<'_>,
+    here: &Named<'_>,
+    rows: &KeyedStarts<'_>,
     found: Vec<Diagnostic>,
 ) -> Result<(), Memory>
     ensures { OnOk result (findings.new.items ≡ findings.old.items ++ map (findings_in rows.now here.now.message.now.signals
-        here.now.line
+        here.now.start
         here.now.signals.now)
         found.items) }
 {
@@ -135,28 +136,28 @@ fn push_findings(
     Ok(())
 }
 
-// Adds diagnostics of a message of whose signals these are the lines.
+// Adds diagnostics of a message whose signals begin there.
 fn push_found(
     findings: &mut Vec<Finding>,
     here: &Begun<'_, '_>,
-    named: &[RowLine<'_>],
-    rows: &KeyedLines<'_>,
+    named: &[RowStart<'_>],
+    rows: &KeyedStarts<'_>,
     found: Vec<Diagnostic>,
 ) -> Result<(), Memory>
-    requires { map key_line named.now ≡ signal_lines here.now.message.now.signals here.now.signals.now }
+    requires { map key_start named.now ≡ signal_starts here.now.message.now.signals here.now.signals.now }
     ensures { OnOk result (findings.new.items ≡ findings.old.items ++ map (findings_in rows.now here.now.message.now.signals
-        here.now.line
+        here.now.start
         here.now.signals.now)
         found.items) }
 {
     let index = Index::of(*findings.allocator(), named)?;
-    let lined = Lined {
+    let named = Named {
         message: here.message,
-        line: here.line,
+        start: here.start,
         signals: here.signals,
         index,
     };
-    push_findings(findings, &lined, rows, found)
+    push_findings(findings, &named, rows, found)
 }
 
 // Adds the diagnostics of a message. The table for overlaps is empty before and after.
@@ -165,10 +166,10 @@ fn push_message<'a, L: Lookup>(
     known: &Known<'a, L>,
     occupancy: Occupancy,
     here: &Begun<'a, '_>,
-    rows: &KeyedLines<'_>,
+    rows: &KeyedStarts<'_>,
 ) -> Result<Occupancy, Memory>
     ensures { OnOk result (findings.new.items ≡ findings.old.items ++ map (findings_in rows.now here.now.message.now.signals
-        here.now.line
+        here.now.start
         here.now.signals.now)
         (message_faults known.now here.now.message.now)) }
 {
@@ -181,7 +182,7 @@ fn push_message<'a, L: Lookup>(
     }
     let message = here.message;
     let signals = message.signals.as_slice();
-    let named = signal_lines(occupancy.allocator(), signals, here.signals)?;
+    let named = signal_starts(occupancy.allocator(), signals, here.signals)?;
     push_found(findings, here, named.as_slice(), rows, found)?;
     Ok(occupancy)
 }
@@ -192,7 +193,7 @@ pub(crate) fn push_messages<'a, L: Lookup>(
     known: &Known<'a, L>,
     messages: &'a [Message],
     starts: &Starts,
-    rows: &KeyedLines<'_>,
+    rows: &KeyedStarts<'_>,
 ) -> Result<(), Memory>
     ensures { OnOk result (findings.new.items ≡ findings.old.items ++ message_findings known.now rows.now messages.now
         starts.now.messages starts.now.signals) }
@@ -202,10 +203,10 @@ pub(crate) fn push_messages<'a, L: Lookup>(
     let mut further = starts.signals.as_slice();
     'messages: while let [message, others @ ..] = left {
         let (signals, behind) = parted(further, message.signals.len());
-        let line = first_line(heads);
+        let start = first_start(heads);
         let here = Begun {
             message,
-            line,
+            start,
             signals,
         };
         occupancy = push_message(findings, known, occupancy, &here, rows)?;

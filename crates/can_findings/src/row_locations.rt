@@ -1,4 +1,4 @@
-//! The diagnostics of entries, with their lines.
+//! The diagnostics of entries, with their locations.
 ghost use Rattle.std.specs.Prelude.{◌≡◌, [], ◌∷◌, ◌++◌, OnOk, map};
 ghost use Rattle.can_references.specs.RowFaults.{row_fault};
 ghost use Rattle.can_findings.specs.RowLocations.{findings_at, keys_at, keys_in, findings_after, front_rows, attribute_rows};
@@ -6,7 +6,7 @@ ghost use Rattle.can_findings.specs.RowLocations.{signal_rows};
 ghost use Rattle.can_findings.specs.RowLocations.{all_rows};
 
 use crate::finding::{Finding, Location};
-use crate::front::{behind_first, first_line};
+use crate::front::{behind_first, first_start};
 use can_check::Diagnostic;
 use can_keys::RowKeys;
 use can_references::{Known, Row, push_row};
@@ -15,11 +15,11 @@ use dbc_reader::{Start, Starts};
 use dbc_records::Database;
 use dbc_values::{List, Memory};
 
-// Adds diagnostics of an entry that begins in this line.
-fn push_at(findings: &mut Vec<Finding>, line: u64, found: Vec<Diagnostic>) -> Result<(), Memory>
-    ensures { OnOk result (findings.new.items ≡ findings.old.items ++ map (findings_at line) found.items) }
+// Adds diagnostics of an entry that begins there.
+fn push_at(findings: &mut Vec<Finding>, start: Start, found: Vec<Diagnostic>) -> Result<(), Memory>
+    ensures { OnOk result (findings.new.items ≡ findings.old.items ++ map (findings_at start) found.items) }
 {
-    let location = Location::Line(line);
+    let location = Location::One(start);
     for diagnostic in found {
         findings.push(Finding {
             location,
@@ -35,18 +35,18 @@ fn push_row_at<'a, L: Lookup, R: Row>(
     known: &Known<'a, L>,
     seen: &mut RowKeys<'a>,
     row: &'a R,
-    line: u64,
+    start: Start,
 ) -> Result<(), Memory>
-    ensures findings { OnOk result (findings.new.items ≡ findings.old.items ++ map (findings_at line) (row_fault known.now seen.old
+    ensures findings { OnOk result (findings.new.items ≡ findings.old.items ++ map (findings_at start) (row_fault known.now seen.old
         (R.key_of row.now))) }
     ensures seen { OnOk result (seen.new ≡ seen.old ++ R.key_of row.now ∷ []) }
 {
     let mut found = Vec::new(*findings.allocator());
     push_row(&mut found, known, seen, row)?;
-    push_at(findings, line, found)
+    push_at(findings, start, found)
 }
 
-// Adds the diagnostics of entries of one kind, which begin in these lines, given the entries before them.
+// Adds the diagnostics of entries of one kind, which begin there, given the entries before them.
 fn push_rows_at<'a, L: Lookup, R: Row>(
     findings: &mut Vec<Finding>,
     known: &Known<'a, L>,
@@ -60,7 +60,7 @@ fn push_rows_at<'a, L: Lookup, R: Row>(
 {
     let (mut left, mut further) = (rows.as_slice(), starts.as_slice());
     'rows: while let [row, others @ ..] = left {
-        push_row_at(findings, known, seen, row, first_line(further))?;
+        push_row_at(findings, known, seen, row, first_start(further))?;
         (left, further) = (others, behind_first(further));
     }
     Ok(())
