@@ -1,0 +1,44 @@
+-- The items at which parts are counted are what the form of a statement says, one after another.
+use Rattle.std.specs.Prelude.{◌≡◌, ◌⊎◌, ℕ, Bool, true, false, not, ◌&&◌, ◌||◌, List, [], ◌∷◌, ◌++◌, IsTrue}
+use Rattle.dbc_records.specs.Layout.{Word, Mark, Piece}
+use Rattle.dbc_tokens.specs.Tokens.{Token}
+use Rattle.dbc_reader.specs.Forms.{Part as FormPart, Is, Perhaps, SaysPart, Spelled}
+use Rattle.dbc_ranges.specs.Ranges.{Item, is_sign, begins_number, items_of}
+
+-- the item has these tokens
+abbrev pub IsItem : Item → List Token → Type 0
+IsItem item tokens =
+    ((tokens ≡ item.first ∷ []) × (item.last ≡ item.first)) ⊎ (tokens ≡ item.first ∷ item.last ∷ [])
+
+-- one item with these tokens, or none
+abbrev pub AreOne : List Item → List Token → Type 0
+AreOne [] tokens = tokens ≡ []
+AreOne (item ∷ []) tokens = IsItem item tokens
+AreOne (item ∷ other ∷ items) tokens = ⊥
+
+-- the items say these parts, one after another
+abbrev pub SaidBy : List FormPart → List Item → Type 0
+SaidBy [] items = items ≡ []
+SaidBy (part ∷ parts) items =
+    (own others : List Item) × (tokens : List Token) × (items ≡ own ++ others) × AreOne own tokens × SaysPart part tokens
+    × SaidBy parts others
+
+-- a mark that begins no number
+abbrev pub begins_with_mark : List FormPart → Bool
+begins_with_mark (Is (Mark mark) ∷ parts) = not (begins_number (mark ∷ []))
+begins_with_mark parts = false
+
+-- after a mark `+` or `-` there is another mark, so that it is no sign of a number, and no word is a sign
+abbrev pub signs_apart : List FormPart → Bool
+signs_apart [] = true
+signs_apart (Is (Mark mark) ∷ parts) = (not (is_sign (mark ∷ [])) || begins_with_mark parts) && signs_apart parts
+signs_apart (Is (Word word) ∷ parts) = not (is_sign word) && signs_apart parts
+signs_apart (Is (Piece piece) ∷ parts) = false
+signs_apart (Perhaps mark ∷ parts) = not (is_sign (mark ∷ [])) && signs_apart parts
+signs_apart (part ∷ parts) = signs_apart parts
+
+-- tokens that spell a form are items that say it, whatever follows
+abbrev pub ItemsSayParts : Type 0
+ItemsSayParts =
+    (parts : List FormPart) (tokens others : List Token) → IsTrue (signs_apart parts) → Spelled parts tokens
+    → (items : List Item) × (items_of (tokens ++ others) ≡ items ++ items_of others) × SaidBy parts items
