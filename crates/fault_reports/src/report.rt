@@ -7,7 +7,7 @@ ghost use Rattle.fault_reports.specs.Headlines.{cause_words, headline, BeginsSo}
 
 use crate::classes::push_classes;
 use crate::finding::push_found;
-use crate::going_on::next_statement;
+use crate::guesses::{Guesses, MOST_GUESSES};
 use crate::marked_line::push_marked_line;
 use crate::reason::Reason;
 use crate::words::push_all;
@@ -25,9 +25,6 @@ pub struct Report<'t> {
     /// What is said.
     pub words: Vec<u8>,
 }
-
-// The most faults that are guessed at.
-const MOST_GUESSES: usize = 20;
 
 // The number and the word of a cause.
 #[tactic(auto, unfolding(crate::specs::Headlines::cause_words))]
@@ -72,17 +69,6 @@ fn push_fault(alloc: Global, text: &mut Vec<u8>, place: &Place<'_>) -> Result<()
     push_all(text, &[b"\n"])
 }
 
-// How many LF the bytes have.
-fn line_feeds(bytes: &[u8]) -> u64 {
-    let mut count = 0u64;
-    for b in bytes {
-        if *b == b'\n' {
-            count = count.saturating_add(1);
-        }
-    }
-    count
-}
-
 // Puts what is said of the faults that are guessed at after the text: those after the first, which stands in this line.
 fn push_guesses(
     alloc: Global,
@@ -90,22 +76,14 @@ fn push_guesses(
     line: u64,
     first: &Place<'_>,
 ) -> Result<(), Memory> {
-    let mut line = line.saturating_add(line_feeds(first.token));
-    let mut behind = first.behind;
+    let mut guesses = Guesses::after(line, first);
     for _ in 0..MOST_GUESSES {
-        let Some(resumption) = next_statement(behind) else {
+        let Some((line, place)) = guesses.next(alloc)? else {
             return Ok(());
         };
-        line = line.saturating_add(resumption.lines);
-        let Some(place) = fault_place(alloc, resumption.rest, resumption.beginning)? else {
-            return Ok(());
-        };
-        let fault_line = line.saturating_add(place.fault.line).saturating_sub(1);
         push_all(text, &[b"\nguess: "])?;
-        push_headline(text, fault_line, place.fault.cause)?;
+        push_headline(text, line, place.fault.cause)?;
         push_fault(alloc, text, &place)?;
-        line = fault_line.saturating_add(line_feeds(place.token));
-        behind = place.behind;
     }
     push_all(text, &[b"\nNo further guesses.\n"])
 }
