@@ -14,6 +14,8 @@ use Rattle.candesk_runs.specs.Decoding.{Runs, RunsToJson, RunsToCsv}
 use Rattle.candesk_runs.specs.declared.fault.RunFault.{RunFault}
 use Rattle.candesk_runs.specs.Dumping.{DumpsPictures, DumpsObjects}
 use Rattle.candesk_runs.specs.Explaining.{ExplainsText}
+use Rattle.candesk_runs.specs.FindingObjects.{WritesObjects}
+use Rattle.candesk_runs.specs.declared.checking.Verdict.{Verdict}
 use Rattle.candesk_runs.specs.Printing.{PrintsText}
 use Rattle.candesk_runs.specs.Statuses.{Ends, well}
 use Rattle.candesk_calls.specs.Scripting.{SessionRuns}
@@ -38,16 +40,28 @@ Dumped forms.Text text old new outcome = DumpsPictures text old new outcome
 Dumped forms.Json text old new outcome = DumpsObjects text old new outcome
 Dumped forms.Csv text old new outcome = DumpsPictures text old new outcome
 
+-- a database was checked, and its diagnostics were written in this form; no words ask for rows of them
+abbrev pub Checked : Form → List ℕ → Written → Written → Result Verdict RunFault → Type 0
+Checked forms.Text text old new outcome = ChecksAll text old new outcome
+Checked forms.Json text old new outcome = WritesObjects text old new outcome
+Checked forms.Csv text old new outcome = ChecksAll text old new outcome
+
+-- a database was explained in this form; no words ask for rows of it
+abbrev pub Explained : Form → List ℕ → Written → Written → Result Verdict RunFault → Type 0
+Explained forms.Text text old new outcome = ExplainsText text old new outcome
+Explained forms.Json text old new outcome = WritesObjects text old new outcome
+Explained forms.Csv text old new outcome = ExplainsText text old new outcome
+
 -- the command ended so, and wrote this form; all but `decode` and `session` read nothing from the source
 abbrev pub EndsWith : Command → Form → Options → List ℕ → Unread → Unread → Written → Written → ℕ → Type 0
 EndsWith commands.Check form options text before after old new status =
-    (after ≡ before) × Ends verdict_status (ChecksAll text old new) status
+    (after ≡ before) × Ends verdict_status (Checked form text old new) status
 EndsWith commands.Decode form options text before after old new status =
     Ends well (Decoded form text options.short before after old new) status
 EndsWith commands.Dump form options text before after old new status = (after ≡ before)
     × Ends well (Dumped form text old new) status
 EndsWith commands.Explain form options text before after old new status =
-    (after ≡ before) × Ends verdict_status (ExplainsText text old new) status
+    (after ≡ before) × Ends verdict_status (Explained form text old new) status
 EndsWith commands.Print form options text before after old new status = (after ≡ before)
     × Ends well (PrintsText text old new) status
 EndsWith commands.Session form options text before after old new status =

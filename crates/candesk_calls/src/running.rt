@@ -1,12 +1,12 @@
 //! A job on a file's bytes, the standard streams and an exit status.
 ghost use Rattle.std.specs.Prelude.{◌≡◌};
 ghost use Rattle.candesk_calls.specs.Scripting.{outcome_of, SessionRuns};
-ghost use Rattle.candesk_calls.specs.Run.{Decoded, Dumped, EndsWith, options_of};
+ghost use Rattle.candesk_calls.specs.Run.{Checked, Decoded, Dumped, Explained, EndsWith, options_of};
 
 use can_decode::Short;
 use candesk_runs::{
-    RunFault, check_run, decode_csv_run, decode_json_run, decode_run, dump_json_run, dump_run,
-    ended, ended_with_verdict, explain_run, print_run,
+    RunFault, Verdict, check_run, decode_csv_run, decode_json_run, decode_run, dump_json_run,
+    dump_run, ended, ended_with_verdict, explain_json_run, explain_run, print_run,
 };
 use candesk_words::{Command, Form, Job};
 use dbc_model::{Sink, Source};
@@ -69,6 +69,36 @@ fn dumped<W: Sink>(alloc: Global, job: &Job, text: &[u8], sink: &mut W) -> Resul
     }
 }
 
+// Checks a database, in the form that the command line chooses.
+fn checked<W: Sink>(
+    alloc: Global,
+    job: &Job,
+    text: &[u8],
+    sink: &mut W,
+) -> Result<Verdict, RunFault>
+    ensures { Checked job.now.form text.now (W.written sink.old) (W.written sink.new) result }
+{
+    match job.form {
+        Form::Json => explain_json_run(alloc, text, sink),
+        Form::Text | Form::Csv => check_run(alloc, text, sink),
+    }
+}
+
+// Explains a database, in the form that the command line chooses.
+fn explained<W: Sink>(
+    alloc: Global,
+    job: &Job,
+    text: &[u8],
+    sink: &mut W,
+) -> Result<Verdict, RunFault>
+    ensures { Explained job.now.form text.now (W.written sink.old) (W.written sink.new) result }
+{
+    match job.form {
+        Form::Json => explain_json_run(alloc, text, sink),
+        Form::Text | Form::Csv => explain_run(alloc, text, sink),
+    }
+}
+
 // Runs a script, by the options of the command line.
 fn scripted<R: Source, W: Sink>(
     alloc: Global,
@@ -114,10 +144,10 @@ pub fn run_keyed<R: Source, W: Sink, E: Sink>(
         (W.written sink.old) (W.written sink.new) result }
 {
     match job.command {
-        Command::Check => ended_with_verdict(check_run(alloc, text, sink), errors),
+        Command::Check => ended_with_verdict(checked(alloc, job, text, sink), errors),
         Command::Decode => ended(decoded(alloc, job, text, source, sink), errors),
         Command::Dump => ended(dumped(alloc, job, text, sink), errors),
-        Command::Explain => ended_with_verdict(explain_run(alloc, text, sink), errors),
+        Command::Explain => ended_with_verdict(explained(alloc, job, text, sink), errors),
         Command::Print => ended(print_run(alloc, text, sink), errors),
         Command::Session => {
             let options = options_of(job);

@@ -1,7 +1,7 @@
 -- From what is done with a database to what is done with the text that has it.
 use Rattle.std.proofs.Common.{◌≡◌, ℕ, List, Option, Some, None, Result, Ok, Err, refl, sym, ap, subst, ◌∙◌, inl, inr}
 use Rattle.std.specs.Option.{option_map, IfSome}
-use Rattle.byte_devices.specs.Device.{Unread, Written, Wrote}
+use Rattle.byte_devices.specs.Device.{Unread, Written, Wrote, Broke}
 use Rattle.dbc_records.specs.Databases.{Database}
 use Rattle.dbc_tokens.specs.declared.fault.Cause.TheVariants as causes
 use Rattle.dbc_tokens.specs.declared.fault.ReadFault.{ReadFault}
@@ -20,6 +20,9 @@ use Rattle.candesk_runs.specs.declared.fault.RunFault.TheVariants as run
 use Rattle.line_stream.specs.declared.fault.StreamFault.TheVariants as streams
 use Rattle.candesk_runs.specs.declared.checking.Verdict.{Verdict}
 use Rattle.candesk_runs.specs.Explaining.{ExplainsFound, ExplainsFault, ExplainsText}
+use Rattle.candesk_runs.specs.FindingObjects.{WritesFindings, WritesObjects}
+use Rattle.json_findings.specs.declared.fault.FaultLines.{FaultLines}
+use Rattle.json_findings.specs.Faults.{BeginsWithFault, AreOfFaults}
 use Rattle.can_findings.specs.AllFindings.{all_findings}
 use Rattle.can_decode.specs.declared.short.Short.{Short}
 use Rattle.can_decode.specs.DecodedLines.{Bus}
@@ -63,6 +66,18 @@ explained text database starts read old new (Err (run.Stream streams.LongLine)) 
 explained text database starts read old new (Err (run.Stream streams.Read)) done = absurd done
 explained text database starts read old new (Err (run.Stream streams.Memory)) done = absurd done
 explained text database starts read old new (Err run.Memory) done = done
+
+-- objects of findings
+pub objects_written : (text : List ℕ) (database : Database) (starts : Starts) → HasLocatedDatabase text database starts
+    → (old new : Written) (result : Result Verdict RunFault) → WritesFindings text (all_findings database starts) old new result
+    → WritesObjects text old new result
+objects_written text database starts read old new (Ok verdict) done = (database, starts, read, done)
+objects_written text database starts read old new (Err (run.Read fault)) done = absurd done
+objects_written text database starts read old new (Err (run.Stream streams.Write)) done = inl (database, starts, read, done)
+objects_written text database starts read old new (Err (run.Stream streams.LongLine)) done = absurd done
+objects_written text database starts read old new (Err (run.Stream streams.Read)) done = absurd done
+objects_written text database starts read old new (Err (run.Stream streams.Memory)) done = absurd done
+objects_written text database starts read old new (Err run.Memory) done = inr (database, starts, read, done)
 
 -- entries after the names of the columns
 pub behind_header : (bus : Bus) (before after : Unread) (old begun new : Written) (result : Result ℕ RunFault)
@@ -127,3 +142,35 @@ pub no_report : (text : List ℕ) (fault : ReadFault) (told : Option Report) →
     → IsPlace grammar.text text (option_map (λ (r : Report). found_of r.place) told) → ⊥
 no_report text fault None is first place = has_place text fault first place
 no_report text fault (Some r) is first place = absurd cc
+
+-- ---- objects of faults
+
+pub of_some : (text : List ℕ) (told : Option FaultLines) (lines : FaultLines) → told ≡ Some lines → AreOfFaults text told
+    → BeginsWithFault text lines.fault lines.words.items
+of_some text None lines is has = absurd cc
+of_some text (Some other) lines is has =
+    let same : other ≡ lines = cc in
+    subst (λ (x : FaultLines). BeginsWithFault text x.fault x.words.items) same has
+
+-- there are some
+pub no_lines : (text : List ℕ) (fault : ReadFault) (told : Option FaultLines) → told ≡ None → HasFirstFault grammar.text text fault
+    → AreOfFaults text told → ⊥
+no_lines text fault None is first none = has_place text fault first none
+no_lines text fault (Some lines) is first has = absurd cc
+
+-- the fault that they begin with is the first
+first_of : (text : List ℕ) (fault : ReadFault) (words : List ℕ) → BeginsWithFault text fault words
+    → HasFirstFault grammar.text text fault
+first_of text fault words (told, place, same, others, is) = subst (HasFirstFault grammar.text text) same place.0
+
+pub faults_written : (text : List ℕ) (fault : ReadFault) (words written : List ℕ) (old new : Written)
+    → BeginsWithFault text fault words → written ≡ words → Wrote old new written
+    → WritesObjects text old new (Err (run.Read fault))
+faults_written text fault words written old new begins is wrote =
+    (first_of text fault words begins, words, begins, subst (λ (w : List ℕ). Wrote old new w) is wrote)
+
+pub faults_broke : (text : List ℕ) (fault : ReadFault) (words written : List ℕ) (old new : Written)
+    → BeginsWithFault text fault words → written ≡ words → Broke old new written
+    → WritesObjects text old new (Err (run.Stream streams.Write))
+faults_broke text fault words written old new begins is broke =
+    inr (fault, words, begins, subst (λ (w : List ℕ). Broke old new w) is broke)

@@ -1,8 +1,8 @@
 //! What each command but `session` does with a database and the standard streams.
 //!
-//! [`decode_run`], [`decode_json_run`], [`decode_csv_run`], [`print_run`], [`dump_run`], [`dump_json_run`], [`check_run`] and
-//! [`explain_run`] say by their contracts what is written; [`ended`] and [`ended_with_verdict`] make an exit status and the line of
-//! a fault of their outcomes.
+//! [`decode_run`], [`decode_json_run`], [`decode_csv_run`], [`print_run`], [`dump_run`], [`dump_json_run`], [`check_run`],
+//! [`explain_run`] and [`explain_json_run`] say by their contracts what is written; [`ended`] and
+//! [`ended_with_verdict`] make an exit status and the line of a fault of their outcomes.
 #![tactic(auto)]
 
 mod checking;
@@ -11,6 +11,7 @@ mod dumping;
 mod ending;
 mod explaining;
 mod fault;
+mod finding_objects;
 mod objects;
 mod printing;
 mod rows;
@@ -22,6 +23,7 @@ pub use dumping::dump_run;
 pub use ending::{ended, ended_with_verdict, report, status};
 pub use explaining::explain_run;
 pub use fault::RunFault;
+pub use finding_objects::explain_json_run;
 pub use line_stream::StreamFault;
 pub use objects::dump_json_run;
 pub use printing::print_run;

@@ -37,6 +37,17 @@ fn words(rt: HostRuntime) -> Result<(), Fail> {
             })
         )
     );
+    let job = job_of(rt.alloc(), ["check", "f", "--json"].as_slice());
+    assert!(rt;
+        matches!(
+            &job,
+            Ok(Job {
+                command: Command::Check,
+                form: Form::Json,
+                ..
+            })
+        )
+    );
     let both = job_of(rt.alloc(), ["decode", "--csv", "--json", "f"].as_slice());
     assert!(rt; matches!(&both, Err(NoJob::Usage)));
     let version = job_of(rt.alloc(), ["--version"].as_slice());

@@ -53,9 +53,9 @@ csv_rule = record (new_rule (codes "csv")) { long = Some (codes "csv"); action =
 unfoldable pub on_decode : App
 on_decode = with_rule (with_rule (on_frames (codes "decode")) json_rule) csv_rule
 
--- `dump`, which takes `--json` too
-unfoldable pub on_dump : App
-on_dump = with_rule (on_file (codes "dump")) json_rule
+-- a command that takes a FILE, and `--json`
+unfoldable pub on_objects : Text → App
+on_objects name = with_rule (on_file name) json_rule
 
 -- `--keep` with a number of lines
 abbrev pub keep_rule : Rule
@@ -81,10 +81,10 @@ with_command line command = with_subcommand line command.top
 
 unfoldable pub command_line : App
 command_line =
-    let check = with_command before_command (on_file (codes "check")) in
+    let check = with_command before_command (on_objects (codes "check")) in
     let decode = with_command check on_decode in
-    let dump = with_command decode on_dump in
-    let explain = with_command dump (on_file (codes "explain")) in
+    let dump = with_command decode (on_objects (codes "dump")) in
+    let explain = with_command dump (on_objects (codes "explain")) in
     let print = with_command explain (on_file (codes "print")) in
     with_command print on_session
 

@@ -168,7 +168,8 @@ fn job_in(alloc: Global, matches: &ArgMatches<'_>) -> Result<Job, NoJob>
 
 /// Reads the words after the program's name. Options stand before or after FILE, `--` ends them, `help` is the
 /// word for `--help`, and `--version` and `-V` stand before a command alone. `decode` and `session` alone take `--short`, `decode`
-/// takes `--json` or `--csv`, `dump` takes `--json`, and `session` alone takes `--keep`, with an integer from 1 to 1,048,576.
+/// takes `--json` or `--csv`, `check`, `dump` and `explain` take `--json`, and `session` alone takes `--keep`, with an integer from
+/// 1 to 1,048,576.
 pub fn job_of<'a>(alloc: Global, words: &'a [&'a str]) -> Result<Job, NoJob>
     ensures { IsJobOf (map (λ word. word.now) words.now) result }
 {

@@ -2,7 +2,7 @@
 ghost use Rattle.std.specs.Prelude.{◌≡◌, false, codes, IfOk};
 ghost use Rattle.clap.specs.Words.{app_of};
 ghost use Rattle.clap.specs.declared.builder.command.Command.TheViews.{out-Command};
-ghost use Rattle.candesk_words.specs.Words.{before_command, on_file, on_frames, on_decode, on_dump, on_session, with_command};
+ghost use Rattle.candesk_words.specs.Words.{before_command, on_file, on_frames, on_decode, on_objects, on_session, with_command};
 ghost use Rattle.candesk_words.specs.Words.{command_line};
 
 use crate::notes;
@@ -11,6 +11,9 @@ use clap::builder::ValueParser;
 use clap::{Arg, ArgAction, Command};
 use kept_lines::LineCount;
 use std::alloc::{AllocError, Global};
+
+// The help of `--json` of `check` and `explain`.
+const FINDINGS: &str = "Write a JSON object for each problem, with its place in the text";
 
 // The words before a command.
 #[tactic(auto, unfolding(crate::specs::Words::before_command))]
@@ -83,17 +86,23 @@ fn on_decode<'a>(alloc: Global, about: &'a str, notes: &'a str) -> Result<Comman
         .arg(csv)
 }
 
-// `dump`, which takes `--json` too.
-#[tactic(auto, unfolding(crate::specs::Words::on_dump))]
-fn on_dump<'a>(alloc: Global, about: &'a str, notes: &'a str) -> Result<Command<'a>, AllocError>
-    ensures app { IfOk result (λ command. app_of command ≡ on_dump) }
+// A command that takes a FILE, and `--json`, of which this is the help.
+#[tactic(auto, unfolding(crate::specs::Words::on_objects))]
+fn on_objects<'a>(
+    alloc: Global,
+    name: &'a str,
+    about: &'a str,
+    notes: &'a str,
+    help: &'a str,
+) -> Result<Command<'a>, AllocError>
+    ensures app { IfOk result (λ command. app_of command ≡ on_objects name.entry.now) }
     ensures local { IfOk result (λ command. (out-Command command).has_globals ≡ false) }
 {
     let json = Arg::new(alloc, "json")
         .long("json")
         .action(ArgAction::SetTrue)
-        .help("Write a JSON object for each message, and one for the rest");
-    on_file(alloc, "dump", about, notes)?.arg(json)
+        .help(help);
+    on_file(alloc, name, about, notes)?.arg(json)
 }
 
 // `session`, which takes `--keep` too.
@@ -121,10 +130,10 @@ fn with_command<'a>(line: Command<'a>, command: Command<'a>) -> Result<Command<'
 }
 
 fn with_check<'a>(alloc: Global, line: Command<'a>) -> Result<Command<'a>, AllocError>
-    ensures { IfOk result (λ longer. app_of longer ≡ with_command (app_of line.entry) (on_file (codes "check"))) }
+    ensures { IfOk result (λ longer. app_of longer ≡ with_command (app_of line.entry) (on_objects (codes "check"))) }
 {
     let about = "Report problems in a database";
-    let command = on_file(alloc, "check", about, notes::CHECK)?;
+    let command = on_objects(alloc, "check", about, notes::CHECK, FINDINGS)?;
     with_command(line, command)
 }
 
@@ -137,18 +146,19 @@ fn with_decode<'a>(alloc: Global, line: Command<'a>) -> Result<Command<'a>, Allo
 }
 
 fn with_dump<'a>(alloc: Global, line: Command<'a>) -> Result<Command<'a>, AllocError>
-    ensures { IfOk result (λ longer. app_of longer ≡ with_command (app_of line.entry) on_dump) }
+    ensures { IfOk result (λ longer. app_of longer ≡ with_command (app_of line.entry) (on_objects (codes "dump"))) }
 {
     let about = "Draw the layout of each message, bit by bit";
-    let command = on_dump(alloc, about, notes::DUMP)?;
+    let help = "Write a JSON object for each message, and one for the rest";
+    let command = on_objects(alloc, "dump", about, notes::DUMP, help)?;
     with_command(line, command)
 }
 
 fn with_explain<'a>(alloc: Global, line: Command<'a>) -> Result<Command<'a>, AllocError>
-    ensures { IfOk result (λ longer. app_of longer ≡ with_command (app_of line.entry) (on_file (codes "explain"))) }
+    ensures { IfOk result (λ longer. app_of longer ≡ with_command (app_of line.entry) (on_objects (codes "explain"))) }
 {
     let about = "Explain why a database is rejected, or what `check` reports";
-    let command = on_file(alloc, "explain", about, notes::EXPLAIN)?;
+    let command = on_objects(alloc, "explain", about, notes::EXPLAIN, FINDINGS)?;
     with_command(line, command)
 }
 
@@ -169,7 +179,8 @@ fn with_session<'a>(alloc: Global, line: Command<'a>) -> Result<Command<'a>, All
 }
 
 /// The command line: `candesk check FILE`, and so with `decode`, `dump`, `explain`, `print` and `session`, of which `decode`
-/// and `session` take `--short` too, `decode` takes `--json` and `--csv`, `dump` takes `--json`, and `session` takes `--keep N`.
+/// and `session` take `--short` too, `decode` takes `--json` and `--csv`, `check`, `dump` and `explain` take `--json`, and
+/// `session` takes `--keep N`.
 #[tactic(auto, unfolding(crate::specs::Words::command_line))]
 pub fn command_line<'a>(alloc: Global) -> Result<Command<'a>, AllocError>
     ensures { IfOk result (λ line. app_of line ≡ command_line) }

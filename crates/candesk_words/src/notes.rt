@@ -3,6 +3,7 @@
 /// Of `check`.
 pub const CHECK: &str = "\
 Writes a line for each problem: its code, the code's name, and what it is about. The exit status is 1 if there are any.
+With `--json`, each problem is a JSON object that also has the bytes of the text that it is about.
 
 Example: a message whose sender isn't a node:
   $ printf 'BU_: Ecu\\nBO_ 1 A: 0 N\\n' > sender.dbc
@@ -36,7 +37,8 @@ Example:
 pub const EXPLAIN: &str = "\
 If the database is rejected, writes the line of its first error with the token underlined, what was found, what is
 expected, and the usual reason with its remedy; then the same, as guesses, for later errors. Otherwise writes what
-`check` reports, with the line of each problem and its remedy. The exit status is 1 if there is any.
+`check` reports, with the line of each problem and its remedy. The exit status is 1 if there is any. With `--json`, each
+error, guess or problem is a JSON object that also has the bytes of the text that it is about.
 
 Example: a limit that isn't a number:
   $ printf 'BO_ 1 A: 1 N\\n SG_ S : 0|8@1+ (1,0) [0|inf] \"\"\\n' > limit.dbc
