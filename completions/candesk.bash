@@ -8,9 +8,9 @@ _candesk() {
         return
     fi
     case $command in
-        check | explain | print) options="--help" ;;
+        print) options="--help" ;;
         decode) options="--short --json --csv --help" ;;
-        dump) options="--json --help" ;;
+        check | dump | explain) options="--json --help" ;;
         session) options="--short --keep --help" ;;
         help)
             mapfile -t COMPREPLY < <(compgen -W "check decode dump explain print session" -- "$word")

@@ -18,5 +18,6 @@ complete -c candesk -n "__fish_seen_subcommand_from check dump explain print dec
 complete -c candesk -n "__fish_seen_subcommand_from decode session" -l short -d 'Decode truncated frames as far as they go'
 complete -c candesk -n "__fish_seen_subcommand_from decode" -l json -d 'Write a JSON object for each line'
 complete -c candesk -n "__fish_seen_subcommand_from decode" -l csv -d 'Write a CSV row for each signal'
+complete -c candesk -n "__fish_seen_subcommand_from check explain" -l json -d 'Write a JSON object for each problem'
 complete -c candesk -n "__fish_seen_subcommand_from dump" -l json -d 'Write a JSON object for each message'
 complete -c candesk -n "__fish_seen_subcommand_from session" -l keep -x -d 'Keep only the last N lines'
