@@ -29,7 +29,7 @@ LANES = (
         "dbc_values", "dbc_records", "byte_devices", "kept_lines", "log_frames", "ready_texts", "line_stream", "json_texts",
         "dbc_edits", "dbc_model", "candesk_words",
     ),
-    ("dbc_tokens", "dbc_reader", "fault_places", "fault_reports"),
+    ("dbc_tokens", "dbc_reader", "dbc_ranges", "fault_places", "fault_reports"),
     ("can_rows", "can_bits", "can_mux", "can_overlap", "can_diagnostics", "can_keys", "can_references", "can_check"),
     ("can_layout", "can_choice", "can_decode"),
 )
