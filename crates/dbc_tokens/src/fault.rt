@@ -1,33 +1,67 @@
 //! The faults that reading a text ends with.
+ghost use Rattle.std.specs.Prelude.{◌≡◌};
+ghost use Rattle.dbc_tokens.specs.Causes.{cause_number, cause_word};
 
 use std::fmt::{self, Formatter, Write};
-use thiserror::Error;
 
-/// Why a text is not read. Each cause is shown with its number.
-#[derive(Clone, Copy, Debug, PartialEq, Eq, Error)]
+/// Why a text is rejected. Each cause is shown with its number, as `2 Statement`.
+#[derive(Clone, Copy, Debug, PartialEq, Eq)]
 pub enum Cause {
     /// No token begins here, or a string has no end.
-    #[error("1 Token")]
     Token = 1,
     /// This token can't stand here, whatever follows it; or the text ends where it may not.
-    #[error("2 Statement")]
     Statement = 2,
     /// A second signal of one name in a message.
-    #[error("3 RepeatedSignal")]
     RepeatedSignal = 3,
     /// A message after the 65,535th.
-    #[error("4 MessagesFull")]
     MessagesFull = 4,
     /// A signal of a message after its 999th.
-    #[error("5 SignalsFull")]
     SignalsFull = 5,
-    /// A whole number, or that of a tag, outside the bound of its place.
-    #[error("6 Limit")]
+    /// A whole number, or that of a multiplexer indicator, outside its bound.
     Limit = 6,
-    /// Want of memory, whatever the text.
-    #[error("90 Memory")]
+    /// Out of memory, whatever the text.
     Memory = 90,
 }
+
+impl Cause {
+    /// The cause's number.
+    pub fn number(self) -> u8
+        ensures { result ≡ cause_number self }
+    {
+        match self {
+            Cause::Token => 1,
+            Cause::Statement => 2,
+            Cause::RepeatedSignal => 3,
+            Cause::MessagesFull => 4,
+            Cause::SignalsFull => 5,
+            Cause::Limit => 6,
+            Cause::Memory => 90,
+        }
+    }
+
+    /// The cause's name, as above.
+    pub fn word(self) -> &'static str
+        ensures { result.now ≡ cause_word self }
+    {
+        match self {
+            Cause::Token => "Token",
+            Cause::Statement => "Statement",
+            Cause::RepeatedSignal => "RepeatedSignal",
+            Cause::MessagesFull => "MessagesFull",
+            Cause::SignalsFull => "SignalsFull",
+            Cause::Limit => "Limit",
+            Cause::Memory => "Memory",
+        }
+    }
+}
+
+impl fmt::Display for Cause {
+    fn fmt<W: Write>(&self, f: &mut Formatter<W>) -> fmt::Result {
+        write!(f, "{} {}", self.number(), self.word())
+    }
+}
+
+impl std::error::Error for Cause {}
 
 /// Where and why reading a text ended. Lines count from 1, and a line ends at each LF; a fault for want of memory has
 /// the line 0. It shows itself as `line 3: 2 Statement`, and want of memory as `90 Memory`.
