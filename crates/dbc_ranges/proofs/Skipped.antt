@@ -6,7 +6,7 @@ use Rattle.std.proofs.lemmas.List.{drop-drop}
 use Rattle.std.specs.Prelude.{MatchOption}
 use Rattle.std.specs.Option.{option_map}
 use Rattle.dbc_ranges.specs.declared.items.Item.{Item as CodedItem}
-use Rattle.dbc_ranges.specs.Ranges.{Item, item_of, value_of, is_value, described}
+use Rattle.dbc_ranges.specs.Ranges.{Item, item_of, value_of, is_value, described_value}
 
 get_none : (n : ℕ) (items : List Item) → drop n items ≡ [] → slice_get items n ≡ None
 get_none n [] none = refl
@@ -40,15 +40,15 @@ taken n items old new (Some item) one so = sym (get_one n items (item_of item) n
 -- ---- value descriptions
 
 -- one of this number is passed by
-pub described_after : (number : ℤ) (before : ℕ) (item text : Item) (items : List Item) → is_value number (value_of item) ≡ true
-    → (before ≡ 0 → ⊥) → described number before (item ∷ text ∷ items) ≡ described number (before - 1) items
-described_after number zero item text items is some = absurd (some refl)
-described_after number (suc before) item text items is some =
+pub value_after_same : (number : ℤ) (before : ℕ) (item text : Item) (items : List Item) → is_value number (value_of item) ≡ true
+    → (before ≡ 0 → ⊥) → described_value number before (item ∷ text ∷ items) ≡ described_value number (before - 1) items
+value_after_same number zero item text items is some = absurd (some refl)
+value_after_same number (suc before) item text items is some =
     let one : suc before - 1 ≡ before = omega arith in
     rw (is, one) refl
 
 -- one of another number is passed by
-pub described_past : (number : ℤ) (before : ℕ) (item text : Item) (items : List Item) → is_value number (value_of item) ≡ false
-    → described number before (item ∷ text ∷ items) ≡ described number before items
-described_past number zero item text items isnt = rw isnt refl
-described_past number (suc before) item text items isnt = rw isnt refl
+pub value_after_other : (number : ℤ) (before : ℕ) (item text : Item) (items : List Item) → is_value number (value_of item) ≡ false
+    → described_value number before (item ∷ text ∷ items) ≡ described_value number before items
+value_after_other number zero item text items isnt = rw isnt refl
+value_after_other number (suc before) item text items isnt = rw isnt refl

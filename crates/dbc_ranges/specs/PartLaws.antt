@@ -1,4 +1,4 @@
--- The items at which parts are counted are what the form of a statement says, one after another.
+-- The items by which parts are counted are the parts of the form of a statement, one after another.
 use Rattle.std.specs.Prelude.{◌≡◌, ◌⊎◌, ℕ, Bool, true, false, not, ◌&&◌, ◌||◌, List, [], ◌∷◌, ◌++◌, IsTrue}
 use Rattle.dbc_records.specs.Layout.{Word, Mark, Piece}
 use Rattle.dbc_tokens.specs.Tokens.{Token}

@@ -1,7 +1,7 @@
 -- The byte ranges of the parts of a statement.
 -- Source: the DBC file format, the section of each statement; what is a part of its own is the profile of candesk.
-use Rattle.std.specs.Prelude.{ℕ, zero, suc, ℤ, pos, neg_ℤ, ◌+◌, ◌-◌, ◌%◌, ◌^◌, Bool, true, false, ◌&&◌, ◌||◌, List, [], ◌∷◌}
-use Rattle.std.specs.Prelude.{length, drop, slice_get, codes}
+use Rattle.std.specs.Prelude.{ℕ, ℤ, pos, neg_ℤ, ◌+◌, ◌-◌, ◌%◌, ◌^◌, Bool, true, false, ◌&&◌, ◌||◌, List, [], ◌∷◌}
+use Rattle.std.specs.Prelude.{length, drop, filter, slice_get, codes}
 use Rattle.std.specs.Prelude.{Option, Some, None, option_map, if◌then◌else◌}
 use Rattle.std.specs.List.{find}
 use Rattle.std.specs.Ordering.{int_eq}
@@ -91,15 +91,15 @@ part_of coded.FloatKind = FloatKind
 part_of (coded.Value wanted) = Value wanted.number wanted.index
 part_of (coded.Key count) = Key count
 
--- behind the first colon
-abbrev pub behind_colon : List Item → List Item
-behind_colon [] = []
-behind_colon (item ∷ items) = if bytes_eq item.first.bytes (codes ":") then items else behind_colon items
+-- what is after the first colon
+abbrev pub after_colon : List Item → List Item
+after_colon [] = []
+after_colon (item ∷ items) = if bytes_eq item.first.bytes (codes ":") then items else after_colon items
 
--- behind this mark, if it is there
-abbrev pub behind_mark : List ℕ → List Item → List Item
-behind_mark mark [] = []
-behind_mark mark (item ∷ items) = if bytes_eq item.first.bytes mark then items else item ∷ items
+-- what is after this mark, if it comes first
+abbrev pub without_mark : List ℕ → List Item → List Item
+without_mark mark [] = []
+without_mark mark (item ∷ items) = if bytes_eq item.first.bytes mark then items else item ∷ items
 
 -- the first item with these bytes
 abbrev pub named : List ℕ → List Item → Option Item
@@ -122,14 +122,16 @@ abbrev pub is_value : ℤ → Option ℤ → Bool
 is_value number None = false
 is_value number (Some value) = int_eq value number
 
--- of value descriptions, each a number and a text: the one of this number at this index
-abbrev pub described : ℤ → ℕ → List Item → Option Item
-described number index [] = None
-described number index (item ∷ []) = None
-described number zero (item ∷ text ∷ items) =
-    if is_value number (value_of item) then Some item else described number zero items
-described number (suc index) (item ∷ text ∷ items) =
-    if is_value number (value_of item) then described number index items else described number (suc index) items
+-- the numbers of value descriptions, each of which is followed by its text
+abbrev pub described_values : List Item → List Item
+described_values [] = []
+described_values (item ∷ []) = []
+described_values (item ∷ text ∷ items) = item ∷ described_values items
+
+-- of value descriptions, the one at this index among those of this number
+abbrev pub described_value : ℤ → ℕ → List Item → Option Item
+described_value number index items =
+    slice_get (filter (λ item. is_value number (value_of item)) (described_values items)) index
 
 -- the first item of a part and its last, which is the same for most
 abbrev pub Bounds : Type 0
@@ -151,13 +153,13 @@ abbrev pub bounds_of : Part → List Item → Bounds
 bounds_of Number items = single (slice_get items 1)
 bounds_of Name items = single (slice_get items 2)
 bounds_of Sender items = single (slice_get items 5)
-bounds_of Position items = between 0 4 (behind_colon items)
-bounds_of Length items = single (slice_get (behind_colon items) 2)
-bounds_of Scale items = between 7 9 (behind_colon items)
-bounds_of (Receiver name) items = single (named name (drop 17 (behind_colon items)))
+bounds_of Position items = between 0 4 (after_colon items)
+bounds_of Length items = single (slice_get (after_colon items) 2)
+bounds_of Scale items = between 7 9 (after_colon items)
+bounds_of (Receiver name) items = single (named name (drop 17 (after_colon items)))
 bounds_of Multiplexor items = single (slice_get items (if begins_with (codes "SG_") items then 2 else 3))
-bounds_of FloatKind items = single (slice_get (behind_mark (codes ":") (drop 3 items)) 0)
-bounds_of (Value number index) items = single (described number index (drop 3 items))
+bounds_of FloatKind items = single (slice_get (without_mark (codes ":") (drop 3 items)) 0)
+bounds_of (Value number index) items = single (described_value number index (drop 3 items))
 bounds_of (Key count) items = between 0 (count - 1) items
 
 -- ---- ranges

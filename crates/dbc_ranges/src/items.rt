@@ -1,11 +1,11 @@
 //! The items of a statement: its tokens, each sign together with its number.
 ghost use Rattle.std.specs.Prelude.{◌≡◌, ◌+◌, ◌∷◌, [], MatchOption, if◌then◌else◌, drop, option_map, slice_get};
 ghost use Rattle.dbc_tokens.specs.Views.{left, token_of};
-ghost use Rattle.dbc_ranges.specs.Ranges.{is_sign, begins_number, is_signed, items_of, item_of, items_left, behind_colon};
-ghost use Rattle.dbc_ranges.specs.Ranges.{behind_mark, named, value_of, is_value, described, begins_with};
+ghost use Rattle.dbc_ranges.specs.Ranges.{is_sign, begins_number, is_signed, items_of, item_of, items_left, after_colon};
+ghost use Rattle.dbc_ranges.specs.Ranges.{without_mark, named, value_of, is_value, described_value, begins_with};
 ghost use Rattle.dbc_tokens.specs.Places.{tokens_of};
 
-use crate::part::Described;
+use crate::part::DescribedValue;
 use dbc_tokens::{Next, Token, Tokens};
 use dbc_values::{Whole, is_digit, same, whole_of};
 
@@ -29,7 +29,7 @@ impl<'t> Item<'t> {
     }
 
     // Whether it is the number of this description.
-    fn is(self, wanted: Described) -> bool
+    fn is(self, wanted: DescribedValue) -> bool
         ensures { result ≡ is_value wanted.number (value_of (item_of self.entry)) }
     {
         match self.value() {
@@ -99,7 +99,7 @@ impl<'t> Items<'t> {
         }
     }
 
-    /// Leaves out so many items.
+    /// Skips so many items.
     pub(crate) fn skip(&mut self, count: usize)
         ensures { items_left self.new ≡ drop count (items_left self.old) }
     {
@@ -117,9 +117,9 @@ impl<'t> Items<'t> {
         self.take()
     }
 
-    /// Leaves out all items up to the first colon.
+    /// Skips all items up to the first colon, and the colon.
     pub(crate) fn skip_colon(&mut self)
-        ensures { items_left self.new ≡ behind_colon (items_left self.old) }
+        ensures { items_left self.new ≡ after_colon (items_left self.old) }
     {
         'items: while let Some(item) = self.take() {
             if same(item.first.bytes, b":") {
@@ -128,15 +128,15 @@ impl<'t> Items<'t> {
         }
     }
 
-    /// Leaves out this mark, if it comes next.
+    /// Skips this mark, if it comes next.
     pub(crate) fn skip_mark(&mut self, mark: &[u8])
-        ensures { items_left self.new ≡ behind_mark mark.now (items_left self.old) }
+        ensures { items_left self.new ≡ without_mark mark.now (items_left self.old) }
     {
-        let mut behind = *self;
-        if let Some(item) = behind.take()
+        let mut others = *self;
+        if let Some(item) = others.take()
             && same(item.first.bytes, mark)
         {
-            *self = behind;
+            *self = others;
         }
     }
 
@@ -162,9 +162,9 @@ impl<'t> Items<'t> {
         None
     }
 
-    /// Of value descriptions, each a number and a text, this one.
-    pub(crate) fn described(mut self, wanted: Described) -> Option<Item<'t>>
-        ensures { option_map item_of result ≡ described wanted.number wanted.index (items_left self.entry) }
+    /// The number of this value description, of descriptions that are each a number and a text.
+    pub(crate) fn described_value(mut self, wanted: DescribedValue) -> Option<Item<'t>>
+        ensures { option_map item_of result ≡ described_value wanted.number wanted.index (items_left self.entry) }
     {
         let mut before = wanted.index;
         'items: while let Some(item) = self.take() {

@@ -1,6 +1,6 @@
 //! The parts of statements.
 ghost use Rattle.std.specs.Prelude.{◌≡◌, codes, drop, option_map, slice_get};
-ghost use Rattle.dbc_ranges.specs.Ranges.{item_of, items_left, items_at, behind_colon, behind_mark, named, described, single};
+ghost use Rattle.dbc_ranges.specs.Ranges.{item_of, items_left, items_at, after_colon, without_mark, named, described_value, single};
 ghost use Rattle.std.specs.Prelude.{if◌then◌else◌};
 ghost use Rattle.dbc_ranges.specs.Ranges.{begins_with, between, part_of, pair_of, bounds_of, range_between, range_of};
 
@@ -11,14 +11,14 @@ use dbc_tokens::tokens;
 
 /// A value description, by its number, and by its index among those of this number.
 #[derive(Clone, Copy, Debug, PartialEq, Eq)]
-pub struct Described {
+pub struct DescribedValue {
     /// The number.
     pub number: i128,
     /// The index, from 0.
     pub index: usize,
 }
 
-/// A part of a statement or of a signal. Which statement has it stands in parentheses.
+/// A part of a statement or of a signal. The statement that has it is in parentheses.
 #[derive(Clone, Copy)]
 pub enum Part<'a> {
     /// The message's number (`BO_`).
@@ -40,7 +40,7 @@ pub enum Part<'a> {
     /// The kind of the values (`SIG_VALTYPE_`).
     FloatKind,
     /// The number of a value description (`VAL_`).
-    Value(Described),
+    Value(DescribedValue),
     /// The first items, so many: its key.
     Key(usize),
 }
@@ -69,35 +69,35 @@ fn between<'t>(items: Items<'t>, first: usize, last: usize) -> Bounds<'t>
     (front.nth(first), back.nth(last))
 }
 
-// The items behind the first colon.
-fn behind_colon(mut items: Items<'_>) -> Items<'_>
-    ensures { items_left result ≡ behind_colon (items_left items.entry) }
+// The items after the first colon.
+fn after_colon(mut items: Items<'_>) -> Items<'_>
+    ensures { items_left result ≡ after_colon (items_left items.entry) }
 {
     items.skip_colon();
     items
 }
 
 fn receiver<'t>(items: Items<'t>, name: &[u8]) -> Bounds<'t>
-    ensures { pair_of result ≡ single (named name.now (drop 17 (behind_colon (items_left items.entry)))) }
+    ensures { pair_of result ≡ single (named name.now (drop 17 (after_colon (items_left items.entry)))) }
 {
-    let mut behind = behind_colon(items);
-    behind.skip(17);
-    single(behind.named(name))
+    let mut rest = after_colon(items);
+    rest.skip(17);
+    single(rest.named(name))
 }
 
 fn kind(mut items: Items<'_>) -> Bounds<'_>
-    ensures { pair_of result ≡ single (slice_get (behind_mark (codes ":") (drop 3 (items_left items.entry))) 0) }
+    ensures { pair_of result ≡ single (slice_get (without_mark (codes ":") (drop 3 (items_left items.entry))) 0) }
 {
     items.skip(3);
     items.skip_mark(b":");
     single(items.take())
 }
 
-fn value<'t>(mut items: Items<'t>, wanted: Described) -> Bounds<'t>
-    ensures { pair_of result ≡ single (described wanted.number wanted.index (drop 3 (items_left items.entry))) }
+fn value<'t>(mut items: Items<'t>, wanted: DescribedValue) -> Bounds<'t>
+    ensures { pair_of result ≡ single (described_value wanted.number wanted.index (drop 3 (items_left items.entry))) }
 {
     items.skip(3);
-    single(items.described(wanted))
+    single(items.described_value(wanted))
 }
 
 fn multiplexor(items: Items<'_>) -> Bounds<'_>
@@ -119,9 +119,9 @@ fn bounds_of<'t>(part: Part<'_>, items: Items<'t>) -> Bounds<'t>
         Part::Name => one(items, 2),
         Part::Sender => one(items, 5),
         Part::Multiplexor => multiplexor(items),
-        Part::Position => between(behind_colon(items), 0, 4),
-        Part::Length => one(behind_colon(items), 2),
-        Part::Scale => between(behind_colon(items), 7, 9),
+        Part::Position => between(after_colon(items), 0, 4),
+        Part::Length => one(after_colon(items), 2),
+        Part::Scale => between(after_colon(items), 7, 9),
         Part::Receiver(name) => receiver(items, name),
         Part::FloatKind => kind(items),
         Part::Value(wanted) => value(items, wanted),

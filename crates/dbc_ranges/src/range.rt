@@ -1,12 +1,12 @@
 //! Ranges of bytes.
 
-/// Bytes of a text that stand one after another.
+/// Bytes of a text, one after another.
 #[derive(Clone, Copy, Debug, PartialEq, Eq)]
 pub struct Range {
     /// The line of the first byte: 1 and the number of LF before it.
     pub line: u64,
     /// The offset of the first byte in the text.
     pub from: usize,
-    /// The offset behind the last byte.
+    /// The offset after the last byte.
     pub to: usize,
 }

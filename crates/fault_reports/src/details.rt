@@ -1,4 +1,4 @@
-//! What is told of faults, in parts.
+//! The details of faults, in parts.
 ghost use Rattle.std.specs.Prelude.{◌≡◌, option_map, IfOk};
 ghost use Rattle.dbc_reader.specs.Grammar as grammar;
 ghost use Rattle.fault_places.specs.Places.{IsPlace};
@@ -12,24 +12,23 @@ use dbc_values::Memory;
 use fault_places::{Beginning, Place, fault_place};
 use std::alloc::Global;
 
-/// What is told of one fault.
+/// The details of one fault.
 #[derive(Debug, Drop)]
-pub struct Told<'t> {
-    /// Where it stands. A guess is told of the bytes from where one went on.
+pub struct FaultDetails<'t> {
+    /// The fault with its line, its token and the bytes around it. Those before the token of a guess begin at the line where
+    /// reading went on.
     pub place: Place<'t>,
-    /// Its line in the text.
-    pub line: u64,
     /// What was found, in words.
     pub found: Vec<u8>,
-    /// What may stand there, in words.
+    /// What is expected there, in words.
     pub expected: Vec<u8>,
     /// The usual reason and its remedy, in words, if one is known.
     pub reason: Option<&'static [u8]>,
 }
 
-// What is told of a fault in this line.
-fn parts_of<'t>(alloc: Global, place: Place<'t>, line: u64) -> Result<Told<'t>, Memory>
-    ensures { IfOk result (λ told. told.place ≡ place.entry) }
+// The details of a fault.
+fn details_of(alloc: Global, place: Place<'_>) -> Result<FaultDetails<'_>, Memory>
+    ensures { IfOk result (λ details. details.place ≡ place.entry) }
 {
     let mut found = Vec::new(alloc);
     push_found(&mut found, &place)?;
@@ -39,38 +38,37 @@ fn parts_of<'t>(alloc: Global, place: Place<'t>, line: u64) -> Result<Told<'t>, 
         Some(reason) => Some(reason.words()),
         None => None,
     };
-    Ok(Told {
+    Ok(FaultDetails {
         place,
-        line,
         found,
         expected,
         reason,
     })
 }
 
-/// What is told of the first fault of a text, if it has any.
-pub fn first_fault(alloc: Global, text: &[u8]) -> Result<Option<Told<'_>>, Memory>
-    ensures { IfOk result (λ told. IsPlace grammar.text text.now (option_map (λ one. found_of one.place) told)) }
+/// The details of the first fault of a text, if it has any.
+pub fn first_fault(alloc: Global, text: &[u8]) -> Result<Option<FaultDetails<'_>>, Memory>
+    ensures { IfOk result (λ details. IsPlace grammar.text text.now (option_map (λ one. found_of one.place) details)) }
 {
     match fault_place(alloc, text, Beginning::Text)? {
-        Some(place) => {
-            let line = place.fault.line;
-            Ok(Some(parts_of(alloc, place, line)?))
-        }
+        Some(place) => Ok(Some(details_of(alloc, place)?)),
         None => Ok(None),
     }
 }
 
-/// What is told of later faults, as guesses: those that are met where one goes on with the next line that begins with a statement's
-/// word.
-pub fn guessed_faults<'t>(alloc: Global, first: &Told<'t>) -> Result<Vec<Told<'t>>, Memory> {
+/// The details of later faults, each a guess: those that reading meets when it goes on at the next line that begins with a keyword.
+/// There are at most twenty. Which they are is tested, not proved.
+pub fn guessed_faults<'t>(
+    alloc: Global,
+    first: &FaultDetails<'t>,
+) -> Result<Vec<FaultDetails<'t>>, Memory> {
     let mut all = Vec::new(alloc);
-    let mut guesses = Guesses::after(first.line, &first.place);
+    let mut guesses = Guesses::after(&first.place);
     for _ in 0..MOST_GUESSES {
-        let Some((line, place)) = guesses.next(alloc)? else {
+        let Some(place) = guesses.next(alloc)? else {
             return Ok(all);
         };
-        all.push(parts_of(alloc, place, line)?)?;
+        all.push(details_of(alloc, place)?)?;
     }
     Ok(all)
 }

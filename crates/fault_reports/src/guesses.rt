@@ -1,6 +1,7 @@
 //! The faults after a first one that can be guessed at.
 
 use crate::going_on::next_statement;
+use dbc_tokens::ReadFault;
 use dbc_values::Memory;
 use fault_places::{Place, fault_place};
 use std::alloc::Global;
@@ -19,33 +20,40 @@ fn line_feeds(bytes: &[u8]) -> u64 {
     count
 }
 
-/// Where one goes on to guess at later faults: behind these bytes, of which the last are in this line.
+/// The bytes after a fault, and the line where they begin.
 #[derive(Clone, Copy)]
 pub(crate) struct Guesses<'t> {
     line: u64,
-    behind: &'t [u8],
+    rest: &'t [u8],
 }
 
 impl<'t> Guesses<'t> {
-    /// Those after a fault in this line.
-    pub(crate) fn after(line: u64, place: &Place<'t>) -> Guesses<'t> {
+    /// The bytes after this fault.
+    pub(crate) fn after(place: &Place<'t>) -> Guesses<'t> {
         Guesses {
-            line: line.saturating_add(line_feeds(place.token)),
-            behind: place.behind,
+            line: place.fault.line.saturating_add(line_feeds(place.token)),
+            rest: place.behind,
         }
     }
 
-    /// The next fault that is guessed at, and its line.
-    pub(crate) fn next(&mut self, alloc: Global) -> Result<Option<(u64, Place<'t>)>, Memory> {
-        let Some(resumption) = next_statement(self.behind) else {
+    /// The next fault that is guessed at, with its line in the text.
+    pub(crate) fn next(&mut self, alloc: Global) -> Result<Option<Place<'t>>, Memory> {
+        let Some(resumption) = next_statement(self.rest) else {
             return Ok(None);
         };
-        let before = self.line.saturating_add(resumption.lines);
         let Some(place) = fault_place(alloc, resumption.rest, resumption.beginning)? else {
             return Ok(None);
         };
-        let line = before.saturating_add(place.fault.line).saturating_sub(1);
-        *self = Guesses::after(line, &place);
-        Ok(Some((line, place)))
+        let lines_before = self.line.saturating_add(resumption.lines);
+        let line = lines_before
+            .saturating_add(place.fault.line)
+            .saturating_sub(1);
+        let fault = ReadFault {
+            line,
+            ..place.fault
+        };
+        let guess = Place { fault, ..place };
+        *self = Guesses::after(&guess);
+        Ok(Some(guess))
     }
 }

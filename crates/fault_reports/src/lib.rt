@@ -6,15 +6,15 @@
 #![tactic(auto)]
 
 mod classes;
+mod details;
 mod finding;
 mod going_on;
 mod guesses;
 mod marked_line;
 mod reason;
 mod report;
-mod told;
 mod words;
 
+pub use details::{FaultDetails, first_fault, guessed_faults};
 pub use reason::Reason;
 pub use report::{Report, fault_report};
-pub use told::{Told, first_fault, guessed_faults};

@@ -3,7 +3,7 @@ ghost use Rattle.std.specs.Prelude.{◌≡◌, ◌++◌, option_map, IfOk, OnOk,
 ghost use Rattle.dbc_reader.specs.Grammar as grammar;
 ghost use Rattle.fault_places.specs.Places.{IsPlace};
 ghost use Rattle.fault_places.specs.Walks.{found_of};
-ghost use Rattle.fault_reports.specs.Headlines.{cause_words, headline, BeginsSo};
+ghost use Rattle.fault_reports.specs.Headlines.{headline, BeginsSo};
 
 use crate::classes::push_classes;
 use crate::finding::push_found;
@@ -26,22 +26,6 @@ pub struct Report<'t> {
     pub words: Vec<u8>,
 }
 
-// The number and the word of a cause.
-#[tactic(auto, unfolding(crate::specs::Headlines::cause_words))]
-fn cause_words(cause: Cause) -> &'static [u8]
-    ensures { result.now ≡ cause_words cause }
-{
-    match cause {
-        Cause::Token => b"1 Token",
-        Cause::Statement => b"2 Statement",
-        Cause::RepeatedSignal => b"3 RepeatedSignal",
-        Cause::MessagesFull => b"4 MessagesFull",
-        Cause::SignalsFull => b"5 SignalsFull",
-        Cause::Limit => b"6 Limit",
-        Cause::Memory => b"90 Memory",
-    }
-}
-
 // Puts what is said first of a fault after the text: its line, and its number and word.
 #[tactic(auto, using(crate::proofs::Pushed::pushed_then), unfolding(crate::specs::Headlines::headline))]
 fn push_headline(text: &mut Vec<u8>, line: u64, cause: Cause) -> Result<(), Memory>
@@ -51,7 +35,9 @@ fn push_headline(text: &mut Vec<u8>, line: u64, cause: Cause) -> Result<(), Memo
     text.extend_from_slice(b"line ")?;
     text.extend_from_slice(digits.format(line).as_bytes())?;
     text.extend_from_slice(b": ")?;
-    text.extend_from_slice(cause_words(cause))?;
+    text.extend_from_slice(digits.format(cause.number()).as_bytes())?;
+    text.extend_from_slice(b" ")?;
+    text.extend_from_slice(cause.word().as_bytes())?;
     text.extend_from_slice(b"\n")?;
     Ok(())
 }
@@ -69,30 +55,25 @@ fn push_fault(alloc: Global, text: &mut Vec<u8>, place: &Place<'_>) -> Result<()
     push_all(text, &[b"\n"])
 }
 
-// Puts what is said of the faults that are guessed at after the text: those after the first, which stands in this line.
-fn push_guesses(
-    alloc: Global,
-    text: &mut Vec<u8>,
-    line: u64,
-    first: &Place<'_>,
-) -> Result<(), Memory> {
-    let mut guesses = Guesses::after(line, first);
+// Puts what is said of the faults that are guessed at, those after a first one, after the text.
+fn push_guesses(alloc: Global, text: &mut Vec<u8>, first: &Place<'_>) -> Result<(), Memory> {
+    let mut guesses = Guesses::after(first);
     for _ in 0..MOST_GUESSES {
-        let Some((line, place)) = guesses.next(alloc)? else {
+        let Some(place) = guesses.next(alloc)? else {
             return Ok(());
         };
         push_all(text, &[b"\nguess: "])?;
-        push_headline(text, line, place.fault.cause)?;
+        push_headline(text, place.fault.line, place.fault.cause)?;
         push_fault(alloc, text, &place)?;
     }
     push_all(text, &[b"\nNo further guesses.\n"])
 }
 
-// What is said of a text's first fault after its line and its cause, and of those after it.
-fn words_behind(alloc: Global, place: &Place<'_>) -> Result<Vec<u8>, Memory> {
+// What is said of a text's first fault after its line and its cause, and of later faults.
+fn words_after_headline(alloc: Global, place: &Place<'_>) -> Result<Vec<u8>, Memory> {
     let mut words = Vec::new(alloc);
     push_fault(alloc, &mut words, place)?;
-    push_guesses(alloc, &mut words, place.fault.line, place)?;
+    push_guesses(alloc, &mut words, place)?;
     Ok(words)
 }
 
@@ -102,8 +83,8 @@ fn words_of(alloc: Global, place: &Place<'_>) -> Result<Vec<u8>, Memory>
 {
     let mut words = Vec::new(alloc);
     push_headline(&mut words, place.fault.line, place.fault.cause)?;
-    let mut behind = words_behind(alloc, place)?;
-    words.append(&mut behind)?;
+    let mut others = words_after_headline(alloc, place)?;
+    words.append(&mut others)?;
     Ok(words)
 }
 

@@ -5,13 +5,14 @@ use Rattle.std.proofs.lemmas.List.{flat_map_more, take_more}
 use Rattle.dbc_reader.specs.Grammar as grammar
 use Rattle.fault_places.specs.Places.{IsPlace}
 use Rattle.fault_places.specs.Walks.{found_of}
-use Rattle.fault_reports.specs.declared.told.Told.{Told}
+use Rattle.fault_reports.specs.declared.details.FaultDetails.{FaultDetails}
 use Rattle.json_findings.specs.Faults.{fault_line, BeginsWithFault}
 
-pub begins_with_fault : (text first others words : List ℕ) (told : Told) → IsPlace grammar.text text (Some (found_of told.place))
-    → words ≡ first ++ others → first ≡ fault_line (length text) told false → BeginsWithFault text told.place.fault words
-begins_with_fault text first others words told place is front =
-    (told, place, refl, others, is ∙ ap (λ (line : List ℕ). line ++ others) front)
+pub begins_with_fault : (text first others words : List ℕ) (details : FaultDetails)
+    → IsPlace grammar.text text (Some (found_of details.place)) → words ≡ first ++ others
+    → first ≡ fault_line (length text) details false → BeginsWithFault text details.place.fault words
+begins_with_fault text first others words details place is front =
+    (details, place, refl, others, is ∙ ap (λ (line : List ℕ). line ++ others) front)
 
 -- one more item's line after those of the items so far
 pub one_more_line : {X : Type 0} (line_of : X → List ℕ) (items : List X) (i : ℕ) (item : X) (old mid new line : List ℕ)

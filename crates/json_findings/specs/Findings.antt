@@ -91,10 +91,13 @@ range_json range =
     object_of ((codes "line", whole_json range.line) ∷ (codes "from", whole_json range.from)
     ∷ (codes "to", whole_json range.to) ∷ [])
 
+-- `"at":[{"line":2,"from":20,"to":21}]`
+abbrev pub at_members : List Range → List Member
+at_members ranges = (codes "at", array_of (map range_json ranges)) ∷ []
+
 -- the remedy, and where in the text
 abbrev pub end_members : Code → List Range → List Member
-end_members code ranges =
-    text_members (codes "remedy") (remedy code) ++ ((codes "at", array_of (map range_json ranges)) ∷ [])
+end_members code ranges = text_members (codes "remedy") (remedy code) ++ at_members ranges
 
 abbrev pub diagnostic_members : Diagnostic → List Range → List Member
 diagnostic_members diagnostic ranges =

@@ -4,9 +4,11 @@ ghost use Rattle.json.specs.Json.{string};
 ghost use Rattle.json.specs.Tree.{json_tokens};
 ghost use Rattle.json_texts.specs.Members.{text_members};
 ghost use Rattle.json_records.specs.Values.{tokens_of};
-ghost use Rattle.json_findings.specs.Faults.{cause_number, cause_word, cause_members, guess_members, reason_members};
-ghost use Rattle.json_findings.specs.Faults.{fault_range, at_member, words_members, fault_members, fault_json, fault_line};
+ghost use Rattle.json_findings.specs.Faults.{cause_members, guess_members, reason_members};
+ghost use Rattle.dbc_tokens.specs.Causes.{cause_number, cause_word};
+ghost use Rattle.json_findings.specs.Faults.{fault_range, words_members, fault_members, fault_json, fault_line};
 ghost use Rattle.json_findings.specs.Faults.{BeginsWithFault, AreOfFaults};
+ghost use Rattle.json_findings.specs.Findings.{at_members};
 ghost use Rattle.dbc_reader.specs.Grammar as grammar;
 ghost use Rattle.fault_places.specs.Places.{IsPlace};
 ghost use Rattle.fault_places.specs.Walks.{found_of};
@@ -16,42 +18,14 @@ use crate::finding::{line_of, write_at};
 use dbc_ranges::Range;
 use dbc_tokens::{Cause, ReadFault};
 use dbc_values::Memory;
-use fault_reports::{Told, first_fault, guessed_faults};
+use fault_reports::{FaultDetails, first_fault, guessed_faults};
 use json_records::{JsonText, write_flag, write_string, write_text, write_whole};
 use std::alloc::Global;
-
-fn cause_number(cause: Cause) -> u64
-    ensures { result ≡ cause_number cause }
-{
-    match cause {
-        Cause::Token => 1,
-        Cause::Statement => 2,
-        Cause::RepeatedSignal => 3,
-        Cause::MessagesFull => 4,
-        Cause::SignalsFull => 5,
-        Cause::Limit => 6,
-        Cause::Memory => 90,
-    }
-}
-
-fn cause_word(cause: Cause) -> &'static str
-    ensures { result.now ≡ cause_word cause }
-{
-    match cause {
-        Cause::Token => "Token",
-        Cause::Statement => "Statement",
-        Cause::RepeatedSignal => "RepeatedSignal",
-        Cause::MessagesFull => "MessagesFull",
-        Cause::SignalsFull => "SignalsFull",
-        Cause::Limit => "Limit",
-        Cause::Memory => "Memory",
-    }
-}
 
 fn write_word(text: &mut JsonText, cause: Cause) -> Result<(), Memory>
     ensures { OnOk result (text.new ≡ text.old ++ tokens_of ((codes "word", string (cause_word cause)) ∷ [])) }
 {
-    write_string(text, "word", cause_word(cause))
+    write_string(text, "word", cause.word())
 }
 
 fn write_word_and_severity(text: &mut JsonText, cause: Cause) -> Result<(), Memory>
@@ -67,7 +41,7 @@ fn write_word_and_severity(text: &mut JsonText, cause: Cause) -> Result<(), Memo
 fn write_cause(text: &mut JsonText, cause: Cause) -> Result<(), Memory>
     ensures { OnOk result (text.new ≡ text.old ++ tokens_of (cause_members cause)) }
 {
-    write_whole(text, "code", cause_number(cause))?;
+    write_whole(text, "code", u64::from(cause.number()))?;
     write_word_and_severity(text, cause)
 }
 
@@ -83,12 +57,12 @@ fn write_guess(text: &mut JsonText, is_guess: bool) -> Result<(), Memory>
 }
 
 #[tactic(auto, using(json_records::proofs::Tokens::members_then))]
-fn write_found_and_expected(text: &mut JsonText, told: &Told<'_>) -> Result<(), Memory>
-    ensures { OnOk result (text.new ≡ text.old ++ tokens_of (text_members (codes "found") told.now.found.items
-        ++ text_members (codes "expected") told.now.expected.items)) }
+fn write_found_and_expected(text: &mut JsonText, details: &FaultDetails<'_>) -> Result<(), Memory>
+    ensures { OnOk result (text.new ≡ text.old ++ tokens_of (text_members (codes "found") details.now.found.items
+        ++ text_members (codes "expected") details.now.expected.items)) }
 {
-    write_text(text, "found", told.found.as_slice())?;
-    write_text(text, "expected", told.expected.as_slice())
+    write_text(text, "found", details.found.as_slice())?;
+    write_text(text, "expected", details.expected.as_slice())
 }
 
 #[tactic(auto, using(json_records::proofs::Tokens::none_written))]
@@ -102,39 +76,43 @@ fn write_reason(text: &mut JsonText, reason: Option<&[u8]>) -> Result<(), Memory
 }
 
 #[tactic(auto, using(json_records::proofs::Tokens::members_then))]
-fn write_words(text: &mut JsonText, told: &Told<'_>) -> Result<(), Memory>
-    ensures { OnOk result (text.new ≡ text.old ++ tokens_of (words_members told.now)) }
+fn write_words(text: &mut JsonText, details: &FaultDetails<'_>) -> Result<(), Memory>
+    ensures { OnOk result (text.new ≡ text.old ++ tokens_of (words_members details.now)) }
 {
-    write_found_and_expected(text, told)?;
-    write_reason(text, told.reason)
+    write_found_and_expected(text, details)?;
+    write_reason(text, details.reason)
 }
 
-// Where the token at fault is in a text of so many bytes.
-fn fault_range(size: usize, told: &Told<'_>) -> Range
-    ensures { result ≡ fault_range size told.now }
+// The range of the token at fault in a text of so many bytes.
+fn fault_range(size: usize, details: &FaultDetails<'_>) -> Range
+    ensures { result ≡ fault_range size details.now }
 {
-    let to = size.saturating_sub(told.place.behind.len());
+    let to = size.saturating_sub(details.place.behind.len());
     Range {
-        line: told.line,
-        from: to.saturating_sub(told.place.token.len()),
+        line: details.place.fault.line,
+        from: to.saturating_sub(details.place.token.len()),
         to,
     }
 }
 
-fn write_place(text: &mut JsonText, size: usize, told: &Told<'_>) -> Result<(), Memory>
-    ensures { OnOk result (text.new ≡ text.old ++ tokens_of (at_member (fault_range size told.now))) }
+fn write_place(text: &mut JsonText, size: usize, details: &FaultDetails<'_>) -> Result<(), Memory>
+    ensures { OnOk result (text.new ≡ text.old ++ tokens_of (at_members (fault_range size details.now ∷ []))) }
 {
-    let ranges = [fault_range(size, told)];
+    let ranges = [fault_range(size, details)];
     write_at(text, &ranges)
 }
 
 #[tactic(auto, using(json_records::proofs::Tokens::members_then))]
-fn write_words_and_place(text: &mut JsonText, size: usize, told: &Told<'_>) -> Result<(), Memory>
-    ensures { OnOk result (text.new ≡ text.old ++ tokens_of (words_members told.now
-        ++ at_member (fault_range size told.now))) }
+fn write_words_and_place(
+    text: &mut JsonText,
+    size: usize,
+    details: &FaultDetails<'_>,
+) -> Result<(), Memory>
+    ensures { OnOk result (text.new ≡ text.old ++ tokens_of (words_members details.now
+        ++ at_members (fault_range size details.now ∷ []))) }
 {
-    write_words(text, told)?;
-    write_place(text, size, told)
+    write_words(text, details)?;
+    write_place(text, size, details)
 }
 
 #[tactic(auto, using(json_records::proofs::Tokens::members_then))]
@@ -149,25 +127,25 @@ fn write_cause_and_guess(text: &mut JsonText, cause: Cause, is_guess: bool) -> R
 fn write_members(
     text: &mut JsonText,
     size: usize,
-    told: &Told<'_>,
+    details: &FaultDetails<'_>,
     is_guess: bool,
 ) -> Result<(), Memory>
-    ensures { OnOk result (text.new ≡ text.old ++ tokens_of (fault_members size told.now is_guess)) }
+    ensures { OnOk result (text.new ≡ text.old ++ tokens_of (fault_members size details.now is_guess)) }
 {
-    write_cause_and_guess(text, told.place.fault.cause, is_guess)?;
-    write_words_and_place(text, size, told)
+    write_cause_and_guess(text, details.place.fault.cause, is_guess)?;
+    write_words_and_place(text, size, details)
 }
 
 fn write_object(
     text: &mut JsonText,
     size: usize,
-    told: &Told<'_>,
+    details: &FaultDetails<'_>,
     is_guess: bool,
 ) -> Result<(), Memory>
-    ensures { OnOk result (text.new ≡ text.old ++ json_tokens (fault_json size told.now is_guess)) }
+    ensures { OnOk result (text.new ≡ text.old ++ json_tokens (fault_json size details.now is_guess)) }
 {
     text.begin_object()?;
-    write_members(text, size, told, is_guess)?;
+    write_members(text, size, details, is_guess)?;
     text.end_object()?;
     Ok(())
 }
@@ -176,17 +154,17 @@ fn write_object(
 fn fault_line(
     alloc: Global,
     size: usize,
-    told: &Told<'_>,
+    details: &FaultDetails<'_>,
     is_guess: bool,
 ) -> Result<Vec<u8>, Memory>
-    ensures { IfOk result (λ line. line.items ≡ fault_line size told.now is_guess) }
+    ensures { IfOk result (λ line. line.items ≡ fault_line size details.now is_guess) }
 {
     let mut object = JsonText::new(alloc);
-    write_object(&mut object, size, told, is_guess)?;
+    write_object(&mut object, size, details, is_guess)?;
     line_of(object)
 }
 
-/// The first fault of a text, and the objects of it and of those after it that are guessed at, a line each.
+/// The first fault of a text, and the objects of it and of later ones, which are guesses, a line each.
 #[derive(Drop)]
 pub struct FaultLines {
     /// The first fault.
@@ -199,20 +177,20 @@ pub struct FaultLines {
 fn push_guesses(
     alloc: Global,
     size: usize,
-    guesses: &[Told<'_>],
+    guesses: &[FaultDetails<'_>],
     lines: &mut Vec<u8>,
 ) -> Result<(), Memory>
-    ensures { OnOk result (lines.new.items ≡ lines.old.items ++ flat_map (λ told. fault_line size told true) guesses.now) }
+    ensures { OnOk result (lines.new.items ≡ lines.old.items ++ flat_map (λ details. fault_line size details true) guesses.now) }
 {
-    for told in guesses {
-        let mut line = fault_line(alloc, size, told, true)?;
+    for details in guesses {
+        let mut line = fault_line(alloc, size, details, true)?;
         lines.append(&mut line)?;
     }
     Ok(())
 }
 
 // The lines of a fault and of guesses after it.
-fn lines_of(alloc: Global, text: &[u8], first: &Told<'_>) -> Result<FaultLines, Memory>
+fn lines_of(alloc: Global, text: &[u8], first: &FaultDetails<'_>) -> Result<FaultLines, Memory>
     requires { IsPlace grammar.text text.now (Some (found_of first.now.place)) }
     ensures { IfOk result (λ lines. BeginsWithFault text.now lines.fault lines.words.items) }
 {

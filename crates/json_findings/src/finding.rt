@@ -9,7 +9,7 @@ ghost use Rattle.json_records.specs.Values.{array_of, tokens_of};
 ghost use Rattle.std.specs.Prelude.{map};
 ghost use Rattle.std.specs.List.{flat_map};
 ghost use Rattle.can_diagnostics.specs.Codes.{code_word};
-ghost use Rattle.json_findings.specs.Findings.{severity, code_members, range_json, end_members, diagnostic_members};
+ghost use Rattle.json_findings.specs.Findings.{severity, code_members, range_json, at_members, end_members, diagnostic_members};
 ghost use Rattle.json_findings.specs.Findings.{diagnostic_json, subject_members, finding_line};
 
 use crate::ranges::ranges_of;
@@ -95,10 +95,10 @@ fn write_ranges(text: &mut JsonText, ranges: &[Range]) -> Result<(), Memory>
     Ok(())
 }
 
-/// A member of ranges.
+/// Writes the member `at` of an object: the ranges of its parts in a text.
 #[tactic(auto, using(json_records::proofs::Tokens::member_written))]
-pub(crate) fn write_at(text: &mut JsonText, ranges: &[Range]) -> Result<(), Memory>
-    ensures { OnOk result (text.new ≡ text.old ++ tokens_of ((codes "at", array_of (map range_json ranges.now)) ∷ [])) }
+pub fn write_at(text: &mut JsonText, ranges: &[Range]) -> Result<(), Memory>
+    ensures { OnOk result (text.new ≡ text.old ++ tokens_of (at_members ranges.now)) }
 {
     text.key("at")?;
     write_ranges(text, ranges)
@@ -151,8 +151,8 @@ fn write_object(
     Ok(())
 }
 
-/// The text and the end of its line.
-pub(crate) fn line_of(text: JsonText) -> Result<Vec<u8>, Memory>
+/// The text of an object as a line: with an LF.
+pub fn line_of(text: JsonText) -> Result<Vec<u8>, Memory>
     ensures { IfOk result (λ line. line.items ≡ print text ++ codes "\n") }
 {
     let mut line = text.into_bytes();

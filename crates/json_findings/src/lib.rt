@@ -1,7 +1,7 @@
 //! Findings as objects of JSON, each with the byte ranges of the parts of the text that it is about.
 //!
 //! [`finding_line`] makes the line of one finding: an object and an LF; [`fault_lines`] makes those of the faults for which a text
-//! is rejected.
+//! is rejected. Lines of other objects about the same parts are made of [`write_subject`], [`write_at`] and [`line_of`].
 #![tactic(auto)]
 
 mod fault;
@@ -10,5 +10,6 @@ mod ranges;
 mod subject;
 
 pub use fault::{FaultLines, fault_lines};
-pub use finding::finding_line;
-pub use ranges::ranges_of;
+pub use finding::{finding_line, line_of, write_at};
+pub use ranges::{key_items, ranges_of};
+pub use subject::write_subject;

@@ -6,7 +6,7 @@ ghost use Rattle.json_findings.specs.Marks.{ranges_of};
 
 use can_diagnostics::{Code, RowKey, Subject};
 use can_findings::{Finding, Location};
-use dbc_ranges::{Described, Part, Range, range_of};
+use dbc_ranges::{DescribedValue, Part, Range, range_of};
 use dbc_records::Target;
 use dbc_values::Memory;
 use std::alloc::Global;
@@ -56,8 +56,8 @@ fn target_items(target: &Target) -> usize
     }
 }
 
-// How many items the key of an entry has.
-fn key_items(key: &RowKey) -> usize
+/// How many items the key of an entry has, from its keyword on.
+pub fn key_items(key: &RowKey) -> usize
     ensures { result ≡ key_items key.now }
 {
     match key {
@@ -83,7 +83,7 @@ fn part_about(code: Code, subject: &Subject) -> Part<'_>
         Subject::Signal(..) => signal_part(code),
         Subject::Pair(..) => Part::Position,
         Subject::Receiver(_, _, _, node) => Part::Receiver(node.as_bytes()),
-        Subject::Value(_, _, _, value) => Part::Value(Described {
+        Subject::Value(_, _, _, value) => Part::Value(DescribedValue {
             number: *value,
             index: repetition(code),
         }),

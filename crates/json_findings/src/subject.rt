@@ -239,8 +239,8 @@ fn write_key(text: &mut JsonText, key: &RowKey) -> Result<(), Memory>
     }
 }
 
-/// What a diagnostic is about.
-pub(crate) fn write_subject(text: &mut JsonText, subject: &Subject) -> Result<(), Memory>
+/// Writes what a diagnostic, or a location, is about as members: names and numbers, and of an entry its keyword and key.
+pub fn write_subject(text: &mut JsonText, subject: &Subject) -> Result<(), Memory>
     ensures { OnOk result (text.new ≡ text.old ++ tokens_of (subject_members subject.now)) }
 {
     match subject {

@@ -4,6 +4,6 @@ use Rattle.json_findings.specs.Faults.{fault_line}
 use Rattle.json_findings.proofs.fault.push_guesses.Given as goal
 
 -- the guesses so far
-abbrev pub invariant-loop-told : goal.invariant-loop-told
-invariant-loop-told l =
-    l.lines.items ≡ l.initial.lines.items ++ flat_map (λ told. fault_line l.size told true) (take l.told-index l.guesses)
+abbrev pub invariant-loop-details : goal.invariant-loop-details
+invariant-loop-details l =
+    l.lines.items ≡ l.initial.lines.items ++ flat_map (λ details. fault_line l.size details true) (take l.details-index l.guesses)

@@ -1,7 +1,7 @@
 use Rattle.std.proofs.Common.{codes, ◌∷◌, []}
 use Rattle.json.specs.Json.{string}
 use Rattle.json_records.proofs.Tokens.{members_then}
-use Rattle.json_findings.specs.Faults.{cause_word}
+use Rattle.dbc_tokens.specs.Causes.{cause_word}
 use Rattle.json_findings.proofs.fault.write_word_and_severity.Goals as goal
 
 pub returns : goal.returns
