@@ -12,7 +12,7 @@ pub(crate) fn no_start() -> Start
 }
 
 /// The first; [`no_start`] if there is none.
-pub(crate) fn first_start(starts: &[Start]) -> Start
+pub fn first_start(starts: &[Start]) -> Start
     ensures { result ≡ first_start starts.now }
 {
     match starts {
@@ -22,7 +22,7 @@ pub(crate) fn first_start(starts: &[Start]) -> Start
 }
 
 /// Those after it.
-pub(crate) fn behind_first(starts: &[Start]) -> &[Start]
+pub fn behind_first(starts: &[Start]) -> &[Start]
     ensures { result.now ≡ behind_first starts.now }
 {
     match starts {
@@ -32,7 +32,7 @@ pub(crate) fn behind_first(starts: &[Start]) -> &[Start]
 }
 
 /// The first ones, at most so many, and the others.
-pub(crate) fn parted(starts: &[Start], count: usize) -> (&[Start], &[Start])
+pub fn parted(starts: &[Start], count: usize) -> (&[Start], &[Start])
     ensures first { result.0.now ≡ take count starts.now }
     ensures others { result.1.now ≡ drop count starts.now }
 {

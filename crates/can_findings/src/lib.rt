@@ -18,4 +18,5 @@ mod row_starts;
 pub use database_findings::all_findings;
 pub use explaining::write_explained;
 pub use finding::{Finding, Location};
+pub use front::{behind_first, first_start, parted};
 pub use remedies::remedy;
