@@ -16,6 +16,7 @@ use Rattle.candesk_runs.specs.Dumping.{DumpsPictures, DumpsObjects}
 use Rattle.candesk_runs.specs.Explaining.{ExplainsText}
 use Rattle.candesk_runs.specs.FindingObjects.{WritesObjects}
 use Rattle.candesk_runs.specs.declared.checking.Verdict.{Verdict}
+use Rattle.candesk_runs.specs.Locating.{WritesLocations}
 use Rattle.candesk_runs.specs.Printing.{PrintsText}
 use Rattle.candesk_runs.specs.Statuses.{Ends, well}
 use Rattle.candesk_calls.specs.Scripting.{SessionRuns}
@@ -28,29 +29,34 @@ short_of flag = if flag then Show else Refuse
 abbrev pub options_of : Job → Options
 options_of job = record { short = short_of job.short; keep = job.keep }
 
--- a log was decoded, and this form of its lines was written
+-- a log was decoded, and this form of its lines was written; no words ask for locations of it
 abbrev pub Decoded : Form → List ℕ → Short → Unread → Unread → Written → Written → Result ℕ RunFault → Type 0
 Decoded forms.Text text short before after old new outcome = Runs text short before after old new outcome
 Decoded forms.Json text short before after old new outcome = RunsToJson text short before after old new outcome
 Decoded forms.Csv text short before after old new outcome = RunsToCsv text short before after old new outcome
+Decoded forms.Locations text short before after old new outcome = Runs text short before after old new outcome
 
 -- a database was written in this form; no words ask for its rows, so there its messages are drawn
 abbrev pub Dumped : Form → List ℕ → Written → Written → Result (Unit {0}) RunFault → Type 0
 Dumped forms.Text text old new outcome = DumpsPictures text old new outcome
 Dumped forms.Json text old new outcome = DumpsObjects text old new outcome
 Dumped forms.Csv text old new outcome = DumpsPictures text old new outcome
+Dumped forms.Locations text old new outcome = WritesLocations text old new outcome
 
--- a database was checked, and its diagnostics were written in this form; no words ask for rows of them
+-- a database was checked, and its diagnostics were written in this form; no words ask for rows or locations of
+-- them
 abbrev pub Checked : Form → List ℕ → Written → Written → Result Verdict RunFault → Type 0
 Checked forms.Text text old new outcome = ChecksAll text old new outcome
 Checked forms.Json text old new outcome = WritesObjects text old new outcome
 Checked forms.Csv text old new outcome = ChecksAll text old new outcome
+Checked forms.Locations text old new outcome = ChecksAll text old new outcome
 
--- a database was explained in this form; no words ask for rows of it
+-- a database was explained in this form; no words ask for rows or locations of it
 abbrev pub Explained : Form → List ℕ → Written → Written → Result Verdict RunFault → Type 0
 Explained forms.Text text old new outcome = ExplainsText text old new outcome
 Explained forms.Json text old new outcome = WritesObjects text old new outcome
 Explained forms.Csv text old new outcome = ExplainsText text old new outcome
+Explained forms.Locations text old new outcome = ExplainsText text old new outcome
 
 -- the command ended so, and wrote this form; all but `decode` and `session` read nothing from the source
 abbrev pub EndsWith : Command → Form → Options → List ℕ → Unread → Unread → Written → Written → ℕ → Type 0

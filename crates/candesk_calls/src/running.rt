@@ -6,7 +6,7 @@ ghost use Rattle.candesk_calls.specs.Run.{Checked, Decoded, Dumped, Explained, E
 use can_decode::Short;
 use candesk_runs::{
     RunFault, Verdict, check_run, decode_csv_run, decode_json_run, decode_run, dump_json_run,
-    dump_run, ended, ended_with_verdict, explain_json_run, explain_run, print_run,
+    dump_run, ended, ended_with_verdict, explain_json_run, explain_run, locations_run, print_run,
 };
 use candesk_words::{Command, Form, Job};
 use dbc_model::{Sink, Source};
@@ -53,18 +53,19 @@ fn decoded<R: Source, W: Sink>(
 {
     let short = options_of(job).short;
     match job.form {
-        Form::Text => decode_run(alloc, text, short, source, sink),
         Form::Json => decode_json_run(alloc, text, short, source, sink),
         Form::Csv => decode_csv_run(alloc, text, short, source, sink),
+        Form::Text | Form::Locations => decode_run(alloc, text, short, source, sink),
     }
 }
 
-// Draws the messages of a database, or writes objects of JSON.
+// Draws the messages of a database, or writes objects of JSON: of its messages, or of its locations.
 fn dumped<W: Sink>(alloc: Global, job: &Job, text: &[u8], sink: &mut W) -> Result<(), RunFault>
     ensures { Dumped job.now.form text.now (W.written sink.old) (W.written sink.new) result }
 {
     match job.form {
         Form::Json => dump_json_run(alloc, text, sink),
+        Form::Locations => locations_run(alloc, text, sink),
         Form::Text | Form::Csv => dump_run(alloc, text, sink),
     }
 }
@@ -80,7 +81,7 @@ fn checked<W: Sink>(
 {
     match job.form {
         Form::Json => explain_json_run(alloc, text, sink),
-        Form::Text | Form::Csv => check_run(alloc, text, sink),
+        Form::Text | Form::Csv | Form::Locations => check_run(alloc, text, sink),
     }
 }
 
@@ -95,7 +96,7 @@ fn explained<W: Sink>(
 {
     match job.form {
         Form::Json => explain_json_run(alloc, text, sink),
-        Form::Text | Form::Csv => explain_run(alloc, text, sink),
+        Form::Text | Form::Csv | Form::Locations => explain_run(alloc, text, sink),
     }
 }
 

@@ -21,6 +21,8 @@ use Rattle.line_stream.specs.declared.fault.StreamFault.TheVariants as streams
 use Rattle.candesk_runs.specs.declared.checking.Verdict.{Verdict}
 use Rattle.candesk_runs.specs.Explaining.{ExplainsFound, ExplainsFault, ExplainsText}
 use Rattle.candesk_runs.specs.FindingObjects.{WritesFindings, WritesObjects}
+use Rattle.candesk_runs.specs.Locating.{WritesLocations}
+use Rattle.json_locations.specs.Locations.{locations_text}
 use Rattle.json_findings.specs.declared.fault.FaultLines.{FaultLines}
 use Rattle.json_findings.specs.Faults.{BeginsWithFault, AreOfFaults}
 use Rattle.can_findings.specs.AllFindings.{all_findings}
@@ -78,6 +80,15 @@ objects_written text database starts read old new (Err (run.Stream streams.LongL
 objects_written text database starts read old new (Err (run.Stream streams.Read)) done = absurd done
 objects_written text database starts read old new (Err (run.Stream streams.Memory)) done = absurd done
 objects_written text database starts read old new (Err run.Memory) done = inr (database, starts, read, done)
+
+-- lines of locations
+module _ (text lines : List ℕ) (database : Database) (starts : Starts) (read : HasLocatedDatabase text database starts)
+    (is : lines ≡ locations_text text database starts) (old new : Written) where
+  pub locations_written : Wrote old new lines → WritesLocations text old new (Ok tt)
+  locations_written wrote = (database, starts, read, subst (Wrote old new) is wrote)
+
+  pub locations_broke : Broke old new lines → WritesLocations text old new (Err (run.Stream streams.Write))
+  locations_broke broke = (database, starts, read, subst (Broke old new) is broke)
 
 -- entries after the names of the columns
 pub behind_header : (bus : Bus) (before after : Unread) (old begun new : Written) (result : Result ℕ RunFault)

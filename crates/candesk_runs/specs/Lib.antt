@@ -3,6 +3,7 @@ pub mod Decoding
 pub mod Dumping
 pub mod Explaining
 pub mod FindingObjects
+pub mod Locating
 pub mod Printing
 pub mod SentLines
 pub mod Statuses

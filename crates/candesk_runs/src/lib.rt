@@ -1,7 +1,7 @@
 //! What each command but `session` does with a database and the standard streams.
 //!
 //! [`decode_run`], [`decode_json_run`], [`decode_csv_run`], [`print_run`], [`dump_run`], [`dump_json_run`], [`check_run`],
-//! [`explain_run`] and [`explain_json_run`] say by their contracts what is written; [`ended`] and
+//! [`explain_run`], [`explain_json_run`] and [`locations_run`] say by their contracts what is written; [`ended`] and
 //! [`ended_with_verdict`] make an exit status and the line of a fault of their outcomes.
 #![tactic(auto)]
 
@@ -12,6 +12,7 @@ mod ending;
 mod explaining;
 mod fault;
 mod finding_objects;
+mod locating;
 mod objects;
 mod printing;
 mod rows;
@@ -25,6 +26,7 @@ pub use explaining::explain_run;
 pub use fault::RunFault;
 pub use finding_objects::explain_json_run;
 pub use line_stream::StreamFault;
+pub use locating::locations_run;
 pub use objects::dump_json_run;
 pub use printing::print_run;
 pub use rows::decode_csv_run;

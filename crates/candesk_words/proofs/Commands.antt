@@ -73,7 +73,7 @@ module _ (m found : ArgMatches) (name : Text) (e : Some name ≡ subcommand_name
     none,
   ) refl
 
-  -- with two forms
+  -- with several forms
   pub no-form : (command : Command) (file : Text) (keep : Keep) → command_named name ≡ Some command
       → first_value (found_of found) (codes "FILE") ≡ Some file → keep_found (rows_of (found_of found)) ≡ Some keep
       → form_found (rows_of (found_of found)) ≡ None → job_found (subcommand_rows_of m) ≡ None

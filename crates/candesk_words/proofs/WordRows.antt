@@ -6,7 +6,7 @@ use Rattle.clap.specs.declared.error.kind.ErrorKind.TheVariants.{UnknownArgument
 use Rattle.clap.proofs.OnLiterals.{clap_on_literals}
 use Rattle.candesk_words.proofs.OnLiterals.{words_on_literals}
 use Rattle.candesk_words.specs.declared.job.Command.TheVariants.{Check, Decode, Dump, Explain, Print, Session}
-use Rattle.candesk_words.specs.declared.job.Form.TheVariants.{Text, Json, Csv}
+use Rattle.candesk_words.specs.declared.job.Form.TheVariants.{Text, Json, Csv, Locations}
 use Rattle.kept_lines.specs.declared.keep.Keep.TheVariants.{All, Last}
 use Rattle.candesk_words.specs.Words.{command_line, job_named}
 
@@ -37,6 +37,14 @@ dump-json = refl
 dump-json-has_no_fault : fault_of command_line (codes "dump" ∷ codes "--json" ∷ codes "a" ∷ []) ≡ []
 unfolding clap_on_literals words_on_literals
 dump-json-has_no_fault = refl
+
+dump-locations : job_named (codes "dump" ∷ codes "a" ∷ codes "--at" ∷ []) ≡ Some (Dump, codes "a", false, All, Locations)
+unfolding clap_on_literals words_on_literals
+dump-locations = refl
+
+dump-both : job_named (codes "dump" ∷ codes "--at" ∷ codes "--json" ∷ codes "a" ∷ []) ≡ None
+unfolding clap_on_literals words_on_literals
+dump-both = refl
 
 dump-takes_no_csv : fault_of command_line (codes "dump" ∷ codes "--csv" ∷ codes "a" ∷ []) ≡ UnknownArgument ∷ []
 unfolding clap_on_literals words_on_literals

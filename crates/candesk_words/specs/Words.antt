@@ -57,6 +57,14 @@ on_decode = with_rule (with_rule (on_frames (codes "decode")) json_rule) csv_rul
 unfoldable pub on_objects : Text → App
 on_objects name = with_rule (on_file name) json_rule
 
+-- the flag `--at`
+abbrev pub locations_rule : Rule
+locations_rule = record (new_rule (codes "at")) { long = Some (codes "at"); action = Some SetTrue }
+
+-- `dump`, which takes `--json` and `--at`
+unfoldable pub on_dump : App
+on_dump = with_rule (with_rule (on_file (codes "dump")) json_rule) locations_rule
+
 -- `--keep` with a number of lines
 abbrev pub keep_rule : Rule
 keep_rule = record (new_rule (codes "keep")) {
@@ -83,7 +91,7 @@ unfoldable pub command_line : App
 command_line =
     let check = with_command before_command (on_objects (codes "check")) in
     let decode = with_command check on_decode in
-    let dump = with_command decode (on_objects (codes "dump")) in
+    let dump = with_command decode on_dump in
     let explain = with_command dump (on_objects (codes "explain")) in
     let print = with_command explain (on_file (codes "print")) in
     with_command print on_session
@@ -111,16 +119,18 @@ count_in text = if is_unsigned_in 1 most_lines text then Some (digits_value 10 (
 abbrev pub keep_found : List Row → Option Keep
 keep_found rows = option_map_or (λ text. option_map (λ count. Last count) (count_in text)) (one_of (codes "keep") rows) (Some All)
 
--- text, or what a flag asks for; none where there are both
-abbrev pub form_by : Bool → Bool → Option Form
-form_by false false = Some forms.Text
-form_by true false = Some forms.Json
-form_by false true = Some forms.Csv
-form_by true true = None
+-- text, or what one flag asks for; none if there are several
+abbrev pub form_by : Bool → Bool → Bool → Option Form
+form_by false false false = Some forms.Text
+form_by true false false = Some forms.Json
+form_by false true false = Some forms.Csv
+form_by false false true = Some forms.Locations
+form_by json csv locations = None
 
--- what `--json` or `--csv` asks for
+-- what `--json`, `--csv` or `--at` asks for
 abbrev pub form_found : List Row → Option Form
-form_found rows = form_by (has_flag (codes "json") rows) (has_flag (codes "csv") rows)
+form_found rows =
+    form_by (has_flag (codes "json") rows) (has_flag (codes "csv") rows) (has_flag (codes "at") rows)
 
 -- what a job says: the command, its FILE, whether `--short` is there, which lines are kept, and what is written
 abbrev pub Said : Type 0

@@ -36,6 +36,8 @@ pub enum Form {
     Json,
     /// Rows of CSV.
     Csv,
+    /// Objects of JSON with the bytes of each message, signal and entry.
+    Locations,
 }
 
 /// A job: a command, the path of its database, and what the options say.
@@ -50,7 +52,7 @@ pub struct Job {
     pub short: bool,
     /// Which lines are kept, as `--keep` asks for; all for commands without the option.
     pub keep: Keep,
-    /// What is written, as `--json` or `--csv` asks for; text for commands without these flags.
+    /// What is written, as `--json`, `--csv` or `--at` asks for; text for commands without these flags.
     pub form: Form,
 }
 
@@ -122,15 +124,18 @@ fn keep_in(found: &ArgMatches<'_>) -> Option<Keep>
     }
 }
 
-// What is to be written; none where the words ask for two forms.
+// What is to be written; none if the words ask for several forms.
 fn form_in(found: &ArgMatches<'_>) -> Option<Form>
     ensures { result ≡ form_found (rows_of (found_of found.now)) }
 {
-    match (has_flag(found, "json"), has_flag(found, "csv")) {
-        (false, false) => Some(Form::Text),
-        (true, false) => Some(Form::Json),
-        (false, true) => Some(Form::Csv),
-        (true, true) => None,
+    let json = has_flag(found, "json");
+    let csv = has_flag(found, "csv");
+    match (json, csv, has_flag(found, "at")) {
+        (false, false, false) => Some(Form::Text),
+        (true, false, false) => Some(Form::Json),
+        (false, true, false) => Some(Form::Csv),
+        (false, false, true) => Some(Form::Locations),
+        _ => None,
     }
 }
 
@@ -168,8 +173,8 @@ fn job_in(alloc: Global, matches: &ArgMatches<'_>) -> Result<Job, NoJob>
 
 /// Reads the words after the program's name. Options stand before or after FILE, `--` ends them, `help` is the
 /// word for `--help`, and `--version` and `-V` stand before a command alone. `decode` and `session` alone take `--short`, `decode`
-/// takes `--json` or `--csv`, `check`, `dump` and `explain` take `--json`, and `session` alone takes `--keep`, with an integer from
-/// 1 to 1,048,576.
+/// takes `--json` or `--csv`, `check` and `explain` take `--json`, `dump` takes `--json` or `--at`, and `session` alone
+/// takes `--keep`, with an integer from 1 to 1,048,576.
 pub fn job_of<'a>(alloc: Global, words: &'a [&'a str]) -> Result<Job, NoJob>
     ensures { IsJobOf (map (λ word. word.now) words.now) result }
 {

@@ -2,8 +2,8 @@
 ghost use Rattle.std.specs.Prelude.{◌≡◌, false, codes, IfOk};
 ghost use Rattle.clap.specs.Words.{app_of};
 ghost use Rattle.clap.specs.declared.builder.command.Command.TheViews.{out-Command};
-ghost use Rattle.candesk_words.specs.Words.{before_command, on_file, on_frames, on_decode, on_objects, on_session, with_command};
-ghost use Rattle.candesk_words.specs.Words.{command_line};
+ghost use Rattle.candesk_words.specs.Words.{before_command, on_file, on_frames, on_decode, on_objects, on_dump, on_session};
+ghost use Rattle.candesk_words.specs.Words.{with_command, command_line};
 
 use crate::notes;
 use crate::version::VERSION;
@@ -105,6 +105,25 @@ fn on_objects<'a>(
     on_file(alloc, name, about, notes)?.arg(json)
 }
 
+// `dump`, which takes `--json` and `--at`.
+#[tactic(auto, unfolding(crate::specs::Words::on_dump))]
+fn on_dump<'a>(alloc: Global, about: &'a str, notes: &'a str) -> Result<Command<'a>, AllocError>
+    ensures app { IfOk result (λ command. app_of command ≡ on_dump) }
+    ensures local { IfOk result (λ command. (out-Command command).has_globals ≡ false) }
+{
+    let json = Arg::new(alloc, "json")
+        .long("json")
+        .action(ArgAction::SetTrue)
+        .help("Write a JSON object for each message, and one for the rest");
+    let locations = Arg::new(alloc, "at")
+        .long("at")
+        .action(ArgAction::SetTrue)
+        .help("Write a JSON object for each name, with its place in the text");
+    on_file(alloc, "dump", about, notes)?
+        .arg(json)?
+        .arg(locations)
+}
+
 // `session`, which takes `--keep` too.
 #[tactic(auto, unfolding(crate::specs::Words::on_session))]
 fn on_session<'a>(alloc: Global, about: &'a str, notes: &'a str) -> Result<Command<'a>, AllocError>
@@ -146,11 +165,10 @@ fn with_decode<'a>(alloc: Global, line: Command<'a>) -> Result<Command<'a>, Allo
 }
 
 fn with_dump<'a>(alloc: Global, line: Command<'a>) -> Result<Command<'a>, AllocError>
-    ensures { IfOk result (λ longer. app_of longer ≡ with_command (app_of line.entry) (on_objects (codes "dump"))) }
+    ensures { IfOk result (λ longer. app_of longer ≡ with_command (app_of line.entry) on_dump) }
 {
     let about = "Draw the layout of each message, bit by bit";
-    let help = "Write a JSON object for each message, and one for the rest";
-    let command = on_objects(alloc, "dump", about, notes::DUMP, help)?;
+    let command = on_dump(alloc, about, notes::DUMP)?;
     with_command(line, command)
 }
 
@@ -179,8 +197,8 @@ fn with_session<'a>(alloc: Global, line: Command<'a>) -> Result<Command<'a>, All
 }
 
 /// The command line: `candesk check FILE`, and so with `decode`, `dump`, `explain`, `print` and `session`, of which `decode`
-/// and `session` take `--short` too, `decode` takes `--json` and `--csv`, `check`, `dump` and `explain` take `--json`, and
-/// `session` takes `--keep N`.
+/// and `session` take `--short` too, `decode` takes `--json` and `--csv`, `check`, `dump` and `explain` take `--json`, `dump`
+/// takes `--at`, and `session` takes `--keep N`.
 #[tactic(auto, unfolding(crate::specs::Words::command_line))]
 pub fn command_line<'a>(alloc: Global) -> Result<Command<'a>, AllocError>
     ensures { IfOk result (λ line. app_of line ≡ command_line) }

@@ -24,7 +24,8 @@ Example:
 pub const DUMP: &str = "\
 Writes a layout diagram of each message: its name, identifier and length (DLC), a line for each byte with a cell for each
 bit, and a line for each signal, whose number is what the cells show. With `--json`, each message is a JSON object with
-its signals, and a last object has everything that belongs to no message.
+its signals, and a last object has everything that belongs to no message. With `--at`, each message, sender,
+signal, receiver and entry is a JSON object that has the bytes of the text that name it.
 
 Example:
   $ candesk dump examples/wheel.dbc
