@@ -10,7 +10,8 @@ _candesk() {
     case $command in
         print) options="--help" ;;
         decode) options="--short --json --csv --help" ;;
-        check | dump | explain) options="--json --help" ;;
+        check | explain) options="--json --help" ;;
+        dump) options="--json --at --help" ;;
         session) options="--short --keep --help" ;;
         help)
             mapfile -t COMPREPLY < <(compgen -W "check decode dump explain print session" -- "$word")

@@ -20,4 +20,5 @@ complete -c candesk -n "__fish_seen_subcommand_from decode" -l json -d 'Write a 
 complete -c candesk -n "__fish_seen_subcommand_from decode" -l csv -d 'Write a CSV row for each signal'
 complete -c candesk -n "__fish_seen_subcommand_from check explain" -l json -d 'Write a JSON object for each problem'
 complete -c candesk -n "__fish_seen_subcommand_from dump" -l json -d 'Write a JSON object for each message'
+complete -c candesk -n "__fish_seen_subcommand_from dump" -l at -d 'Write a JSON object for each name'
 complete -c candesk -n "__fish_seen_subcommand_from session" -l keep -x -d 'Keep only the last N lines'
