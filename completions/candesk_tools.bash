@@ -10,5 +10,5 @@ _candesk_tool() {
     compopt -o filenames 2>/dev/null
     mapfile -t COMPREPLY < <(compgen -f -- "$word")
 }
-complete -F _candesk_tool candesk-decode-dask candesk-decode-many candesk-diff candesk-format candesk-page candesk-plot \
-    candesk-shell candesk-stats candesk-table
+complete -F _candesk_tool candesk-decode-dask candesk-decode-many candesk-diff candesk-format candesk-lsp candesk-page \
+    candesk-plot candesk-shell candesk-stats candesk-table

@@ -1,0 +1,130 @@
+"""Runs of the program over the text of a document, and what it reported of one version.
+
+The text is in memory that has the name of a file, so nothing is left over however the server ends.
+"""
+
+from __future__ import annotations
+
+import json
+import os
+import subprocess
+import threading
+from collections.abc import Callable, Iterator
+from dataclasses import dataclass, field
+from typing import Any
+
+import candesk_tools as tools
+
+Object = dict[str, Any]
+
+# how long a run may take, in seconds; the largest text that the server takes needs less than one
+PATIENCE = 60
+# the statuses of an answer: done, and with problems or rejected
+ANSWERS = (0, 1)
+BAD_WORDS = 2
+
+
+class Exact(str):
+    """A number as the program writes it."""
+
+
+@dataclass(frozen=True)
+class Answer:
+    """What a run ended with."""
+
+    status: int
+    out: bytes
+    errors: bytes
+
+    def objects(self) -> Iterator[Object]:
+        """The objects of the output, one a line, with exact decimals."""
+        return (json.loads(line, parse_float=Exact) for line in self.out.split(b"\n") if line)
+
+
+def memory_file(data: bytes) -> int:
+    """A descriptor of a file in memory."""
+    number = os.memfd_create("candesk-lsp")
+    try:
+        with open(number, "wb", closefd=False) as file:
+            file.write(data)
+    except BaseException:
+        os.close(number)
+        raise
+    return number
+
+
+class Run:
+    """A run of the program over a text. Another thread may stop it."""
+
+    def __init__(self, words: tuple[str, ...], data: bytes, script: bytes = b"") -> None:
+        self.words, self.data, self.script = words, data, script
+        self.lock = threading.Lock()
+        self.process: subprocess.Popen[bytes] | None = None
+        self.is_stopped = False
+
+    def stop(self) -> None:
+        with self.lock:
+            self.is_stopped = True
+            if self.process:
+                self.process.kill()
+
+    def start(self, number: int) -> subprocess.Popen[bytes]:
+        command = [tools.program(), *self.words, f"/proc/self/fd/{number}"]
+        pipe = subprocess.PIPE
+        try:
+            return subprocess.Popen(command, stdin=pipe, stdout=pipe, stderr=pipe, pass_fds=(number,))
+        except OSError as error:
+            raise tools.Fault(f"{command[0]} can't be started: {error.strerror}", tools.BAD_FILES) from error
+
+    def answer(self) -> Answer:
+        """What the run ends with. A fault, if the program is missing, is ended by a signal, or has an error of its own."""
+        number = memory_file(self.data)
+        try:
+            with self.lock:
+                self.process = self.start(number)
+                if self.is_stopped:
+                    self.process.kill()
+        finally:
+            os.close(number)
+        with self.process as process:
+            try:
+                out, errors = process.communicate(self.script, PATIENCE)
+            except subprocess.TimeoutExpired as error:
+                process.kill()
+                raise tools.Fault(f"candesk {self.words[0]} took over {PATIENCE} seconds", tools.BAD_FILES) from error
+        if process.returncode < 0:
+            raise tools.Fault(f"candesk {self.words[0]} was ended by signal {-process.returncode}", tools.BAD_FILES)
+        if process.returncode not in (*ANSWERS, BAD_WORDS):
+            raise tools.Fault(f"candesk {self.words[0]}: {tools.said_by(errors)}", tools.BAD_FILES)
+        return Answer(process.returncode, out, errors)
+
+
+def ask(words: tuple[str, ...], data: bytes, script: bytes = b"") -> Answer:
+    return Run(words, data, script).answer()
+
+
+CHECK = ("explain", "--json")
+OBJECTS = ("dump", "--json")
+DIAGRAMS = ("dump",)
+LOCATIONS = ("dump", "--locations")
+PRINT = ("print",)
+
+
+@dataclass
+class Snapshot:
+    """One version of a document, with the program's answers about it."""
+
+    data: bytes
+    answers: dict[tuple[str, ...], Answer] = field(default_factory=dict)
+    values: dict[str, Any] = field(default_factory=dict)
+
+    def answer(self, words: tuple[str, ...]) -> Answer:
+        if words not in self.answers:
+            self.answers[words] = ask(words, self.data)
+        return self.answers[words]
+
+    def value(self, name: str, make: Callable[[], Any]) -> Any:
+        """Something that is made of answers, once."""
+        if name not in self.values:
+            self.values[name] = make()
+        return self.values[name]
