@@ -146,12 +146,11 @@ class Text:
         return self.data[offset - 1 : offset + 1] == b"\r\n"
 
 
-def apply_change(text: Text, change: Object) -> None:
+def apply_change(text: Text, where: Object | None, new: bytes) -> None:
     """Applies a change as the client reports it: a range and its new text, or a whole text."""
-    new = to_bytes(str(change["text"]))
-    if change.get("range") is None:
+    if where is None:
         text.data = new
         text.starts = line_starts(new)
         return
-    begin, end = (text.offset(change["range"][it]) for it in ("start", "end"))
+    begin, end = (text.offset(where[it]) for it in ("start", "end"))
     text.replace(min(begin, end), max(begin, end), new)

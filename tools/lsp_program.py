@@ -5,11 +5,13 @@ The text is in memory that has the name of a file, so nothing is left over howev
 
 from __future__ import annotations
 
+import contextlib
 import json
 import os
+import signal
 import subprocess
 import threading
-from collections.abc import Callable, Iterator
+from collections.abc import Callable
 from dataclasses import dataclass, field
 from typing import Any
 
@@ -28,6 +30,9 @@ class Exact(str):
     """A number as the program writes it."""
 
 
+DECODER = json.JSONDecoder(parse_float=Exact)
+LINE_FEED = "\n"
+
 @dataclass(frozen=True)
 class Answer:
     """What a run ended with."""
@@ -36,9 +41,10 @@ class Answer:
     out: bytes
     errors: bytes
 
-    def objects(self) -> Iterator[Object]:
-        """The objects of the output, one a line, with exact decimals."""
-        return (json.loads(line, parse_float=Exact) for line in self.out.split(b"\n") if line)
+    def objects(self) -> list[Object]:
+        """The objects of the output, one a line, with exact decimals. (All at once, which takes half the time.)"""
+        found: list[Object] = DECODER.decode(f"[{self.out.decode().rstrip().replace(LINE_FEED, ',')}]")
+        return found
 
 
 def memory_file(data: bytes) -> int:
@@ -51,6 +57,13 @@ def memory_file(data: bytes) -> int:
         os.close(number)
         raise
     return number
+
+
+def kill(process: subprocess.Popen[bytes]) -> None:
+    """Kills a process that has a session of its own, with its children if it is a script."""
+    if process.returncode is None:
+        with contextlib.suppress(ProcessLookupError):
+            os.killpg(process.pid, signal.SIGKILL)
 
 
 class Run:
@@ -66,13 +79,13 @@ class Run:
         with self.lock:
             self.is_stopped = True
             if self.process:
-                self.process.kill()
+                kill(self.process)
 
     def start(self, number: int) -> subprocess.Popen[bytes]:
         command = [tools.program(), *self.words, f"/proc/self/fd/{number}"]
         pipe = subprocess.PIPE
         try:
-            return subprocess.Popen(command, stdin=pipe, stdout=pipe, stderr=pipe, pass_fds=(number,))
+            return subprocess.Popen(command, stdin=pipe, stdout=pipe, stderr=pipe, pass_fds=(number,), start_new_session=True)
         except OSError as error:
             raise tools.Fault(f"{command[0]} can't be started: {error.strerror}", tools.BAD_FILES) from error
 
@@ -83,14 +96,14 @@ class Run:
             with self.lock:
                 self.process = self.start(number)
                 if self.is_stopped:
-                    self.process.kill()
+                    kill(self.process)
         finally:
             os.close(number)
         with self.process as process:
             try:
                 out, errors = process.communicate(self.script, PATIENCE)
             except subprocess.TimeoutExpired as error:
-                process.kill()
+                kill(process)
                 raise tools.Fault(f"candesk {self.words[0]} took over {PATIENCE} seconds", tools.BAD_FILES) from error
         if process.returncode < 0:
             raise tools.Fault(f"candesk {self.words[0]} was ended by signal {-process.returncode}", tools.BAD_FILES)

@@ -40,6 +40,8 @@ INCREMENTAL = 2
 class Closed:
     """The stream of messages has ended, or can't be read."""
 
+    error: OSError | None = None
+
 
 @dataclass(frozen=True)
 class Checked:
@@ -124,8 +126,9 @@ class Server:
             except lsp_framing.BadMessage as error:
                 self.events.put(error)
                 continue
-            except OSError:
-                message = None
+            except OSError as error:
+                self.events.put(Closed(error))
+                return
             if message is None:
                 self.events.put(Closed())
                 return
@@ -155,6 +158,9 @@ class Server:
     def handle(self, event: Event) -> int | None:
         """Handles an event; the exit status, if it is the last one."""
         if isinstance(event, Closed):
+            if event.error:
+                event.error.filename = "standard input"
+                raise event.error
             return 0 if self.is_shut_down else 1
         if isinstance(event, lsp_framing.BadMessage):
             self.show(ERROR, str(event))
@@ -178,8 +184,7 @@ class Server:
     # ---- what is sent
 
     def send(self, message: Object) -> None:
-        with tools.naming(""):
-            lsp_framing.write_message(self.sink, {"jsonrpc": "2.0", **message})
+        lsp_framing.write_message(self.sink, {"jsonrpc": "2.0", **message})
 
     def notify(self, method: str, params: Object) -> None:
         self.send({"method": method, "params": params})
@@ -240,17 +245,15 @@ class Server:
         answer = document.snapshot.answer(CHECK)
         if answer.status == BAD_WORDS:
             raise ValueError(tools.said_by(answer.errors))
-        objects = list(answer.objects())
-        made = lsp_diagnostics.diagnostics_of(objects, document.text, document.uri, self.client.has_related)
+        made = lsp_diagnostics.diagnostics_of(answer.objects(), document.text, document.uri, self.client.has_related)
         self.notify("textDocument/publishDiagnostics", {"uri": document.uri, "version": document.version, "diagnostics": made})
 
     # ---- documents
 
     def changed(self, document: Document) -> None:
         """Notes that a document has another text: what was known of the one before is dropped."""
-        if len(document.text.data) > MAX_TEXT:
-            self.drop(document)
-            return
+        if OBJECTS in document.snapshot.answers and not document.snapshot.answers[OBJECTS].status:
+            document.last_valid = document.snapshot
         document.snapshot = Snapshot(document.text.data)
         self.due[document.uri] = time.monotonic() + DEBOUNCE
         self.stop_check_of(document.uri)
@@ -259,12 +262,11 @@ class Server:
         if self.check and self.check.uri == uri:
             self.check.stop()
 
-    def drop(self, document: Document) -> None:
-        """Drops a text that is too long. Its document is unknown from then on, until it is opened again."""
-        size = len(document.text.data)
-        self.forget(document.uri)
+    def refuse(self, uri: str, size: int) -> None:
+        """Refuses a text that is too long. Its document is unknown from then on, until it is opened again."""
+        self.forget(uri)
         why = f"{size:,} bytes; a text of over {MAX_TEXT:,} isn't checked, as each edit would take too long"
-        self.show(WARNING, f"{document.uri}: {why}")
+        self.show(WARNING, f"{uri}: {why}")
 
     def forget(self, uri: str) -> None:
         self.documents.pop(uri, None)
@@ -274,8 +276,11 @@ class Server:
 
     def did_open(self, params: Object) -> None:
         item = params["textDocument"]
-        text = Text(to_bytes(item["text"]))
-        document = Document(item["uri"], item.get("version", 0), text, Snapshot(text.data))
+        data = to_bytes(item["text"])
+        if len(data) > MAX_TEXT:
+            self.refuse(item["uri"], len(data))
+            return
+        document = Document(item["uri"], item.get("version", 0), Text(data), Snapshot(data))
         self.documents[document.uri] = document
         self.changed(document)
 
@@ -284,7 +289,12 @@ class Server:
         if document is None:
             return
         for change in params["contentChanges"]:
-            apply_change(document.text, change)
+            new = to_bytes(change["text"])
+            size = len(new) if change.get("range") is None else len(document.text.data) + len(new)
+            if size > MAX_TEXT:
+                self.refuse(document.uri, size)
+                return
+            apply_change(document.text, change.get("range"), new)
         document.version = params["textDocument"].get("version", document.version)
         self.changed(document)
 

@@ -40,6 +40,11 @@ def is_kept(words: list[bytes]) -> bool:
 
 def statements(text: bytes) -> Iterator[tuple[list[bytes], bytes]]:
     """The statements of a valid text that end in a semicolon, each with its first tokens and as it is written."""
+    return ((words, text[begin:end]) for words, begin, end in spans(text))
+
+
+def spans(text: bytes) -> Iterator[tuple[list[bytes], int, int]]:
+    """The statements of a valid text that end in a semicolon, each with its first tokens and where it begins and ends."""
     begin, words, is_list = -1, list[bytes](), False
     for kind, start, piece in tools.pieces(text):
         if kind == "quoted" and begin >= 0:
@@ -49,7 +54,7 @@ def statements(text: bytes) -> Iterator[tuple[list[bytes], bytes]]:
             if begin >= 0:
                 words.append(token)
                 if token == b";":
-                    yield words, text[begin : start + found.end()]
+                    yield words, begin, start + found.end()
                     begin = -1
             elif is_list and token not in LISTED:
                 continue
