@@ -54,23 +54,23 @@ class Statement:
     thing: Thing | None
 
 
-@dataclass
 class Names:
-    """The statements of a text, and the tokens that name something, both in the order of the text."""
+    """The locations of a text in its order. The tokens in them are looked at when they are asked for."""
 
-    statements: list[Statement]
-    names: list[Name]
-
-    def __post_init__(self) -> None:
-        self.statements.sort(key=lambda it: it.begin)
-        self.names.sort()
+    def __init__(self, data: bytes, objects: list[Object]) -> None:
+        self.data = data
+        ranges = [(at["from"], at["to"], number) for number, it in enumerate(objects) for at in it["at"]]
+        self.objects, self.ranges = objects, sorted(ranges)
+        self.begins = [it[0] for it in self.ranges]
+        statements = [made for it in objects if (made := statement_of(it))]
+        self.statements = sorted(statements, key=lambda it: it.begin)
         self.statement_begins = [it.begin for it in self.statements]
-        self.name_begins = [it.begin for it in self.names]
 
     def at(self, offset: int) -> Name | None:
         """The token at an offset, or that ends there."""
-        index = bisect_right(self.name_begins, offset) - 1
-        return self.names[index] if index >= 0 and offset <= self.names[index].end else None
+        index = bisect_right(self.begins, offset) - 1
+        found = names_of(self.objects[self.ranges[index][2]], self.data) if index >= 0 else ()
+        return next((it for it in found if it.begin <= offset <= it.end), None)
 
     def statement_before(self, offset: int) -> Statement | None:
         """The last statement that begins before an offset or there."""
@@ -78,7 +78,9 @@ class Names:
         return self.statements[index] if index >= 0 else None
 
     def of(self, thing: Thing) -> list[Name]:
-        return [it for it in self.names if it.thing == thing]
+        """The tokens that name something."""
+        objects = (it for it in self.objects if may_name(it, thing))
+        return sorted(name for it in objects for name in names_of(it, self.data) if name.thing == thing)
 
 
 def name_at(found: Names, offset: int) -> Name | None:
@@ -112,6 +114,13 @@ def thing_of(it: Object) -> Thing | None:
     return None
 
 
+def may_name(it: Object, thing: Thing) -> bool:
+    """Whether a location can have a token that names something."""
+    if thing.kind in (MESSAGE, SIGNAL):
+        return bool(it.get("number") == thing.number)
+    return thing.name in (it.get("name"), it.get("node"))
+
+
 def names_of_entry(it: Object, data: bytes) -> Iterator[Name]:
     """The tokens of an entry's key that name something, and the multiplexor that it names."""
     target, entry = thing_of(it), it["entry"]
@@ -135,7 +144,7 @@ def names_of(it: Object, data: bytes) -> Iterator[Name]:
     if "entry" in it:
         yield from names_of_entry(it, data)
     elif thing and thing.kind == NODE:
-        yield Name(begin, end, thing)
+        yield Name(begin, end, thing, "number" not in it)
     elif thing:
         # (`BO_` with number and name, or `SG_` with a name)
         for first, last in tokens_in(data, begin, end)[1:]:
@@ -157,11 +166,8 @@ def names(snapshot: Snapshot) -> Names | None:
         answer = snapshot.answer(LOCATIONS)
         if answer.status:
             return None
-        objects = answer.objects()
-        found = [name for it in objects for name in names_of(it, snapshot.data)]
-        found += [Name(begin, end, Thing(NODE, name), True) for name, begin, end in node_list(snapshot.data).names]
-        statements = [made for it in objects if (made := statement_of(it))]
-        return Names(statements, found)
+        nodes = [{"node": name, "at": [{"from": begin, "to": end}]} for name, begin, end in node_list(snapshot.data).names]
+        return Names(snapshot.data, answer.objects() + nodes)
 
     kept: Names | None = snapshot.value("names", made)
     return kept

@@ -1,0 +1,264 @@
+"""Tries the language server where something fails: the program, messages, sizes and streams; and how it ends."""
+
+from __future__ import annotations
+
+import os
+import signal
+import tempfile
+import time
+from typing import Any
+
+from editor_client import CAPABILITIES, PATIENCE, URI, Editor, framed
+from tool_trying import Tries, by_shell, is_fault, path_of, tool, written
+
+Object = dict[str, Any]
+
+VALID = "BU_: Ecu\nBO_ 1 A: 1 Ecu\n"
+PROBLEM = "BU_: Ecu\nBO_ 1 A: 1 Gate\n"
+MAX_TEXT, MAX_BODY = 16 << 20, 64 << 20
+# programs that end by a signal, without memory, in words of their own, and with what isn't JSON; %s is the real one
+KILLED = "kill -9 $$"
+NO_MEMORY = 'echo "candesk: 90 Memory" >&2; exit 4'
+OTHER = "echo '{}'"
+# a program that takes its time over a text with the word
+SLOW = 'for path; do :; done; if grep -q Slow "$path"; then sleep %s; fi; exec %s "$@"'
+
+
+def script(folder: str, name: str, text: str) -> str:
+    path = written(folder, "new", b"#!/bin/bash\n" + text.encode() + b"\n")
+    os.chmod(path, 0o755)
+    # (a program that is running can't be written over)
+    os.replace(path, os.path.join(folder, name))
+    return os.path.join(folder, name)
+
+
+def children(editor: Editor) -> list[str]:
+    """The processes that the server started and that are there, also those that ended and weren't waited for."""
+    found = []
+    for task in os.listdir(f"/proc/{editor.process.pid}/task"):
+        with open(f"/proc/{editor.process.pid}/task/{task}/children", encoding="utf-8") as file:
+            found += file.read().split()
+    return found
+
+
+def open_only(editor: Editor, text: str) -> None:
+    editor.version += 1
+    item = {"uri": URI, "languageId": "dbc", "version": editor.version, "text": text}
+    editor.note("textDocument/didOpen", {"textDocument": item})
+
+
+def try_program(tries: Tries, folder: str) -> None:
+    """A program that fails is reported once, and used again as soon as it answers."""
+    path = os.path.join(folder, "candesk")
+    real = f'exec {tries.program} "$@"'
+    for name, text, wanted in (
+        ("no program", None, f"there is no candesk at {path}, which CANDESK names"),
+        ("a killed program", KILLED, "candesk explain was ended by signal 9"),
+        ("a program without memory", NO_MEMORY, "candesk explain: 90 Memory"),
+        ("another program", OTHER, "candesk explain --json wrote what isn't expected: KeyError('at')"),
+    ):
+        if text is not None:
+            script(folder, "candesk", text)
+        editor = Editor(path)
+        open_only(editor, VALID)
+        told = editor.wait_shown()
+        for _ in range(3):
+            editor.change([{"text": PROBLEM}])
+            time.sleep(0.15)
+        more = editor.shown(0.2)
+        tries.note(f"{name} is reported once", (told, more) == (f"candesk: {wanted}", []), (told, more))
+        if text != OTHER:
+            got = editor.about("formatting", options={}), editor.shown()
+            tries.note(f"{name}: formatting has no result", got[0] is None and len(got[1]) <= 1, got)
+        script(folder, "candesk", real)
+        got_codes = [it["code"] for it in editor.replace(PROBLEM)]
+        tries.note(f"{name}: the server goes on", got_codes == [13], got_codes)
+        time.sleep(0.3)
+        tries.note(f"{name}: children are waited for", children(editor) == [], children(editor))
+        ended = editor.end()
+        tries.note(f"{name}: the server ends", ended == (0, b""), ended)
+        os.unlink(path)
+
+
+def try_slow(tries: Tries, folder: str) -> None:
+    """A check of a version that is superseded is stopped, at the next change and at the end."""
+    editor = Editor(script(folder, "candesk", SLOW % ("30", tries.program)))
+    open_only(editor, "BU_: Slow\n")
+    time.sleep(0.5)
+    tries.note("a slow check runs", len(children(editor)) == 1, children(editor))
+    began = time.monotonic()
+    got = [it["code"] for it in editor.replace(PROBLEM)]
+    took = time.monotonic() - began
+    tries.note("a superseded check is stopped", got == [13] and took < 2, (got, took))
+    time.sleep(0.3)
+    tries.note("a stopped check is waited for", children(editor) == [], children(editor))
+    editor.change([{"text": "BU_: Slow\n"}])
+    time.sleep(0.5)
+    began = time.monotonic()
+    ended = editor.end()
+    tries.note("the end stops a check", ended == (0, b"") and time.monotonic() - began < 2, ended)
+    editor = Editor(script(folder, "candesk", SLOW % ("0.6", tries.program)))
+    editor.open("BU_: Slow\n")
+    first, second = editor.send("textDocument/formatting", {"textDocument": {"uri": URI}, "options": {}}), editor.count + 1
+    editor.send("textDocument/completion", {"textDocument": {"uri": URI}, "position": {"line": 0, "character": 0}})
+    editor.note("$/cancelRequest", {"id": second})
+    while second not in editor.answers:
+        editor.take(PATIENCE)
+    got_error = editor.answers[second].get("error", {}).get("code")
+    tries.note("a cancelled request", "result" in editor.answers[first] and got_error == -32800, editor.answers)
+    editor.end()
+
+
+def framed_bytes(body: bytes) -> bytes:
+    return b"Content-Length: %d\r\n\r\n" % len(body) + body
+
+
+def try_messages(tries: Tries) -> None:
+    """Malformed messages: each is reported in one message, and the server goes on with the next."""
+    editor = Editor(tries.program)
+    for name, data, wanted in (
+        ("no JSON", framed_bytes(b"{"), "a message isn't JSON"),
+        ("deep JSON", framed_bytes(b"[" * 200_000), "a message isn't JSON"),
+        ("a batch", framed_bytes(b"[]"), "a message isn't an object"),
+        ("no length", b"Content-Type: x\r\n\r\n{}", "a message has no Content-Length"),
+        ("a bad length", b"Content-Length: -5\r\n\r\n{}", "a message has no Content-Length"),
+        ("long", framed_bytes(b" " * (MAX_BODY + 1)), "has 67,108,865 bytes; at most 67,108,864"),
+    ):
+        editor.write(data)
+        # (what follows a message without a length is skipped up to the next one)
+        codes = [it["code"] for it in editor.open(PROBLEM)]
+        told = editor.shown()
+        tries.note(f"a message: {name}", len(told) == 1 and wanted in told[0] and codes == [13], (told, codes))
+    editor.write(b"content-type: x\r\ncontent-length:16\r\n\r\n" + b'{"method":"no"} ')
+    editor.write(framed({"jsonrpc": "2.0", "id": 900}))
+    while not any(it.get("id") == 900 for it in editor.answers.values()):
+        editor.take(PATIENCE)
+    tries.note("a message that is neither", editor.answers.pop(900).get("error", {}).get("code") == -32600)
+    for method, params, wanted_code in (
+        ("textDocument/fly", {}, -32601),
+        ("textDocument/hover", {}, -32602),
+        ("textDocument/completion", {"textDocument": {"uri": URI}}, -32602),
+        ("textDocument/completion", {"textDocument": {"uri": URI}, "position": "x"}, -32602),
+        ("textDocument/completion", [1], -32602),
+        ("initialize", {}, -32600),
+    ):
+        got = editor.ask(method, params)  # type: ignore[arg-type]
+        tries.note(f"a request that is wrong: {method}", got.get("error", {}).get("code") == wanted_code, got)
+    got = editor.about("completion", {"line": 0, "character": 0}, uri="file:///b.dbc")
+    tries.note("a document that isn't open", got is None, got)
+    editor.shown()
+    changes = [{"range": 5, "text": ""}]
+    editor.note("textDocument/didChange", {"textDocument": {"uri": URI, "version": 99}, "contentChanges": changes})
+    editor.note("textDocument/fly", {})
+    told = editor.shown(0.3)
+    tries.note("a notification that is wrong", len(told) == 1 and "textDocument/didChange" in told[0], told)
+    tries.note("the server goes on after all", [it["code"] for it in editor.replace(PROBLEM)] == [13])
+    ended = editor.end()
+    tries.note("the server ends after malformed messages", ended == (0, b""), ended)
+
+
+def try_huge(tries: Tries) -> None:
+    editor = Editor(tries.program)
+    open_only(editor, VALID + "\n" * MAX_TEXT)
+    told = editor.wait_shown()
+    editor.change([{"range": {"start": {"line": 0, "character": 0}, "end": {"line": 0, "character": 0}}, "text": "\n"}])
+    more = editor.shown(0.3)
+    wanted = f"candesk: {URI}: 16,777,240 bytes; a text of over 16,777,216 isn't checked, as each edit would take too long"
+    tries.note("a huge text", (told, more) == (wanted, []), (told, more))
+    tries.note("another text after it", [it["code"] for it in editor.open(PROBLEM)] == [13])
+    editor.change([{"text": PROBLEM}, {"text": "ä" * (MAX_TEXT // 2 + 1)}])
+    told = editor.wait_shown()
+    tries.note("a text that becomes huge", "16,777,218 bytes" in told, told)
+    ended = editor.end()
+    tries.note("the server ends after a huge text", ended == (0, b""), ended)
+
+
+# ---- how it ends
+
+
+def try_life(tries: Tries) -> None:
+    editor = Editor(tries.program, is_ready=False)
+    got = editor.ask("textDocument/hover", {})
+    tries.note("a request before initialize", got.get("error", {}).get("code") == -32002, got)
+    open_only(editor, PROBLEM)
+    editor.note("exit", {})
+    ended = editor.ended()
+    tries.note("exit before shutdown", ended == (1, b""), ended)
+    editor = Editor(tries.program, words=("--stdio",))
+    editor.ask("shutdown", None)
+    got = editor.about("hover", {"line": 0, "character": 0})
+    tries.note("a request after shutdown", got.get("code") == -32600, got)
+    assert editor.process.stdin
+    editor.process.stdin.close()
+    ended = editor.process.wait(PATIENCE), b""
+    tries.note("the end of the stream after shutdown", ended == (0, b""), ended)
+    initialize = framed({"jsonrpc": "2.0", "id": 1, "method": "initialize", "params": {"capabilities": CAPABILITIES}})
+    for name, data in (("", b""), (" in a header", b"Content-Le"), (" in a body", initialize[:-5]), (" at once", initialize)):
+        ran = tool("candesk-lsp", given=data, CANDESK=tries.program)
+        tries.note(f"the end of the stream{name}", (ran.status, ran.errors) == (1, b""), ran)
+    ran = tool("candesk-lsp", given=b"Content-Type: x\r\n\r\n" + initialize, CANDESK=tries.program)
+    tries.note("a fault before initialize", is_fault(ran, 1, b"candesk-lsp: a message has no Content-Length\n"), ran)
+
+
+def try_streams(tries: Tries) -> None:
+    tries.note("bad words", is_fault(tool("candesk-lsp", "fly"), 2, b"candesk-lsp: unrecognized arguments: fly; see"))
+    ran = tool("candesk-lsp", "--help")
+    tries.note("help", ran.status == 0 and ran.out.startswith(b"Serves editors") and not ran.errors, ran)
+    initialize = framed({"jsonrpc": "2.0", "id": 1, "method": "initialize", "params": {}})
+    path = path_of("candesk-lsp")
+    ran = by_shell('"$@" <&-', path)
+    tries.note("no standard input", is_fault(ran, 3, b"candesk-lsp: standard input: Bad file descriptor\n"), ran)
+    ran = by_shell('"$@" </', path)
+    tries.note("a folder as standard input", is_fault(ran, 3, b"candesk-lsp: standard input: Is a directory\n"), ran)
+    ran = by_shell('"$@" >&-', path, given=initialize)
+    tries.note("no standard output", is_fault(ran, 3, b"candesk-lsp: standard output: Bad file descriptor\n"), ran)
+    ran = by_shell('{ cat; sleep 1; } | "$@" | true; exit ${PIPESTATUS[1]}', path, given=initialize * 3)
+    tries.note("a reader that goes", ran.status in (1, 3) and not ran.errors, ran)
+    faults, ends = [], set()
+    for limit in (8_000, 24_000, 40_000, 80_000, 160_000):
+        ran = by_shell(f'ulimit -v {limit}; exec "$@"', path, given=initialize)
+        ends.add(ran.status)
+        if ran.status not in (1, 4) or ran.errors.count(b"\n") != (ran.status == 4) or b"Traceback" in ran.errors:
+            faults.append((limit, ran))
+    tries.note("little memory", not faults and 4 in ends, (ends, faults))
+
+
+def cpu_time(process: int) -> float:
+    """How long a process has run, in seconds."""
+    with open(f"/proc/{process}/stat", encoding="utf-8") as file:
+        fields = file.read().rpartition(")")[2].split()
+    return (int(fields[11]) + int(fields[12])) / os.sysconf("SC_CLK_TCK")
+
+
+def try_waiting(tries: Tries, folder: str) -> None:
+    """An idle server takes no time, and one that is killed leaves nothing."""
+    before, os.environ["TMPDIR"] = os.environ.get("TMPDIR"), folder
+    editor = Editor(tries.program)
+    editor.open(PROBLEM)
+    time.sleep(0.3)
+    began = cpu_time(editor.process.pid)
+    time.sleep(1.5)
+    took = cpu_time(editor.process.pid) - began
+    tries.note("an idle server", took <= 0.02, took)
+    editor.change([{"text": VALID}])
+    time.sleep(0.1)
+    editor.kill()
+    tries.note("a killed server leaves no files", os.listdir(folder) == [], os.listdir(folder))
+    os.environ["TMPDIR"] = before or ""
+    if before is None:
+        del os.environ["TMPDIR"]
+    editor = Editor(tries.program)
+    editor.process.send_signal(signal.SIGINT)
+    ended = editor.ended()
+    tries.note("an interrupt", ended == (130, b"candesk-lsp: interrupted\n"), ended)
+
+
+def try_faults(tries: Tries) -> None:
+    with tempfile.TemporaryDirectory() as folder:
+        try_program(tries, tempfile.mkdtemp(dir=folder))
+        try_slow(tries, tempfile.mkdtemp(dir=folder))
+        try_messages(tries)
+        try_huge(tries)
+        try_life(tries)
+        try_streams(tries)
+        try_waiting(tries, tempfile.mkdtemp(dir=folder))
