@@ -38,7 +38,10 @@ class Ended(Exception):
 
 
 def framed(message: Object) -> bytes:
-    body = json.dumps(message, ensure_ascii=False).encode("utf-8", "surrogateescape")
+    try:
+        body = json.dumps(message, ensure_ascii=False).encode("utf-8", "surrogateescape")
+    except UnicodeEncodeError:
+        body = json.dumps(message).encode()
     return b"Content-Length: %d\r\n\r\n" % len(body) + body
 
 

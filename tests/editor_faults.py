@@ -3,6 +3,7 @@
 from __future__ import annotations
 
 import os
+import random
 import signal
 import tempfile
 import time
@@ -109,6 +110,19 @@ def try_slow(tries: Tries, folder: str) -> None:
     editor.end()
 
 
+def try_hanging(tries: Tries, folder: str) -> None:
+    """A program that doesn't end."""
+    editor = Editor(script(folder, "candesk", SLOW % ("1000", tries.program)))
+    open_only(editor, "BU_: Slow\n")
+    told = editor.wait_shown()
+    tries.note("a program that hangs", told == "candesk: candesk explain took over 10 seconds", told)
+    tries.note("the server goes on after it", [it["code"] for it in editor.replace(PROBLEM)] == [13])
+    time.sleep(0.3)
+    tries.note("a program that hangs is ended", children(editor) == [], children(editor))
+    ended = editor.end()
+    tries.note("the server ends after a program that hangs", ended == (0, b""), ended)
+
+
 def framed_bytes(body: bytes) -> bytes:
     return b"Content-Length: %d\r\n\r\n" % len(body) + body
 
@@ -155,6 +169,50 @@ def try_messages(tries: Tries) -> None:
     tries.note("the server goes on after all", [it["code"] for it in editor.replace(PROBLEM)] == [13])
     ended = editor.end()
     tries.note("the server ends after malformed messages", ended == (0, b""), ended)
+
+
+# values that a client shouldn't send
+ODD: tuple[Any, ...] = (None, -1, 5, 1e99, float("inf"), "x", "\ud800", True, [], {}, [None], {"line": "1"}, "file:///b.dbc")
+METHODS = (
+    "hover", "documentSymbol", "definition", "references", "completion", "formatting", "codeAction", "prepareRename", "rename",
+)
+
+
+def replaced(rng: random.Random, it: Any) -> Any:
+    """A value with an odd one somewhere in it."""
+    if isinstance(it, dict) and it and rng.random() < 0.9:
+        key = rng.choice(list(it))
+        return {name: replaced(rng, value) if name == key else value for name, value in it.items()}
+    if isinstance(it, list) and it and rng.random() < 0.9:
+        return [replaced(rng, it[0]), *it[1:]]
+    return rng.choice(ODD)
+
+
+def try_odd_messages(tries: Tries) -> None:
+    """Parameters with an odd value somewhere: each request gets one answer, and the server goes on."""
+    editor, rng = Editor(tries.program), random.Random(20261201)
+    where = {"start": {"line": 0, "character": 0}, "end": {"line": 1, "character": 12}}
+    about: Object = {"textDocument": {"uri": URI}, "position": {"line": 1, "character": 5}, "range": where, "newName": "x"}
+    about["context"] = {"diagnostics": [], "only": ["quickfix"], "includeDeclaration": True}
+    item = {"uri": URI, "languageId": "dbc", "version": 1, "text": PROBLEM}
+    change = {"textDocument": {"uri": URI, "version": 2}, "contentChanges": [{"range": where, "text": "BU_: x\n"}]}
+    editor.open(PROBLEM)
+    answered = 0
+    for count in range(300):
+        got = editor.ask(f"textDocument/{rng.choice(METHODS)}", replaced(rng, about))
+        answered += ("result" in got) != ("error" in got)
+        if count % 3 == 0:
+            editor.note("textDocument/didChange", replaced(rng, change))
+        if count % 10 == 0:
+            editor.note("textDocument/didOpen", replaced(rng, {"textDocument": item}))
+            editor.note("textDocument/didClose", replaced(rng, {"textDocument": {"uri": URI}}))
+    tries.note("odd parameters", answered == 300, answered)
+    # (a version that none of these had)
+    editor.version = 1000
+    codes = [it["code"] for it in editor.open(PROBLEM)]
+    tries.note("the server goes on after odd parameters", codes == [13], codes)
+    ended = editor.end()
+    tries.note("the server ends after odd parameters", ended == (0, b""), ended)
 
 
 def try_huge(tries: Tries) -> None:
@@ -257,7 +315,9 @@ def try_faults(tries: Tries) -> None:
     with tempfile.TemporaryDirectory() as folder:
         try_program(tries, tempfile.mkdtemp(dir=folder))
         try_slow(tries, tempfile.mkdtemp(dir=folder))
+        try_hanging(tries, tempfile.mkdtemp(dir=folder))
         try_messages(tries)
+        try_odd_messages(tries)
         try_huge(tries)
         try_life(tries)
         try_streams(tries)

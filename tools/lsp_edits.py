@@ -19,6 +19,8 @@ from lsp_requests import WARNING, Client, Document, RequestError
 Object = dict[str, Any]
 
 QUICK_FIX = "quickfix"
+# how many quick fixes are offered at once; each is tried by a run of the program
+MAX_FIXES = 20
 # what marks an extended identifier, and how many bits it has
 BIT_31, EXTENDED_BITS = 1 << 31, 29
 STRING_AFTER = re.compile(rb"\s*%s[ \t]*" % tools.QUOTED, re.DOTALL)
@@ -234,6 +236,13 @@ def is_within(at: Object, begin: int, end: int) -> bool:
     return bool(at["from"] <= end and begin <= at["to"])
 
 
+def is_fixed(snapshot: Snapshot, fix: Fix, it: Object) -> bool:
+    """Whether a text after a fix is valid and has fewer diagnostics of the code."""
+    answer = ask(CHECK, edited(snapshot.data, fix.edits))
+    before, after = (sum(other["code"] == it["code"] for other in of.objects()) for of in (snapshot.answer(CHECK), answer))
+    return not answer.errors and after < before
+
+
 def code_action(document: Document, params: Object, client: Client) -> list[Object]:
     """The quick fixes of the diagnostics in a range."""
     snapshot, only = document.snapshot, params["context"].get("only")
@@ -241,12 +250,12 @@ def code_action(document: Document, params: Object, client: Client) -> list[Obje
     if answer.status == BAD_WORDS or only and not any(QUICK_FIX == it or QUICK_FIX.startswith(f"{it}.") for it in only):
         return []
     begin, end = (document.text.offset(params["range"][it]) for it in ("start", "end"))
-    made = []
+    made: list[Object] = []
     for it in answer.objects():
         if it["severity"] == "error" or not is_within(it["at"][0], begin, end) or it["code"] not in FIXES:
             continue
-        fix = FIXES[it["code"]](snapshot, it)
-        if fix:
+        fix = FIXES[it["code"]](snapshot, it) if len(made) < MAX_FIXES else None
+        if fix and is_fixed(snapshot, fix, it):
             diagnostic = lsp_diagnostics.diagnostic_of(it, document.text, document.uri, client.has_related)
             changes = {document.uri: edits_of(document, fix.edits)}
             made.append({"title": fix.title, "kind": QUICK_FIX, "diagnostics": [diagnostic], "edit": {"changes": changes}})

@@ -19,8 +19,8 @@ import candesk_tools as tools
 
 Object = dict[str, Any]
 
-# how long a run may take, in seconds; the largest text that the server takes needs less than one
-PATIENCE = 60
+# how long a run may take, in seconds; the largest text that the server takes needs about one
+PATIENCE = 10
 # the statuses of an answer: done, and with problems or rejected
 ANSWERS = (0, 1)
 BAD_WORDS = 2
@@ -49,13 +49,16 @@ class Answer:
 
 def memory_file(data: bytes) -> int:
     """A descriptor of a file in memory."""
-    number = os.memfd_create("candesk-lsp")
+    try:
+        number = os.memfd_create("candesk-lsp")
+    except OSError as error:
+        raise tools.Fault(f"no file in memory can be made: {error.strerror}", tools.BAD_FILES) from error
     try:
         with open(number, "wb", closefd=False) as file:
             file.write(data)
-    except BaseException:
+    except OSError as error:
         os.close(number)
-        raise
+        raise tools.Fault(f"a file in memory can't be written: {error.strerror}", tools.BAD_FILES) from error
     return number
 
 

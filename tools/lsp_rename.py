@@ -7,8 +7,9 @@ from typing import Any
 
 import candesk_tools as tools
 from lsp_database import database
-from lsp_edits import Edit, edits_of, is_confirmed, kept_signals
+from lsp_edits import Edit, edited, edits_of, is_confirmed, kept_signals
 from lsp_names import SIGNAL, Name, Names, name_at, names
+from lsp_program import PRINT, ask
 from lsp_requests import INFO, Client, Document, RequestError
 
 Object = dict[str, Any]
@@ -51,9 +52,11 @@ def rename(document: Document, params: Object, client: Client) -> Object:
     if not is_confirmed(data, edits, f"rename-signal {index} {thing.name} {new}"):
         raise RequestError("candesk session renames it otherwise; nothing is changed")
     kept = kept_signals(data, thing.number, thing.name)
+    everything = edits + [Edit(begin, end, new.encode()) for _, begin, end in kept]
+    if ask(PRINT, edited(data, everything)).status:
+        raise RequestError("the text would be rejected; nothing is changed")
     if kept:
         lines = sorted({tools.line_of(data, begin) for _, begin, _ in kept})
         told = f"{tools.counted(len(lines), 'line')} with statements kept verbatim, which candesk doesn't check"
         client.show(INFO, f"renaming {thing.name} also changes {told}: {', '.join(map(str, lines))}")
-    edits += [Edit(begin, end, new.encode()) for _, begin, end in kept]
-    return {"changes": {document.uri: edits_of(document, edits)}}
+    return {"changes": {document.uri: edits_of(document, everything)}}

@@ -32,6 +32,8 @@ MAX_WAITING = 100
 PATIENCE = 5
 
 METHOD_NOT_FOUND, NOT_INITIALIZED, CANCELLED = -32601, -32002, -32800
+# what parameters, or a program's output, raise that aren't as they should be
+BAD_PARAMETERS = (LookupError, TypeError, ValueError, AttributeError, ArithmeticError)
 # changes of a document come as ranges with their new text
 INCREMENTAL = 2
 
@@ -238,7 +240,7 @@ class Server:
         try:
             self.publish(document)
             self.shown = ""
-        except (KeyError, TypeError, ValueError) as error:
+        except BAD_PARAMETERS as error:
             self.show_fault(tools.Fault(f"candesk {' '.join(CHECK)} wrote what isn't expected: {error!r}", tools.BAD_FILES))
 
     def publish(self, document: Document) -> None:
@@ -317,7 +319,7 @@ class Server:
             return
         try:
             handler(message.get("params") or {})
-        except (KeyError, TypeError, ValueError, AttributeError) as error:
+        except BAD_PARAMETERS as error:
             self.show(ERROR, f"{message['method']} has bad parameters: {error!r}")
 
     def answer(self, request: Object) -> None:
@@ -329,7 +331,7 @@ class Server:
             # (no error of the request besides: an editor would show both)
             self.show_fault(fault)
             self.send({"id": request["id"], "result": None})
-        except (KeyError, TypeError, ValueError, AttributeError) as error:
+        except BAD_PARAMETERS as error:
             told = f"{request['method']} has bad parameters: {error!r}"
             self.send({"id": request["id"], "error": {"code": INVALID_PARAMS, "message": told}})
         else:
