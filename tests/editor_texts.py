@@ -235,6 +235,20 @@ def try_random_edits(tries: Tries, editor: Editor) -> None:
     tries.note("random edits lead to all kinds of texts", problems > EDITS // BATCH and 5 < rejected < EDITS // BATCH - 5, rejected)
 
 
+def try_long_line(tries: Tries, editor: Editor) -> None:
+    """Thousands of problems in one line with umlauts: each position there is found at once, and not all are listed."""
+    count, most = 3000, 5000
+    began = time.monotonic()
+    # (17 characters an entry, of which the key has 8; each but the first is for a missing signal and repeated)
+    got = editor.open('VAL_ 1 S 0 "ä" ; ' * count)
+    took = time.monotonic() - began
+    columns = {it[:3] for it in placed(got[:most])}
+    is_right = len(got) == most + 1 and columns <= {(0, 17 * at, 17 * at + 8) for at in range(count)} and len(columns) > 2000
+    tries.note("problems in a long line", is_right and took < 5, (len(got), took, sorted(columns)[:3]))
+    told = "only the first 5,000 of 5,999 problems are listed; see `candesk check`"
+    tries.note("more problems than are listed", got[-1]["message"] == told, got[-1])
+
+
 def try_large(tries: Tries, editor: Editor) -> None:
     """Diagnostics of a database of 577 KB after an edit."""
     with tempfile.TemporaryDirectory() as folder:
@@ -260,7 +274,7 @@ def try_large(tries: Tries, editor: Editor) -> None:
 
 def try_texts(tries: Tries) -> None:
     editor = Editor(tries.program)
-    for part in (try_ranges, try_words, try_changes, try_versions, try_random_edits, try_large):
+    for part in (try_ranges, try_words, try_changes, try_versions, try_random_edits, try_long_line, try_large):
         part(tries, editor)
     ended = editor.end()
     tries.note("the server ends", ended == (0, b""), ended)

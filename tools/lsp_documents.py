@@ -9,13 +9,13 @@ from __future__ import annotations
 import codecs
 import re
 from bisect import bisect_left, bisect_right
-from collections.abc import Iterator
 from dataclasses import dataclass, field
-from typing import Any
+from typing import Any, NamedTuple
 
 Object = dict[str, Any]
 
 LINE_END = re.compile(rb"\r\n|\n|\r")
+NOT_ASCII = re.compile("[^\x00-\x7f]")
 # the name of the error handler, and the characters that are bytes in disguise
 STRAY = "candesk-stray"
 FIRST_STRAY, LAST_STRAY, STRAY_BASE = 0xDC80, 0xDCFF, 0xDC00
@@ -65,14 +65,46 @@ def units(text: str) -> int:
     return len(text) + sum(it > "\uffff" for it in text)
 
 
-def characters(line: bytes) -> Iterator[tuple[int, int]]:
-    """For each character of a line, where it begins in bytes and in units; and at last where the line ends."""
-    at = count = 0
-    for character in to_text(line):
-        yield at, count
-        at += len(to_bytes(character))
-        count += units(character)
-    yield at, count
+class Wide(NamedTuple):
+    """The characters of a line that aren't ASCII: where each begins and how long it is, in bytes and in units."""
+
+    begins: list[int]
+    sizes: list[int]
+    unit_begins: list[int]
+    unit_sizes: list[int]
+
+
+def wide_characters(line: bytes) -> Wide:
+    made = Wide([], [], [], [])
+    more_bytes = more_units = 0
+    for found in NOT_ASCII.finditer(to_text(line)) if not line.isascii() else ():
+        size, unit_size = len(to_bytes(found[0])), units(found[0])
+        for numbers, number in zip(made, (found.start() + more_bytes, size, found.start() + more_units, unit_size)):
+            numbers.append(number)
+        more_bytes += size - 1
+        more_units += unit_size - 1
+    return made
+
+
+def mapped(at: int, begins: list[int], sizes: list[int], others: list[int], other_sizes: list[int], is_end: bool) -> int:
+    """An offset in bytes in units, or the other way round. Within a character it is its beginning, or its end."""
+    index = bisect_right(begins, at) - 1
+    if index < 0:
+        return at
+    past = at - begins[index] - sizes[index]
+    if past < 0:
+        is_begin = at == begins[index] or not is_end
+        return others[index] if is_begin else others[index] + other_sizes[index]
+    return others[index] + other_sizes[index] + past
+
+
+class Line(NamedTuple):
+    """A line of a text: its number from 0, where it begins and ends, without its line end, and its characters that aren't ASCII."""
+
+    number: int
+    begin: int
+    end: int
+    wide: Wide
 
 
 def line_starts(data: bytes) -> list[int]:
@@ -85,6 +117,8 @@ class Text:
 
     data: bytes
     starts: list[int] = field(init=False)
+    # the line that was looked at last
+    last: Line | None = field(init=False, default=None)
 
     def __post_init__(self) -> None:
         self.starts = line_starts(self.data)
@@ -93,46 +127,37 @@ class Text:
         """The index of the line that has a byte."""
         return bisect_right(self.starts, offset) - 1
 
-    def line_end(self, line: int) -> int:
-        """The offset at which a line ends, before its line end."""
-        after = self.starts[line + 1] if line + 1 < len(self.starts) else len(self.data)
-        return self.starts[line] + len(self.data[self.starts[line] : after].rstrip(b"\r\n"))
+    def line(self, index: int) -> Line:
+        """A line. (The last one is kept: many positions in one long line are asked for at once.)"""
+        if self.last is None or self.last.number != index:
+            begin = self.starts[index]
+            after = self.starts[index + 1] if index + 1 < len(self.starts) else len(self.data)
+            content = self.data[begin:after].rstrip(b"\r\n")
+            self.last = Line(index, begin, begin + len(content), wide_characters(content))
+        return self.last
 
     def position(self, offset: int, is_end: bool = False) -> Object:
         """The position of an offset. Within a character it is that of the character, or the one after it for the end of a range."""
-        line = self.line_of(max(0, min(offset, len(self.data))))
-        begin, end = self.starts[line], self.line_end(line)
-        wanted = min(offset, end) - begin
-        part = self.data[begin:end]
-        if part.isascii():
-            return {"line": line, "character": wanted}
-        column = 0
-        for at, count in characters(part):
-            if at > wanted:
-                column = count if is_end else column
-                break
-            column = count
-            if at == wanted:
-                break
-        return {"line": line, "character": column}
+        line = self.line(self.line_of(max(0, min(offset, len(self.data)))))
+        begins, sizes, unit_begins, unit_sizes = line.wide
+        wanted = max(0, min(offset, line.end) - line.begin)
+        return {"line": line.number, "character": mapped(wanted, begins, sizes, unit_begins, unit_sizes, is_end)}
 
     def range(self, begin: int, end: int) -> Object:
         return {"start": self.position(begin), "end": self.position(end, is_end=True)}
 
     def offset(self, position: Object) -> int:
         """The offset of a position; one past the end of its line, or of the text, is that end."""
-        line, column = int(position["line"]), max(0, int(position["character"]))
-        if line < 0 or line >= len(self.starts):
-            return 0 if line < 0 else len(self.data)
-        begin, end = self.starts[line], self.line_end(line)
-        part = self.data[begin:end]
-        if part.isascii():
-            return min(begin + column, end)
-        return begin + next((at for at, count in characters(part) if count >= column), len(part))
+        index, column = int(position["line"]), max(0, int(position["character"]))
+        if index < 0 or index >= len(self.starts):
+            return 0 if index < 0 else len(self.data)
+        line = self.line(index)
+        begins, sizes, unit_begins, unit_sizes = line.wide
+        return min(line.begin + mapped(column, unit_begins, unit_sizes, begins, sizes, True), line.end)
 
     def replace(self, begin: int, end: int, new: bytes) -> None:
         """Replaces the bytes from one offset to another. Only the lines there are looked at; those after it are moved."""
-        self.data = self.data[:begin] + new + self.data[end:]
+        self.data, self.last = self.data[:begin] + new + self.data[end:], None
         last = begin + len(new)
         window = max(begin - 1, 0)
         found = (window + it.end() for it in LINE_END.finditer(self.data[window : last + 1]))
@@ -149,8 +174,7 @@ class Text:
 def apply_change(text: Text, where: Object | None, new: bytes) -> None:
     """Applies a change as the client reports it: a range and its new text, or a whole text."""
     if where is None:
-        text.data = new
-        text.starts = line_starts(new)
+        text.data, text.starts, text.last = new, line_starts(new), None
         return
     begin, end = (text.offset(where[it]) for it in ("start", "end"))
     text.replace(min(begin, end), max(begin, end), new)

@@ -19,7 +19,7 @@ from lsp_requests import WARNING, Client, Document, RequestError
 Object = dict[str, Any]
 
 QUICK_FIX = "quickfix"
-# how many quick fixes are offered at once; each is tried by a run of the program
+# for how many diagnostics fixes are looked for at once; each is tried by a run of the program
 MAX_FIXES = 20
 # what marks an extended identifier, and how many bits it has
 BIT_31, EXTENDED_BITS = 1 << 31, 29
@@ -250,11 +250,10 @@ def code_action(document: Document, params: Object, client: Client) -> list[Obje
     if answer.status == BAD_WORDS or only and not any(QUICK_FIX == it or QUICK_FIX.startswith(f"{it}.") for it in only):
         return []
     begin, end = (document.text.offset(params["range"][it]) for it in ("start", "end"))
+    objects = (it for it in answer.objects() if it["severity"] != "error" and it["code"] in FIXES)
     made: list[Object] = []
-    for it in answer.objects():
-        if it["severity"] == "error" or not is_within(it["at"][0], begin, end) or it["code"] not in FIXES:
-            continue
-        fix = FIXES[it["code"]](snapshot, it) if len(made) < MAX_FIXES else None
+    for it in itertools.islice((it for it in objects if is_within(it["at"][0], begin, end)), MAX_FIXES):
+        fix = FIXES[it["code"]](snapshot, it)
         if fix and is_fixed(snapshot, fix, it):
             diagnostic = lsp_diagnostics.diagnostic_of(it, document.text, document.uri, client.has_related)
             changes = {document.uri: edits_of(document, fix.edits)}

@@ -105,7 +105,7 @@ def symbol_of(document: Document, statement: Statement, known: Database, index: 
     """The symbol of a statement that ends before an offset."""
     thing, text = statement.thing, document.text
     assert thing
-    last = min(text.line_end(text.line_of(statement.end)), end)
+    last = min(text.line(text.line_of(statement.end)).end, end)
     name, detail = thing.name, ""
     if statement.keyword == "BO_":
         message = known.messages[index]
