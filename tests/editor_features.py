@@ -312,6 +312,30 @@ def try_renaming(tries: Tries, editor: Editor) -> None:
     tries.note("what can't be renamed", editor.about("prepareRename", at(3, 9)) is None)
 
 
+def try_odd_places(tries: Tries, editor: Editor) -> None:
+    """A name after characters of two units on its line, messages with one number, and a text that was valid before."""
+    editor.open(BASE + 'CM_ "ä😀"; VAL_ 500 Heat 0 "x" ;')
+    found = spans(editor.about("references", at(17, 23), context={"includeDeclaration": False}))
+    # (`CM_ "ä😀"; ` has 11 units, `VAL_ 500 ` nine)
+    tries.note("references after characters of two units", found == [(17, 20, 24)], found)
+    got = editor.about("rename", at(17, 23), newName="Temperature")
+    found = spans(got["changes"][URI])
+    tries.note("renaming after characters of two units", found == [(6, 5, 9), (17, 20, 24)], got)
+    text = 'BO_ 5 A: 1 N\n SG_ S : 0|8@1+ (1,0) [0|0] "" N\nBO_ 5 B: 2 N\n SG_ S : 0|16@1+ (1,0) [0|0] "" N\nVAL_ 5 S 0 "x" ;\n'
+    editor.open(text)
+    shown = [editor.about("hover", at(*where))["contents"]["value"][4:12] for where in ((1, 5), (3, 5), (2, 6), (4, 7))]
+    tries.note("hover over messages with one number", shown == ["A.S: 8 b", "B.S: 16 ", "B 5 (0x0", "A.S: 8 b"], shown)
+    found = spans(editor.about("definition", at(4, 7)))
+    tries.note("definitions in messages with one number", found == [(1, 5, 6), (3, 5, 6)], found)
+    got = editor.about("rename", at(1, 5), newName="T")
+    tries.note("renaming in messages with one number", got.get("message") == "candesk session: refused 33 NameShared", got)
+    editor.replace(text + "VAL_")
+    got = editor.about("definition", at(4, 7)), editor.about("documentSymbol"), editor.about("hover", at(1, 5))
+    tries.note("a rejected text has no names", got == (None, None, None), got)
+    got = editor.about("rename", at(1, 5), newName="T")
+    tries.note("renaming in a rejected text", "valid database" in got.get("message", ""), got)
+
+
 def try_locations(tries: Tries, editor: Editor) -> None:
     """What needs the locations of names."""
     if not has_locations(tries.program):
@@ -335,6 +359,7 @@ def try_locations(tries: Tries, editor: Editor) -> None:
     editor.open(BASE)
     for part in (try_hover, try_outline, try_renaming):
         part(tries, editor)
+    try_odd_places(tries, editor)
     text = 'BU_: E\nBO_ 2048 A: 1 E\nCM_ BO_ 2048 "a 2048";\nBO_TX_BU_ 2048 : E;\n'
     got = fixed(editor, text, at(1, 4))
     wanted_text = 'BU_: E\nBO_ 2147485696 A: 1 E\nCM_ BO_ 2147485696 "a 2048";\nBO_TX_BU_ 2147485696 : E;\n'
