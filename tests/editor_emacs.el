@@ -33,13 +33,14 @@
   (forward-char column))
 
 (defun diagnostics ()
+  "Line, columns and type of each diagnostic, in order."
   (mapcar (lambda (it)
             (save-excursion
               (goto-char (flymake-diagnostic-beg it))
               (let ((begin (- (point) (line-beginning-position))))
                 (list (1- (line-number-at-pos)) begin (- (flymake-diagnostic-end it) (line-beginning-position))
                       (symbol-name (flymake-diagnostic-type it))))))
-          (flymake-diagnostics)))
+          (sort (flymake-diagnostics) (lambda (a b) (< (flymake-diagnostic-beg a) (flymake-diagnostic-beg b))))))
 
 (defun names-in (menu)
   "The names of a menu and of those in it."
@@ -71,9 +72,10 @@
   (report "diagnostics" (diagnostics))
   (go-to 17 5)
   (insert "😀")
+  (goto-char (point-max))
+  (insert "VAL_ 12 X 0 \"😀ä\"; VAL_ 13 X 0 \"b\" ;\n")
   (eglot--signal-textDocument/didChange)
-  (wait-for (lambda () (equal (nth 1 (car (diagnostics))) 10)))
-  (wait-for (lambda () nil))
+  (wait-for (lambda () (equal (length (diagnostics)) 3)))
   (report "diagnostics after an edit" (diagnostics))
   (go-to 14 10)
   (report "completion" (all-completions "" (nth 2 (eglot-completion-at-point))))

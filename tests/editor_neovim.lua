@@ -16,7 +16,7 @@ local function diagnostics()
   for _, it in ipairs(vim.diagnostic.get(0)) do
     table.insert(found, { it.lnum, it.col, it.end_col, it.severity, it.user_data.lsp.code })
   end
-  table.sort(found, function(a, b) return a[1] < b[1] end)
+  table.sort(found, function(a, b) return a[1] < b[1] or a[1] == b[1] and a[2] < b[2] end)
   return found
 end
 
@@ -35,9 +35,10 @@ local function try()
   report("syntax", { vim.fn.synIDattr(vim.fn.synID(4, 1, 1), "name"), vim.fn.synIDattr(vim.fn.synID(3, 21, 1), "name") })
   vim.wait(patience, function() return #vim.diagnostic.get(0) > 0 end, 5)
   report("diagnostics", diagnostics())
-  -- an edit before the diagnostic, with a character of two units, as neovim's own client reports it
+  -- a character of two units before the diagnostic, and one more line
   vim.api.nvim_buf_set_text(0, 17, 5, 17, 5, { "😀" })
-  vim.wait(patience, function() return diagnostics()[1] and diagnostics()[1][2] == 14 end, 5)
+  vim.api.nvim_buf_set_lines(0, -1, -1, false, { 'VAL_ 12 X 0 "😀ä"; VAL_ 13 X 0 "b" ;' })
+  vim.wait(patience, function() return #diagnostics() == 3 end, 5)
   report("diagnostics after an edit", diagnostics())
   report("completion", vim.tbl_map(function(it) return it.label end, ask("textDocument/completion", 14, 10)))
   if has_locations then

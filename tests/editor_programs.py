@@ -13,8 +13,8 @@ from tool_trying import ROOT, TOOLS, Tries, ran, read, written
 
 # an entry for a message that isn't there, after a character of two bytes
 TEXT = BASE + 'CM_ "ä"; VAL_ 11 X 0 "off" ;\n'
-# (the diagnostic in it after a character of four bytes and two units is put before it)
-EDITED = BASE + 'CM_ "😀ä"; VAL_ 11 X 0 "off" ;\n'
+# (a character of four bytes and two units is put before it, and a line with two more is added)
+EDITED = BASE + 'CM_ "😀ä"; VAL_ 11 X 0 "off" ;\nVAL_ 12 X 0 "😀ä"; VAL_ 13 X 0 "b" ;\n'
 
 
 def results_of(tries: Tries, words: list[str], folder: str) -> dict[str, Any]:
@@ -33,7 +33,7 @@ def results_of(tries: Tries, words: list[str], folder: str) -> dict[str, Any]:
 
 
 def renamed() -> str:
-    """BASE after the first renaming, with the entry after it."""
+    """EDITED after the first renaming."""
     changed = RENAMINGS[0][2]
     return "\n".join(changed.get(index, line) for index, line in enumerate(EDITED.split("\n")))
 
@@ -67,7 +67,7 @@ def try_neovim(tries: Tries, folder: str) -> None:
         "file type": "dbc",
         "syntax": ["dbcStatement", "dbcString"],
         "diagnostics": [[17, 10, 19, 2, 16]],
-        "diagnostics after an edit": [[17, 14, 23, 2, 16]],
+        "diagnostics after an edit": [[17, 14, 23, 2, 16], [18, 0, 9, 2, 16], [18, 22, 31, 2, 16]],
         "completion": ["Speed"],
         "formatted": CANONICAL,
         **wanted_of_locations(tries, ["OnOff", "Motor", "CCVS", "Kind"]),
@@ -82,11 +82,12 @@ def try_emacs(tries: Tries, folder: str) -> None:
     words = ["emacs", "--batch", "-L", f"{ROOT}/editors/emacs", "-l", f"{ROOT}/tests/editor_emacs.el"]
     got = results_of(tries, words, folder)
     # (columns in characters)
+    warning = "eglot-warning"
     wanted = {
         "mode": "dbc-mode",
         "faces": ["font-lock-keyword-face", "font-lock-string-face", "font-lock-function-name-face"],
-        "diagnostics": [[17, 9, 18, "eglot-warning"]],
-        "diagnostics after an edit": [[17, 10, 19, "eglot-warning"]],
+        "diagnostics": [[17, 9, 18, warning]],
+        "diagnostics after an edit": [[17, 10, 19, warning], [18, 0, 9, warning], [18, 18, 27, warning]],
         "completion": ["Speed"],
         "formatted": CANONICAL,
         **wanted_of_locations(tries, ["CCVS", "Heat", "Kind", "Mode", "Motor", "OnOff", "Speed"]),

@@ -111,8 +111,9 @@ def signal_lines(message: Object, name: str) -> list[str]:
         lines.append(f"not decoded: ?{it['refused']}")
     if it["chain"] is None:
         lines.append("never present")
-    for above in it["chain"] or []:
-        lines.append(f"present if {above['switch']} is {','.join(f'{first}-{last}' for first, last in above['ranges'])}")
+    for parent in it["chain"] or []:
+        ranges = ",".join(f"{first}-{last}" for first, last in parent["ranges"])
+        lines.append(f"present if {parent['switch']} is {ranges}")
     described = [f"{value['value']} \"{value['name']}\"" for value in it["values"]]
     hidden = len(described) - MAX_DESCRIPTIONS
     more = [f"and {hidden} more"] if hidden > 0 else []

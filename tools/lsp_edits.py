@@ -92,25 +92,25 @@ def kept_words(data: bytes) -> list[list[Word]]:
 
 def kept_numbers(data: bytes, number: int) -> list[Word]:
     """Where statements kept verbatim name a message by its number: after their keyword, or after that of a message or signal."""
-    places = []
+    found: list[Word] = []
     for words in kept_words(data):
         keywords = (b"SG_", b"BO_") if words[0][0] == RELATION else (words[0][0],)
         pairs = zip(words, words[1:])
-        places += [word for before, word in pairs if word[0] == b"%d" % number and before[0] in keywords]
-    return places
+        found += [word for before, word in pairs if word[0] == b"%d" % number and before[0] in keywords]
+    return found
 
 
 def kept_signals(data: bytes, number: int, name: str) -> list[Word]:
     """Where statements kept verbatim name a signal: after its message's number, or in a group of that message after the colon."""
-    places = []
+    found: list[Word] = []
     for words in kept_words(data):
         texts = [it[0] for it in words]
         numbered, named = b"%d" % number, name.encode()
         if texts[0] == GROUP and texts[1] == numbered and b":" in texts:
-            places += [word for word in words[texts.index(b":") :] if word[0] == named]
+            found += [word for word in words[texts.index(b":") :] if word[0] == named]
         elif texts[0] != GROUP:
-            places += [word for before, word in zip(texts, words[1:]) if word[0] == named and before == numbered]
-    return places
+            found += [word for before, word in zip(texts, words[1:]) if word[0] == named and before == numbered]
+    return found
 
 
 # ---- formatting
@@ -210,9 +210,9 @@ def fix_identifier(snapshot: Snapshot, it: Object) -> Fix | None:
     if old >> EXTENDED_BITS or index is None:
         return None
     found, data = names(snapshot), snapshot.data
-    places = [(name.begin, name.end) for name in found.of(Thing(MESSAGE, "", old))] if found else []
-    places = [place for place in places if data[place[0] : place[0] + 1].isdigit()] or [(at["from"], at["to"]) for at in it["at"]]
-    edits = [Edit(*place, b"%d" % new) for place in places]
+    named = [(name.begin, name.end) for name in found.of(Thing(MESSAGE, "", old))] if found else []
+    numbers = [span for span in named if data[span[0] : span[0] + 1].isdigit()] or [(at["from"], at["to"]) for at in it["at"]]
+    edits = [Edit(*span, b"%d" % new) for span in numbers]
     try:
         if not is_confirmed(data, edits, f"renumber {index} {new}"):
             return None

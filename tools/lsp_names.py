@@ -185,13 +185,13 @@ class NodeList(NamedTuple):
 
 def words(data: bytes, needed: bytes) -> Iterator[tuple[bytes, int, int]]:
     """The words and signs of a text outside of strings and comments, from a piece on that has some bytes; a string is a quote."""
-    is_met = False
+    is_needed = False
     for kind, start, piece in tools.pieces(data):
-        is_met = is_met or kind == "plain" and needed in piece
-        if is_met and kind == "quoted":
+        is_needed = is_needed or kind == "plain" and needed in piece
+        if is_needed and kind == "quoted":
             yield b'"', start, start + len(piece)
-            is_met = False
-        elif is_met and kind == "plain":
+            is_needed = False
+        elif is_needed and kind == "plain":
             for found in WORDS.finditer(piece):
                 yield found.group(), start + found.start(), start + found.end()
 

@@ -31,8 +31,8 @@ def prepare_rename(document: Document, params: Object, client: Client) -> Object
     name = found[1]
     # (at a keyword the signal is meant that its statement is about)
     token = f"\\b{re.escape(name.thing.name)}$".encode()
-    place = re.search(token, document.text.data[name.begin : name.end])
-    begin = name.begin + place.start() if place else name.begin
+    last = re.search(token, document.text.data[name.begin : name.end])
+    begin = name.begin + last.start() if last else name.begin
     return {"range": document.text.range(begin, name.end), "placeholder": name.thing.name}
 
 

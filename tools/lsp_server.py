@@ -32,6 +32,7 @@ MAX_WAITING = 100
 PATIENCE = 5
 
 METHOD_NOT_FOUND, NOT_INITIALIZED, CANCELLED = -32601, -32002, -32800
+CANCEL = "$/cancelRequest"
 # what parameters, or a program's output, raise that aren't as they should be
 BAD_PARAMETERS = (LookupError, TypeError, ValueError, AttributeError, ArithmeticError)
 # changes of a document come as ranges with their new text
@@ -65,6 +66,12 @@ class Finished:
 Event = Union[Object, lsp_framing.BadMessage, Closed, Checked, Finished]
 
 
+def cancelled_id(message: Object) -> str:
+    """The request that a client doesn't wait for any more."""
+    params = message.get("params")
+    return str(params.get("id")) if isinstance(params, dict) else ""
+
+
 class Check(threading.Thread):
     """Runs the program over a version: for its diagnostics, and if it is valid for its names, which completion uses later."""
 
@@ -81,6 +88,8 @@ class Check(threading.Thread):
 
     def report(self, words: tuple[str, ...]) -> Answer:
         self.current = Run(words, self.snapshot.data)
+        if self.is_stopped:
+            self.current.stop()
         answer = self.current.answer()
         self.put(Checked(self, words, answer))
         return answer
@@ -111,7 +120,7 @@ class Server:
     is_initialized: bool = False
     is_shut_down: bool = False
     # the requests that the client doesn't wait for any more
-    cancelled: set[Any] = field(default_factory=set)
+    cancelled: set[str] = field(default_factory=set)
     # the last fault that was shown, until the program answers again
     shown: str = ""
 
@@ -134,8 +143,8 @@ class Server:
             if message is None:
                 self.events.put(Closed())
                 return
-            if message.get("method") == "$/cancelRequest" and isinstance(message.get("params"), dict):
-                self.cancelled.add(str(message["params"].get("id")))
+            if message.get("method") == CANCEL:
+                self.cancelled.add(cancelled_id(message))
             self.events.put(message)
 
     def run(self) -> int:
@@ -175,10 +184,8 @@ class Server:
                 self.show_fault(event.fault)
         elif event.get("method") == "exit":
             return 0 if self.is_shut_down else 1
-        elif "id" in event and "method" in event:
-            self.answer(event)
-        elif "method" in event:
-            self.note(event)
+        elif isinstance(event.get("method"), str):
+            self.answer(event) if "id" in event else self.note(event)
         elif "result" not in event and "error" not in event:
             self.send({"id": event.get("id"), "error": {"code": lsp_framing.INVALID_REQUEST, "message": "no method"}})
         return None
@@ -312,8 +319,8 @@ class Server:
             "textDocument/didChange": self.did_change,
             "textDocument/didClose": self.did_close,
         }
-        if message["method"] == "$/cancelRequest":
-            self.cancelled.discard(str((message.get("params") or {}).get("id")))
+        if message["method"] == CANCEL:
+            self.cancelled.discard(cancelled_id(message))
         handler = handlers.get(message["method"])
         if handler is None or not self.is_initialized or self.is_shut_down:
             return
