@@ -133,9 +133,8 @@ def framed_bytes(body: bytes) -> bytes:
     return b"Content-Length: %d\r\n\r\n" % len(body) + body
 
 
-def try_messages(tries: Tries) -> None:
+def try_malformed(tries: Tries, editor: Editor) -> None:
     """Malformed messages: each is reported in one message, and the server goes on with the next."""
-    editor = Editor(tries.program)
     for name, data, wanted in (
         ("no JSON", framed_bytes(b"{"), "a message isn't JSON"),
         ("deep JSON", framed_bytes(b"[" * 200_000), "a message isn't JSON"),
@@ -154,6 +153,10 @@ def try_messages(tries: Tries) -> None:
     while not any(it.get("id") == 900 for it in editor.answers.values()):
         editor.take(PATIENCE)
     tries.note("a message that is neither", editor.answers.pop(900).get("error", {}).get("code") == -32600)
+
+
+def try_wrong(tries: Tries, editor: Editor) -> None:
+    """Requests and notifications that can't be answered."""
     odd: tuple[Object, ...] = ({"method": {}}, {"method": 5}, {"method": "$/cancelRequest", "params": [1]}, {"params": {}})
     for it in odd:
         editor.write(framed({"jsonrpc": "2.0", **it}))
@@ -177,6 +180,12 @@ def try_messages(tries: Tries) -> None:
     editor.note("textDocument/fly", {})
     told = editor.shown(0.3)
     tries.note("a notification that is wrong", len(told) == 1 and "textDocument/didChange" in told[0], told)
+
+
+def try_messages(tries: Tries) -> None:
+    editor = Editor(tries.program)
+    try_malformed(tries, editor)
+    try_wrong(tries, editor)
     tries.note("the server goes on after all", [it["code"] for it in editor.replace(PROBLEM)] == [13])
     ended = editor.end()
     tries.note("the server ends after malformed messages", ended == (0, b""), ended)

@@ -360,9 +360,10 @@ def try_locations(tries: Tries, editor: Editor) -> None:
     for part in (try_hover, try_outline, try_renaming):
         part(tries, editor)
     try_odd_places(tries, editor)
-    text = 'BU_: E\nBO_ 2048 A: 1 E\nCM_ BO_ 2048 "a 2048";\nBO_TX_BU_ 2048 : E;\n'
+    # (statements kept verbatim that name nothing are there too)
+    text = 'BU_: E\nBO_ 2048 A: 1 E\nCM_ BO_ 2048 "a 2048";\nBO_TX_BU_ 2048 : E;\nSIG_GROUP_ ;\n'
     got = fixed(editor, text, at(1, 4))
-    wanted_text = 'BU_: E\nBO_ 2147485696 A: 1 E\nCM_ BO_ 2147485696 "a 2048";\nBO_TX_BU_ 2147485696 : E;\n'
+    wanted_text = 'BU_: E\nBO_ 2147485696 A: 1 E\nCM_ BO_ 2147485696 "a 2048";\nBO_TX_BU_ 2147485696 : E;\nSIG_GROUP_ ;\n'
     tries.note("quick fix of an identifier with entries", got == [wanted_text], got)
 
 

@@ -106,7 +106,7 @@ def kept_signals(data: bytes, number: int, name: str) -> list[Word]:
     for words in kept_words(data):
         texts = [it[0] for it in words]
         numbered, named = b"%d" % number, name.encode()
-        if texts[0] == GROUP and texts[1] == numbered and b":" in texts:
+        if texts[0] == GROUP and texts[1:2] == [numbered] and b":" in texts:
             found += [word for word in words[texts.index(b":") :] if word[0] == named]
         elif texts[0] != GROUP:
             found += [word for before, word in zip(texts, words[1:]) if word[0] == named and before == numbered]
