@@ -3,10 +3,11 @@
 from __future__ import annotations
 
 import os
+import re
 from typing import Any
 
 from editor_client import URI, Editor, applied
-from tool_trying import Tries, ran
+from tool_trying import Tries, example, ran, read
 
 Object = dict[str, Any]
 # a line, the first column and the one after the last
@@ -312,6 +313,34 @@ def try_renaming(tries: Tries, editor: Editor) -> None:
     tries.note("what can't be renamed", editor.about("prepareRename", at(3, 9)) is None)
 
 
+def unkept(printed: bytes) -> list[bytes]:
+    """The lines of a printed database without groups, which a session doesn't rename."""
+    return [it for it in printed.split(b"\n") if not it.startswith(b"SIG_GROUP_")]
+
+
+def try_all_renamings(tries: Tries, editor: Editor) -> None:
+    """Each signal of the examples gets a name that nothing has: what is edited are its old names, all that a session renames."""
+    wrong, count = [], 0
+    for name in ("car.dbc", "lorry.dbc", "truck.dbc"):
+        text, index = read(example(name)).decode(), -1
+        editor.open(text)
+        for number, line in enumerate(text.split("\n")):
+            index += line.startswith("BO_ ")
+            found = re.match(r" SG_ (\w+)", line)
+            if not found:
+                continue
+            got = editor.about("rename", at(number, 5), newName="Zq9")
+            renamed = applied(text, got["changes"][URI]) if "changes" in got else ""
+            command = f"rename-signal {index} {found[1]} Zq9\nprint\n".encode()
+            wanted = ran([tries.program, "session", example(name)], command).out.removeprefix(b"ok\n").removesuffix(b"ok\n")
+            printed = ran([tries.program, "print", "/dev/stdin"], renamed.encode()).out
+            count += 1
+            if renamed.replace("Zq9", found[1]) != text or unkept(printed) != unkept(wanted):
+                wrong.append((name, line, got))
+    tries.note(f"renaming {count} signals of the examples", not wrong and count > 50, wrong[:1])
+    editor.shown()
+
+
 def try_odd_places(tries: Tries, editor: Editor) -> None:
     """A name after characters of two units on its line, messages with one number, and a text that was valid before."""
     editor.open(BASE + 'CM_ "ä😀"; VAL_ 500 Heat 0 "x" ;')
@@ -360,6 +389,7 @@ def try_locations(tries: Tries, editor: Editor) -> None:
     for part in (try_hover, try_outline, try_renaming):
         part(tries, editor)
     try_odd_places(tries, editor)
+    try_all_renamings(tries, editor)
     # (statements kept verbatim that name nothing are there too)
     text = 'BU_: E\nBO_ 2048 A: 1 E\nCM_ BO_ 2048 "a 2048";\nBO_TX_BU_ 2048 : E;\nSIG_GROUP_ ;\n'
     got = fixed(editor, text, at(1, 4))
