@@ -57,6 +57,8 @@ local function try()
   vim.wait(500)
   if vim.lsp.buf.format then format({ timeout_ms = patience }) else format(nil, patience) end
   report("formatted", lines())
+  vim.cmd("edit!")
+  report("clients after reading again", #vim.lsp.buf_get_clients(0))
 end
 
 local is_done, fault = pcall(try)

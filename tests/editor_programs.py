@@ -70,6 +70,7 @@ def try_neovim(tries: Tries, folder: str) -> None:
         "diagnostics after an edit": [[17, 14, 23, 2, 16], [18, 0, 9, 2, 16], [18, 22, 31, 2, 16]],
         "completion": ["Speed"],
         "formatted": CANONICAL,
+        "clients after reading again": 1,
         **wanted_of_locations(tries, ["OnOff", "Motor", "CCVS", "Kind"]),
     }
     note_all(tries, "neovim", got, wanted)

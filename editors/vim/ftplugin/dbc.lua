@@ -5,6 +5,10 @@ end
 local server = { name = "candesk", cmd = { "candesk-lsp" }, root_dir = vim.fn.getcwd(), init_options = vim.g.candesk_options }
 if vim.lsp.start then
   vim.lsp.start(server)
-else
-  vim.lsp.buf_attach_client(0, vim.lsp.start_client(server))
+  return
 end
+-- (0.7: one server for all files, that a file which is read again isn't attached to twice)
+if not vim.g.candesk_client or not vim.lsp.get_client_by_id(vim.g.candesk_client) then
+  vim.g.candesk_client = vim.lsp.start_client(server)
+end
+vim.lsp.buf_attach_client(0, vim.g.candesk_client)
