@@ -166,6 +166,26 @@ def try_versions(tries: Tries, editor: Editor) -> None:
     tries.note("a closed document has none", came_last == [{"uri": URI, "diagnostics": []}], came_last)
 
 
+def try_documents(tries: Tries, editor: Editor) -> None:
+    """Two documents, each with its own text, diagnostics and requests."""
+    other = "file:///work/b.dbc"
+    first, second = placed(editor.open(REJECTED)), placed(editor.open(PROBLEMS, other))
+    tries.note("two documents", (first, second) == (REJECTED_RANGES, PROBLEM_RANGES), (first, second))
+    for uri in (URI, other):
+        editor.change([{"text": VALID.replace("A", "B") + ("VAL_ 2 B 0 \"\" ;" if uri == other else "")}], uri)
+    second = placed(editor.diagnostics(other))
+    found = [it["params"] for it in editor.taken(0.3) if it["method"] == PUBLISHED]
+    # (the first was checked before)
+    got = [(it["uri"], it["diagnostics"]) for it in found]
+    tries.note("two documents that change", second == [(3, 0, 8, WARNING, 16)] and got == [(URI, [])], (second, got))
+    editor.close()
+    start = {"line": 0, "character": 0}
+    got_items = editor.about("completion", start), editor.about("completion", start, uri=other)
+    tries.note("a document after the other was closed", got_items[0] is None and bool(got_items[1]), got_items)
+    editor.close(other)
+    editor.taken(0.2)
+
+
 # ---- random edits
 
 
@@ -274,7 +294,7 @@ def try_large(tries: Tries, editor: Editor) -> None:
 
 def try_texts(tries: Tries) -> None:
     editor = Editor(tries.program)
-    for part in (try_ranges, try_words, try_changes, try_versions, try_random_edits, try_long_line, try_large):
+    for part in (try_ranges, try_words, try_changes, try_versions, try_documents, try_random_edits, try_long_line, try_large):
         part(tries, editor)
     ended = editor.end()
     tries.note("the server ends", ended == (0, b""), ended)

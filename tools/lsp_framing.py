@@ -1,7 +1,8 @@
 """Messages of the language server protocol on byte streams: JSON after a header with its length.
 
-The reader of Debian's python3-pylsp-jsonrpc takes `Content-Length` only as the first header, gives up at a header without one, and
-reads a body of any size; so the framing is done here. After a header without a length it goes on at the next length in the stream.
+The reader of Debian's python3-pylsp-jsonrpc takes `Content-Length` only as the first header, reads all that follows as the body if
+there is none, and a body of any size; so the framing is done here. After a header without a length it continues at the next length
+in the stream.
 """
 
 from __future__ import annotations
