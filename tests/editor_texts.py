@@ -12,7 +12,7 @@ import tempfile
 import time
 from typing import Any
 
-from editor_client import PUBLISHED, URI, Editor, position, range_of, units
+from editor_client import PUBLISHED, URI, Editor, applied, position, range_of, units
 from tool_trying import ROOT, Tries, ran, read
 
 Object = dict[str, Any]
@@ -55,6 +55,8 @@ REJECTED_RANGES = [(2, 25, 28, ERROR, 2), (3, 16, 19, INFORMATION, 2)]
 VALID = 'BU_: Ecu\nBO_ 1 A: 1 Ecu\n SG_ S : 0|8@1+ (1,0) [0|0] "" Ecu\n'
 # how long a text stays as it is before it is checked, and the longest that a check after an edit may take, in seconds
 DEBOUNCE, LONGEST = 0.1, 0.3
+# and the longest that an answer may take that an editor's user asked for
+SLOWEST = 3
 LARGE_MESSAGES = 1297
 EDITS, BATCH = 1000, 10
 
@@ -290,6 +292,20 @@ def try_large(tries: Tries, editor: Editor) -> None:
     median = statistics.median(taken)
     print(f"{units(text) / 1000:.0f} KB: diagnostics {median:.3f} s after an edit (of that {DEBOUNCE} s is the pause)")
     tries.note("a large database is fast", median < LONGEST, taken)
+    began = time.monotonic()
+    edits = editor.about("formatting", options={})
+    took = time.monotonic() - began
+    # (the text as it is after the edits)
+    changed = text.replace("BO_ 2147484296 Message648: 8 Node18", "BO_ 2147484296 Message648: 8 Other")
+    wanted_text = ran([tries.program, "print", "/dev/stdin"], changed.encode()).out.decode()
+    tries.note("formatting a large database", took < SLOWEST and applied(changed, edits) == wanted_text, took)
+    began = time.monotonic()
+    labels = [it["label"] for it in editor.about("completion", {"line": line, "character": 29})]
+    tries.note("completion in a large database", time.monotonic() - began < SLOWEST and "Node18" in labels, labels[:5])
+    began = time.monotonic()
+    where = {"start": {"line": line, "character": 30}, "end": {"line": line, "character": 30}}
+    fixes = editor.about("codeAction", range=where, context={"diagnostics": []})
+    tries.note("a quick fix in a large database", time.monotonic() - began < SLOWEST and len(fixes) == 1, fixes)
 
 
 def try_texts(tries: Tries) -> None:

@@ -128,7 +128,8 @@ def formatted(document: Document, client: Client) -> bytes | None:
             client.show(WARNING, "not formatted: statements kept verbatim don't follow each other as Vector's tools write them")
             return None
     else:
-        made = b"".join(b"".join([*line, line_end(data)]) for line in tools.canonical_lines(answer.out))
+        end = line_end(data)
+        made = b"".join(b"".join([*line, end]) for line in tools.canonical_lines(answer.out))
     line = tools.comment_line(data)
     if line and made != data:
         client.show(WARNING, f"not formatted: line {line} has a // comment, which would be lost")
