@@ -10,7 +10,7 @@ import candesk_tools as tools
 import lsp_completion
 import lsp_edits
 import lsp_rename
-from lsp_database import Database, database, diagrams, message_lines, signal_lines
+from lsp_database import NOBODY, Database, database, diagrams, message_lines, signal_lines
 from lsp_names import ATTRIBUTE, NODE, SIGNAL, TABLE, Name, Names, Statement, Thing, name_at, names
 from lsp_requests import Client, Document
 
@@ -36,6 +36,8 @@ def index_at(found: Names, known: Database, thing: Thing, statement: Statement |
 
 
 def node_lines(known: Database, name: str) -> list[str]:
+    if name == NOBODY:
+        return [f"{name}: no node"]
     sent = [it["name"] for it in known.messages if it["sender"] == name]
     signals = ((f"{it['name']}.{signal}", of) for it in known.messages for signal, of in it["signals"].items())
     received = [signal for signal, of in signals if name in of["receivers"]]
