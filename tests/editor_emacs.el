@@ -5,7 +5,6 @@
 (require 'json)
 (require 'dbc-mode)
 
-(defvar has-locations (equal (getenv "TRIED_LOCATIONS") "1"))
 (defvar results nil)
 
 (defun as-vectors (it)
@@ -79,7 +78,7 @@
   (report "diagnostics after an edit" (diagnostics))
   (go-to 14 10)
   (report "completion" (all-completions "" (nth 2 (eglot-completion-at-point))))
-  (when has-locations (try-locations))
+  (try-locations)
   (set-buffer-modified-p nil)
   (connect (getenv "TRIED_LOOSE"))
   (eglot-format-buffer)

@@ -2,7 +2,6 @@
 
 from __future__ import annotations
 
-import os
 import re
 from typing import Any
 
@@ -197,10 +196,6 @@ def try_fixes(tries: Tries, editor: Editor) -> None:
 # ---- what needs locations
 
 
-def has_locations(program: str) -> bool:
-    return ran([program, "dump", "--locations", os.devnull]).status != 2
-
-
 # where the cursor is in BASE, and where what is there is defined
 DEFINITIONS: tuple[tuple[str, tuple[int, int], list[Span]], ...] = (
     ("a multiplexor", (16, 24), [(4, 5, 9)]),
@@ -370,14 +365,6 @@ def try_odd_places(tries: Tries, editor: Editor) -> None:
 
 def try_locations(tries: Tries, editor: Editor) -> None:
     """What needs the locations of names."""
-    if not has_locations(tries.program):
-        tries.skip("hover, outline, definition, references and renaming: the program doesn't know dump --locations")
-        editor.open(BASE)
-        for method in ("hover", "definition", "references", "prepareRename"):
-            tries.note(f"{method} without locations", editor.about(method, at(5, 6)) is None)
-        tries.note("outline without locations", editor.about("documentSymbol") is None)
-        tries.note("nothing is shown without locations", editor.shown() == [])
-        return
     for end in ("\n", "\r\n"):
         editor.open(BASE.replace("\n", end))
         for name, where, wanted in DEFINITIONS:

@@ -1,6 +1,5 @@
 -- Drives neovim's own client over the language server, and writes what it gets as lines of JSON to the file of TRIED_RESULTS.
 local results = assert(io.open(os.getenv("TRIED_RESULTS"), "w"))
-local has_locations = os.getenv("TRIED_LOCATIONS") == "1"
 local patience = 15000
 
 local function report(name, value)
@@ -41,16 +40,14 @@ local function try()
   vim.wait(patience, function() return #diagnostics() == 3 end, 5)
   report("diagnostics after an edit", diagnostics())
   report("completion", vim.tbl_map(function(it) return it.label end, ask("textDocument/completion", 14, 10)))
-  if has_locations then
-    report("hover", ask("textDocument/hover", 14, 10).contents.value)
-    report("outline", vim.tbl_map(function(it) return it.name end, ask("textDocument/documentSymbol", 0, 0)))
-    vim.api.nvim_win_set_cursor(0, { 17, 24 })
-    vim.lsp.buf.definition()
-    vim.wait(patience, function() return vim.api.nvim_win_get_cursor(0)[1] == 5 end, 5)
-    report("definition", vim.api.nvim_win_get_cursor(0))
-    vim.lsp.util.apply_workspace_edit(ask("textDocument/rename", 14, 10, { newName = "Pace" }), "utf-16")
-    report("renamed", lines())
-  end
+  report("hover", ask("textDocument/hover", 14, 10).contents.value)
+  report("outline", vim.tbl_map(function(it) return it.name end, ask("textDocument/documentSymbol", 0, 0)))
+  vim.api.nvim_win_set_cursor(0, { 17, 24 })
+  vim.lsp.buf.definition()
+  vim.wait(patience, function() return vim.api.nvim_win_get_cursor(0)[1] == 5 end, 5)
+  report("definition", vim.api.nvim_win_get_cursor(0))
+  vim.lsp.util.apply_workspace_edit(ask("textDocument/rename", 14, 10, { newName = "Pace" }), "utf-16")
+  report("renamed", lines())
   vim.cmd("edit! " .. os.getenv("TRIED_LOOSE"))
   vim.wait(patience, function() return #vim.lsp.buf_get_clients(0) > 0 end, 5)
   local format = vim.lsp.buf.format or vim.lsp.buf.formatting_sync

@@ -8,7 +8,7 @@ import shutil
 import tempfile
 from typing import Any
 
-from editor_features import BASE, CANONICAL, HOVERS, LOOSE, RENAMINGS, has_locations
+from editor_features import BASE, CANONICAL, HOVERS, LOOSE, RENAMINGS
 from tool_trying import ROOT, TOOLS, Tries, ran, read, written
 
 # an entry for a message that isn't there, after a character of two bytes
@@ -24,7 +24,6 @@ def results_of(tries: Tries, words: list[str], folder: str) -> dict[str, Any]:
     surroundings = {
         "PATH": f"{TOOLS}:{os.environ['PATH']}", "CANDESK": tries.program, "HOME": folder, "XDG_CACHE_HOME": folder,
         "TRIED_FILE": path, "TRIED_LOOSE": loose, "TRIED_RESULTS": results,
-        "TRIED_LOCATIONS": "1" if has_locations(tries.program) else "0",
     }
     done = ran([it.replace("FILE", path) for it in words], b"", **surroundings)
     if not os.path.exists(results):
@@ -47,12 +46,9 @@ def note_all(tries: Tries, editor: str, got: dict[str, Any], wanted: dict[str, A
         tries.note(f"{editor}: {name}", is_right, found)
 
 
-def wanted_of_locations(tries: Tries, outline: list[str]) -> dict[str, Any]:
+def wanted_of_locations(outline: list[str]) -> dict[str, Any]:
     """What an editor gets that needs locations: the hover over an entry's signal, the multiplexor's definition, and so on."""
-    if has_locations(tries.program):
-        return {"hover": HOVERS[0][2], "outline": outline, "definition": [5, 5], "renamed": renamed()}
-    tries.skip("hover, outline, definition and renaming in an editor: the program doesn't know dump --locations")
-    return {}
+    return {"hover": HOVERS[0][2], "outline": outline, "definition": [5, 5], "renamed": renamed()}
 
 
 def try_neovim(tries: Tries, folder: str) -> None:
@@ -71,7 +67,7 @@ def try_neovim(tries: Tries, folder: str) -> None:
         "completion": ["Speed"],
         "formatted": CANONICAL,
         "clients after reading again": 1,
-        **wanted_of_locations(tries, ["OnOff", "Motor", "CCVS", "Kind"]),
+        **wanted_of_locations(["OnOff", "Motor", "CCVS", "Kind"]),
     }
     note_all(tries, "neovim", got, wanted)
 
@@ -91,7 +87,7 @@ def try_emacs(tries: Tries, folder: str) -> None:
         "diagnostics after an edit": [[17, 10, 19, warning], [18, 0, 9, warning], [18, 18, 27, warning]],
         "completion": ["Speed"],
         "formatted": CANONICAL,
-        **wanted_of_locations(tries, ["CCVS", "Heat", "Kind", "Mode", "Motor", "OnOff", "Speed"]),
+        **wanted_of_locations(["CCVS", "Heat", "Kind", "Mode", "Motor", "OnOff", "Speed"]),
     }
     note_all(tries, "Emacs", got, wanted)
 

@@ -1,4 +1,4 @@
-"""The tokens of a text that name something, by what `candesk dump --locations` writes, and what each of them names.
+"""The tokens of a text that name something, by what `candesk dump --at` writes, and what each of them names.
 
 The program reports where messages, signals, entries, senders and receivers are. Lists of nodes and statements kept verbatim, which
 it doesn't report, are found by their words, outside of strings and comments.

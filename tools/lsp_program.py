@@ -122,7 +122,7 @@ def ask(words: tuple[str, ...], data: bytes, script: bytes = b"") -> Answer:
 CHECK = ("explain", "--json")
 OBJECTS = ("dump", "--json")
 DIAGRAMS = ("dump",)
-LOCATIONS = ("dump", "--locations")
+LOCATIONS = ("dump", "--at")
 PRINT = ("print",)
 
 
