@@ -86,7 +86,3 @@ def diagnostics_of(objects: list[Object], text: Text, uri: str, has_related: boo
         told = f"only the first {MAX_DIAGNOSTICS:,} of {len(objects):,} problems are listed; see `candesk check`"
         made.append({"range": text.range(0, 0), "severity": INFORMATION, "source": "candesk", "message": told})
     return made
-
-
-def is_rejected(objects: list[Object]) -> bool:
-    return any(it["severity"] == "error" for it in objects)
