@@ -17,7 +17,7 @@ use crate::walk_rules::walks_in;
 use can_diagnostics::{Code, Diagnostic};
 use can_mux::{MessageRows, Walk};
 use can_overlap::Occupancy;
-use can_references::{Known, push_head_faults, push_row_faults, push_unknown_nodes};
+use can_references::{Known, push_head_faults, push_unknown_nodes, row_faults};
 use can_rows::{Indexed, Lookup};
 use dbc_records::{Database, Message};
 use dbc_values::Memory;
@@ -166,13 +166,12 @@ fn report_messages<'a, L: Lookup, T: Report>(
 fn report_rows<L: Lookup, T: Report>(
     to: &mut T,
     alloc: Global,
-    known: &Known<'_, L>,
+    known: Known<'_, L>,
 ) -> Result<(), Stop>
-    ensures { Takes T.Took T.Stopped to.old to.new result (row_faults known.now) }
+    ensures { Takes T.Took T.Stopped to.old to.new result (row_faults known.entry) }
 {
-    let mut found = Vec::new(alloc);
-    match push_row_faults(&mut found, known) {
-        Ok(()) => to.take(found),
+    match row_faults(alloc, known) {
+        Ok(found) => to.take(found),
         Err(Memory) => Err(Stop::Memory),
     }
 }
@@ -182,11 +181,11 @@ fn report_rows<L: Lookup, T: Report>(
 fn report_known<L: Lookup, T: Report>(
     to: &mut T,
     alloc: Global,
-    known: &Known<'_, L>,
+    known: Known<'_, L>,
 ) -> Result<(), Stop>
-    ensures { Takes T.Took T.Stopped to.old to.new result (all_faults known.now) }
+    ensures { Takes T.Took T.Stopped to.old to.new result (all_faults known.entry) }
 {
-    report_messages(to, alloc, known, known.database().messages.as_slice())?;
+    report_messages(to, alloc, &known, known.database().messages.as_slice())?;
     report_rows(to, alloc, known)
 }
 
@@ -195,7 +194,7 @@ fn report_with<L: Lookup, T: Report>(to: &mut T, alloc: Global, lookup: &L) -> R
     ensures { Takes T.Took T.Stopped to.old to.new result (all_faults (L.whole lookup.now)) }
 {
     match Known::of(alloc, lookup) {
-        Ok(known) => report_known(to, alloc, &known),
+        Ok(known) => report_known(to, alloc, known),
         Err(Memory) => Err(Stop::Memory),
     }
 }

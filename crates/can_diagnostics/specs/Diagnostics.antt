@@ -2,9 +2,9 @@
 use Rattle.std.specs.Prelude.{ℕ, ℤ, List}
 use Rattle.dbc_values.specs.Names.{IsName}
 use Rattle.dbc_records.specs.Records.{Head, Signal, IsNumber}
-use Rattle.can_diagnostics.specs.Keys.{IsRowKey}
+use Rattle.dbc_records.specs.EntryKeys.{IsEntryKey}
 use Rattle.can_diagnostics.specs.declared.code.Code.{Code}
-use Rattle.can_diagnostics.specs.declared.row_key.RowKey.{RowKey}
+use Rattle.dbc_records.specs.declared.entry_key.EntryKey.{EntryKey}
 use Rattle.can_diagnostics.specs.declared.subject.Subject.{Subject}
 use Rattle.can_diagnostics.specs.declared.subject.Subject.TheVariants as subjects
 use Rattle.can_diagnostics.specs.declared.diagnostic.Diagnostic.{Diagnostic}
@@ -16,7 +16,7 @@ IsSubject (subjects.Signal number message signal) = IsNumber number × IsName me
 IsSubject (subjects.Pair number message first second) = IsNumber number × IsName message × IsName first × IsName second
 IsSubject (subjects.Receiver number message signal node) = IsNumber number × IsName message × IsName signal × IsName node
 IsSubject (subjects.Value number message signal value) = IsNumber number × IsName message × IsName signal
-IsSubject (subjects.Row key) = IsRowKey key
+IsSubject (subjects.Row key) = IsEntryKey key
 
 abbrev pub of_message : Code → Head → Diagnostic
 of_message code head = record { code = code; subject = subjects.Message head.number head.name }
@@ -36,5 +36,5 @@ of_receiver code head signal node = record { code = code; subject = subjects.Rec
 abbrev pub of_value : Code → Head → Signal → ℤ → Diagnostic
 of_value code head signal value = record { code = code; subject = subjects.Value head.number head.name signal.name value }
 
-abbrev pub of_row : Code → RowKey → Diagnostic
+abbrev pub of_row : Code → EntryKey → Diagnostic
 of_row code key = record { code = code; subject = subjects.Row key }

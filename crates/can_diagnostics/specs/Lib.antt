@@ -4,7 +4,7 @@ pub use Rattle.dbc_records.specs.Comments
 pub use Rattle.dbc_records.specs.Attributes
 pub use Rattle.dbc_records.specs.Layout
 pub use Rattle.dbc_records.specs.CanonicalText
+pub use Rattle.dbc_records.specs.EntryKeys
 pub mod Codes
-pub mod Keys
 pub mod Diagnostics
 pub mod Lines

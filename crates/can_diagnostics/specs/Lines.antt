@@ -6,9 +6,9 @@ use Rattle.std.specs.Fmt.{signed_decimal}
 use Rattle.dbc_values.specs.Lexical.{line_feed, carriage_return, space}
 use Rattle.dbc_records.specs.Layout.{Layout, layout_text}
 use Rattle.can_diagnostics.specs.Codes.{code_number, code_word}
-use Rattle.can_diagnostics.specs.Keys.{key_layout}
+use Rattle.dbc_records.specs.EntryKeys.{key_layout}
 use Rattle.can_diagnostics.specs.declared.code.Code.{Code}
-use Rattle.can_diagnostics.specs.declared.row_key.RowKey.{RowKey}
+use Rattle.dbc_records.specs.declared.entry_key.EntryKey.{EntryKey}
 use Rattle.can_diagnostics.specs.declared.subject.Subject.{Subject}
 use Rattle.can_diagnostics.specs.declared.subject.Subject.TheVariants as subjects
 use Rattle.can_diagnostics.specs.declared.diagnostic.Diagnostic.{Diagnostic}
@@ -26,7 +26,7 @@ unfoldable pub shown : Layout → List ℕ
 shown layout = blanked (layout_text layout)
 
 -- what is printed of a row up to and with its key, on one line
-unfoldable pub row_text : RowKey → List ℕ
+unfoldable pub row_text : EntryKey → List ℕ
 row_text key = shown (key_layout key)
 
 -- ---- lines

@@ -2,7 +2,7 @@
 ghost use Rattle.std.specs.Prelude.{◌≡◌};
 ghost use Rattle.can_diagnostics.specs.Codes.{code_number, code_word};
 
-/// What is doubtful. The numbers, 1 to 18 in this order, and the words don't change.
+/// What a diagnostic reports. The numbers, 1 to 18 in this order, and the words don't change.
 #[derive(Clone, Copy, Debug, PartialEq, Eq)]
 pub enum Code {
     /// The number of a message is no identifier of 11 or 29 bits.

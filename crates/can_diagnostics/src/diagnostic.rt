@@ -1,19 +1,18 @@
-//! Diagnostics, and how they are made of the records that they speak of.
+//! Diagnostics, and how they are made of the records that they are about.
 ghost use Rattle.std.specs.Prelude.{◌≡◌, IfOk};
 ghost use Rattle.can_diagnostics.specs.Diagnostics.{of_message, of_sender, of_signal, of_pair, of_receiver, of_value, of_row};
 
 use crate::code::Code;
-use crate::row_key::RowKey;
 use crate::subject::Subject;
-use dbc_records::{Head, Signal};
+use dbc_records::{EntryKey, Head, Signal};
 use dbc_values::{Checked, Copied, Memory, Name};
 
-/// One thing that is doubtful in a database.
+/// One diagnostic of a database.
 #[derive(Drop)]
 pub struct Diagnostic {
-    /// What is doubtful.
+    /// What is reported.
     pub code: Code,
-    /// Where.
+    /// What it is about.
     pub subject: Subject,
 }
 
@@ -89,7 +88,7 @@ impl Diagnostic {
     }
 
     /// That of a row.
-    pub fn of_row(code: Code, key: RowKey) -> Diagnostic
+    pub fn of_row(code: Code, key: EntryKey) -> Diagnostic
         ensures { result ≡ of_row code key }
     {
         Diagnostic {

@@ -5,11 +5,11 @@ ghost use Rattle.dbc_records.specs.Comments.{Comment};
 ghost use Rattle.dbc_records.specs.Attributes.{AttrDef, AttrDefault, AttrRow};
 ghost use Rattle.dbc_records.specs.CanonicalText.{table_key, comment_key, definition_key, default_key, attribute_key, values_key};
 ghost use Rattle.dbc_records.specs.CanonicalText.{float_key, mux_key};
-ghost use Rattle.can_diagnostics.specs.Keys.{key_layout, key_of_table, key_of_comment, key_of_definition, key_of_default};
-ghost use Rattle.can_diagnostics.specs.Keys.{key_of_attribute, key_of_values, key_of_float, key_of_mux};
+ghost use Rattle.dbc_records.specs.EntryKeys.{key_layout, key_of_table, key_of_comment, key_of_definition, key_of_default};
+ghost use Rattle.dbc_records.specs.EntryKeys.{key_of_attribute, key_of_values, key_of_float, key_of_mux};
 
 /// The layout of a row's key is what the row is printed as, up to and with its key.
-#[tactic(auto, unfolding(crate::specs::Keys::key_layout, dbc_records::specs::CanonicalText::table_key, dbc_records::specs::CanonicalText::comment_key, dbc_records::specs::CanonicalText::definition_key, dbc_records::specs::CanonicalText::default_key, dbc_records::specs::CanonicalText::attribute_key, dbc_records::specs::CanonicalText::values_key, dbc_records::specs::CanonicalText::float_key, dbc_records::specs::CanonicalText::mux_key))]
+#[tactic(auto, unfolding(dbc_records::specs::EntryKeys::key_layout, dbc_records::specs::CanonicalText::table_key, dbc_records::specs::CanonicalText::comment_key, dbc_records::specs::CanonicalText::definition_key, dbc_records::specs::CanonicalText::default_key, dbc_records::specs::CanonicalText::attribute_key, dbc_records::specs::CanonicalText::values_key, dbc_records::specs::CanonicalText::float_key, dbc_records::specs::CanonicalText::mux_key))]
 pub fn keys_as_printed()
     ensures table { (row : TableRow) → key_layout (key_of_table row) ≡ table_key row }
     ensures comment { (row : Comment) → key_layout (key_of_comment row) ≡ comment_key row }

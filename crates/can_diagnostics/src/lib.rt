@@ -1,12 +1,11 @@
-//! What is doubtful in a database: each as data, and as a line.
+//! Diagnostics of a database: each as data, and as a line.
 //!
-//! A [`Diagnostic`] is a [`Code`] and the [`Subject`] that it speaks of. [`write_lines`] writes many of them.
+//! A [`Diagnostic`] is a [`Code`] and the [`Subject`] that it is about. [`write_lines`] writes many of them.
 #![tactic(auto)]
 
 mod code;
 mod diagnostic;
 pub mod laws;
-mod row_key;
 mod row_line;
 mod showing;
 mod subject;
@@ -14,6 +13,5 @@ mod writing;
 
 pub use code::Code;
 pub use diagnostic::Diagnostic;
-pub use row_key::RowKey;
 pub use subject::Subject;
 pub use writing::{hold_diagnostic, hold_lines, write_diagnostic, write_lines};

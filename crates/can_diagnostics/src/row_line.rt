@@ -5,10 +5,9 @@ ghost use Rattle.dbc_records.specs.CanonicalText.{word_layout, spaced_name, spac
 ghost use Rattle.dbc_records.specs.CanonicalText.{object_layout, signal_key};
 ghost use Rattle.can_diagnostics.specs.Lines.{shown, row_text};
 
-use crate::row_key::RowKey;
 use crate::showing::hold_shown;
 use byte_devices::{Out, Sink, WriteFault};
-use dbc_records::{Object, Target};
+use dbc_records::{EntryKey, Object, Target};
 use dbc_values::{Name, Text};
 use itoa::Buffer;
 
@@ -170,18 +169,20 @@ fn hold_signal_row<W: Sink>(
 }
 
 /// Holds what is printed of a row up to and with its key, on one line.
-#[tactic(auto, unfolding(crate::specs::Lines::row_text, crate::specs::Keys::key_layout))]
-pub fn hold_row<W: Sink>(out: &mut Out<'_, W>, key: &RowKey) -> Result<(), WriteFault>
+#[tactic(auto, unfolding(crate::specs::Lines::row_text, dbc_records::specs::EntryKeys::key_layout))]
+pub fn hold_row<W: Sink>(out: &mut Out<'_, W>, key: &EntryKey) -> Result<(), WriteFault>
     ensures { Sends W.written out.old out.new result (row_text key.now) }
 {
     match key {
-        RowKey::Table(name) => hold_table(out, name),
-        RowKey::Comment(target) => hold_comment(out, target),
-        RowKey::Definition(object, name) => hold_definition(out, *object, name),
-        RowKey::Default(name) => hold_default(out, name),
-        RowKey::Attribute(name, target) => hold_attribute(out, name, target),
-        RowKey::Values(number, signal) => hold_signal_row(out, b"VAL_", *number, signal),
-        RowKey::Float(number, signal) => { hold_signal_row(out, b"SIG_VALTYPE_", *number, signal) }
-        RowKey::Mux(number, signal) => hold_signal_row(out, b"SG_MUL_VAL_", *number, signal),
+        EntryKey::Table(name) => hold_table(out, name),
+        EntryKey::Comment(target) => hold_comment(out, target),
+        EntryKey::Definition(object, name) => hold_definition(out, *object, name),
+        EntryKey::Default(name) => hold_default(out, name),
+        EntryKey::Attribute(name, target) => hold_attribute(out, name, target),
+        EntryKey::Values(number, signal) => hold_signal_row(out, b"VAL_", *number, signal),
+        EntryKey::Float(number, signal) => {
+            hold_signal_row(out, b"SIG_VALTYPE_", *number, signal)
+        }
+        EntryKey::Mux(number, signal) => hold_signal_row(out, b"SG_MUL_VAL_", *number, signal),
     }
 }

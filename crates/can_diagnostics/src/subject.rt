@@ -1,6 +1,6 @@
 //! What diagnostics speak of.
 
-use crate::row_key::RowKey;
+use dbc_records::EntryKey;
 use dbc_values::{Checked, Copied, Memory, Name};
 
 /// What a diagnostic speaks of. A message is named by its number, with bit 31 set where the identifier has 29 bits, and its
@@ -19,8 +19,8 @@ pub enum Subject {
     Receiver(u32, Name, Name, Name),
     /// A named value of a signal: the message, the signal's name, and the value.
     Value(u32, Name, Name, i128),
-    /// A row.
-    Row(RowKey),
+    /// An entry.
+    Row(EntryKey),
 }
 
 impl Checked for Subject {

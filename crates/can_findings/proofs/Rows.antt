@@ -1,14 +1,18 @@
 -- What is found of entries, one part of them after another.
 use Rattle.std.proofs.Common.{◌≡◌, List, [], ◌∷◌, ◌++◌, map, sym, ap, ◌∙◌, append_assoc, append-nil}
+use Rattle.std.specs.List.{flat_map, fold}
 use Rattle.dbc_records.specs.Databases.{Database}
-use Rattle.can_diagnostics.specs.declared.row_key.RowKey.{RowKey}
+use Rattle.dbc_records.specs.DatabaseEntries.{entry_kinds, keys_of, keys_by_kind}
+use Rattle.dbc_records.specs.declared.database_entry.EntryKind.{EntryKind}
+use Rattle.dbc_records.specs.declared.entry_key.EntryKey.{EntryKey}
 use Rattle.can_references.specs.RowFaults.{row_fault}
 use Rattle.dbc_reader.specs.declared.start.Start.{Start}
+use Rattle.dbc_reader.specs.declared.start.Starts.{Starts}
 use Rattle.can_findings.specs.declared.finding.Finding.{Finding}
-use Rattle.can_findings.specs.RowLocations.{findings_at, keys_in, findings_after}
+use Rattle.can_findings.specs.RowLocations.{findings_at, keys_in, findings_after, rows_of_kind, all_rows, with_entries}
 
-findings_after-append : (d : Database) (before : List RowKey) (xs ys : List (RowKey × Start)) → findings_after d before (xs ++ ys)
-    ≡ findings_after d before xs ++ findings_after d (before ++ keys_in xs) ys
+findings_after-append : (d : Database) (before : List EntryKey) (xs ys : List (EntryKey × Start))
+    → findings_after d before (xs ++ ys) ≡ findings_after d before xs ++ findings_after d (before ++ keys_in xs) ys
 findings_after-append d before [] ys = ap (λ b. findings_after d b ys) (sym (append-nil before))
 findings_after-append d before (x ∷ xs) ys =
     ap (λ r. map (findings_at x.1) (row_fault d before x.0) ++ r) (findings_after-append d (before ++ x.0 ∷ []) xs ys
@@ -16,14 +20,25 @@ findings_after-append d before (x ∷ xs) ys =
     ∙ sym (append_assoc (map (findings_at x.1) (row_fault d before x.0)) (findings_after d (before ++ x.0 ∷ []) xs)
     (findings_after d (before ++ keys_in (x ∷ xs)) ys))
 
--- the later part stands first, so that the tactics find what lies between
-pub findings_then : (d : Database) (found mid now : List Finding) (before seen : List RowKey) (xs ys : List (RowKey × Start))
-    → now ≡ mid ++ findings_after d seen ys → mid ≡ found ++ findings_after d before xs → seen ≡ before ++ keys_in xs
-    → now ≡ found ++ findings_after d before (xs ++ ys)
-findings_then d found mid now before seen xs ys q p e =
-    q ∙ ap (λ m. m ++ findings_after d seen ys) p ∙ append_assoc found (findings_after d before xs) (findings_after d seen ys)
-    ∙ ap (λ s. found ++ (findings_after d before xs ++ findings_after d s ys)) e
-    ∙ ap (λ r. found ++ r) (sym (findings_after-append d before xs ys))
+module _ (d e : Database) (starts : Starts) where
+  added : (seen : List EntryKey) (found : List Finding) (kinds : List EntryKind)
+      → (fold with_entries (record { database = d; starts = starts; seen = seen; findings = found })
+      (map (λ kind. (kind, keys_of e kind)) kinds)).findings
+      ≡ found ++ findings_after d seen (flat_map (rows_of_kind e starts) kinds)
+  added seen found [] = sym (append-nil found)
+  added seen found (kind ∷ kinds) =
+      let rows = rows_of_kind e starts kind in
+      added (seen ++ keys_in rows) (found ++ findings_after d seen rows) kinds
+      ∙ append_assoc found (findings_after d seen rows)
+      (findings_after d (seen ++ keys_in rows) (flat_map (rows_of_kind e starts) kinds))
+      ∙ ap (λ (r : List Finding). found ++ r)
+      (sym (findings_after-append d seen rows (flat_map (rows_of_kind e starts) kinds)))
+
+  pub all_added : (seen : List EntryKey) (found : List Finding)
+      → (fold with_entries (record { database = d; starts = starts; seen = seen; findings = found }) (keys_by_kind e)).findings
+      ≡ found ++ findings_after d seen (all_rows e starts)
+  unfolding all_rows
+  all_added seen found = added seen found entry_kinds
 
 -- one list after another
 pub pushed_then : (old mid new xs ys : List Finding) → new ≡ mid ++ ys → mid ≡ old ++ xs → new ≡ old ++ (xs ++ ys)

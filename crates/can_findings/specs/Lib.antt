@@ -1,4 +1,4 @@
-pub mod Fronts
+pub mod Beginnings
 pub mod Remedies
 pub mod RowStarts
 pub mod MessageLocations

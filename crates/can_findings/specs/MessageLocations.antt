@@ -1,5 +1,6 @@
 -- Where the statements and signals begin that diagnostics of messages are about.
-use Rattle.std.specs.Prelude.{ℕ, List, [], ◌∷◌, ◌++◌, Option, Some, None, map, take, drop, length, if◌then◌else◌}
+use Rattle.std.specs.Prelude.{ℕ, List, [], Option, Some, None, option_map, map}
+use Rattle.std.specs.List.{find, flat_map}
 use Rattle.std.specs.Str.{bytes_eq}
 use Rattle.dbc_records.specs.Records.{Signal, Message}
 use Rattle.dbc_records.specs.Databases.{Database}
@@ -13,14 +14,18 @@ use Rattle.can_findings.specs.declared.finding.Location.{Location}
 use Rattle.can_findings.specs.declared.finding.Location.TheVariants as locations
 use Rattle.can_findings.specs.declared.finding.Finding.{Finding}
 use Rattle.dbc_reader.specs.declared.start.Start.{Start}
-use Rattle.can_findings.specs.Fronts.{no_start, first_start, behind_first}
+use Rattle.can_findings.specs.Beginnings.{no_start, at_starts, messages_at}
 use Rattle.can_findings.specs.RowStarts.{KeyStart, RowStarts, key_starts, start_of_key}
 
--- where the signal of the name begins
+-- where the entry begins, if there is one, or else the signal
+abbrev pub start_or : Option Start → Start → Start
+start_or None start = start
+start_or (Some row_start) start = row_start
+
+-- where the first signal of the name begins
 abbrev pub signal_start : List ℕ → List Signal → List Start → Start
-signal_start name [] starts = no_start
-signal_start name (signal ∷ signals) starts =
-    if bytes_eq signal.name name then first_start starts else signal_start name signals (behind_first starts)
+signal_start name signals starts =
+    start_or (option_map (λ signal. signal.1) (find (λ signal. bytes_eq signal.0.name name) (at_starts signals starts))) no_start
 
 -- the names of a message's signals, each with where the signal begins; its number is left out
 abbrev pub signal_starts : List Signal → List Start → List KeyStart
@@ -34,11 +39,6 @@ rows_at_fault codes.BadMuxRow rows = rows.muxes
 rows_at_fault codes.SwitchLoop rows = rows.muxes
 rows_at_fault codes.Float rows = rows.floats
 rows_at_fault code rows = []
-
--- where the entry begins, if there is one, or else the signal
-abbrev pub start_or : Option Start → Start → Start
-start_or None start = start
-start_or (Some row_start) start = row_start
 
 -- Where the message, the signal or the signal's entry begins that it is about, or both signals. A value description
 -- is in the first entry of its signal.
@@ -60,9 +60,8 @@ abbrev pub findings_in : RowStarts → List Signal → Start → List Start → 
 findings_in rows signals start starts diagnostic =
     record { location = location_of rows signals start starts diagnostic.code diagnostic.subject; diagnostic = diagnostic }
 
--- of messages that begin in these lines, and all their signals in those
+-- of messages, each where it begins, and of all their signals
 abbrev pub message_findings : Database → RowStarts → List Message → List Start → List Start → List Finding
-message_findings database rows [] heads starts = []
-message_findings database rows (m ∷ messages) heads starts =
-    map (findings_in rows m.signals (first_start heads) (take (length m.signals) starts)) (message_faults database m)
-    ++ message_findings database rows messages (behind_first heads) (drop (length m.signals) starts)
+message_findings database rows messages heads signals =
+    flat_map (λ m. map (findings_in rows m.message.signals m.start m.signals) (message_faults database m.message))
+    (messages_at messages heads signals)

@@ -1,12 +1,12 @@
 -- Where entries of signals begin, by the keys of the entries.
-use Rattle.std.specs.Prelude.{◌==◌, ◌&&◌, ℕ, List, [], ◌∷◌, Option, option_map}
+use Rattle.std.specs.Prelude.{◌==◌, ◌&&◌, ℕ, List, map, Option, option_map}
 use Rattle.std.specs.List.{find}
 use Rattle.std.specs.Str.{bytes_eq}
 use Rattle.dbc_records.specs.Databases.{Database}
 use Rattle.dbc_reader.specs.declared.start.Start.{Start}
 use Rattle.dbc_reader.specs.declared.start.Starts.{Starts}
 use Rattle.can_findings.specs.declared.row_starts.RowStart.{RowStart}
-use Rattle.can_findings.specs.Fronts.{first_start, behind_first}
+use Rattle.can_findings.specs.Beginnings.{at_starts}
 
 -- a message number and the name of a signal, and where an entry of them begins
 pub record KeyStart : Type 0 where
@@ -20,10 +20,8 @@ key_start row = record { number = row.number; signal = row.signal.now; start = r
 
 -- those of entries that begin there
 abbrev pub key_starts : {R : Type 0} → (R → ℕ) → (R → List ℕ) → List R → List Start → List KeyStart
-key_starts number_of signal_of [] starts = []
-key_starts number_of signal_of (row ∷ rows) starts =
-    record { number = number_of row; signal = signal_of row; start = first_start starts }
-    ∷ key_starts number_of signal_of rows (behind_first starts)
+key_starts number_of signal_of rows starts =
+    map (λ row. record { number = number_of row.0; signal = signal_of row.0; start = row.1 }) (at_starts rows starts)
 
 -- where the first entry of the key begins
 abbrev pub start_of_key : ℕ → List ℕ → List KeyStart → Option Start

@@ -5,7 +5,7 @@ ghost use Rattle.can_findings.specs.AllFindings.{all_findings};
 
 use crate::finding::Finding;
 use crate::message_locations::push_messages;
-use crate::row_locations::push_all_rows;
+use crate::row_locations::with_entry_findings;
 use crate::row_starts::{KeyedStarts, SignalRowStarts};
 use can_references::Known;
 use can_rows::{Indexed, Lookup};
@@ -16,37 +16,36 @@ use std::alloc::Global;
 
 // By what is known of the database, and where its entries begin.
 #[tactic(auto, using(crate::proofs::Rows::pushed_then), unfolding(crate::specs::AllFindings::all_findings))]
-fn findings_by<L: Lookup>(
+fn findings_by<'a, L: Lookup>(
     alloc: Global,
-    known: &Known<'_, L>,
-    starts: &Starts,
+    known: Known<'a, L>,
+    starts: &'a Starts,
     rows: &KeyedStarts<'_>,
 ) -> Result<Vec<Finding>, Memory>
-    requires { rows.now ≡ row_starts_of known.now starts.now }
-    ensures { IfOk result (λ finding. finding.items ≡ all_findings known.now starts.now) }
+    requires { rows.now ≡ row_starts_of known starts.now }
+    ensures { IfOk result (λ finding. finding.items ≡ all_findings known.entry starts.now) }
 {
     let database = known.database();
     let mut findings = Vec::new(alloc);
     push_messages(
         &mut findings,
-        known,
+        &known,
         database.messages.as_slice(),
         starts,
         rows,
     )?;
-    push_all_rows(&mut findings, known, database, starts)?;
-    Ok(findings)
+    with_entry_findings(findings, known, starts)
 }
 
 // By what is known of the database, and the keys of its entries.
-fn findings_by_keys<L: Lookup>(
+fn findings_by_keys<'a, L: Lookup>(
     alloc: Global,
-    known: &Known<'_, L>,
-    starts: &Starts,
+    known: Known<'a, L>,
+    starts: &'a Starts,
     rows: &SignalRowStarts<'_>,
 ) -> Result<Vec<Finding>, Memory>
-    requires { rows.now ≡ row_starts_of known.now starts.now }
-    ensures { IfOk result (λ finding. finding.items ≡ all_findings known.now starts.now) }
+    requires { rows.now ≡ row_starts_of known starts.now }
+    ensures { IfOk result (λ finding. finding.items ≡ all_findings known.entry starts.now) }
 {
     match KeyedStarts::of(alloc, rows) {
         Ok(rows) => findings_by(alloc, known, starts, &rows),
@@ -55,26 +54,26 @@ fn findings_by_keys<L: Lookup>(
 }
 
 // By what is known of the database.
-fn findings_known<L: Lookup>(
+fn findings_known<'a, L: Lookup>(
     alloc: Global,
-    known: &Known<'_, L>,
-    starts: &Starts,
+    known: Known<'a, L>,
+    starts: &'a Starts,
 ) -> Result<Vec<Finding>, Memory>
-    ensures { IfOk result (λ finding. finding.items ≡ all_findings known.now starts.now) }
+    ensures { IfOk result (λ finding. finding.items ≡ all_findings known.entry starts.now) }
 {
     let rows = SignalRowStarts::of(alloc, known.database(), starts)?;
     findings_by_keys(alloc, known, starts, &rows)
 }
 
-fn findings_with<L: Lookup>(
+fn findings_with<'a, L: Lookup>(
     alloc: Global,
-    lookup: &L,
-    starts: &Starts,
+    lookup: &'a L,
+    starts: &'a Starts,
 ) -> Result<Vec<Finding>, Memory>
     ensures { IfOk result (λ finding. finding.items ≡ all_findings (L.whole lookup.now) starts.now) }
 {
     match Known::of(alloc, lookup) {
-        Ok(known) => findings_known(alloc, &known, starts),
+        Ok(known) => findings_known(alloc, known, starts),
         Err(Memory) => Err(Memory),
     }
 }

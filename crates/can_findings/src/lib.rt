@@ -5,18 +5,18 @@
 //! and [`write_explained`] writes findings with their remedies.
 #![tactic(auto)]
 
+mod beginnings;
 mod database_findings;
 mod explaining;
 mod finding;
-mod front;
 pub mod laws;
 mod message_locations;
 mod remedies;
 mod row_locations;
 mod row_starts;
 
+pub use beginnings::{after_first, first_start, parted};
 pub use database_findings::all_findings;
 pub use explaining::write_explained;
 pub use finding::{Finding, Location};
-pub use front::{behind_first, first_start, parted};
 pub use remedies::remedy;

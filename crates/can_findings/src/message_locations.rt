@@ -7,8 +7,8 @@ ghost use Rattle.can_findings.specs.MessageLocations.{signal_start, signal_start
 ghost use Rattle.can_findings.specs.MessageLocations.{findings_in};
 ghost use Rattle.can_findings.specs.MessageLocations.{message_findings};
 
+use crate::beginnings::{after_first, first_start, no_start, parted};
 use crate::finding::{Finding, Location};
-use crate::front::{behind_first, first_start, no_start, parted};
 use crate::row_starts::{KeyedStarts, RowStart, start_in};
 use can_check::{Code, Diagnostic, Occupancy, Subject, report_message};
 use can_references::Known;
@@ -52,7 +52,7 @@ fn signal_starts<'a>(
             signal: signal.name.as_bytes(),
             start: first_start(further),
         })?;
-        (left, further) = (others, behind_first(further));
+        (left, further) = (others, after_first(further));
     }
     Ok(made)
 }
@@ -210,7 +210,7 @@ pub(crate) fn push_messages<'a, L: Lookup>(
             signals,
         };
         occupancy = push_message(findings, known, occupancy, &here, rows)?;
-        (left, heads, further) = (others, behind_first(heads), behind);
+        (left, heads, further) = (others, after_first(heads), behind);
     }
     Ok(())
 }

@@ -1,19 +1,19 @@
 //! The diagnostics of entries, with their locations.
-ghost use Rattle.std.specs.Prelude.{◌≡◌, [], ◌∷◌, ◌++◌, OnOk, map};
+ghost use Rattle.std.specs.Prelude.{◌≡◌, [], ◌∷◌, ◌++◌, IfOk, OnOk, map};
 ghost use Rattle.can_references.specs.RowFaults.{row_fault};
-ghost use Rattle.can_findings.specs.RowLocations.{findings_at, keys_at, keys_in, findings_after, front_rows, attribute_rows};
-ghost use Rattle.can_findings.specs.RowLocations.{signal_rows};
-ghost use Rattle.can_findings.specs.RowLocations.{all_rows};
+ghost use Rattle.can_findings.specs.Beginnings.{at_starts};
+ghost use Rattle.can_findings.specs.RowLocations.{findings_at, keys_in, findings_after, all_rows};
 
+use crate::beginnings::{after_first, first_start};
 use crate::finding::{Finding, Location};
-use crate::front::{behind_first, first_start};
 use can_check::Diagnostic;
-use can_keys::RowKeys;
-use can_references::{Known, Row, push_row};
+use can_keys::EntryKeys;
+use can_references::{Known, push_row};
 use can_rows::Lookup;
 use dbc_reader::{Start, Starts};
-use dbc_records::Database;
-use dbc_values::{List, Memory};
+use dbc_records::{DatabaseEntry, EntryKind, EntryVisitor};
+use dbc_values::Memory;
+use std::marker::Model;
 
 // Adds diagnostics of an entry that begins there.
 fn push_at(findings: &mut Vec<Finding>, start: Start, found: Vec<Diagnostic>) -> Result<(), Memory>
@@ -30,10 +30,10 @@ fn push_at(findings: &mut Vec<Finding>, start: Start, found: Vec<Diagnostic>) ->
 }
 
 // Adds the diagnostics of an entry, given the entries before it, and adds it to those.
-fn push_row_at<'a, L: Lookup, R: Row>(
+fn push_row_at<'a, L: Lookup, R: DatabaseEntry>(
     findings: &mut Vec<Finding>,
     known: &Known<'a, L>,
-    seen: &mut RowKeys<'a>,
+    seen: &mut EntryKeys<'a>,
     row: &'a R,
     start: Start,
 ) -> Result<(), Memory>
@@ -47,102 +47,79 @@ fn push_row_at<'a, L: Lookup, R: Row>(
 }
 
 // Adds the diagnostics of entries of one kind, which begin there, given the entries before them.
-fn push_rows_at<'a, L: Lookup, R: Row>(
+fn push_rows_at<'a, L: Lookup, R: DatabaseEntry>(
     findings: &mut Vec<Finding>,
     known: &Known<'a, L>,
-    seen: &mut RowKeys<'a>,
-    rows: &'a List<R>,
-    starts: &List<Start>,
+    seen: &mut EntryKeys<'a>,
+    rows: &'a [R],
+    starts: &[Start],
 ) -> Result<(), Memory>
-    ensures findings { OnOk result (findings.new.items ≡ findings.old.items ++ findings_after known.now seen.old (keys_at
+    ensures findings { OnOk result (findings.new.items ≡ findings.old.items ++ findings_after known.now seen.old (at_starts
         (map R.key_of rows.now) starts.now)) }
-    ensures seen { OnOk result (seen.new ≡ seen.old ++ keys_in (keys_at (map R.key_of rows.now) starts.now)) }
+    ensures seen { OnOk result (seen.new ≡ seen.old ++ keys_in (at_starts (map R.key_of rows.now) starts.now)) }
 {
-    let (mut left, mut further) = (rows.as_slice(), starts.as_slice());
+    let (mut left, mut further) = (rows, starts);
     'rows: while let [row, others @ ..] = left {
         push_row_at(findings, known, seen, row, first_start(further))?;
-        (left, further) = (others, behind_first(further));
+        (left, further) = (others, after_first(further));
     }
     Ok(())
 }
 
-#[tactic(auto, using(crate::proofs::Rows::findings_then), unfolding(crate::specs::RowLocations::front_rows))]
-fn push_front<'a, L: Lookup>(
-    findings: &mut Vec<Finding>,
-    known: &Known<'a, L>,
-    seen: &mut RowKeys<'a>,
-    database: &'a Database,
-    starts: &Starts,
-) -> Result<(), Memory>
-    ensures findings { OnOk result (findings.new.items ≡ findings.old.items
-        ++ findings_after known.now seen.old (front_rows database.now
-        starts.now)) }
-    ensures seen { OnOk result (seen.new ≡ seen.old ++ keys_in (front_rows database.now starts.now)) }
-{
-    push_rows_at(findings, known, seen, &database.tables, &starts.tables)?;
-    push_rows_at(findings, known, seen, &database.comments, &starts.comments)
+// The findings about the entries seen so far, and before them others.
+#[derive(Drop)]
+struct EntryFindings<'a, L: Lookup> {
+    known: Known<'a, L>,
+    starts: &'a Starts,
+    seen: EntryKeys<'a>,
+    findings: Vec<Finding>,
 }
 
-#[tactic(auto, using(crate::proofs::Rows::findings_then), unfolding(crate::specs::RowLocations::attribute_rows))]
-fn push_attributes<'a, L: Lookup>(
-    findings: &mut Vec<Finding>,
-    known: &Known<'a, L>,
-    seen: &mut RowKeys<'a>,
-    database: &'a Database,
-    starts: &Starts,
-) -> Result<(), Memory>
-    ensures findings { OnOk result (findings.new.items ≡ findings.old.items ++ findings_after known.now seen.old
-        (attribute_rows database.now starts.now)) }
-    ensures seen { OnOk result (seen.new ≡ seen.old ++ keys_in (attribute_rows database.now starts.now)) }
+impl<'a, L: Lookup> Model for EntryFindings<'a, L> {
+    ghost use Rattle.can_findings.specs.RowLocations as locations;
+
+    ghost Value = { locations.EntryFindings };
+
+    ghost view = { λ a. record {
+      database = a.known;
+      starts = a.starts.now;
+      seen = a.seen;
+      findings = a.findings.items;
+    } };
+}
+
+impl<'a, L: Lookup> EntryVisitor<'a> for EntryFindings<'a, L> {
+    ghost use Rattle.can_findings.specs.RowLocations.{with_entries};
+
+    ghost visited = { with_entries };
+
+    fn visit<E: DatabaseEntry>(&mut self, kind: EntryKind, entries: &'a [E]) -> Result<(), Memory> {
+        push_rows_at(
+            &mut self.findings,
+            &self.known,
+            &mut self.seen,
+            entries,
+            self.starts.of(kind),
+        )
+    }
+}
+
+/// These findings, and those about all entries, kind by kind.
+#[tactic(auto, using(crate::proofs::Rows::all_added))]
+pub(crate) fn with_entry_findings<'a, L: Lookup>(
+    findings: Vec<Finding>,
+    known: Known<'a, L>,
+    starts: &'a Starts,
+) -> Result<Vec<Finding>, Memory>
+    ensures { IfOk result (λ all. all.items ≡ findings.items ++ findings_after known.entry [] (all_rows known.entry starts.now)) }
 {
-    push_rows_at(
-        findings,
+    let database = known.database();
+    let mut entries = EntryFindings {
         known,
-        seen,
-        &database.definitions,
-        &starts.definitions,
-    )?;
-    push_rows_at(findings, known, seen, &database.defaults, &starts.defaults)?;
-    push_rows_at(
+        starts,
+        seen: EntryKeys::new(*findings.allocator()),
         findings,
-        known,
-        seen,
-        &database.attributes,
-        &starts.attributes,
-    )
-}
-
-#[tactic(auto, using(crate::proofs::Rows::findings_then), unfolding(crate::specs::RowLocations::signal_rows))]
-fn push_signal_rows<'a, L: Lookup>(
-    findings: &mut Vec<Finding>,
-    known: &Known<'a, L>,
-    seen: &mut RowKeys<'a>,
-    database: &'a Database,
-    starts: &Starts,
-) -> Result<(), Memory>
-    ensures findings { OnOk result (findings.new.items ≡ findings.old.items
-        ++ findings_after known.now seen.old (signal_rows database.now
-        starts.now)) }
-    ensures seen { OnOk result (seen.new ≡ seen.old ++ keys_in (signal_rows database.now starts.now)) }
-{
-    push_rows_at(findings, known, seen, &database.values, &starts.values)?;
-    push_rows_at(findings, known, seen, &database.floats, &starts.floats)?;
-    push_rows_at(findings, known, seen, &database.muxes, &starts.muxes)
-}
-
-/// Adds the diagnostics of all entries, kind by kind.
-#[tactic(auto, using(crate::proofs::Rows::findings_then), unfolding(crate::specs::RowLocations::all_rows))]
-pub(crate) fn push_all_rows<'a, L: Lookup>(
-    findings: &mut Vec<Finding>,
-    known: &Known<'a, L>,
-    database: &'a Database,
-    starts: &Starts,
-) -> Result<(), Memory>
-    ensures { OnOk result (findings.new.items ≡ findings.old.items ++ findings_after known.now [] (all_rows database.now
-        starts.now)) }
-{
-    let mut seen = RowKeys::new(*findings.allocator());
-    push_front(findings, known, &mut seen, database, starts)?;
-    push_attributes(findings, known, &mut seen, database, starts)?;
-    push_signal_rows(findings, known, &mut seen, database, starts)
+    };
+    database.visit_entries(&mut entries)?;
+    Ok(entries.findings)
 }

@@ -2,7 +2,7 @@
 ghost use Rattle.std.specs.Prelude.{◌≡◌, IfOk, map};
 ghost use Rattle.can_findings.specs.RowStarts.{key_start, key_starts, start_of_key, row_starts_of};
 
-use crate::front::{behind_first, first_start};
+use crate::beginnings::{after_first, first_start};
 use can_rows::{Index, Keyed};
 use dbc_reader::{Start, Starts};
 use dbc_records::Database;
@@ -57,7 +57,7 @@ fn row_starts<'a, R: Keyed>(
             signal: row.signal(),
             start: first_start(further),
         })?;
-        (left, further) = (others, behind_first(further));
+        (left, further) = (others, after_first(further));
     }
     Ok(made)
 }

@@ -11,10 +11,10 @@ use Rattle.std.proofs.lemmas.Slice.Eq.{bytes_eq-Decides}
 use Rattle.std.proofs.lemmas.Bool.Decides.{Decides-eqb}
 use Rattle.dbc_records.specs.declared.target.Target.{Target}
 use Rattle.dbc_records.specs.declared.target.Target.TheVariants as targets
-use Rattle.can_diagnostics.specs.Keys.{same_target, same_key}
-use Rattle.can_diagnostics.specs.declared.row_key.RowKey.{RowKey}
-use Rattle.can_diagnostics.specs.declared.row_key.RowKey.TheVariants as rows
-use Rattle.can_keys.specs.Mixes.{mixed_bytes, target_mix, row_mix}
+use Rattle.dbc_records.specs.EntryKeys.{same_target, same_key}
+use Rattle.dbc_records.specs.declared.entry_key.EntryKey.{EntryKey}
+use Rattle.dbc_records.specs.declared.entry_key.EntryKey.TheVariants as rows
+use Rattle.can_keys.specs.Mixes.{mixed_bytes, target_mix, entry_mix}
 use Rattle.can_keys.specs.SignalNames.{same_signal}
 
 -- ---- tests that agree at all items
@@ -69,7 +69,7 @@ same_targets (targets.Node a) t same = grind (arith, common_steps, alike)
 same_targets (targets.Message m) t same = grind (arith, common_steps)
 same_targets (targets.Signal m a) t same = grind (arith, common_steps, alike)
 
-pub same_rows : (a b : RowKey) → same_key a b ≡ true → row_mix a ≡ row_mix b
+pub same_rows : (a b : EntryKey) → same_key a b ≡ true → entry_mix a ≡ entry_mix b
 same_rows (rows.Table a) b same = grind (arith, common_steps, alike)
 same_rows (rows.Comment s) b same = grind (arith, common_steps, same_targets)
 same_rows (rows.Definition o a) b same = grind (arith, common_steps, alike)
@@ -79,5 +79,5 @@ same_rows (rows.Values m a) b same = grind (arith, common_steps, alike)
 same_rows (rows.Float m a) b same = grind (arith, common_steps, alike)
 same_rows (rows.Mux m a) b same = grind (arith, common_steps, alike)
 
-pub rows_alike : (n : ℕ) (a b : RowKey) (m : ℕ) → n ≡ row_mix a → m ≡ row_mix b → ((n == m) && same_key a b) ≡ same_key a b
+pub rows_alike : (n : ℕ) (a b : EntryKey) (m : ℕ) → n ≡ entry_mix a → m ≡ entry_mix b → ((n == m) && same_key a b) ≡ same_key a b
 rows_alike n a b m asked is = beside (same_key a b) n m (λ same. asked ∙ same_rows a b same ∙ sym is)

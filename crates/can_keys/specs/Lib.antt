@@ -1,8 +1,7 @@
-pub use Rattle.can_diagnostics.specs.Keys
+pub use Rattle.dbc_records.specs.EntryKeys
 pub mod KeySets
 pub mod SignalNames
 pub mod Marks
 pub mod SignalRuns
 pub mod SignalSearches
-pub mod RowKeys
 pub mod Mixes

@@ -3,8 +3,8 @@ use Rattle.std.specs.Prelude.{ℕ, ◌+◌, ◌*◌, ◌%◌, ◌^◌, List}
 use Rattle.std.specs.List.{fold}
 use Rattle.dbc_records.specs.declared.target.Target.{Target}
 use Rattle.dbc_records.specs.declared.target.Target.TheVariants as targets
-use Rattle.can_diagnostics.specs.declared.row_key.RowKey.{RowKey}
-use Rattle.can_diagnostics.specs.declared.row_key.RowKey.TheVariants as rows
+use Rattle.dbc_records.specs.declared.entry_key.EntryKey.{EntryKey}
+use Rattle.dbc_records.specs.declared.entry_key.EntryKey.TheVariants as rows
 
 -- the number after one more byte
 unfoldable pub mixed_byte : ℕ → ℕ → ℕ
@@ -20,12 +20,12 @@ target_mix (targets.Node name) = mixed_bytes 0 name
 target_mix (targets.Message number) = number
 target_mix (targets.Signal number name) = mixed_bytes number name
 
-abbrev pub row_mix : RowKey → ℕ
-row_mix (rows.Table name) = mixed_bytes 0 name
-row_mix (rows.Comment target) = target_mix target
-row_mix (rows.Definition object name) = mixed_bytes 0 name
-row_mix (rows.Default name) = mixed_bytes 0 name
-row_mix (rows.Attribute name target) = mixed_bytes (target_mix target) name
-row_mix (rows.Values number signal) = mixed_bytes number signal
-row_mix (rows.Float number signal) = mixed_bytes number signal
-row_mix (rows.Mux number signal) = mixed_bytes number signal
+abbrev pub entry_mix : EntryKey → ℕ
+entry_mix (rows.Table name) = mixed_bytes 0 name
+entry_mix (rows.Comment target) = target_mix target
+entry_mix (rows.Definition object name) = mixed_bytes 0 name
+entry_mix (rows.Default name) = mixed_bytes 0 name
+entry_mix (rows.Attribute name target) = mixed_bytes (target_mix target) name
+entry_mix (rows.Values number signal) = mixed_bytes number signal
+entry_mix (rows.Float number signal) = mixed_bytes number signal
+entry_mix (rows.Mux number signal) = mixed_bytes number signal

@@ -6,9 +6,9 @@
 #![tactic(auto)]
 
 mod apart;
+mod entry_keys;
 mod hashed_signals;
 mod integers;
-mod key;
 mod keys;
 mod marks;
 mod mix;
@@ -16,15 +16,14 @@ mod names;
 mod numbered;
 mod numbered_signals;
 mod numbers;
-mod row_keys;
 mod signal_names;
 mod signal_search;
 mod sorted;
 
 pub use apart::all_differ;
+pub use entry_keys::EntryKeys;
 pub use integers::Integers;
-pub use key::{Key, Place};
+pub use mix::entry_mix;
 pub use names::Names;
 pub use numbers::Numbers;
-pub use row_keys::RowKeys;
 pub use signal_names::SignalNames;

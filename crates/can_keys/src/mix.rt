@@ -1,9 +1,9 @@
 //! Numbers of keys, by which most keys differ.
 ghost use Rattle.std.specs.Prelude.{◌≡◌};
-ghost use Rattle.can_keys.specs.Mixes.{mixed_bytes, target_mix, row_mix};
-ghost use Rattle.can_keys.specs.RowKeys.{target_of, row_key};
+ghost use Rattle.can_keys.specs.Mixes.{mixed_bytes, target_mix, entry_mix};
+ghost use Rattle.dbc_records.specs.EntryKeys.{target_of, entry_key};
 
-use crate::key::{Key, Place};
+use dbc_records::{EntryKeyRef, TargetRef};
 
 /// What each step of a number multiplies by.
 pub(crate) const FACTOR: u64 = 0x9E37_79B9_7F4A_7C15;
@@ -30,27 +30,28 @@ pub(crate) fn mixed_bytes(mix: u64, bytes: &[u8]) -> u64
     mixed
 }
 
-fn place_mix(place: &Place<'_>) -> u64
-    ensures { result ≡ target_mix (target_of place.now) }
+fn target_mix(target: &TargetRef<'_>) -> u64
+    ensures { result ≡ target_mix (target_of target.now) }
 {
-    match place {
-        Place::Whole => 0,
-        Place::Node(name) => mixed_bytes(0, name),
-        Place::Message(number) => u64::from(*number),
-        Place::Signal(number, name) => mixed_bytes(u64::from(*number), name),
+    match target {
+        TargetRef::Whole => 0,
+        TargetRef::Node(name) => mixed_bytes(0, name),
+        TargetRef::Message(number) => u64::from(*number),
+        TargetRef::Signal(number, name) => mixed_bytes(u64::from(*number), name),
     }
 }
 
-/// The number of the key of a row.
-pub(crate) fn row_mix(key: &Key<'_>) -> u64
-    ensures { result ≡ row_mix (row_key key.now) }
+/// A number that is made of the key of an entry: equal keys have equal numbers, and most others have others.
+pub fn entry_mix(key: &EntryKeyRef<'_>) -> u64
+    ensures { result ≡ entry_mix (entry_key key.now) }
 {
     match key {
-        Key::Table(name) | Key::Definition(_, name) | Key::Default(name) => mixed_bytes(0, name),
-        Key::Comment(place) => place_mix(place),
-        Key::Attribute(name, place) => mixed_bytes(place_mix(place), name),
-        Key::Values(number, signal) | Key::Float(number, signal) | Key::Mux(number, signal) => {
-            mixed_bytes(u64::from(*number), signal)
-        }
+        EntryKeyRef::Table(name) | EntryKeyRef::Definition(_, name) | EntryKeyRef::Default(name) =>
+            mixed_bytes(0, name),
+        EntryKeyRef::Comment(target) => target_mix(target),
+        EntryKeyRef::Attribute(name, target) => mixed_bytes(target_mix(target), name),
+        EntryKeyRef::Values(number, signal)
+        | EntryKeyRef::Float(number, signal)
+        | EntryKeyRef::Mux(number, signal) => mixed_bytes(u64::from(*number), signal),
     }
 }

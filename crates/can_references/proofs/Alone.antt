@@ -5,21 +5,21 @@ use Rattle.std.proofs.lemmas.Grind.{common_steps}
 use Rattle.std.proofs.lemmas.List.Folds.{list_any-append}
 use Rattle.std.specs.List.{list_any, flat_map, AllByRecursion, IsDistinct}
 use Rattle.dbc_records.specs.Databases.{Database}
-use Rattle.can_diagnostics.specs.Keys.{same_key}
+use Rattle.dbc_records.specs.EntryKeys.{same_key}
 use Rattle.can_diagnostics.specs.declared.diagnostic.Diagnostic.{Diagnostic}
-use Rattle.can_diagnostics.specs.declared.row_key.RowKey.{RowKey}
-use Rattle.can_keys.specs.Mixes.{row_mix}
+use Rattle.dbc_records.specs.declared.entry_key.EntryKey.{EntryKey}
+use Rattle.can_keys.specs.Mixes.{entry_mix}
 use Rattle.can_keys.proofs.MixedKeys.{same_rows}
 use Rattle.can_references.specs.Finding.{each_after, stands_in}
 use Rattle.can_references.specs.RowFaults.{faults_of_row, row_fault}
 use Rattle.can_references.proofs.Rows.{each_after-append}
 
 -- none of the keys stands in front
-abbrev pub AreApart : List RowKey → List RowKey → Type 0
+abbrev pub AreApart : List EntryKey → List EntryKey → Type 0
 AreApart front keys = AllByRecursion (λ key. stands_in same_key key front ≡ false) keys
 
 -- keys that stand in no front need no look there
-after_apart : (d : Database) (front before keys : List RowKey) → AreApart front keys
+after_apart : (d : Database) (front before keys : List EntryKey) → AreApart front keys
     → each_after (row_fault d) (front ++ before) keys ≡ each_after (row_fault d) before keys
 unfolding row_fault
 after_apart d front before [] apart = refl
@@ -27,28 +27,28 @@ after_apart d front before (key ∷ keys) apart =
     ap (λ (b : Bool). faults_of_row d b key ++ each_after (row_fault d) ((front ++ before) ++ key ∷ []) keys)
     (list_any-append (same_key key) front before ∙ ap (λ (b : Bool). b || list_any (same_key key) before) apart.0)
     ∙ ap (λ (r : List Diagnostic). faults_of_row d (list_any (same_key key) before) key ++ r)
-    (ap (λ (l : List RowKey). each_after (row_fault d) l keys) (append_assoc front before (key ∷ []))
+    (ap (λ (l : List EntryKey). each_after (row_fault d) l keys) (append_assoc front before (key ∷ []))
     ∙ after_apart d front (before ++ key ∷ []) keys apart.1)
 
 -- so each part is judged by itself
-pub parts_apart : (d : Database) (xs ys : List RowKey) → AreApart xs ys → each_after (row_fault d) [] (xs ++ ys)
+pub parts_apart : (d : Database) (xs ys : List EntryKey) → AreApart xs ys → each_after (row_fault d) [] (xs ++ ys)
     ≡ each_after (row_fault d) [] xs ++ each_after (row_fault d) [] ys
 parts_apart d xs ys apart =
     each_after-append (row_fault d) [] xs ys
     ∙ ap (λ (r : List Diagnostic). each_after (row_fault d) [] xs ++ r)
-    (ap (λ (l : List RowKey). each_after (row_fault d) l ys) (sym (append-nil xs)) ∙ after_apart d xs [] ys apart)
+    (ap (λ (l : List EntryKey). each_after (row_fault d) l ys) (sym (append-nil xs)) ∙ after_apart d xs [] ys apart)
 
 -- ---- keys whose numbers differ
 
-not_same : (x y : RowKey) → eqb (row_mix x) (row_mix y) ≡ false → same_key y x ≡ false
+not_same : (x y : EntryKey) → eqb (entry_mix x) (entry_mix y) ≡ false → same_key y x ≡ false
 not_same x y differ = grind (arith, common_steps, same_rows y x)
 
-others : (x : RowKey) (ys : List RowKey) → AllByRecursion (λ n. eqb (row_mix x) n ≡ false) (map row_mix ys)
+others : (x : EntryKey) (ys : List EntryKey) → AllByRecursion (λ n. eqb (entry_mix x) n ≡ false) (map entry_mix ys)
     → AllByRecursion (λ y. same_key y x ≡ false) ys
 others x [] differ = tt
 others x (y ∷ ys) differ = (not_same x y differ.0, others x ys differ.1)
 
-apart_more : (before : List RowKey) (x : RowKey) (keys : List RowKey) → AreApart before keys
+apart_more : (before : List EntryKey) (x : EntryKey) (keys : List EntryKey) → AreApart before keys
     → AllByRecursion (λ y. same_key y x ≡ false) keys → AreApart (before ++ x ∷ []) keys
 apart_more before x [] apart other = tt
 apart_more before x (y ∷ ys) apart other = (
@@ -57,7 +57,7 @@ apart_more before x (y ∷ ys) apart other = (
   apart_more before x ys apart.1 other.1,
 )
 
-alone : (d : Database) (before keys : List RowKey) → AreApart before keys → IsDistinct eqb (map row_mix keys)
+alone : (d : Database) (before keys : List EntryKey) → AreApart before keys → IsDistinct eqb (map entry_mix keys)
     → each_after (row_fault d) before keys ≡ flat_map (faults_of_row d false) keys
 unfolding row_fault IsDistinct
 alone d before [] apart differ = refl
@@ -66,10 +66,10 @@ alone d before (key ∷ keys) apart differ =
     ∙ ap (λ (r : List Diagnostic). faults_of_row d false key ++ r)
     (alone d (before ++ key ∷ []) keys (apart_more before key keys apart.1 (others key keys differ.0)) differ.1)
 
-apart_none : (keys : List RowKey) → AreApart [] keys
+apart_none : (keys : List EntryKey) → AreApart [] keys
 apart_none [] = tt
 apart_none (key ∷ keys) = (refl, apart_none keys)
 
-pub each_alone : (d : Database) (keys : List RowKey) → IsDistinct eqb (map row_mix keys) → flat_map (faults_of_row d false) keys
+pub each_alone : (d : Database) (keys : List EntryKey) → IsDistinct eqb (map entry_mix keys) → flat_map (faults_of_row d false) keys
     ≡ each_after (row_fault d) [] keys
 each_alone d keys differ = sym (alone d [] keys (apart_none keys) differ)

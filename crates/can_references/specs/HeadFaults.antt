@@ -1,4 +1,4 @@
--- What is doubtful of a message by its number, its name and its nodes, in the light of the whole database.
+-- The diagnostics of a message by its number, its name and its nodes, given the whole database.
 -- Source: the DBC file format, "Message Definitions", "Node Definitions"; SAE J1939-21, "Parameter Group Numbers". Which of it is
 -- told is the profile of candesk.
 use Rattle.std.specs.Prelude.{◌==◌, ◌&&◌, ℕ, Bool, not, List, [], ◌++◌, Option, Some, None}

@@ -171,7 +171,7 @@ impl<'a, L: Lookup> Known<'a, L> {
         Known::with(alloc, lookup, None)
     }
 
-    /// The same, made to look for what is doubtful of messages with these numbers. It answers for others too, but of many named
+    /// The same, made to look for the diagnostics of messages with these numbers. It answers for others too, but of many named
     /// values of theirs it takes longer, if several messages have them.
     pub fn among(alloc: Global, lookup: &'a L, numbers: &[u32]) -> Result<Known<'a, L>, Memory>
         ensures { IfOk result (λ known. known ≡ L.whole lookup.now) }

@@ -1,4 +1,4 @@
-//! What is doubtful in a database by what its parts say of each other: numbers, names and groups that several messages have, nodes,
+//! Diagnostics about what parts of a database say of each other: numbers, names and groups that several messages have, nodes,
 //! messages, signals and definitions that are named and not there, and rows that stand twice.
 //!
 //! [`Known`] is what the whole of a database says, found by keys. With it each call adds the diagnostics of one message, of one row
@@ -11,7 +11,6 @@ mod many_values;
 mod message_rules;
 mod node_rules;
 mod raw_range;
-mod row;
 mod row_rules;
 mod spans;
 mod values;
@@ -19,5 +18,4 @@ mod values;
 pub use known::Known;
 pub use message_rules::{is_pseudo, push_head_faults};
 pub use node_rules::push_unknown_nodes;
-pub use row::Row;
-pub use row_rules::{push_row, push_row_faults};
+pub use row_rules::{push_row, row_faults};

@@ -1,4 +1,4 @@
-//! What is doubtful of a message by its number and its name.
+//! The diagnostics of a message by its number and its name.
 ghost use Rattle.std.specs.Prelude.{◌≡◌, ◌++◌, OnOk};
 ghost use Rattle.can_references.specs.HeadFaults.{is_pseudo, bad_identifier, shared_identifier, shared_name, in_shared_group};
 ghost use Rattle.can_references.specs.HeadFaults.{shared_group, head_faults};
@@ -89,7 +89,7 @@ fn push_shared_group<L: Lookup>(
     push_in_group(found, known, head, known.group_of(head.number))
 }
 
-/// Adds what is doubtful of a message's number and name: codes 1 to 4.
+/// Adds the diagnostics of a message's number and name: codes 1 to 4.
 #[tactic(auto, using(crate::proofs::Pushing::pushed_then), unfolding(crate::specs::HeadFaults::head_faults))]
 pub fn push_head_faults<'a, L: Lookup>(
     found: &mut Vec<Diagnostic>,

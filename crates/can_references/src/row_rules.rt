@@ -1,21 +1,21 @@
-//! What is doubtful of rows.
+//! The diagnostics of entries.
 ghost use Rattle.std.specs.Prelude.{◌≡◌, false, [], ◌∷◌, ◌++◌, IfOk, OnOk, map};
 ghost use Rattle.std.specs.List.{flat_map};
-ghost use Rattle.can_keys.specs.Mixes.{row_mix};
-ghost use Rattle.can_keys.specs.RowKeys.{target_of, row_key};
+ghost use Rattle.can_keys.specs.Mixes.{entry_mix};
+ghost use Rattle.dbc_records.specs.EntryKeys.{target_of, entry_key};
 ghost use Rattle.can_diagnostics.specs.Diagnostics.{of_row};
 ghost use Rattle.can_references.specs.Finding.{where_true, each_after};
 ghost use Rattle.can_references.specs.RowFaults.{lacks_signal, lacks_target, is_dangling, lacks_definition, is_undefined};
-ghost use Rattle.can_references.specs.RowFaults.{faults_of_row, row_fault, front_keys, attribute_keys, signal_keys, row_faults};
+ghost use Rattle.can_references.specs.RowFaults.{faults_of_row, row_fault, row_faults};
 
 use crate::known::Known;
-use crate::row::Row;
 use can_diagnostics::{Code, Diagnostic};
-use can_keys::{Key, Place, RowKeys, all_differ};
+use can_keys::{EntryKeys, all_differ, entry_mix};
 use can_rows::Lookup;
-use dbc_records::Database;
+use dbc_records::{DatabaseEntry, EntryKeyRef, EntryKind, EntryVisitor, TargetRef};
 use dbc_values::Memory;
 use std::alloc::Global;
+use std::marker::Model;
 
 // Whether no message of the number has the signal.
 fn lacks_signal<'a, L: Lookup>(known: &Known<'a, L>, number: u32, name: &'a [u8]) -> bool
@@ -24,28 +24,22 @@ fn lacks_signal<'a, L: Lookup>(known: &Known<'a, L>, number: u32, name: &'a [u8]
     !known.has_signal(number, name)
 }
 
-fn lacks_target<'a, L: Lookup>(known: &Known<'a, L>, place: Place<'a>) -> bool
-    ensures { result ≡ lacks_target known.now (target_of place.entry) }
+fn lacks_target<'a, L: Lookup>(known: &Known<'a, L>, target: TargetRef<'a>) -> bool
+    ensures { result ≡ lacks_target known.now (target_of target.entry) }
 {
-    match place {
-        Place::Whole => false,
-        Place::Node(name) => !known.is_known_node(name),
-        Place::Message(number) => !known.has_number(number),
-        Place::Signal(number, name) => lacks_signal(known, number, name),
+    match target {
+        TargetRef::Whole => false,
+        TargetRef::Node(name) => !known.is_known_node(name),
+        TargetRef::Message(number) => !known.has_number(number),
+        TargetRef::Signal(number, name) => lacks_signal(known, number, name),
     }
 }
 
-// Whether the row names what is not there.
-fn is_dangling<'a, L: Lookup>(known: &Known<'a, L>, key: Key<'a>) -> bool
-    ensures { result ≡ is_dangling known.now (row_key key.entry) }
+// Whether the entry is about what is not there.
+fn is_dangling<'a, L: Lookup>(known: &Known<'a, L>, key: EntryKeyRef<'a>) -> bool
+    ensures { result ≡ is_dangling known.now (entry_key key.entry) }
 {
-    match key {
-        Key::Table(_) | Key::Definition(..) | Key::Default(_) => false,
-        Key::Comment(place) | Key::Attribute(_, place) => lacks_target(known, place),
-        Key::Values(number, name) | Key::Float(number, name) | Key::Mux(number, name) => {
-            lacks_signal(known, number, name)
-        }
-    }
+    lacks_target(known, key.target())
 }
 
 fn lacks_definition<'a, L: Lookup>(known: &Known<'a, L>, name: &'a [u8]) -> bool
@@ -54,23 +48,20 @@ fn lacks_definition<'a, L: Lookup>(known: &Known<'a, L>, name: &'a [u8]) -> bool
     !known.is_defined(name)
 }
 
-// Whether the row gives an attribute that is not defined.
-fn is_undefined<'a, L: Lookup>(known: &Known<'a, L>, key: Key<'a>) -> bool
-    ensures { result ≡ is_undefined known.now (row_key key.entry) }
+// Whether the entry gives an attribute that is not defined.
+fn is_undefined<'a, L: Lookup>(known: &Known<'a, L>, key: EntryKeyRef<'a>) -> bool
+    ensures { result ≡ is_undefined known.now (entry_key key.entry) }
 {
     match key {
-        Key::Default(name) | Key::Attribute(name, _) => lacks_definition(known, name),
-        Key::Table(_)
-        | Key::Comment(_)
-        | Key::Definition(..)
-        | Key::Values(..)
-        | Key::Float(..)
-        | Key::Mux(..) => false,
+        EntryKeyRef::Default(name) | EntryKeyRef::Attribute(name, _) => {
+            lacks_definition(known, name)
+        }
+        _ => false,
     }
 }
 
-// Adds the diagnostic of a row where there is reason to.
-fn push_where<R: Row>(
+// Adds the diagnostic of an entry if the test holds.
+fn push_where<R: DatabaseEntry>(
     found: &mut Vec<Diagnostic>,
     test: bool,
     code: Code,
@@ -84,9 +75,9 @@ fn push_where<R: Row>(
     Ok(())
 }
 
-// Adds what is doubtful of a row whose key a row before it has, or none.
+// Adds the diagnostics of an entry whose key an entry before it has, or none.
 #[tactic(auto, using(crate::proofs::Pushing::pushed_then), unfolding(crate::specs::RowFaults::faults_of_row))]
-fn push_faults_of_row<'a, L: Lookup, R: Row>(
+fn push_faults_of_row<'a, L: Lookup, R: DatabaseEntry>(
     found: &mut Vec<Diagnostic>,
     known: &Known<'a, L>,
     row: &'a R,
@@ -100,12 +91,12 @@ fn push_faults_of_row<'a, L: Lookup, R: Row>(
     push_where(found, is_undefined(known, key), Code::UnknownAttribute, row)
 }
 
-/// Adds what is doubtful of a row, given the rows before it, and takes it among them.
+/// Adds the diagnostics of an entry, given the entries before it, and adds it to those.
 #[tactic(auto, unfolding(crate::specs::RowFaults::row_fault))]
-pub fn push_row<'a, L: Lookup, R: Row>(
+pub fn push_row<'a, L: Lookup, R: DatabaseEntry>(
     found: &mut Vec<Diagnostic>,
     known: &Known<'a, L>,
-    seen: &mut RowKeys<'a>,
+    seen: &mut EntryKeys<'a>,
     row: &'a R,
 ) -> Result<(), Memory>
     ensures found { OnOk result (found.new.items ≡ found.old.items ++ row_fault known.now seen.old (R.key_of row.now)) }
@@ -115,23 +106,23 @@ pub fn push_row<'a, L: Lookup, R: Row>(
     push_faults_of_row(found, known, row, !is_new)
 }
 
-// Adds what is doubtful of rows of one kind, each beside those before it.
-fn push_in_turn<'a, L: Lookup, R: Row>(
+// Adds the diagnostics of entries of one kind, each given those before it.
+fn push_in_turn<'a, L: Lookup, R: DatabaseEntry>(
     found: &mut Vec<Diagnostic>,
     known: &Known<'a, L>,
     rows: &'a [R],
 ) -> Result<(), Memory>
     ensures { OnOk result (found.new.items ≡ found.old.items ++ each_after (row_fault known.now) [] (map R.key_of rows.now)) }
 {
-    let mut seen = RowKeys::new(*found.allocator());
+    let mut seen = EntryKeys::new(*found.allocator());
     for row in rows {
         push_row(found, known, &mut seen, row)?;
     }
     Ok(())
 }
 
-// Adds what is doubtful of rows none of which is repeated.
-fn push_alone<'a, L: Lookup, R: Row>(
+// Adds the diagnostics of entries none of which is repeated.
+fn push_alone<'a, L: Lookup, R: DatabaseEntry>(
     found: &mut Vec<Diagnostic>,
     known: &Known<'a, L>,
     rows: &'a [R],
@@ -145,20 +136,20 @@ fn push_alone<'a, L: Lookup, R: Row>(
     Ok(())
 }
 
-// The numbers of the rows' keys.
-fn mixes_of<R: Row>(alloc: Global, rows: &[R]) -> Result<Vec<u64>, Memory>
-    ensures { IfOk result (λ mixes. mixes.items ≡ map row_mix (map R.key_of rows.now)) }
+// The hashes of the entries' keys.
+fn mixes_of<R: DatabaseEntry>(alloc: Global, rows: &[R]) -> Result<Vec<u64>, Memory>
+    ensures { IfOk result (λ mixes. mixes.items ≡ map entry_mix (map R.key_of rows.now)) }
 {
     let mut mixes = Vec::with_capacity(alloc, rows.len())?;
     for row in rows {
-        mixes.push(row.key().mix())?;
+        mixes.push(entry_mix(&row.key()))?;
     }
     Ok(mixes)
 }
 
-// Adds what is doubtful of rows of one kind. Where the numbers of their keys differ, and mostly they do, no row is repeated, and no
+// Adds the diagnostics of entries of one kind. If the hashes of their keys differ, and mostly they do, no entry is repeated, and no
 // key is kept.
-fn push_rows<'a, L: Lookup, R: Row>(
+fn push_rows<'a, L: Lookup, R: DatabaseEntry>(
     found: &mut Vec<Diagnostic>,
     known: &Known<'a, L>,
     rows: &'a [R],
@@ -172,52 +163,45 @@ fn push_rows<'a, L: Lookup, R: Row>(
     }
 }
 
-fn push_front<'a, L: Lookup>(
-    found: &mut Vec<Diagnostic>,
-    known: &Known<'a, L>,
-    database: &'a Database,
-) -> Result<(), Memory>
-    ensures { OnOk result (found.new.items ≡ found.old.items ++ each_after (row_fault known.now) [] (front_keys database.now)) }
-{
-    push_rows(found, known, database.tables.as_slice())?;
-    push_rows(found, known, database.comments.as_slice())
+// The diagnostics of the entries seen so far.
+#[derive(Drop)]
+struct EntryFaults<'a, L: Lookup> {
+    known: Known<'a, L>,
+    found: Vec<Diagnostic>,
 }
 
-fn push_attributes<'a, L: Lookup>(
-    found: &mut Vec<Diagnostic>,
-    known: &Known<'a, L>,
-    database: &'a Database,
-) -> Result<(), Memory>
-    ensures { OnOk result (found.new.items ≡ found.old.items ++ each_after (row_fault known.now) [] (attribute_keys
-        database.now)) }
-{
-    push_rows(found, known, database.definitions.as_slice())?;
-    push_rows(found, known, database.defaults.as_slice())?;
-    push_rows(found, known, database.attributes.as_slice())
+impl<'a, L: Lookup> Model for EntryFaults<'a, L> {
+    ghost use Rattle.can_references.specs.RowFaults as faults;
+
+    ghost Value = { faults.EntryFaults };
+
+    ghost view = { λ a. record { database = a.known; found = a.found.items } };
 }
 
-fn push_signal_rows<'a, L: Lookup>(
-    found: &mut Vec<Diagnostic>,
-    known: &Known<'a, L>,
-    database: &'a Database,
-) -> Result<(), Memory>
-    ensures { OnOk result (found.new.items ≡ found.old.items ++ each_after (row_fault known.now) [] (signal_keys
-        database.now)) }
-{
-    push_rows(found, known, database.values.as_slice())?;
-    push_rows(found, known, database.floats.as_slice())?;
-    push_rows(found, known, database.muxes.as_slice())
+impl<'a, L: Lookup> EntryVisitor<'a> for EntryFaults<'a, L> {
+    ghost use Rattle.can_references.specs.RowFaults.{with_entries};
+
+    ghost visited = { with_entries };
+
+    fn visit<E: DatabaseEntry>(
+        &mut self,
+        _kind: EntryKind,
+        entries: &'a [E],
+    ) -> Result<(), Memory> {
+        push_rows(&mut self.found, &self.known, entries)
+    }
 }
 
-/// Adds what is doubtful of the rows of a database: codes 16 to 18.
-pub fn push_row_faults<'a, L: Lookup>(
-    found: &mut Vec<Diagnostic>,
-    known: &Known<'a, L>,
-) -> Result<(), Memory>
-    ensures { OnOk result (found.new.items ≡ found.old.items ++ row_faults known.now) }
+/// The diagnostics of the entries of a database, kind by kind: codes 16 to 18.
+#[tactic(auto, using(crate::proofs::ByKind::all_added), unfolding(crate::specs::RowFaults::row_faults))]
+pub fn row_faults<L: Lookup>(alloc: Global, known: Known<'_, L>) -> Result<Vec<Diagnostic>, Memory>
+    ensures { IfOk result (λ found. found.items ≡ row_faults known.entry) }
 {
     let database = known.database();
-    push_front(found, known, database)?;
-    push_attributes(found, known, database)?;
-    push_signal_rows(found, known, database)
+    let mut faults = EntryFaults {
+        known,
+        found: Vec::new(alloc),
+    };
+    database.visit_entries(&mut faults)?;
+    Ok(faults.found)
 }

@@ -2,8 +2,8 @@
 
 use byte_devices::WriteFault;
 use byte_devices::limp::Limp;
-use can_diagnostics::{Code, Diagnostic, RowKey, Subject, write_diagnostic, write_lines};
-use dbc_records::{Head, Object, Signal, TableRow, Tag, Target};
+use can_diagnostics::{Code, Diagnostic, Subject, write_diagnostic, write_lines};
+use dbc_records::{DatabaseEntry, EntryKey, Head, Object, Signal, TableRow, Tag, Target};
 use dbc_values::{Copied, Decimal, List, Name, Text};
 use std::alloc::Global;
 use std::test::Fail;
@@ -32,7 +32,7 @@ fn is_line(alloc: Global, code: Code, subject: Subject, wanted: &[u8]) -> bool {
     is_written(alloc, &Diagnostic { code, subject }, wanted)
 }
 
-fn is_row(alloc: Global, key: RowKey, wanted: &[u8]) -> bool {
+fn is_row(alloc: Global, key: EntryKey, wanted: &[u8]) -> bool {
     is_line(alloc, Code::RepeatedRow, Subject::Row(key), wanted)
 }
 
@@ -80,9 +80,9 @@ fn signals(rt: HostRuntime) -> Result<(), Fail> {
 #[test]
 fn rows_of_signals(rt: HostRuntime) -> Result<(), Fail> {
     let alloc = rt.alloc();
-    let key = RowKey::Values(500, name(alloc, b"X")?);
+    let key = EntryKey::Values(500, name(alloc, b"X")?);
     assert!(rt; is_row(alloc, key, b"17 RepeatedRow VAL_ 500 X"));
-    let key = RowKey::Float(5, name(alloc, b"S")?);
+    let key = EntryKey::Float(5, name(alloc, b"S")?);
     assert!(rt; is_row(alloc, key, b"17 RepeatedRow SIG_VALTYPE_ 5 S"));
     Ok(())
 }
@@ -90,9 +90,9 @@ fn rows_of_signals(rt: HostRuntime) -> Result<(), Fail> {
 #[test]
 fn attributes(rt: HostRuntime) -> Result<(), Fail> {
     let alloc = rt.alloc();
-    let key = RowKey::Attribute(text(alloc, b"a\r\nb")?, Target::Message(5));
+    let key = EntryKey::Attribute(text(alloc, b"a\r\nb")?, Target::Message(5));
     assert!(rt; is_row(alloc, key, b"17 RepeatedRow BA_ \"a  b\" BO_ 5"));
-    let key = RowKey::Definition(Some(Object::Message), text(alloc, b"n")?);
+    let key = EntryKey::Definition(Some(Object::Message), text(alloc, b"n")?);
     assert!(rt; is_row(alloc, key, b"17 RepeatedRow BA_DEF_ BO_ \"n\""));
     Ok(())
 }
@@ -100,9 +100,21 @@ fn attributes(rt: HostRuntime) -> Result<(), Fail> {
 #[test]
 fn comments(rt: HostRuntime) -> Result<(), Fail> {
     let alloc = rt.alloc();
-    assert!(rt; is_row(alloc, RowKey::Comment(Target::Whole), b"17 RepeatedRow CM_"));
+    assert!(rt;
+        is_row(
+            alloc,
+            EntryKey::Comment(Target::Whole),
+            b"17 RepeatedRow CM_"
+        )
+    );
     let target = Target::Node(name(alloc, b"n")?);
-    assert!(rt; is_row(alloc, RowKey::Comment(target), b"17 RepeatedRow CM_ BU_ n"));
+    assert!(rt;
+        is_row(
+            alloc,
+            EntryKey::Comment(target),
+            b"17 RepeatedRow CM_ BU_ n"
+        )
+    );
     Ok(())
 }
 
@@ -221,12 +233,12 @@ fn table(alloc: Global) -> Result<TableRow, Fail> {
     }
 }
 
-fn key_of_table(alloc: Global) -> Result<RowKey, Fail> {
+fn key_of_table(alloc: Global) -> Result<EntryKey, Fail> {
     let table = table(alloc)?;
-    Ok(RowKey::of_table(&table)?)
+    Ok(table.owned_key()?)
 }
 
-fn of_copied_key(alloc: Global, key: &RowKey) -> Result<bool, Fail> {
+fn of_copied_key(alloc: Global, key: &EntryKey) -> Result<bool, Fail> {
     let found = Diagnostic::of_row(Code::RepeatedRow, key.copy()?);
     Ok(is_written(alloc, &found, b"17 RepeatedRow VAL_TABLE_ T"))
 }

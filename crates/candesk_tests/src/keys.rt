@@ -1,7 +1,7 @@
 //! What no contract says: that calls succeed.
 
-use can_keys::{Key, Names, Numbers, Place, RowKeys, SignalNames, all_differ};
-use dbc_records::{Comment, Object, Target};
+use can_keys::{EntryKeys, Names, Numbers, SignalNames, all_differ, entry_mix};
+use dbc_records::{Comment, DatabaseEntry, EntryKeyRef, Object, Target, TargetRef};
 use dbc_values::Text;
 use std::test::Fail;
 
@@ -43,31 +43,37 @@ fn signals(rt: HostRuntime) -> Result<(), Fail> {
 #[test]
 fn mixes(rt: HostRuntime) -> Result<(), Fail> {
     let mut mixes = Vec::new(rt.alloc());
-    mixes.push(Key::Default(b"n").mix())?;
-    mixes.push(Key::Default(b"m").mix())?;
-    mixes.push(Key::Default(b"o").mix())?;
+    mixes.push(entry_mix(&EntryKeyRef::Default(b"n")))?;
+    mixes.push(entry_mix(&EntryKeyRef::Default(b"m")))?;
+    mixes.push(entry_mix(&EntryKeyRef::Default(b"o")))?;
     assert!(rt; all_differ(mixes));
     let mut twice = Vec::new(rt.alloc());
-    twice.push(Key::Default(b"n").mix())?;
-    twice.push(Key::Default(b"m").mix())?;
-    twice.push(Key::Default(b"n").mix())?;
+    twice.push(entry_mix(&EntryKeyRef::Default(b"n")))?;
+    twice.push(entry_mix(&EntryKeyRef::Default(b"m")))?;
+    twice.push(entry_mix(&EntryKeyRef::Default(b"n")))?;
     assert!(rt; !all_differ(twice));
     Ok(())
 }
 
 #[test]
 fn rows(rt: HostRuntime) {
-    let mut keys = RowKeys::new(rt.alloc());
-    assert_eq!(rt; keys.add(Key::Default(b"n")), Ok(true));
-    assert_eq!(rt; keys.add(Key::Definition(None, b"n")), Ok(true));
+    let mut keys = EntryKeys::new(rt.alloc());
+    assert_eq!(rt; keys.add(EntryKeyRef::Default(b"n")), Ok(true));
+    assert_eq!(rt; keys.add(EntryKeyRef::Definition(None, b"n")), Ok(true));
     assert_eq!(rt;
-        keys.add(Key::Definition(Some(Object::Node), b"n")),
+        keys.add(EntryKeyRef::Definition(Some(Object::Node), b"n")),
         Ok(false)
     );
-    assert_eq!(rt; keys.add(Key::Attribute(b"n", Place::Message(5))), Ok(true));
-    assert_eq!(rt; keys.add(Key::Attribute(b"n", Place::Message(6))), Ok(true));
     assert_eq!(rt;
-        keys.add(Key::Attribute(b"n", Place::Message(5))),
+        keys.add(EntryKeyRef::Attribute(b"n", TargetRef::Message(5))),
+        Ok(true)
+    );
+    assert_eq!(rt;
+        keys.add(EntryKeyRef::Attribute(b"n", TargetRef::Message(6))),
+        Ok(true)
+    );
+    assert_eq!(rt;
+        keys.add(EntryKeyRef::Attribute(b"n", TargetRef::Message(5))),
         Ok(false)
     );
 }
@@ -81,8 +87,11 @@ fn of_records(rt: HostRuntime) -> Result<(), Fail> {
     let Some(comment) = Comment::new(Target::Message(5), text) else {
         return Err(Fail::from("no comment"));
     };
-    let mut keys = RowKeys::new(alloc);
-    assert_eq!(rt; keys.add(Key::of_comment(&comment)), Ok(true));
-    assert_eq!(rt; keys.add(Key::Comment(Place::Message(5))), Ok(false));
+    let mut keys = EntryKeys::new(alloc);
+    assert_eq!(rt; keys.add(comment.key()), Ok(true));
+    assert_eq!(rt;
+        keys.add(EntryKeyRef::Comment(TargetRef::Message(5))),
+        Ok(false)
+    );
     Ok(())
 }

@@ -2,6 +2,7 @@
 ghost use Rattle.std.specs.Prelude.{◌≡◌, ◌++◌, [], ◌∷◌, IfOk, OnOk, length, map};
 ghost use Rattle.std.specs.List.{flat_map};
 ghost use Rattle.can_references.specs.HeadFaults.{head_faults};
+ghost use Rattle.can_references.specs.RowFaults.{row_faults};
 ghost use Rattle.can_check.specs.MessageFaults.{head_then_own};
 ghost use Rattle.compiled_database.specs.Diagnosed.{counts_of};
 ghost use Rattle.compiled_database.specs.Shown.{AreDiagnosed};
@@ -9,7 +10,7 @@ ghost use Rattle.compiled_database.specs.Shown.{AreDiagnosed};
 use can_check::laws::faults_in_order;
 use can_check::{Diagnostic, Occupancy, push_own_faults};
 use can_layout::Lookup;
-use can_references::{Known, push_head_faults, push_row_faults};
+use can_references::{Known, push_head_faults, row_faults};
 use dbc_records::Message;
 use dbc_values::{Copied, Memory};
 use std::alloc::Global;
@@ -88,6 +89,20 @@ impl Diagnosed {
         Ok(occupancy)
     }
 
+    /// Adds the diagnostics of entries.
+    pub(crate) fn push_entries<L: Lookup>(
+        &mut self,
+        alloc: Global,
+        known: Known<'_, L>,
+    ) -> Result<(), Memory>
+        ensures diagnostics { OnOk result (self.new.diagnostics.items ≡ self.old.diagnostics.items ++ row_faults known.entry) }
+        ensures counts { OnOk result (self.new.counts.items ≡ self.old.counts.items) }
+    {
+        let mut found = row_faults(alloc, known)?;
+        self.diagnostics.append(&mut found)?;
+        Ok(())
+    }
+
     /// Adds the diagnostics of a message, with copies of its own ones.
     pub(crate) fn push_kept<'a, L: Lookup>(
         &mut self,
@@ -139,6 +154,6 @@ pub(crate) fn diagnose<L: Lookup>(alloc: Global, lookup: &L) -> Result<Diagnosed
     let messages = known.database().messages.as_slice();
     let mut made = Diagnosed::with_room(alloc, messages.len())?;
     push_messages(&mut made, alloc, &known, messages)?;
-    push_row_faults(&mut made.diagnostics, &known)?;
+    made.push_entries(alloc, known)?;
     Ok(made)
 }

@@ -14,7 +14,7 @@ use crate::shown::{Shown, messages_of};
 use can_check::laws::{faults_in_order, own_rows_and_nodes_alone};
 use can_check::{Diagnostic, Occupancy};
 use can_layout::Lookup;
-use can_references::{Known, push_row_faults};
+use can_references::{Known, row_faults};
 use dbc_records::Message;
 use dbc_values::Memory;
 use edit_reach::laws::others_stay;
@@ -98,6 +98,6 @@ pub(crate) fn diagnose_after<L: Lookup>(
     let messages = messages_of(known.database());
     let mut made = Diagnosed::with_room(alloc, messages.len())?;
     push_merged(&mut made, &known, accepted.numbers(), &kept, messages)?;
-    push_row_faults(&mut made.diagnostics, &known)?;
+    made.push_entries(alloc, known)?;
     Ok(made)
 }

@@ -3,6 +3,8 @@ use Rattle.std.specs.Prelude.{◌≡◌, ℕ, List, [], ◌∷◌, ◌++◌, map
 use Rattle.std.specs.List.{flat_map}
 use Rattle.dbc_records.specs.CanonicalText.{head_layout}
 use Rattle.dbc_records.specs.Databases.{Database}
+use Rattle.dbc_records.specs.declared.database_entry.EntryKind.{EntryKind}
+use Rattle.dbc_records.specs.declared.database_entry.EntryKind.TheVariants as entry_kinds
 use Rattle.dbc_tokens.specs.Tokens.{Token, Cut, End, Fault, ◌▸◌}
 use Rattle.dbc_reader.specs.declared.start.Start.{Start}
 use Rattle.dbc_reader.specs.declared.start.Starts.{Starts}
@@ -81,6 +83,17 @@ starts_of ValueDescriptions starts = starts.values
 starts_of FloatTypes starts = starts.floats
 starts_of Multiplexings starts = starts.muxes
 starts_of KeptVerbatim starts = starts.kept
+
+-- where the entries of a kind begin
+abbrev pub entry_starts : Starts → EntryKind → List Start
+entry_starts starts entry_kinds.Table = starts.tables
+entry_starts starts entry_kinds.Comment = starts.comments
+entry_starts starts entry_kinds.Definition = starts.definitions
+entry_starts starts entry_kinds.Default = starts.defaults
+entry_starts starts entry_kinds.Attribute = starts.attributes
+entry_starts starts entry_kinds.Values = starts.values
+entry_starts starts entry_kinds.Float = starts.floats
+entry_starts starts entry_kinds.Mux = starts.muxes
 
 abbrev pub with_starts : Starts → (Kind → List Start) → Starts
 with_starts starts lists = record starts {

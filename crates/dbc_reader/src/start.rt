@@ -1,8 +1,8 @@
 //! Where the statements of a text begin.
 ghost use Rattle.std.specs.Prelude.{◌≡◌, OnOk, length};
-ghost use Rattle.dbc_reader.specs.Starts.{no_starts, extended, caught_up};
+ghost use Rattle.dbc_reader.specs.Starts.{no_starts, entry_starts, extended, caught_up};
 
-use dbc_records::Database;
+use dbc_records::{Database, EntryKind};
 use dbc_values::{Checked, List, Memory};
 use std::alloc::Global;
 
@@ -77,6 +77,22 @@ impl Starts {
             floats: List::new(alloc),
             muxes: List::new(alloc),
             kept: List::new(alloc),
+        }
+    }
+
+    /// Where the entries of a kind begin.
+    pub fn of(&self, kind: EntryKind) -> &[Start]
+        ensures { result.now ≡ entry_starts self.now kind }
+    {
+        match kind {
+            EntryKind::Table => self.tables.as_slice(),
+            EntryKind::Comment => self.comments.as_slice(),
+            EntryKind::Definition => self.definitions.as_slice(),
+            EntryKind::Default => self.defaults.as_slice(),
+            EntryKind::Attribute => self.attributes.as_slice(),
+            EntryKind::Values => self.values.as_slice(),
+            EntryKind::Float => self.floats.as_slice(),
+            EntryKind::Mux => self.muxes.as_slice(),
         }
     }
 

@@ -11,3 +11,5 @@ pub mod Orders
 pub mod Databases
 pub mod Layout
 pub mod CanonicalText
+pub mod EntryKeys
+pub mod DatabaseEntries

@@ -10,9 +10,9 @@ use Rattle.dbc_records.specs.declared.definition.Object.{Object}
 use Rattle.dbc_records.specs.declared.target.Target.{Target}
 use Rattle.dbc_records.specs.declared.target.Target.TheVariants as targets
 use Rattle.can_diagnostics.specs.Diagnostics.{IsSubject}
-use Rattle.can_diagnostics.specs.Keys.{IsRowKey}
-use Rattle.can_diagnostics.specs.declared.row_key.RowKey.{RowKey}
-use Rattle.can_diagnostics.specs.declared.row_key.RowKey.TheVariants as keys
+use Rattle.dbc_records.specs.EntryKeys.{IsEntryKey}
+use Rattle.dbc_records.specs.declared.entry_key.EntryKey.{EntryKey}
+use Rattle.dbc_records.specs.declared.entry_key.EntryKey.TheVariants as keys
 use Rattle.can_diagnostics.specs.declared.subject.Subject.{Subject}
 use Rattle.can_diagnostics.specs.declared.subject.Subject.TheVariants as subjects
 use Rattle.json_findings.specs.Findings.{entry_member, object_members, target_members, key_members, subject_members}
@@ -33,7 +33,7 @@ target_reads (targets.Node name) is = (string_reads 2 name, tt)
 target_reads (targets.Message n) is = (whole_reads 2 n (number_small n is), tt)
 target_reads (targets.Signal n signal) is = (whole_reads 2 n (number_small n is.0), (string_reads 2 signal, tt))
 
-key_reads : (key : RowKey) → IsRowKey key → MembersRead 2 (key_members key)
+key_reads : (key : EntryKey) → IsEntryKey key → MembersRead 2 (key_members key)
 key_reads (keys.Table name) is = (string_reads 2 (codes "VAL_TABLE_"), (string_reads 2 name, tt))
 key_reads (keys.Comment target) is =
     both_read 2 (entry_member (codes "CM_")) (target_members target) (entry_reads (codes "CM_")) (target_reads target is)

@@ -13,8 +13,8 @@ use Rattle.can_diagnostics.specs.Codes.{code_number, code_word}
 use Rattle.can_diagnostics.specs.declared.code.Code.{Code}
 use Rattle.can_diagnostics.specs.declared.code.Code.TheVariants as kinds
 use Rattle.can_diagnostics.specs.declared.diagnostic.Diagnostic.{Diagnostic}
-use Rattle.can_diagnostics.specs.declared.row_key.RowKey.{RowKey}
-use Rattle.can_diagnostics.specs.declared.row_key.RowKey.TheVariants as keys
+use Rattle.dbc_records.specs.declared.entry_key.EntryKey.{EntryKey}
+use Rattle.dbc_records.specs.declared.entry_key.EntryKey.TheVariants as keys
 use Rattle.can_diagnostics.specs.declared.subject.Subject.{Subject}
 use Rattle.can_diagnostics.specs.declared.subject.Subject.TheVariants as subjects
 use Rattle.can_findings.specs.declared.finding.Finding.{Finding}
@@ -49,7 +49,7 @@ object_members (Some object) = (codes "object", object_json object) ∷ []
 abbrev pub entry_member : List ℕ → List Member
 entry_member word = (codes "entry", string word) ∷ []
 
-abbrev pub key_members : RowKey → List Member
+abbrev pub key_members : EntryKey → List Member
 key_members (keys.Table name) = entry_member (codes "VAL_TABLE_") ++ name_member (codes "name") name
 key_members (keys.Comment target) = entry_member (codes "CM_") ++ target_members target
 key_members (keys.Definition object name) =

@@ -7,8 +7,8 @@ use Rattle.dbc_reader.specs.declared.start.Start.{Start}
 use Rattle.dbc_ranges.specs.declared.range.Range.{Range}
 use Rattle.dbc_ranges.specs.Ranges.{Part, Number, Name, Sender, Position, Length, Scale, Receiver, Multiplexor, FloatKind}
 use Rattle.dbc_ranges.specs.Ranges.{Value, Key, range_of}
-use Rattle.can_diagnostics.specs.declared.row_key.RowKey.{RowKey}
-use Rattle.can_diagnostics.specs.declared.row_key.RowKey.TheVariants as keys
+use Rattle.dbc_records.specs.declared.entry_key.EntryKey.{EntryKey}
+use Rattle.dbc_records.specs.declared.entry_key.EntryKey.TheVariants as keys
 use Rattle.can_diagnostics.specs.declared.code.Code.{Code}
 use Rattle.can_diagnostics.specs.declared.code.Code.TheVariants as codes
 use Rattle.can_diagnostics.specs.declared.subject.Subject.{Subject}
@@ -47,7 +47,7 @@ target_items (targets.Signal number name) = 3
 
 -- How many items the key of an entry has: its keyword, what it is for, and the name of a table or an attribute. A definition names
 -- the objects that it is for, as `BA_DEF_ BO_ "Cycle"`, if it isn't for the whole database.
-abbrev pub key_items : RowKey → ℕ
+abbrev pub key_items : EntryKey → ℕ
 key_items (keys.Table name) = 2
 key_items (keys.Comment target) = 1 + target_items target
 key_items (keys.Definition None name) = 2

@@ -4,10 +4,10 @@ ghost use Rattle.dbc_ranges.specs.Ranges.{part_of as part_view, range_of};
 ghost use Rattle.json_findings.specs.Marks.{message_part, signal_part, repetition, target_items, key_items, part_about};
 ghost use Rattle.json_findings.specs.Marks.{ranges_of};
 
-use can_diagnostics::{Code, RowKey, Subject};
+use can_diagnostics::{Code, Subject};
 use can_findings::{Finding, Location};
 use dbc_ranges::{DescribedValue, Part, Range, range_of};
-use dbc_records::Target;
+use dbc_records::{EntryKey, Target};
 use dbc_values::Memory;
 use std::alloc::Global;
 
@@ -57,19 +57,19 @@ fn target_items(target: &Target) -> usize
 }
 
 /// How many items the key of an entry has, from its keyword on.
-pub fn key_items(key: &RowKey) -> usize
+pub fn key_items(key: &EntryKey) -> usize
     ensures { result ≡ key_items key.now }
 {
     match key {
-        RowKey::Table(_) => 2,
-        RowKey::Comment(target) => 1 + target_items(target),
-        RowKey::Definition(None, _) => 2,
-        RowKey::Definition(Some(_), _) => 3,
-        RowKey::Default(_) => 2,
-        RowKey::Attribute(_, target) => 2 + target_items(target),
-        RowKey::Values(..) => 3,
-        RowKey::Float(..) => 3,
-        RowKey::Mux(..) => 3,
+        EntryKey::Table(_) => 2,
+        EntryKey::Comment(target) => 1 + target_items(target),
+        EntryKey::Definition(None, _) => 2,
+        EntryKey::Definition(Some(_), _) => 3,
+        EntryKey::Default(_) => 2,
+        EntryKey::Attribute(_, target) => 2 + target_items(target),
+        EntryKey::Values(..) => 3,
+        EntryKey::Float(..) => 3,
+        EntryKey::Mux(..) => 3,
     }
 }
 

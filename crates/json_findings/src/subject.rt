@@ -6,12 +6,12 @@ ghost use Rattle.json.specs.Token.{number as number_token};
 ghost use Rattle.json_texts.specs.Members.{text_members};
 ghost use Rattle.json_records.specs.Values.{tokens_of};
 ghost use Rattle.dbc_records.specs.declared.target.Target.TheVariants as targets;
-ghost use Rattle.can_diagnostics.specs.declared.row_key.RowKey.TheVariants as keys;
+ghost use Rattle.dbc_records.specs.declared.entry_key.EntryKey.TheVariants as keys;
 ghost use Rattle.json_findings.specs.Findings.{message_members, name_member, signal_members, target_members, object_members};
 ghost use Rattle.json_findings.specs.Findings.{entry_member, key_members, subject_members};
 
-use can_diagnostics::{RowKey, Subject};
-use dbc_records::{Object, Target};
+use can_diagnostics::Subject;
+use dbc_records::{EntryKey, Object, Target};
 use dbc_values::{Memory, Name, Text};
 use itoa::Buffer;
 use json_records::{JsonText, write_member, write_string, write_text, write_whole};
@@ -224,18 +224,18 @@ fn write_mux(text: &mut JsonText, number: u32, signal: &Name) -> Result<(), Memo
     write_signal_entry(text, "SG_MUL_VAL_", number, signal)
 }
 
-fn write_key(text: &mut JsonText, key: &RowKey) -> Result<(), Memory>
+fn write_key(text: &mut JsonText, key: &EntryKey) -> Result<(), Memory>
     ensures { OnOk result (text.new ≡ text.old ++ tokens_of (key_members key.now)) }
 {
     match key {
-        RowKey::Table(name) => write_table(text, name),
-        RowKey::Comment(target) => write_comment(text, target),
-        RowKey::Definition(object, name) => write_definition(text, *object, name),
-        RowKey::Default(name) => write_named(text, "BA_DEF_DEF_", name),
-        RowKey::Attribute(name, target) => write_attribute(text, name, target),
-        RowKey::Values(number, signal) => write_values(text, *number, signal),
-        RowKey::Float(number, signal) => write_float(text, *number, signal),
-        RowKey::Mux(number, signal) => write_mux(text, *number, signal),
+        EntryKey::Table(name) => write_table(text, name),
+        EntryKey::Comment(target) => write_comment(text, target),
+        EntryKey::Definition(object, name) => write_definition(text, *object, name),
+        EntryKey::Default(name) => write_named(text, "BA_DEF_DEF_", name),
+        EntryKey::Attribute(name, target) => write_attribute(text, name, target),
+        EntryKey::Values(number, signal) => write_values(text, *number, signal),
+        EntryKey::Float(number, signal) => write_float(text, *number, signal),
+        EntryKey::Mux(number, signal) => write_mux(text, *number, signal),
     }
 }
 

@@ -1,19 +1,21 @@
 -- Where the messages, signals and entries of a database are in its text, as objects of JSON, a line each.
 -- Source: the DBC file format, the section of each statement; RFC 8259. The names of the members are the profile of candesk.
-use Rattle.std.specs.Prelude.{ℕ, List, [], ◌∷◌, ◌++◌, map, take, drop, length, codes}
+use Rattle.std.specs.Prelude.{ℕ, List, [], ◌∷◌, ◌++◌, map, codes}
 use Rattle.std.specs.List.{flat_map}
 use Rattle.json_texts.specs.Members.{object_of, json_text}
 use Rattle.dbc_records.specs.Records.{Head, Signal, Message}
 use Rattle.dbc_records.specs.Databases.{Database}
 use Rattle.dbc_reader.specs.declared.start.Start.{Start}
 use Rattle.dbc_reader.specs.declared.start.Starts.{Starts}
+use Rattle.dbc_reader.specs.Starts.{entry_starts}
 use Rattle.dbc_ranges.specs.declared.range.Range.{Range}
 use Rattle.dbc_ranges.specs.Ranges.{Part, Sender, Receiver, Multiplexor, Key, range_of}
-use Rattle.can_diagnostics.specs.declared.row_key.RowKey.{RowKey}
-use Rattle.can_diagnostics.specs.declared.row_key.RowKey.TheVariants as keys
+use Rattle.dbc_records.specs.declared.database_entry.EntryKind.{EntryKind}
+use Rattle.dbc_records.specs.declared.entry_key.EntryKey.{EntryKey}
+use Rattle.dbc_records.specs.declared.entry_key.EntryKey.TheVariants as keys
 use Rattle.can_diagnostics.specs.declared.subject.Subject.{Subject}
 use Rattle.can_diagnostics.specs.declared.subject.Subject.TheVariants as subjects
-use Rattle.can_findings.specs.Fronts.{first_start, behind_first}
+use Rattle.can_findings.specs.Beginnings.{at_starts, messages_at}
 use Rattle.can_findings.specs.RowLocations.{all_rows}
 use Rattle.json_findings.specs.Findings.{subject_members, at_members}
 use Rattle.json_findings.specs.Marks.{key_items}
@@ -57,11 +59,11 @@ receiver_location head signal start node = record {
 }
 
 -- the key of an entry, from its keyword on, and the multiplexor that is named after it: `SG_MUL_VAL_ 500 Speed` and `Mode`
-abbrev pub key_parts : RowKey → List Part
+abbrev pub key_parts : EntryKey → List Part
 key_parts (keys.Mux number signal) = Key 3 ∷ Multiplexor ∷ []
 key_parts key = Key (key_items key) ∷ []
 
-abbrev pub entry_location : RowKey → Start → Location
+abbrev pub entry_location : EntryKey → Start → Location
 entry_location key start = record { subject = subjects.Row key; start = start; parts = key_parts key }
 
 -- ---- lines
@@ -88,22 +90,30 @@ signal_lines text head signal start =
 
 -- of signals that begin there
 abbrev pub signals_lines : List ℕ → Head → List Signal → List Start → List ℕ
-signals_lines text head [] starts = []
-signals_lines text head (signal ∷ signals) starts =
-    signal_lines text head signal (first_start starts) ++ signals_lines text head signals (behind_first starts)
+signals_lines text head signals starts = flat_map (λ signal. signal_lines text head signal.0 signal.1) (at_starts signals starts)
 
--- of messages that begin there, each followed by those of its signals; all their signals begin there
+-- of messages, each where it begins and followed by those of its signals; all their signals begin there
 abbrev pub message_lines : List ℕ → List Message → List Start → List Start → List ℕ
-message_lines text [] heads starts = []
-message_lines text (m ∷ messages) heads starts =
-    (head_lines text m.head (first_start heads) ++ signals_lines text m.head m.signals (take (length m.signals) starts))
-    ++ message_lines text messages (behind_first heads) (drop (length m.signals) starts)
+message_lines text messages heads signals = flat_map (λ m. head_lines text m.message.head m.start
+    ++ signals_lines text m.message.head m.message.signals m.signals) (messages_at messages heads signals)
 
 -- of entries, each with where it begins
-abbrev pub entry_lines : List ℕ → List (RowKey × Start) → List ℕ
+abbrev pub entry_lines : List ℕ → List (EntryKey × Start) → List ℕ
 entry_lines text rows = flat_map (λ row. location_line text (entry_location row.0 row.1)) rows
 
 -- of all messages, and then of all entries, kind by kind in the order in which they are printed
 unfoldable pub locations_text : List ℕ → Database → Starts → List ℕ
 locations_text text d starts =
     message_lines text d.messages starts.messages starts.signals ++ entry_lines text (all_rows d starts)
+
+-- lines of entries of a text, which begin there
+pub record EntryLines : Type 0 where
+  pub text : List ℕ
+  pub starts : Starts
+  pub lines : List ℕ
+
+-- those of the entries of a kind are added
+abbrev pub with_entries : EntryLines → EntryKind × List EntryKey → EntryLines
+with_entries lines entries = record lines {
+  lines = lines.lines ++ entry_lines lines.text (at_starts entries.1 (entry_starts lines.starts entries.0));
+}

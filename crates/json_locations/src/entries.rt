@@ -1,36 +1,42 @@
 //! The lines of entries, and all lines.
 ghost use Rattle.std.specs.Prelude.{◌≡◌, ◌∷◌, ◌++◌, [], IfOk, OnOk, map};
 ghost use Rattle.dbc_ranges.specs.Ranges.{range_of};
-ghost use Rattle.can_findings.specs.RowLocations.{keys_at, front_rows, attribute_rows, signal_rows, all_rows};
+ghost use Rattle.can_findings.specs.Beginnings.{at_starts};
+ghost use Rattle.can_findings.specs.RowLocations.{all_rows};
 ghost use Rattle.json_locations.specs.Locations.{key_parts, entry_location, location_line, entry_lines, locations_text};
 
 use crate::line::push_ranges;
 use crate::messages::push_messages;
-use can_diagnostics::{RowKey, Subject};
-use can_findings::{behind_first, first_start};
-use can_references::Row;
+use can_diagnostics::Subject;
+use can_findings::{after_first, first_start};
 use dbc_ranges::{Part, Range, range_of};
 use dbc_reader::{Start, Starts};
-use dbc_records::Database;
-use dbc_values::{List, Memory};
+use dbc_records::{Database, DatabaseEntry, EntryKey, EntryKind, EntryVisitor};
+use dbc_values::Memory;
 use json_findings::key_items;
 use std::alloc::Global;
+use std::marker::Model;
 
 // The range of the key of an entry that begins there, and that of the multiplexor that an entry of multiplexing names after it.
-fn key_ranges(alloc: Global, text: &[u8], key: &RowKey, start: Start) -> Result<Vec<Range>, Memory>
+fn key_ranges(
+    alloc: Global,
+    text: &[u8],
+    key: &EntryKey,
+    start: Start,
+) -> Result<Vec<Range>, Memory>
     ensures { IfOk result (λ ranges. ranges.items ≡ map (range_of text.now start) (key_parts key.now)) }
 {
     let mut ranges = Vec::new(alloc);
     ranges.push(range_of(text, start, Part::Key(key_items(key))))?;
     match key {
-        RowKey::Mux(..) => ranges.push(range_of(text, start, Part::Multiplexor))?,
+        EntryKey::Mux(..) => ranges.push(range_of(text, start, Part::Multiplexor))?,
         _ => {}
     }
     Ok(ranges)
 }
 
 #[tactic(auto, unfolding(crate::specs::Locations::location_line))]
-fn push_entry(lines: &mut Vec<u8>, text: &[u8], key: RowKey, start: Start) -> Result<(), Memory>
+fn push_entry(lines: &mut Vec<u8>, text: &[u8], key: EntryKey, start: Start) -> Result<(), Memory>
     ensures { OnOk result (lines.new.items ≡ lines.old.items ++ location_line text.now (entry_location key start)) }
 {
     let ranges = key_ranges(*lines.allocator(), text, &key, start)?;
@@ -38,7 +44,12 @@ fn push_entry(lines: &mut Vec<u8>, text: &[u8], key: RowKey, start: Start) -> Re
 }
 
 // The line of an entry that begins there.
-fn push_row<R: Row>(lines: &mut Vec<u8>, text: &[u8], row: &R, start: Start) -> Result<(), Memory>
+fn push_row<R: DatabaseEntry>(
+    lines: &mut Vec<u8>,
+    text: &[u8],
+    row: &R,
+    start: Start,
+) -> Result<(), Memory>
     ensures { OnOk result (lines.new.items ≡ lines.old.items
         ++ location_line text.now (entry_location (R.key_of row.now) start)) }
 {
@@ -47,76 +58,66 @@ fn push_row<R: Row>(lines: &mut Vec<u8>, text: &[u8], row: &R, start: Start) -> 
 }
 
 // The lines of entries of one kind, which begin there.
-fn push_entries<R: Row>(
+fn push_entries<R: DatabaseEntry>(
     lines: &mut Vec<u8>,
     text: &[u8],
-    rows: &List<R>,
-    starts: &List<Start>,
+    rows: &[R],
+    starts: &[Start],
 ) -> Result<(), Memory>
     ensures { OnOk result (lines.new.items ≡ lines.old.items
-        ++ entry_lines text.now (keys_at (map R.key_of rows.now) starts.now)) }
+        ++ entry_lines text.now (at_starts (map R.key_of rows.now) starts.now)) }
 {
-    let (mut left, mut further) = (rows.as_slice(), starts.as_slice());
+    let (mut left, mut further) = (rows, starts);
     'rows: while let [row, others @ ..] = left {
         push_row(lines, text, row, first_start(further))?;
-        (left, further) = (others, behind_first(further));
+        (left, further) = (others, after_first(further));
     }
     Ok(())
 }
 
-#[tactic(auto, using(crate::proofs::Pushed::entries_then), unfolding(can_findings::specs::RowLocations::front_rows))]
-fn push_front(
-    lines: &mut Vec<u8>,
-    text: &[u8],
-    database: &Database,
-    starts: &Starts,
-) -> Result<(), Memory>
-    ensures { OnOk result (lines.new.items ≡ lines.old.items ++ entry_lines text.now (front_rows database.now starts.now)) }
-{
-    push_entries(lines, text, &database.tables, &starts.tables)?;
-    push_entries(lines, text, &database.comments, &starts.comments)
+// The lines of the entries seen so far, and before them others.
+#[derive(Drop)]
+struct EntryLines<'a> {
+    text: &'a [u8],
+    starts: &'a Starts,
+    lines: Vec<u8>,
 }
 
-#[tactic(auto, using(crate::proofs::Pushed::entries_then), unfolding(can_findings::specs::RowLocations::attribute_rows))]
-fn push_attributes(
-    lines: &mut Vec<u8>,
-    text: &[u8],
-    database: &Database,
-    starts: &Starts,
-) -> Result<(), Memory>
-    ensures { OnOk result (lines.new.items ≡ lines.old.items ++ entry_lines text.now (attribute_rows database.now starts.now)) }
-{
-    push_entries(lines, text, &database.definitions, &starts.definitions)?;
-    push_entries(lines, text, &database.defaults, &starts.defaults)?;
-    push_entries(lines, text, &database.attributes, &starts.attributes)
+impl<'a> Model for EntryLines<'a> {
+    ghost use Rattle.json_locations.specs.Locations as locations;
+
+    ghost Value = { locations.EntryLines };
+
+    ghost view = { λ a. record { text = a.text.now; starts = a.starts.now; lines = a.lines.items } };
 }
 
-#[tactic(auto, using(crate::proofs::Pushed::entries_then), unfolding(can_findings::specs::RowLocations::signal_rows))]
-fn push_signal_entries(
-    lines: &mut Vec<u8>,
-    text: &[u8],
-    database: &Database,
-    starts: &Starts,
-) -> Result<(), Memory>
-    ensures { OnOk result (lines.new.items ≡ lines.old.items ++ entry_lines text.now (signal_rows database.now starts.now)) }
-{
-    push_entries(lines, text, &database.values, &starts.values)?;
-    push_entries(lines, text, &database.floats, &starts.floats)?;
-    push_entries(lines, text, &database.muxes, &starts.muxes)
+impl<'a> EntryVisitor<'a> for EntryLines<'a> {
+    ghost use Rattle.json_locations.specs.Locations.{with_entries};
+
+    ghost visited = { with_entries };
+
+    fn visit<E: DatabaseEntry>(&mut self, kind: EntryKind, entries: &'a [E]) -> Result<(), Memory> {
+        push_entries(&mut self.lines, self.text, entries, self.starts.of(kind))
+    }
 }
 
-#[tactic(auto, using(crate::proofs::Pushed::entries_then), unfolding(can_findings::specs::RowLocations::all_rows))]
-fn push_all_entries(
-    lines: &mut Vec<u8>,
-    text: &[u8],
-    database: &Database,
-    starts: &Starts,
-) -> Result<(), Memory>
-    ensures { OnOk result (lines.new.items ≡ lines.old.items ++ entry_lines text.now (all_rows database.now starts.now)) }
+// These lines, and those of all entries.
+#[tactic(auto, using(crate::proofs::Pushed::all_added))]
+fn with_entry_lines<'a>(
+    lines: Vec<u8>,
+    text: &'a [u8],
+    database: &'a Database,
+    starts: &'a Starts,
+) -> Result<Vec<u8>, Memory>
+    ensures { IfOk result (λ all. all.items ≡ lines.items ++ entry_lines text.now (all_rows database.now starts.now)) }
 {
-    push_front(lines, text, database, starts)?;
-    push_attributes(lines, text, database, starts)?;
-    push_signal_entries(lines, text, database, starts)
+    let mut entries = EntryLines {
+        text,
+        starts,
+        lines,
+    };
+    database.visit_entries(&mut entries)?;
+    Ok(entries.lines)
 }
 
 /// The lines of a database whose statements and signals begin there in its text: each message and its sender, followed by its
@@ -134,6 +135,5 @@ pub fn location_lines(
     let heads = starts.messages.as_slice();
     let mut lines = Vec::new(alloc);
     push_messages(&mut lines, text, messages, heads, starts.signals.as_slice())?;
-    push_all_entries(&mut lines, text, database, starts)?;
-    Ok(lines)
+    with_entry_lines(lines, text, database, starts)
 }

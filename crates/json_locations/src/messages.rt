@@ -7,7 +7,7 @@ ghost use Rattle.json_locations.specs.Locations.{message_lines};
 
 use crate::line::push_part;
 use can_diagnostics::Subject;
-use can_findings::{behind_first, first_start, parted};
+use can_findings::{after_first, first_start, parted};
 use dbc_ranges::Part;
 use dbc_reader::Start;
 use dbc_records::{Head, Message, Signal};
@@ -120,7 +120,7 @@ fn push_signals(
             start,
         };
         push_signal(lines, text, at)?;
-        (left, further) = (others, behind_first(further));
+        (left, further) = (others, after_first(further));
     }
     Ok(())
 }
@@ -157,7 +157,7 @@ pub(crate) fn push_messages(
     'messages: while let [message, others @ ..] = left {
         let (own, after) = parted(rest, message.signals.len());
         push_whole_message(lines, text, message, first_start(further), own)?;
-        (left, further, rest) = (others, behind_first(further), after);
+        (left, further, rest) = (others, after_first(further), after);
     }
     Ok(())
 }

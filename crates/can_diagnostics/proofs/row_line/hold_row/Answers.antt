@@ -1,4 +1,4 @@
-use Rattle.can_diagnostics.specs.Keys.{key_layout}
+use Rattle.dbc_records.specs.EntryKeys.{key_layout}
 use Rattle.can_diagnostics.specs.Lines.{row_text}
 use Rattle.can_diagnostics.proofs.row_line.hold_row.Goals as goal
 

@@ -1,7 +1,7 @@
 use Rattle.std.proofs.Common.{ap, ◌∙◌}
 use Rattle.std.specs.Prelude.{Option}
 use Rattle.dbc_reader.specs.declared.start.Start.{Start}
-use Rattle.can_findings.specs.Fronts.{no_start}
+use Rattle.can_findings.specs.Beginnings.{no_start}
 use Rattle.can_findings.specs.RowStarts.{start_of_key}
 use Rattle.can_findings.specs.MessageLocations.{start_or}
 use Rattle.can_findings.proofs.SignalStarts.{start_of_signal}

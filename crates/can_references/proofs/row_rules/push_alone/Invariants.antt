@@ -6,4 +6,4 @@ use Rattle.can_references.proofs.row_rules.push_alone.Given as goal
 -- the rows so far
 abbrev pub invariant-loop-row : goal.invariant-loop-row
 invariant-loop-row g l = l.found.items ≡ l.initial.found.items ++ flat_map (faults_of_row l.known false)
-    (map g.R.Row.key_of (take l.row-index l.rows))
+    (map g.R.DatabaseEntry.key_of (take l.row-index l.rows))

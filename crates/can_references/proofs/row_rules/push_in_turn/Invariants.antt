@@ -6,6 +6,7 @@ use Rattle.can_references.proofs.row_rules.push_in_turn.Given as goal
 -- the rows so far
 abbrev pub invariant-loop-row : goal.invariant-loop-row
 invariant-loop-row g l = record {
-  found : l.found.items ≡ l.initial.found.items ++ each_after (row_fault l.known) [] (map g.R.Row.key_of (take l.row-index l.rows));
-  seen : l.seen ≡ map g.R.Row.key_of (take l.row-index l.rows);
+  found : l.found.items ≡ l.initial.found.items
+      ++ each_after (row_fault l.known) [] (map g.R.DatabaseEntry.key_of (take l.row-index l.rows));
+  seen : l.seen ≡ map g.R.DatabaseEntry.key_of (take l.row-index l.rows);
 }

@@ -1,6 +1,6 @@
-//! The first of some starts.
+//! Where things of a database begin, one after another.
 ghost use Rattle.std.specs.Prelude.{◌≡◌, take, drop};
-ghost use Rattle.can_findings.specs.Fronts.{no_start, first_start, behind_first};
+ghost use Rattle.can_findings.specs.Beginnings.{no_start, first_start, after_first};
 
 use dbc_reader::Start;
 
@@ -22,8 +22,8 @@ pub fn first_start(starts: &[Start]) -> Start
 }
 
 /// Those after it.
-pub fn behind_first(starts: &[Start]) -> &[Start]
-    ensures { result.now ≡ behind_first starts.now }
+pub fn after_first(starts: &[Start]) -> &[Start]
+    ensures { result.now ≡ after_first starts.now }
 {
     match starts {
         [] => &[],

@@ -1,0 +1,54 @@
+//! Keys of entries.
+ghost use Rattle.std.specs.Prelude.{◌≡◌, not, [], ◌∷◌, ◌++◌, IfOk, OnOk, OnErr};
+ghost use Rattle.std.specs.List.{list_any};
+ghost use Rattle.dbc_records.specs.EntryKeys.{same_key};
+ghost use Rattle.dbc_records.specs.EntryKeys.{entry_key};
+
+use crate::keys::Keys;
+use crate::mix::{Mixed, entry_mix};
+use dbc_records::EntryKeyRef;
+use dbc_values::Memory;
+use std::alloc::Global;
+use std::marker::Model;
+
+/// Keys of entries that were added, in order.
+#[derive(Drop)]
+pub struct EntryKeys<'a> {
+    keys: Keys<Mixed<EntryKeyRef<'a>>>,
+}
+
+impl<'a> Model for EntryKeys<'a> {
+    ghost use Rattle.std.specs.Prelude.{◌≡◌, List, All, map};
+    ghost use Rattle.can_keys.specs.Mixes.{entry_mix};
+    ghost use Rattle.dbc_records.specs.declared.entry_key.EntryKey.{EntryKey};
+    ghost use Rattle.dbc_records.specs.EntryKeys.{entry_key};
+
+    ghost Value = { List EntryKey };
+
+    ghost view = { λ keys. map (λ mixed. entry_key mixed.key) keys.keys };
+
+    ghost invariant = { λ keys. All (λ mixed. mixed.mix ≡ entry_mix (entry_key mixed.key)) keys.keys };
+}
+
+impl<'a> EntryKeys<'a> {
+    /// No keys. It takes no memory.
+    pub fn new(alloc: Global) -> EntryKeys<'a>
+        ensures { result ≡ [] }
+    {
+        EntryKeys {
+            keys: Keys::new(alloc),
+        }
+    }
+
+    /// Adds the key, and answers whether it is new.
+    pub fn add(&mut self, key: EntryKeyRef<'a>) -> Result<bool, Memory>
+        ensures added { OnOk result (self.new ≡ self.old ++ entry_key key.entry ∷ []) }
+        ensures is_new { IfOk result (λ is_new. is_new ≡ not (list_any (same_key (entry_key key.entry)) self.old)) }
+        ensures err { OnErr result (self.new ≡ self.old) }
+    {
+        self.keys.add(Mixed {
+            mix: entry_mix(&key),
+            key,
+        })
+    }
+}
