@@ -1,10 +1,10 @@
 //! The keys by which rows are found.
 ghost use Rattle.std.specs.Prelude.{◌≡◌, Bool};
 ghost use Rattle.dbc_records.specs.declared.target.Target.{Target as TargetSpec};
-ghost use Rattle.dbc_records.specs.declared.target.Target.TheVariants as targets;
+ghost use Rattle.dbc_records.specs.EntryKeys.{target_of, key_target};
 
-use dbc_records::{AttrRow, Comment, FloatRow, MuxRow, Signal, TableRow, Target, ValueRow};
-use dbc_values::{Checked, Name, same};
+use dbc_records::{AttrRow, DatabaseEntry, MuxRow, Signal, TableRow, TargetRef};
+use dbc_values::{Checked, same};
 
 /// A test on rows of a kind.
 pub(crate) trait Key<R: Checked>: Drop {
@@ -15,78 +15,20 @@ pub(crate) trait Key<R: Checked>: Drop {
         ensures { result ≡ has self.now row.now };
 }
 
-/// A test on what rows speak of.
+/// A test on what entries are about.
 pub(crate) trait TargetKey: Drop {
     // Whether a target passes.
     ghost takes: { Self → TargetSpec → Bool };
 
-    fn takes(&self, target: &Target) -> bool
-        ensures { result ≡ takes self.now target.now };
-
-    fn takes_signal(&self, number: u32, name: &Name) -> bool
-        ensures { result ≡ takes self.now (targets.Signal number name.now) };
+    fn takes(&self, target: TargetRef<'_>) -> bool
+        ensures { result ≡ takes self.now (target_of target.entry) };
 }
 
-/// A row that speaks of something.
-pub(crate) trait Targeted: Checked {
-    // What it speaks of.
-    ghost target: { Self → TargetSpec };
+impl<E: DatabaseEntry, K: TargetKey> Key<E> for K {
+    ghost has = { λ key entry. K.takes key (key_target (E.key_of entry)) };
 
-    fn is_of<K: TargetKey>(&self, key: &K) -> bool
-        ensures { result ≡ K.takes key.now (target self.now) };
-}
-
-impl<R: Targeted, K: TargetKey> Key<R> for K {
-    ghost has = { λ key row. K.takes key (R.target row) };
-
-    fn has(&self, row: &R) -> bool {
-        row.is_of(self)
-    }
-}
-
-impl Targeted for Comment {
-    ghost target = { λ row. row.target };
-
-    fn is_of<K: TargetKey>(&self, key: &K) -> bool {
-        key.takes(&self.target)
-    }
-}
-
-impl Targeted for AttrRow {
-    ghost target = { λ row. row.target };
-
-    fn is_of<K: TargetKey>(&self, key: &K) -> bool {
-        key.takes(&self.target)
-    }
-}
-
-impl Targeted for ValueRow {
-    ghost use Rattle.dbc_edits.specs.Rows.{values_target};
-
-    ghost target = { values_target };
-
-    fn is_of<K: TargetKey>(&self, key: &K) -> bool {
-        key.takes_signal(self.number, &self.signal)
-    }
-}
-
-impl Targeted for FloatRow {
-    ghost use Rattle.dbc_edits.specs.Rows.{float_target};
-
-    ghost target = { float_target };
-
-    fn is_of<K: TargetKey>(&self, key: &K) -> bool {
-        key.takes_signal(self.number, &self.signal)
-    }
-}
-
-impl Targeted for MuxRow {
-    ghost use Rattle.dbc_edits.specs.Rows.{mux_target};
-
-    ghost target = { mux_target };
-
-    fn is_of<K: TargetKey>(&self, key: &K) -> bool {
-        key.takes_signal(self.number, &self.signal)
+    fn has(&self, entry: &E) -> bool {
+        self.takes(entry.key().target())
     }
 }
 
@@ -101,16 +43,11 @@ impl TargetKey for OfNumber {
 
     ghost takes = { λ key. is_of_number key.number };
 
-    fn takes(&self, target: &Target) -> bool {
+    fn takes(&self, target: TargetRef<'_>) -> bool {
         match target {
-            Target::Message(number) => *number == self.number,
-            Target::Signal(number, _) => *number == self.number,
+            TargetRef::Message(number) | TargetRef::Signal(number, _) => number == self.number,
             _ => false,
         }
-    }
-
-    fn takes_signal(&self, number: u32, _name: &Name) -> bool {
-        number == self.number
     }
 }
 
@@ -126,15 +63,11 @@ impl<'a> TargetKey for OfSignal<'a> {
 
     ghost takes = { λ key. is_of_signal key.number key.name.now };
 
-    fn takes(&self, target: &Target) -> bool {
+    fn takes(&self, target: TargetRef<'_>) -> bool {
         match target {
-            Target::Signal(number, name) => self.takes_signal(*number, name),
+            TargetRef::Signal(number, name) => number == self.number && same(name, self.name),
             _ => false,
         }
-    }
-
-    fn takes_signal(&self, number: u32, name: &Name) -> bool {
-        number == self.number && same(name.as_bytes(), self.name)
     }
 }
 
