@@ -3,10 +3,12 @@ use Rattle.std.specs.Prelude.{◌≡◌, ℕ, Bool, List, Result, if◌then◌el
 use Rattle.byte_devices.specs.Device.{Unread, Written}
 use Rattle.can_decode.specs.declared.short.Short.{Short}
 use Rattle.can_decode.specs.declared.short.Short.TheVariants.{Refuse, Show}
-use Rattle.can_session.specs.declared.options.Options.{Options}
-use Rattle.candesk_words.specs.declared.job.Form.{Form}
-use Rattle.candesk_words.specs.declared.job.Form.TheVariants as forms
-use Rattle.candesk_words.specs.declared.job.Job.{Job}
+use Rattle.candesk_words.specs.declared.job.ReportForm.{ReportForm}
+use Rattle.candesk_words.specs.declared.job.ReportForm.TheVariants as report_forms
+use Rattle.candesk_words.specs.declared.job.LogForm.{LogForm}
+use Rattle.candesk_words.specs.declared.job.LogForm.TheVariants as log_forms
+use Rattle.candesk_words.specs.declared.job.DumpForm.{DumpForm}
+use Rattle.candesk_words.specs.declared.job.DumpForm.TheVariants as dump_forms
 use Rattle.candesk_words.specs.declared.job.Command.{Command}
 use Rattle.candesk_words.specs.declared.job.Command.TheVariants as commands
 use Rattle.candesk_runs.specs.Checking.{ChecksAll, verdict_status}
@@ -25,50 +27,37 @@ use Rattle.candesk_calls.specs.Scripting.{SessionRuns}
 abbrev pub short_of : Bool → Short
 short_of flag = if flag then Show else Refuse
 
--- what the options of the command line choose
-abbrev pub options_of : Job → Options
-options_of job = record { short = short_of job.short; keep = job.keep }
+-- a log was decoded, and written in this form
+abbrev pub Decoded : LogForm → List ℕ → Short → Unread → Unread → Written → Written → Result ℕ RunFault → Type 0
+Decoded log_forms.Lines text short before after old new outcome = Runs text short before after old new outcome
+Decoded log_forms.Objects text short before after old new outcome = RunsToJson text short before after old new outcome
+Decoded log_forms.Rows text short before after old new outcome = RunsToCsv text short before after old new outcome
 
--- a log was decoded, and this form of its lines was written; no words ask for locations of it
-abbrev pub Decoded : Form → List ℕ → Short → Unread → Unread → Written → Written → Result ℕ RunFault → Type 0
-Decoded forms.Text text short before after old new outcome = Runs text short before after old new outcome
-Decoded forms.Json text short before after old new outcome = RunsToJson text short before after old new outcome
-Decoded forms.Csv text short before after old new outcome = RunsToCsv text short before after old new outcome
-Decoded forms.Locations text short before after old new outcome = Runs text short before after old new outcome
+-- the messages of a database were written in this form
+abbrev pub Dumped : DumpForm → List ℕ → Written → Written → Result (Unit {0}) RunFault → Type 0
+Dumped dump_forms.Diagrams text old new outcome = DumpsPictures text old new outcome
+Dumped dump_forms.Objects text old new outcome = DumpsObjects text old new outcome
+Dumped dump_forms.Locations text old new outcome = WritesLocations text old new outcome
 
--- a database was written in this form; no words ask for its rows, so there its messages are drawn
-abbrev pub Dumped : Form → List ℕ → Written → Written → Result (Unit {0}) RunFault → Type 0
-Dumped forms.Text text old new outcome = DumpsPictures text old new outcome
-Dumped forms.Json text old new outcome = DumpsObjects text old new outcome
-Dumped forms.Csv text old new outcome = DumpsPictures text old new outcome
-Dumped forms.Locations text old new outcome = WritesLocations text old new outcome
+-- a database was checked, and its diagnostics were written in this form
+abbrev pub Checked : ReportForm → List ℕ → Written → Written → Result Verdict RunFault → Type 0
+Checked report_forms.Lines text old new outcome = ChecksAll text old new outcome
+Checked report_forms.Objects text old new outcome = WritesObjects text old new outcome
 
--- a database was checked, and its diagnostics were written in this form; no words ask for rows or locations of
--- them
-abbrev pub Checked : Form → List ℕ → Written → Written → Result Verdict RunFault → Type 0
-Checked forms.Text text old new outcome = ChecksAll text old new outcome
-Checked forms.Json text old new outcome = WritesObjects text old new outcome
-Checked forms.Csv text old new outcome = ChecksAll text old new outcome
-Checked forms.Locations text old new outcome = ChecksAll text old new outcome
+-- a database was explained in this form
+abbrev pub Explained : ReportForm → List ℕ → Written → Written → Result Verdict RunFault → Type 0
+Explained report_forms.Lines text old new outcome = ExplainsText text old new outcome
+Explained report_forms.Objects text old new outcome = WritesObjects text old new outcome
 
--- a database was explained in this form; no words ask for rows or locations of it
-abbrev pub Explained : Form → List ℕ → Written → Written → Result Verdict RunFault → Type 0
-Explained forms.Text text old new outcome = ExplainsText text old new outcome
-Explained forms.Json text old new outcome = WritesObjects text old new outcome
-Explained forms.Csv text old new outcome = ExplainsText text old new outcome
-Explained forms.Locations text old new outcome = ExplainsText text old new outcome
-
--- the command ended so, and wrote this form; all but `decode` and `session` read nothing from the source
-abbrev pub EndsWith : Command → Form → Options → List ℕ → Unread → Unread → Written → Written → ℕ → Type 0
-EndsWith commands.Check form options text before after old new status =
+-- the command ended so; all but `decode` and `session` read nothing from the source
+abbrev pub EndsWith : Command → List ℕ → Unread → Unread → Written → Written → ℕ → Type 0
+EndsWith (commands.Check form) text before after old new status =
     (after ≡ before) × Ends verdict_status (Checked form text old new) status
-EndsWith commands.Decode form options text before after old new status =
-    Ends well (Decoded form text options.short before after old new) status
-EndsWith commands.Dump form options text before after old new status = (after ≡ before)
-    × Ends well (Dumped form text old new) status
-EndsWith commands.Explain form options text before after old new status =
+EndsWith (commands.Decode short form) text before after old new status =
+    Ends well (Decoded form text (short_of short) before after old new) status
+EndsWith (commands.Dump form) text before after old new status = (after ≡ before) × Ends well (Dumped form text old new) status
+EndsWith (commands.Explain form) text before after old new status =
     (after ≡ before) × Ends verdict_status (Explained form text old new) status
-EndsWith commands.Print form options text before after old new status = (after ≡ before)
-    × Ends well (PrintsText text old new) status
-EndsWith commands.Session form options text before after old new status =
-    Ends well (SessionRuns text options before after old new) status
+EndsWith commands.Print text before after old new status = (after ≡ before) × Ends well (PrintsText text old new) status
+EndsWith (commands.Session short keep) text before after old new status =
+    Ends well (SessionRuns text (record { short = short_of short; keep = keep }) before after old new) status

@@ -12,7 +12,7 @@ pub use candesk_runs::{
     RunFault, Short, StreamFault, Verdict, check_run, decode_csv_run, decode_json_run, decode_run,
     dump_run, explain_run, print_run, status,
 };
-pub use candesk_words::{Command, Form, Job, NoJob, job_of};
+pub use candesk_words::{Command, DumpForm, Job, LogForm, NoJob, ReportForm, job_of};
 pub use refusing::{refuse, refuse_file};
 pub use running::{run, run_keyed};
 pub use session_script::{Keep, LineCount, Options, Session, serve};

@@ -1,14 +1,14 @@
 //! A job on a file's bytes, the standard streams and an exit status.
 ghost use Rattle.std.specs.Prelude.{◌≡◌};
 ghost use Rattle.candesk_calls.specs.Scripting.{outcome_of, SessionRuns};
-ghost use Rattle.candesk_calls.specs.Run.{Checked, Decoded, Dumped, Explained, EndsWith, options_of};
+ghost use Rattle.candesk_calls.specs.Run.{Checked, Decoded, Dumped, Explained, EndsWith, short_of};
 
 use can_decode::Short;
 use candesk_runs::{
     RunFault, Verdict, check_run, decode_csv_run, decode_json_run, decode_run, dump_json_run,
     dump_run, ended, ended_with_verdict, explain_json_run, explain_run, locations_run, print_run,
 };
-use candesk_words::{Command, Form, Job};
+use candesk_words::{Command, DumpForm, Job, LogForm, ReportForm};
 use dbc_model::{Sink, Source};
 use session_script::{KeyedOptions, Options, SessionFault, keyed_run};
 use std::alloc::Global;
@@ -25,78 +25,70 @@ fn outcome_of(ended: Result<u64, SessionFault>) -> Result<u64, RunFault>
     }
 }
 
-// What the options of the command line choose.
-fn options_of(job: &Job) -> Options
-    ensures { result ≡ options_of job.now }
+// What the flag of the command line chooses for truncated frames.
+fn short_of(flag: bool) -> Short
+    ensures { result ≡ short_of flag }
 {
-    let short = if job.short {
-        Short::Show
-    } else {
-        Short::Refuse
-    };
-    Options {
-        short,
-        keep: job.keep,
-    }
+    if flag { Short::Show } else { Short::Refuse }
 }
 
-// Decodes a log, in the form that the command line chooses.
+// Decodes a log, and writes it in this form.
 fn decoded<R: Source, W: Sink>(
     alloc: Global,
-    job: &Job,
+    form: LogForm,
     text: &[u8],
+    short: Short,
     source: &mut R,
     sink: &mut W,
 ) -> Result<u64, RunFault>
-    ensures { Decoded job.now.form text.now (options_of job.now).short (R.unread source.old) (R.unread source.new)
-        (W.written sink.old) (W.written sink.new) result }
+    ensures { Decoded form text.now short (R.unread source.old) (R.unread source.new) (W.written sink.old) (W.written sink.new)
+        result }
 {
-    let short = options_of(job).short;
-    match job.form {
-        Form::Json => decode_json_run(alloc, text, short, source, sink),
-        Form::Csv => decode_csv_run(alloc, text, short, source, sink),
-        Form::Text | Form::Locations => decode_run(alloc, text, short, source, sink),
+    match form {
+        LogForm::Lines => decode_run(alloc, text, short, source, sink),
+        LogForm::Objects => decode_json_run(alloc, text, short, source, sink),
+        LogForm::Rows => decode_csv_run(alloc, text, short, source, sink),
     }
 }
 
-// Draws the messages of a database, or writes objects of JSON: of its messages, or of its locations.
-fn dumped<W: Sink>(alloc: Global, job: &Job, text: &[u8], sink: &mut W) -> Result<(), RunFault>
-    ensures { Dumped job.now.form text.now (W.written sink.old) (W.written sink.new) result }
+// Writes the messages of a database in this form.
+fn dumped<W: Sink>(alloc: Global, form: DumpForm, text: &[u8], sink: &mut W) -> Result<(), RunFault>
+    ensures { Dumped form text.now (W.written sink.old) (W.written sink.new) result }
 {
-    match job.form {
-        Form::Json => dump_json_run(alloc, text, sink),
-        Form::Locations => locations_run(alloc, text, sink),
-        Form::Text | Form::Csv => dump_run(alloc, text, sink),
+    match form {
+        DumpForm::Diagrams => dump_run(alloc, text, sink),
+        DumpForm::Objects => dump_json_run(alloc, text, sink),
+        DumpForm::Locations => locations_run(alloc, text, sink),
     }
 }
 
-// Checks a database, in the form that the command line chooses.
+// Checks a database, and writes its diagnostics in this form.
 fn checked<W: Sink>(
     alloc: Global,
-    job: &Job,
+    form: ReportForm,
     text: &[u8],
     sink: &mut W,
 ) -> Result<Verdict, RunFault>
-    ensures { Checked job.now.form text.now (W.written sink.old) (W.written sink.new) result }
+    ensures { Checked form text.now (W.written sink.old) (W.written sink.new) result }
 {
-    match job.form {
-        Form::Json => explain_json_run(alloc, text, sink),
-        Form::Text | Form::Csv | Form::Locations => check_run(alloc, text, sink),
+    match form {
+        ReportForm::Lines => check_run(alloc, text, sink),
+        ReportForm::Objects => explain_json_run(alloc, text, sink),
     }
 }
 
-// Explains a database, in the form that the command line chooses.
+// Explains a database in this form.
 fn explained<W: Sink>(
     alloc: Global,
-    job: &Job,
+    form: ReportForm,
     text: &[u8],
     sink: &mut W,
 ) -> Result<Verdict, RunFault>
-    ensures { Explained job.now.form text.now (W.written sink.old) (W.written sink.new) result }
+    ensures { Explained form text.now (W.written sink.old) (W.written sink.new) result }
 {
-    match job.form {
-        Form::Json => explain_json_run(alloc, text, sink),
-        Form::Text | Form::Csv | Form::Locations => explain_run(alloc, text, sink),
+    match form {
+        ReportForm::Lines => explain_run(alloc, text, sink),
+        ReportForm::Objects => explain_json_run(alloc, text, sink),
     }
 }
 
@@ -124,7 +116,7 @@ pub fn run<R: Source, W: Sink, E: Sink>(
     sink: &mut W,
     errors: &mut E,
 ) -> u8
-    ensures { EndsWith job.now.command job.now.form (options_of job.now) text.now (R.unread source.old) (R.unread source.new)
+    ensures { EndsWith job.now.command text.now (R.unread source.old) (R.unread source.new)
         (W.written sink.old) (W.written sink.new) result }
 {
     run_keyed(alloc, job, text, None, source, sink, errors)
@@ -141,17 +133,21 @@ pub fn run_keyed<R: Source, W: Sink, E: Sink>(
     sink: &mut W,
     errors: &mut E,
 ) -> u8
-    ensures { EndsWith job.now.command job.now.form (options_of job.now) text.now (R.unread source.old) (R.unread source.new)
+    ensures { EndsWith job.now.command text.now (R.unread source.old) (R.unread source.new)
         (W.written sink.old) (W.written sink.new) result }
 {
     match job.command {
-        Command::Check => ended_with_verdict(checked(alloc, job, text, sink), errors),
-        Command::Decode => ended(decoded(alloc, job, text, source, sink), errors),
-        Command::Dump => ended(dumped(alloc, job, text, sink), errors),
-        Command::Explain => ended_with_verdict(explained(alloc, job, text, sink), errors),
+        Command::Check(form) => ended_with_verdict(checked(alloc, form, text, sink), errors),
+        Command::Decode { short, form } => {
+            let short = short_of(short);
+            ended(decoded(alloc, form, text, short, source, sink), errors)
+        }
+        Command::Dump(form) => ended(dumped(alloc, form, text, sink), errors),
+        Command::Explain(form) => ended_with_verdict(explained(alloc, form, text, sink), errors),
         Command::Print => ended(print_run(alloc, text, sink), errors),
-        Command::Session => {
-            let options = options_of(job);
+        Command::Session { short, keep } => {
+            let short = short_of(short);
+            let options = Options { short, keep };
             let keyed = KeyedOptions { options, keys };
             ended(scripted(alloc, text, keyed, source, sink), errors)
         }

@@ -3,7 +3,7 @@
 
 use byte_devices::limp::Limp;
 use candesk_calls::{
-    Command, Form, Job, Keep, NoJob, Verdict, check_run, refuse, refuse_file, run, status,
+    Command, Job, LogForm, NoJob, ReportForm, Verdict, check_run, refuse, refuse_file, run, status,
 };
 use std::alloc::{AllocError, Global};
 use std::test::Fail;
@@ -40,9 +40,6 @@ fn ends_so(
     let job = Job {
         command,
         file: String::new(alloc),
-        short: false,
-        keep: Keep::All,
-        form: Form::Text,
     };
     let mut from = source(alloc, limits.0)?;
     let mut to = sink(alloc, limits.1);
@@ -53,19 +50,24 @@ fn ends_so(
 
 #[test]
 fn runs(rt: HostRuntime) -> Result<(), AllocError> {
+    let check = Command::Check(ReportForm::Lines);
+    let decode = Command::Decode {
+        short: false,
+        form: LogForm::Lines,
+    };
     let table: [(Command, (usize, usize), u8, &[u8], &[u8]); 6] = [
-        (Command::Check, (0, ALL), status::DONE, b"", b""),
-        (Command::Decode, (ALL, ALL), status::DONE, DECODED, b""),
+        (check, (0, ALL), status::DONE, b"", b""),
+        (decode, (ALL, ALL), status::DONE, DECODED, b""),
         // of the lines of which the LF was read
         (
-            Command::Decode,
+            decode,
             (22, ALL),
             status::DEVICE,
             &DECODED[..45],
             b"candesk: 41 Read\n",
         ),
         (
-            Command::Decode,
+            decode,
             (ALL, 7),
             status::DEVICE,
             &DECODED[..7],

@@ -26,11 +26,10 @@ use Rattle.clap.proofs.WalkLemmas.{both, first_value-rows, one_text-rows}
 use Rattle.clap.proofs.OnLiterals.{clap_on_literals}
 use Rattle.candesk_words.proofs.OnLiterals.{words_on_literals}
 use Rattle.candesk_words.specs.declared.job.Command.{Command}
-use Rattle.candesk_words.specs.declared.job.Form.{Form}
 use Rattle.candesk_words.specs.declared.job.Job.{Job}
 use Rattle.candesk_words.specs.declared.job.NoJob.{NoJob}
 use Rattle.candesk_words.specs.declared.job.NoJob.TheVariants as reasons
-use Rattle.candesk_words.specs.Words.{command_line, command_named, has_flag, form_found, count_in, keep_found, job_found}
+use Rattle.candesk_words.specs.Words.{command_line, command_found, has_flag, count_in, keep_found, job_found}
 use Rattle.candesk_words.specs.Words.{job_as_found}
 use Rattle.candesk_words.specs.Words.{SaysOf, IsJobOf}
 
@@ -47,13 +46,13 @@ rows-named m name rows e h = pair-of (out-ArgMatches m).subcommand _ _ name rows
 
 module _ (m found : ArgMatches) (name : Text) (e : Some name ≡ subcommand_name_of m) (h : Some (rows_of (found_of found))
     ≡ option_map (λ (p : Text × List Row). p.1) (subcommand_rows_of m)) where
-  -- of another name
-  pub no-command : command_named name ≡ None → job_found (subcommand_rows_of m) ≡ None
+  -- of another name, or with two forms or no number of lines
+  pub no-command : command_found name (rows_of (found_of found)) ≡ None → job_found (subcommand_rows_of m) ≡ None
   no-command other = rw (rows-named m name (rows_of (found_of found)) e h, other) refl
 
   -- without a FILE
-  pub no-file : (command : Command) → command_named name ≡ Some command → first_value (found_of found) (codes "FILE") ≡ None
-      → job_found (subcommand_rows_of m) ≡ None
+  pub no-file : (command : Command) → command_found name (rows_of (found_of found)) ≡ Some command
+      → first_value (found_of found) (codes "FILE") ≡ None → job_found (subcommand_rows_of m) ≡ None
   no-file command is none = rw (
     rows-named m name (rows_of (found_of found)) e h,
     is,
@@ -61,44 +60,14 @@ module _ (m found : ArgMatches) (name : Text) (e : Some name ≡ subcommand_name
     none,
   ) refl
 
-  -- with a value of `--keep` that is no number of lines
-  pub no-keep : (command : Command) (file : Text) → command_named name ≡ Some command → first_value (found_of found) (codes "FILE")
-      ≡ Some file
-      → keep_found (rows_of (found_of found)) ≡ None → job_found (subcommand_rows_of m) ≡ None
-  no-keep command file is some none = rw (
-    rows-named m name (rows_of (found_of found)) e h,
-    is,
-    sym (first_value-rows (found_of found) (codes "FILE")),
-    some,
-    none,
-  ) refl
-
-  -- with several forms
-  pub no-form : (command : Command) (file : Text) (keep : Keep) → command_named name ≡ Some command
-      → first_value (found_of found) (codes "FILE") ≡ Some file → keep_found (rows_of (found_of found)) ≡ Some keep
-      → form_found (rows_of (found_of found)) ≡ None → job_found (subcommand_rows_of m) ≡ None
-  no-form command file keep is some kept none = rw (
-    rows-named m name (rows_of (found_of found)) e h,
-    is,
-    sym (first_value-rows (found_of found) (codes "FILE")),
-    some,
-    kept,
-    none,
-  ) refl
-
-  pub job-found : (command : Command) (file : Text) (short : Bool) (keep : Keep) (form : Form) → command_named name ≡ Some command
+  pub job-found : (command : Command) (file : Text) → command_found name (rows_of (found_of found)) ≡ Some command
       → first_value (found_of found) (codes "FILE") ≡ Some file
-      → short ≡ has_flag (codes "short") (rows_of (found_of found)) → keep_found (rows_of (found_of found)) ≡ Some keep
-      → form_found (rows_of (found_of found)) ≡ Some form
-      → job_found (subcommand_rows_of m) ≡ Some (command, file, short, keep, form)
-  job-found command file short keep form is some flag kept written = rw (
-    flag,
+      → job_found (subcommand_rows_of m) ≡ Some (command, file)
+  job-found command file is some = rw (
     rows-named m name (rows_of (found_of found)) e h,
     is,
     sym (first_value-rows (found_of found) (codes "FILE")),
     some,
-    kept,
-    written,
   ) refl
 
 -- ---- a flag

@@ -6,15 +6,17 @@ use Rattle.clap.specs.declared.error.kind.ErrorKind.TheVariants.{UnknownArgument
 use Rattle.clap.proofs.OnLiterals.{clap_on_literals}
 use Rattle.candesk_words.proofs.OnLiterals.{words_on_literals}
 use Rattle.candesk_words.specs.declared.job.Command.TheVariants.{Check, Decode, Dump, Explain, Print, Session}
-use Rattle.candesk_words.specs.declared.job.Form.TheVariants.{Text, Json, Csv, Locations}
+use Rattle.candesk_words.specs.declared.job.ReportForm.TheVariants as report
+use Rattle.candesk_words.specs.declared.job.LogForm.TheVariants as log
+use Rattle.candesk_words.specs.declared.job.DumpForm.TheVariants as dump
 use Rattle.kept_lines.specs.declared.keep.Keep.TheVariants.{All, Last}
 use Rattle.candesk_words.specs.Words.{command_line, job_named}
 
-check-job : job_named (codes "check" ∷ codes "a" ∷ []) ≡ Some (Check, codes "a", false, All, Text)
+check-job : job_named (codes "check" ∷ codes "a" ∷ []) ≡ Some (Check report.Lines, codes "a")
 unfolding clap_on_literals words_on_literals
 check-job = refl
 
-decode-job : job_named (codes "decode" ∷ codes "a" ∷ []) ≡ Some (Decode, codes "a", false, All, Text)
+decode-job : job_named (codes "decode" ∷ codes "a" ∷ []) ≡ Some (Decode false log.Lines, codes "a")
 unfolding clap_on_literals words_on_literals
 decode-job = refl
 
@@ -22,15 +24,15 @@ decode-has_no_fault : fault_of command_line (codes "decode" ∷ codes "a" ∷ []
 unfolding clap_on_literals words_on_literals
 decode-has_no_fault = refl
 
-print-job : job_named (codes "print" ∷ codes "--" ∷ codes "--a" ∷ []) ≡ Some (Print, codes "--a", false, All, Text)
+print-job : job_named (codes "print" ∷ codes "--" ∷ codes "--a" ∷ []) ≡ Some (Print, codes "--a")
 unfolding clap_on_literals words_on_literals
 print-job = refl
 
-dump-job : job_named (codes "dump" ∷ codes "a" ∷ []) ≡ Some (Dump, codes "a", false, All, Text)
+dump-job : job_named (codes "dump" ∷ codes "a" ∷ []) ≡ Some (Dump dump.Diagrams, codes "a")
 unfolding clap_on_literals words_on_literals
 dump-job = refl
 
-dump-json : job_named (codes "dump" ∷ codes "--json" ∷ codes "a" ∷ []) ≡ Some (Dump, codes "a", false, All, Json)
+dump-json : job_named (codes "dump" ∷ codes "--json" ∷ codes "a" ∷ []) ≡ Some (Dump dump.Objects, codes "a")
 unfolding clap_on_literals words_on_literals
 dump-json = refl
 
@@ -38,7 +40,7 @@ dump-json-has_no_fault : fault_of command_line (codes "dump" ∷ codes "--json" 
 unfolding clap_on_literals words_on_literals
 dump-json-has_no_fault = refl
 
-dump-locations : job_named (codes "dump" ∷ codes "a" ∷ codes "--at" ∷ []) ≡ Some (Dump, codes "a", false, All, Locations)
+dump-locations : job_named (codes "dump" ∷ codes "a" ∷ codes "--at" ∷ []) ≡ Some (Dump dump.Locations, codes "a")
 unfolding clap_on_literals words_on_literals
 dump-locations = refl
 
@@ -50,7 +52,7 @@ dump-takes_no_csv : fault_of command_line (codes "dump" ∷ codes "--csv" ∷ co
 unfolding clap_on_literals words_on_literals
 dump-takes_no_csv = refl
 
-explain-job : job_named (codes "explain" ∷ codes "a" ∷ []) ≡ Some (Explain, codes "a", false, All, Text)
+explain-job : job_named (codes "explain" ∷ codes "a" ∷ []) ≡ Some (Explain report.Lines, codes "a")
 unfolding clap_on_literals words_on_literals
 explain-job = refl
 
@@ -66,7 +68,7 @@ no-file : fault_of command_line (codes "print" ∷ []) ≡ MissingRequiredArgume
 unfolding clap_on_literals words_on_literals
 no-file = refl
 
-decode-short : job_named (codes "decode" ∷ codes "--short" ∷ codes "a" ∷ []) ≡ Some (Decode, codes "a", true, All, Text)
+decode-short : job_named (codes "decode" ∷ codes "--short" ∷ codes "a" ∷ []) ≡ Some (Decode true log.Lines, codes "a")
 unfolding clap_on_literals words_on_literals
 decode-short = refl
 
@@ -75,11 +77,11 @@ unfolding clap_on_literals words_on_literals
 decode-short-has_no_fault = refl
 
 decode-json : job_named (codes "decode" ∷ codes "a" ∷ codes "--json" ∷ codes "--short" ∷ [])
-    ≡ Some (Decode, codes "a", true, All, Json)
+    ≡ Some (Decode true log.Objects, codes "a")
 unfolding clap_on_literals words_on_literals
 decode-json = refl
 
-decode-csv : job_named (codes "decode" ∷ codes "--csv" ∷ codes "a" ∷ []) ≡ Some (Decode, codes "a", false, All, Csv)
+decode-csv : job_named (codes "decode" ∷ codes "--csv" ∷ codes "a" ∷ []) ≡ Some (Decode false log.Rows, codes "a")
 unfolding clap_on_literals words_on_literals
 decode-csv = refl
 
@@ -91,11 +93,11 @@ session-takes_no_json : fault_of command_line (codes "session" ∷ codes "--json
 unfolding clap_on_literals words_on_literals
 session-takes_no_json = refl
 
-session-job : job_named (codes "session" ∷ codes "a" ∷ []) ≡ Some (Session, codes "a", false, All, Text)
+session-job : job_named (codes "session" ∷ codes "a" ∷ []) ≡ Some (Session false All, codes "a")
 unfolding clap_on_literals words_on_literals
 session-job = refl
 
-session-short : job_named (codes "session" ∷ codes "a" ∷ codes "--short" ∷ []) ≡ Some (Session, codes "a", true, All, Text)
+session-short : job_named (codes "session" ∷ codes "a" ∷ codes "--short" ∷ []) ≡ Some (Session true All, codes "a")
 unfolding clap_on_literals words_on_literals
 session-short = refl
 
@@ -115,7 +117,7 @@ print-takes_no_short : fault_of command_line (codes "print" ∷ codes "--short" 
 unfolding clap_on_literals words_on_literals
 print-takes_no_short = refl
 
-short-file : job_named (codes "decode" ∷ codes "--" ∷ codes "--short" ∷ []) ≡ Some (Decode, codes "--short", false, All, Text)
+short-file : job_named (codes "decode" ∷ codes "--" ∷ codes "--short" ∷ []) ≡ Some (Decode false log.Lines, codes "--short")
 unfolding clap_on_literals words_on_literals
 short-file = refl
 
@@ -124,7 +126,7 @@ unfolding clap_on_literals words_on_literals
 short-twice = refl
 
 session-keep : job_named (codes "session" ∷ codes "--keep" ∷ codes "2" ∷ codes "a" ∷ [])
-    ≡ Some (Session, codes "a", false, Last 2, Text)
+    ≡ Some (Session false (Last 2), codes "a")
 unfolding clap_on_literals words_on_literals
 session-keep = refl
 

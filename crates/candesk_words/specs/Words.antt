@@ -17,8 +17,12 @@ use Rattle.clap.specs.declared.error.kind.ErrorKind.{ErrorKind}
 use Rattle.clap.specs.declared.error.kind.ErrorKind.TheVariants as kinds
 use Rattle.candesk_words.specs.declared.job.Command.{Command}
 use Rattle.candesk_words.specs.declared.job.Command.TheVariants as commands
-use Rattle.candesk_words.specs.declared.job.Form.{Form}
-use Rattle.candesk_words.specs.declared.job.Form.TheVariants as forms
+use Rattle.candesk_words.specs.declared.job.ReportForm.{ReportForm}
+use Rattle.candesk_words.specs.declared.job.ReportForm.TheVariants as report_forms
+use Rattle.candesk_words.specs.declared.job.LogForm.{LogForm}
+use Rattle.candesk_words.specs.declared.job.LogForm.TheVariants as log_forms
+use Rattle.candesk_words.specs.declared.job.DumpForm.{DumpForm}
+use Rattle.candesk_words.specs.declared.job.DumpForm.TheVariants as dump_forms
 use Rattle.candesk_words.specs.declared.job.Job.{Job}
 use Rattle.candesk_words.specs.declared.job.NoJob.{NoJob}
 use Rattle.candesk_words.specs.declared.job.NoJob.TheVariants as reasons
@@ -98,15 +102,6 @@ command_line =
 
 -- ---- jobs
 
-unfoldable pub command_named : Text → Option Command
-command_named name =
-    if bytes_eq name (codes "check") then Some commands.Check
-    else (if bytes_eq name (codes "decode") then Some commands.Decode
-    else (if bytes_eq name (codes "dump") then Some commands.Dump
-    else (if bytes_eq name (codes "explain") then Some commands.Explain
-    else (if bytes_eq name (codes "print") then Some commands.Print
-    else (if bytes_eq name (codes "session") then Some commands.Session else None)))))
-
 -- whether the flag of this name is there, for which clap finds `true` then and `false` else
 abbrev pub has_flag : Text → List Row → Bool
 has_flag name rows = option_map_or (λ text. bytes_eq text (codes "true")) (one_of name rows) false
@@ -119,36 +114,51 @@ count_in text = if is_unsigned_in 1 most_lines text then Some (digits_value 10 (
 abbrev pub keep_found : List Row → Option Keep
 keep_found rows = option_map_or (λ text. option_map (λ count. Last count) (count_in text)) (one_of (codes "keep") rows) (Some All)
 
--- text, or what one flag asks for; none if there are several
-abbrev pub form_by : Bool → Bool → Bool → Option Form
-form_by false false false = Some forms.Text
-form_by true false false = Some forms.Json
-form_by false true false = Some forms.Csv
-form_by false false true = Some forms.Locations
-form_by json csv locations = None
+-- how diagnostics are written, by whether `--json` is there
+abbrev pub report_form : Bool → ReportForm
+report_form false = report_forms.Lines
+report_form true = report_forms.Objects
 
--- what `--json`, `--csv` or `--at` asks for
-abbrev pub form_found : List Row → Option Form
-form_found rows =
-    form_by (has_flag (codes "json") rows) (has_flag (codes "csv") rows) (has_flag (codes "at") rows)
+-- how a log is written, by whether `--json` and `--csv` are there; none if both are
+abbrev pub log_form : Bool → Bool → Option LogForm
+log_form false false = Some log_forms.Lines
+log_form true false = Some log_forms.Objects
+log_form false true = Some log_forms.Rows
+log_form true true = None
 
--- what a job says: the command, its FILE, whether `--short` is there, which lines are kept, and what is written
+-- how messages are written, by whether `--json` and `--at` are there; none if both are
+abbrev pub dump_form : Bool → Bool → Option DumpForm
+dump_form false false = Some dump_forms.Diagrams
+dump_form true false = Some dump_forms.Objects
+dump_form false true = Some dump_forms.Locations
+dump_form true true = None
+
+-- the command of this name, and what its options ask for
+unfoldable pub command_found : Text → List Row → Option Command
+command_found name rows =
+    let json = has_flag (codes "json") rows in
+    let short = has_flag (codes "short") rows in
+    if bytes_eq name (codes "check") then Some (commands.Check (report_form json))
+    else (if bytes_eq name (codes "decode") then option_map (λ form. commands.Decode short form)
+    (log_form json (has_flag (codes "csv") rows))
+    else (if bytes_eq name (codes "dump") then option_map (λ form. commands.Dump form) (dump_form json (has_flag (codes "at") rows))
+    else (if bytes_eq name (codes "explain") then Some (commands.Explain (report_form json))
+    else (if bytes_eq name (codes "print") then Some commands.Print
+    else (if bytes_eq name (codes "session") then option_map (λ keep. commands.Session short keep) (keep_found rows) else None)))))
+
+-- what a job says: the command, and its FILE
 abbrev pub Said : Type 0
-Said = Command × Text × Bool × Keep × Form
+Said = Command × Text
 
 -- that of the words, from what clap finds in them
 abbrev pub job_found : Option (Text × List Row) → Option Said
 job_found None = None
 job_found (Some found) = option_and_then
-    (λ command. option_and_then
-    (λ file. option_and_then
-    (λ keep. option_map (λ form. (command, file, has_flag (codes "short") found.1, keep, form)) (form_found found.1))
-    (keep_found found.1))
-    (first_of (codes "FILE") found.1))
-    (command_named found.0)
+    (λ command. option_map (λ file. (command, file)) (first_of (codes "FILE") found.1))
+    (command_found found.0 found.1)
 
 abbrev pub job_as_found : Job → Said
-job_as_found job = (job.command, job.file.bytes.items, job.short, job.keep, job.form)
+job_as_found job = (job.command, job.file.bytes.items)
 
 -- the job that the words name
 abbrev pub job_named : List Text → Option Said

@@ -1,8 +1,8 @@
 //! The job that the words name.
-ghost use Rattle.std.specs.Prelude.{◌≡◌, map, Some, None, IfOk, IfErr, ◌⊎◌};
+ghost use Rattle.std.specs.Prelude.{◌≡◌, map, Some, None, IfOk, IfErr, ◌⊎◌, codes};
 ghost use Rattle.clap.specs.Words.{kind_of, found_of, rows_of, subcommand_rows_of};
-ghost use Rattle.candesk_words.specs.Words.{command_named, has_flag, form_found, keep_found, job_found, job_as_found, SaysOf};
-ghost use Rattle.candesk_words.specs.Words.{IsJobOf};
+ghost use Rattle.candesk_words.specs.Words.{has_flag, keep_found, report_form, log_form, dump_form, command_found, job_found};
+ghost use Rattle.candesk_words.specs.Words.{job_as_found, SaysOf, IsJobOf};
 
 use crate::line::command_line;
 use clap::ArgMatches;
@@ -10,50 +10,71 @@ use clap::error::ErrorKind;
 use kept_lines::{Keep, LineCount};
 use std::alloc::{AllocError, Global};
 
-/// What the program can do with a database.
+/// How diagnostics are written.
 #[derive(Clone, Copy, Debug, PartialEq, Eq)]
-pub enum Command {
-    /// Reports problems in the database.
-    Check,
-    /// Decodes the log on standard input.
-    Decode,
-    /// Draws the layout of each message.
-    Dump,
-    /// Explains why the database text is rejected, or the diagnostics of the database.
-    Explain,
-    /// Prints the canonical text of the database.
-    Print,
-    /// Keeps a session open for the script on standard input.
-    Session,
+pub enum ReportForm {
+    /// As lines to be read by people.
+    Lines,
+    /// As objects of JSON.
+    Objects,
 }
 
-/// What is written of a log or a database.
+/// How a decoded log is written.
 #[derive(Clone, Copy, Debug, PartialEq, Eq)]
-pub enum Form {
-    /// Text to be read by people.
-    Text,
-    /// Objects of JSON.
-    Json,
-    /// Rows of CSV.
-    Csv,
-    /// Objects of JSON with the bytes of each message, signal and entry.
+pub enum LogForm {
+    /// As lines to be read by people.
+    Lines,
+    /// As objects of JSON.
+    Objects,
+    /// As rows of CSV.
+    Rows,
+}
+
+/// How the messages of a database are written.
+#[derive(Clone, Copy, Debug, PartialEq, Eq)]
+pub enum DumpForm {
+    /// As diagrams of their layouts.
+    Diagrams,
+    /// As objects of JSON.
+    Objects,
+    /// As objects of JSON with the bytes of each message, signal and entry.
     Locations,
 }
 
-/// A job: a command, the path of its database, and what the options say.
+/// What the program does with a database, and what the options ask for.
+#[derive(Clone, Copy, Debug, PartialEq, Eq)]
+pub enum Command {
+    /// Reports problems in the database.
+    Check(ReportForm),
+    /// Decodes the log on standard input.
+    Decode {
+        /// Whether the signals that are there of truncated frames are shown.
+        short: bool,
+        /// How the log is written.
+        form: LogForm,
+    },
+    /// Writes the messages of the database.
+    Dump(DumpForm),
+    /// Explains why the database text is rejected, or the diagnostics of the database.
+    Explain(ReportForm),
+    /// Prints the canonical text of the database.
+    Print,
+    /// Keeps a session open for the script on standard input.
+    Session {
+        /// Whether the signals that are there of truncated frames are shown.
+        short: bool,
+        /// Which lines of the log are kept.
+        keep: Keep,
+    },
+}
+
+/// A job: a command, and the path of its database.
 #[derive(Debug, Drop)]
 pub struct Job {
     /// What is done.
     pub command: Command,
     /// The path of the database.
     pub file: String,
-    /// Whether what is there of frames that are shorter than their message is shown, as `--short` asks for; false for
-    /// commands without the flag.
-    pub short: bool,
-    /// Which lines are kept, as `--keep` asks for; all for commands without the option.
-    pub keep: Keep,
-    /// What is written, as `--json`, `--csv` or `--at` asks for; text for commands without these flags.
-    pub form: Form,
 }
 
 /// Why there is no job.
@@ -91,21 +112,6 @@ fn no_job(alloc: Global, fault: &clap::Error) -> NoJob
     }
 }
 
-#[tactic(auto, unfolding(crate::specs::Words::command_named))]
-fn command_named(name: &str) -> Option<Command>
-    ensures { result ≡ command_named name.now }
-{
-    match name {
-        "check" => Some(Command::Check),
-        "decode" => Some(Command::Decode),
-        "dump" => Some(Command::Dump),
-        "explain" => Some(Command::Explain),
-        "print" => Some(Command::Print),
-        "session" => Some(Command::Session),
-        _ => None,
-    }
-}
-
 // Whether the flag of this name is there.
 fn has_flag(found: &ArgMatches<'_>, name: &str) -> bool
     ensures { result ≡ has_flag name.now (rows_of (found_of found.now)) }
@@ -124,17 +130,63 @@ fn keep_in(found: &ArgMatches<'_>) -> Option<Keep>
     }
 }
 
-// What is to be written; none if the words ask for several forms.
-fn form_in(found: &ArgMatches<'_>) -> Option<Form>
-    ensures { result ≡ form_found (rows_of (found_of found.now)) }
+// How diagnostics are to be written.
+fn report_form(found: &ArgMatches<'_>) -> ReportForm
+    ensures { result ≡ report_form (has_flag (codes "json") (rows_of (found_of found.now))) }
 {
-    let json = has_flag(found, "json");
-    let csv = has_flag(found, "csv");
-    match (json, csv, has_flag(found, "at")) {
-        (false, false, false) => Some(Form::Text),
-        (true, false, false) => Some(Form::Json),
-        (false, true, false) => Some(Form::Csv),
-        (false, false, true) => Some(Form::Locations),
+    if has_flag(found, "json") {
+        ReportForm::Objects
+    } else {
+        ReportForm::Lines
+    }
+}
+
+// How a log is to be written; none if the words ask for two forms.
+fn log_form(found: &ArgMatches<'_>) -> Option<LogForm>
+    ensures { result ≡ log_form (has_flag (codes "json") (rows_of (found_of found.now))) (has_flag (codes "csv")
+        (rows_of (found_of found.now))) }
+{
+    match (has_flag(found, "json"), has_flag(found, "csv")) {
+        (false, false) => Some(LogForm::Lines),
+        (true, false) => Some(LogForm::Objects),
+        (false, true) => Some(LogForm::Rows),
+        (true, true) => None,
+    }
+}
+
+// How messages are to be written; none if the words ask for two forms.
+fn dump_form(found: &ArgMatches<'_>) -> Option<DumpForm>
+    ensures { result ≡ dump_form (has_flag (codes "json") (rows_of (found_of found.now))) (has_flag (codes "at")
+        (rows_of (found_of found.now))) }
+{
+    match (has_flag(found, "json"), has_flag(found, "at")) {
+        (false, false) => Some(DumpForm::Diagrams),
+        (true, false) => Some(DumpForm::Objects),
+        (false, true) => Some(DumpForm::Locations),
+        (true, true) => None,
+    }
+}
+
+// The command of this name, and what its options ask for.
+#[tactic(auto, unfolding(crate::specs::Words::command_found))]
+fn command_in(name: &str, found: &ArgMatches<'_>) -> Option<Command>
+    ensures { result ≡ command_found name.now (rows_of (found_of found.now)) }
+{
+    match name {
+        "check" => Some(Command::Check(report_form(found))),
+        "decode" => {
+            let form = log_form(found)?;
+            let short = has_flag(found, "short");
+            Some(Command::Decode { short, form })
+        }
+        "dump" => Some(Command::Dump(dump_form(found)?)),
+        "explain" => Some(Command::Explain(report_form(found))),
+        "print" => Some(Command::Print),
+        "session" => {
+            let keep = keep_in(found)?;
+            let short = has_flag(found, "short");
+            Some(Command::Session { short, keep })
+        }
         _ => None,
     }
 }
@@ -148,27 +200,14 @@ fn job_in(alloc: Global, matches: &ArgMatches<'_>) -> Result<Job, NoJob>
     let Some((name, found)) = matches.subcommand() else {
         return Err(NoJob::Usage);
     };
-    let Some(command) = command_named(name) else {
+    let Some(command) = command_in(name, found) else {
         return Err(NoJob::Usage);
     };
     let Some(file) = found.get_str("FILE") else {
         return Err(NoJob::Usage);
     };
-    let Some(keep) = keep_in(found) else {
-        return Err(NoJob::Usage);
-    };
-    let Some(form) = form_in(found) else {
-        return Err(NoJob::Usage);
-    };
     let file = String::from_str(alloc, file)?;
-    let short = has_flag(found, "short");
-    Ok(Job {
-        command,
-        file,
-        short,
-        keep,
-        form,
-    })
+    Ok(Job { command, file })
 }
 
 /// Reads the words after the program's name. Options stand before or after FILE, `--` ends them, `help` is the

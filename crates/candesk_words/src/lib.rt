@@ -9,5 +9,5 @@ mod line;
 mod notes;
 mod version;
 
-pub use job::{Command, Form, Job, NoJob, job_of};
+pub use job::{Command, DumpForm, Job, LogForm, NoJob, ReportForm, job_of};
 pub use kept_lines::{Keep, LineCount};
