@@ -17,7 +17,7 @@ use crate::walk_rules::walks_in;
 use can_diagnostics::{Code, Diagnostic};
 use can_mux::{MessageRows, Walk};
 use can_overlap::Occupancy;
-use can_references::{Known, push_head_faults, push_unknown_nodes, row_faults};
+use can_references::{CrossReferences, push_head_faults, push_unknown_nodes, row_faults};
 use can_rows::{Indexed, Lookup};
 use dbc_records::{Database, Message};
 use dbc_values::Memory;
@@ -42,7 +42,7 @@ fn push_reading_faults<L: Lookup>(
 // What stands before the overlaps of a message.
 fn place_faults_of<'a, L: Lookup>(
     alloc: Global,
-    known: &Known<'a, L>,
+    known: &CrossReferences<'a, L>,
     message: &'a Message,
 ) -> Result<Vec<Diagnostic>, Memory>
     ensures { IfOk result (λ found. found.items ≡ place_faults known.now message.now) }
@@ -55,7 +55,7 @@ fn place_faults_of<'a, L: Lookup>(
 #[tactic(auto, using(can_references::proofs::Pushing::pushed_then), unfolding(crate::specs::MessageFaults::place_faults))]
 fn push_place_faults<'a, L: Lookup>(
     found: &mut Vec<Diagnostic>,
-    known: &Known<'a, L>,
+    known: &CrossReferences<'a, L>,
     message: &'a Message,
 ) -> Result<(), Memory>
     ensures { OnOk result (found.new.items ≡ found.old.items ++ place_faults known.now message.now) }
@@ -68,7 +68,7 @@ fn push_place_faults<'a, L: Lookup>(
 #[tactic(auto, using(can_references::proofs::Pushing::pushed_then), unfolding(crate::specs::MessageFaults::other_faults))]
 pub(crate) fn push_other_faults<'a, L: Lookup>(
     found: &mut Vec<Diagnostic>,
-    known: &Known<'a, L>,
+    known: &CrossReferences<'a, L>,
     message: &'a Message,
     walks: &[Walk],
 ) -> Result<(), Memory>
@@ -86,7 +86,7 @@ pub(crate) fn push_other_faults<'a, L: Lookup>(
 fn report_place_faults<'a, L: Lookup, T: Report>(
     to: &mut T,
     alloc: Global,
-    known: &Known<'a, L>,
+    known: &CrossReferences<'a, L>,
     message: &'a Message,
 ) -> Result<(), Stop>
     ensures { Takes T.Took T.Stopped to.old to.new result (place_faults known.now message.now) }
@@ -100,7 +100,7 @@ fn report_place_faults<'a, L: Lookup, T: Report>(
 // Reports what stands after the overlaps of a message.
 fn report_other_faults<'a, L: Lookup, T: Report>(
     to: &mut T,
-    known: &Known<'a, L>,
+    known: &CrossReferences<'a, L>,
     message: &'a Message,
     walks: &Vec<Walk>,
 ) -> Result<(), Stop>
@@ -117,7 +117,7 @@ fn report_other_faults<'a, L: Lookup, T: Report>(
 // Reports the diagnostics of a message, by its signals' multiplexing chains. The table for overlaps is empty before and after.
 fn report_by_walks<'a, L: Lookup, T: Report>(
     to: &mut T,
-    known: &Known<'a, L>,
+    known: &CrossReferences<'a, L>,
     occupancy: Occupancy,
     message: &'a Message,
     walks: &Vec<Walk>,
@@ -136,7 +136,7 @@ fn report_by_walks<'a, L: Lookup, T: Report>(
 #[tactic(auto, using(crate::proofs::Counts::as_many), unfolding(crate::specs::MessageFaults::message_faults))]
 pub fn report_message<'a, L: Lookup, T: Report>(
     to: &mut T,
-    known: &Known<'a, L>,
+    known: &CrossReferences<'a, L>,
     occupancy: Occupancy,
     message: &'a Message,
 ) -> Result<Occupancy, Stop>
@@ -150,7 +150,7 @@ pub fn report_message<'a, L: Lookup, T: Report>(
 fn report_messages<'a, L: Lookup, T: Report>(
     to: &mut T,
     alloc: Global,
-    known: &Known<'a, L>,
+    known: &CrossReferences<'a, L>,
     messages: &'a [Message],
 ) -> Result<(), Stop>
     ensures { Takes T.Took T.Stopped to.old to.new result (flat_map (message_faults known.now) messages.now) }
@@ -166,7 +166,7 @@ fn report_messages<'a, L: Lookup, T: Report>(
 fn report_rows<L: Lookup, T: Report>(
     to: &mut T,
     alloc: Global,
-    known: Known<'_, L>,
+    known: CrossReferences<'_, L>,
 ) -> Result<(), Stop>
     ensures { Takes T.Took T.Stopped to.old to.new result (row_faults known.entry) }
 {
@@ -181,7 +181,7 @@ fn report_rows<L: Lookup, T: Report>(
 fn report_known<L: Lookup, T: Report>(
     to: &mut T,
     alloc: Global,
-    known: Known<'_, L>,
+    known: CrossReferences<'_, L>,
 ) -> Result<(), Stop>
     ensures { Takes T.Took T.Stopped to.old to.new result (all_faults known.entry) }
 {
@@ -193,7 +193,7 @@ fn report_known<L: Lookup, T: Report>(
 fn report_with<L: Lookup, T: Report>(to: &mut T, alloc: Global, lookup: &L) -> Result<(), Stop>
     ensures { Takes T.Took T.Stopped to.old to.new result (all_faults (L.whole lookup.now)) }
 {
-    match Known::of(alloc, lookup) {
+    match CrossReferences::of(alloc, lookup) {
         Ok(known) => report_known(to, alloc, known),
         Err(Memory) => Err(Stop::Memory),
     }
@@ -235,7 +235,7 @@ pub fn all_faults(alloc: Global, database: &Database) -> Result<Vec<Diagnostic>,
 // The diagnostics of a message, by what is known of its database.
 fn faults_in<'a, L: Lookup>(
     alloc: Global,
-    known: &Known<'a, L>,
+    known: &CrossReferences<'a, L>,
     message: &'a Message,
 ) -> Result<Vec<Diagnostic>, Memory>
     ensures { IfOk result (λ found. found.items ≡ message_faults known.now message.now) }
@@ -253,7 +253,7 @@ fn faults_at(alloc: Global, indexed: &Indexed<'_>, place: usize) -> Result<Vec<D
     ensures { IfOk result (λ found. Some found.items ≡ option_map (message_faults indexed.now) (slice_get indexed.now.messages
         place)) }
 {
-    match Known::of(alloc, indexed) {
+    match CrossReferences::of(alloc, indexed) {
         Ok(known) => faults_in(
             alloc,
             &known,

@@ -10,7 +10,7 @@ use can_bits::{Field, fields_of};
 use can_diagnostics::{Code, Diagnostic};
 use can_mux::Walk;
 use can_overlap::laws::pairs_by_signal;
-use can_overlap::{Marked, Occupancy, Pair, are_seen_apart};
+use can_overlap::{Marked, Occupancy, Pair, are_disjoint_in_sequence};
 use can_references::is_pseudo;
 use dbc_records::{Head, Message, Signal};
 use dbc_values::Memory;
@@ -121,7 +121,7 @@ fn report_laid<T: Report>(
     requires few { length fields.now ≤ 999 }
     ensures { Takes T.Took T.Stopped to.old to.new result (flat_map (pair_at message.now) (overlapping fields.now walks.now)) }
 {
-    if are_seen_apart(fields) {
+    if are_disjoint_in_sequence(fields) {
         return Ok(occupancy);
     }
     pairs_by_signal(fields, walks);

@@ -10,7 +10,7 @@ use crate::walk_rules::walks_in;
 use can_diagnostics::Diagnostic;
 use can_mux::Walk;
 use can_overlap::Occupancy;
-use can_references::Known;
+use can_references::CrossReferences;
 use can_rows::Lookup;
 use dbc_records::Message;
 use dbc_values::Memory;
@@ -35,7 +35,7 @@ fn push_overlaps(
 #[tactic(auto, using(crate::proofs::OwnFaults::pushed_thrice))]
 fn push_by_walks<'a, L: Lookup>(
     found: &mut Vec<Diagnostic>,
-    known: &Known<'a, L>,
+    known: &CrossReferences<'a, L>,
     occupancy: Occupancy,
     message: &'a Message,
     walks: &[Walk],
@@ -55,7 +55,7 @@ fn push_by_walks<'a, L: Lookup>(
 #[tactic(auto, using(crate::proofs::Counts::as_many), unfolding(crate::specs::MessageFaults::own_faults))]
 pub fn push_own_faults<'a, L: Lookup>(
     found: &mut Vec<Diagnostic>,
-    known: &Known<'a, L>,
+    known: &CrossReferences<'a, L>,
     occupancy: Occupancy,
     message: &'a Message,
 ) -> Result<Occupancy, Memory>

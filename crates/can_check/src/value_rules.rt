@@ -7,7 +7,7 @@ ghost use Rattle.can_check.specs.MessageFaults.{named, out_of_range, repeated_in
 ghost use Rattle.can_check.specs.MessageFaults.{value_faults};
 
 use can_diagnostics::{Code, Diagnostic};
-use can_references::Known;
+use can_references::CrossReferences;
 use can_rows::Lookup;
 use dbc_records::{Head, Message, Signal};
 use dbc_values::Memory;
@@ -35,7 +35,7 @@ fn push_each(
 fn push_out_of_range<'a, L: Lookup>(
     found: &mut Vec<Diagnostic>,
     values: &mut Vec<i128>,
-    known: &Known<'a, L>,
+    known: &CrossReferences<'a, L>,
     head: &Head,
     signal: &'a Signal,
 ) -> Result<bool, Memory>
@@ -54,7 +54,7 @@ fn push_out_of_range<'a, L: Lookup>(
 // The same of signals, in order.
 fn push_all_out_of_range<'a, L: Lookup>(
     found: &mut Vec<Diagnostic>,
-    known: &Known<'a, L>,
+    known: &CrossReferences<'a, L>,
     head: &Head,
     signals: &'a [Signal],
 ) -> Result<bool, Memory>
@@ -78,7 +78,7 @@ fn push_all_out_of_range<'a, L: Lookup>(
 fn push_repeated<'a, L: Lookup>(
     found: &mut Vec<Diagnostic>,
     values: &mut Vec<i128>,
-    known: &Known<'a, L>,
+    known: &CrossReferences<'a, L>,
     head: &Head,
     signal: &'a Signal,
 ) -> Result<(), Memory>
@@ -94,7 +94,7 @@ fn push_repeated<'a, L: Lookup>(
 // The same of signals, in order.
 fn push_all_repeated<'a, L: Lookup>(
     found: &mut Vec<Diagnostic>,
-    known: &Known<'a, L>,
+    known: &CrossReferences<'a, L>,
     head: &Head,
     signals: &'a [Signal],
 ) -> Result<(), Memory>
@@ -112,7 +112,7 @@ fn push_all_repeated<'a, L: Lookup>(
 /// number may be repeated.
 pub(crate) fn push_value_faults<'a, L: Lookup>(
     found: &mut Vec<Diagnostic>,
-    known: &Known<'a, L>,
+    known: &CrossReferences<'a, L>,
     message: &'a Message,
 ) -> Result<(), Memory>
     ensures { OnOk result (found.new.items ≡ found.old.items ++ value_faults (rows_of message.now.head.number known.now)

@@ -5,7 +5,7 @@ ghost use Rattle.can_mux.specs.Switches.{walks_of};
 ghost use Rattle.can_check.specs.SignalRules.{has_no_switch, is_loop};
 
 use can_mux::{MessageRows, Walk, message_walks};
-use can_references::Known;
+use can_references::CrossReferences;
 use can_rows::Lookup;
 use dbc_records::Message;
 use dbc_values::Memory;
@@ -14,7 +14,7 @@ use std::alloc::Global;
 /// The multiplexing chains from the signals of a message, in order.
 pub(crate) fn walks_in<'a, L: Lookup>(
     alloc: Global,
-    known: &Known<'a, L>,
+    known: &CrossReferences<'a, L>,
     message: &Message,
 ) -> Result<Vec<Walk>, Memory>
     ensures { IfOk result (λ walks. walks.items ≡ walks_of (rows_of message.now.head.number known.now) message.now.signals) }

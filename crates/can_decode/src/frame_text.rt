@@ -8,11 +8,11 @@ use crate::target::Target;
 use dbc_values::Memory;
 use itoa::Buffer;
 use log_frames::{Frame, Kind};
-use ready_texts::{Draft, push_bytes};
+use ready_texts::{TextBuffer, push_bytes};
 use std::alloc::Global;
 
 // Pieces, one after another.
-fn push_pieces(text: &mut Draft, pieces: &[&[u8]]) -> Result<(), Memory>
+fn push_pieces(text: &mut TextBuffer, pieces: &[&[u8]]) -> Result<(), Memory>
     ensures { OnOk result (text.new.items ≡ text.old.items ++ flat_map (λ piece. piece.now) pieces.now) }
 {
     for piece in pieces {
@@ -22,7 +22,7 @@ fn push_pieces(text: &mut Draft, pieces: &[&[u8]]) -> Result<(), Memory>
 }
 
 #[tactic(auto, unfolding(crate::specs::DecodedLines::wrong_size_text))]
-fn push_wrong_size(text: &mut Draft, there: usize, wanted: u16) -> Result<(), Memory>
+fn push_wrong_size(text: &mut TextBuffer, there: usize, wanted: u16) -> Result<(), Memory>
     ensures { OnOk result (text.new.items ≡ text.old.items ++ wrong_size_text there wanted) }
 {
     let mut there_number = Buffer::new();
@@ -38,7 +38,7 @@ fn push_wrong_size(text: &mut Draft, there: usize, wanted: u16) -> Result<(), Me
 }
 
 #[tactic(auto, unfolding(crate::specs::DecodedLines::unknown_text))]
-fn push_unknown(alloc: Global, text: &mut Draft, identifier: u32) -> Result<(), Memory>
+fn push_unknown(alloc: Global, text: &mut TextBuffer, identifier: u32) -> Result<(), Memory>
     ensures { OnOk result (text.new.items ≡ text.old.items ++ unknown_text identifier) }
 {
     let mut number = Buffer::new();
@@ -56,7 +56,7 @@ fn push_unknown(alloc: Global, text: &mut Draft, identifier: u32) -> Result<(), 
 // What is said of a data frame.
 fn push_data(
     alloc: Global,
-    text: &mut Draft,
+    text: &mut TextBuffer,
     frame: &Frame,
     target: Option<&Target<'_>>,
 ) -> Result<(), Memory>
@@ -75,7 +75,7 @@ fn push_data(
 // What is said of a frame, by what it goes to.
 fn push_frame(
     alloc: Global,
-    text: &mut Draft,
+    text: &mut TextBuffer,
     frame: &Frame,
     target: Option<&Target<'_>>,
 ) -> Result<(), Memory>
@@ -92,7 +92,7 @@ fn push_frame(
 /// What the frame of a line says, by what it goes to, and what stands before that.
 pub(crate) fn push_known(
     alloc: Global,
-    text: &mut Draft,
+    text: &mut TextBuffer,
     frame: &Frame,
     target: Option<&Target<'_>>,
 ) -> Result<(), Memory>

@@ -14,7 +14,7 @@ use can_layout::{Meter, Plan};
 use dbc_records::Database;
 use dbc_values::Memory;
 use log_frames::body_of;
-use ready_texts::{Draft, push_bytes};
+use ready_texts::{TextBuffer, push_bytes};
 use std::alloc::Global;
 use std::marker::Model;
 
@@ -85,7 +85,7 @@ impl<'a> Bus<'a> {
         ensures text { IfOk result (λ text. text.items ≡ bus_line self.now line.now) }
         ensures counted { meter.new ≡ with_line meter.old }
     {
-        let mut text = Draft::new(alloc);
+        let mut text = TextBuffer::new(alloc);
         self.renew_frame_at(&mut text, self.with_choice(chosen), line, meter)?;
         text.to_vec()
     }
@@ -96,7 +96,7 @@ impl<'a> Bus<'a> {
     #[tactic(auto, using(crate::proofs::Pushing::pushed_then), unfolding(crate::specs::DecodedLines::decoded_line, crate::specs::DecodedLines::chosen_target, can_choice::specs::Choices::frame_choice, can_choice::specs::Choices::choice_of, can_choice::specs::Choices::chosen_place))]
     pub fn renew_frame_at(
         &self,
-        text: &mut Draft,
+        text: &mut TextBuffer,
         chosen: Option<(Choice, &'a Plan)>,
         line: &ReadLine<'_>,
         meter: &mut Meter,

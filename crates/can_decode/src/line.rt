@@ -15,7 +15,7 @@ use can_layout::{Meter, Plan};
 use dbc_records::Database;
 use dbc_values::Memory;
 use log_frames::{Frame, body_of, fill_frame};
-use ready_texts::{Draft, push_bytes};
+use ready_texts::{TextBuffer, push_bytes};
 use std::alloc::Global;
 use std::marker::Model;
 
@@ -97,7 +97,7 @@ impl<'a, C: Choose> Finder<'a, C> {
 #[tactic(auto, using(crate::proofs::Pushing::pushed_then), unfolding(crate::specs::DecodedLines::decoded_line))]
 pub(crate) fn push_line<C: Choose>(
     alloc: Global,
-    text: &mut Draft,
+    text: &mut TextBuffer,
     finder: &mut Finder<'_, C>,
     line: &[u8],
 ) -> Result<(), Memory>

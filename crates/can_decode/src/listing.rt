@@ -7,7 +7,7 @@ ghost use Rattle.can_decode.specs.DecodedLines.{is_shown, shown_rows, listed, Is
 
 use can_layout::{Plan, Presence};
 use dbc_values::Memory;
-use ready_texts::Draft;
+use ready_texts::TextBuffer;
 use std::ops::Range;
 
 /// What is written of the signals of a message.
@@ -26,7 +26,13 @@ pub trait SignalText: Drop {
         ensures { result.now ≡ plan_of self.now };
 
     /// Appends what is written of the signal at an index. `some` says whether one is shown before it.
-    fn push(&self, text: &mut Draft, some: bool, place: usize, bytes: &[u8]) -> Result<(), Memory>
+    fn push(
+        &self,
+        text: &mut TextBuffer,
+        some: bool,
+        place: usize,
+        bytes: &[u8],
+    ) -> Result<(), Memory>
         requires { place < length (plan_of self.now).rows }
         ensures { OnOk result ((row : PlainRow) → Some row ≡ slice_get (plan_of self.now).rows place
             → text.new.items ≡ text.old.items ++ (if some then further self.now bytes.now row else first self.now bytes.now row)) };
@@ -49,7 +55,7 @@ fn is_shown<T: SignalText>(signals: &T, there: bool, place: usize, bytes: &[u8])
 // signal was shown.
 #[inline(always)]
 fn push_run<T: SignalText>(
-    text: &mut Draft,
+    text: &mut TextBuffer,
     signals: &T,
     run: Range<usize>,
     some: bool,
@@ -76,7 +82,7 @@ fn push_run<T: SignalText>(
 
 // The signals that are shown, where some have a multiplexor. Runs of signals that are not in the data are skipped.
 #[inline(never)]
-fn push_runs<T: SignalText>(text: &mut Draft, signals: &T, bytes: &[u8]) -> Result<(), Memory>
+fn push_runs<T: SignalText>(text: &mut TextBuffer, signals: &T, bytes: &[u8]) -> Result<(), Memory>
     ensures { OnOk result (text.new.items ≡ text.old.items ++ listed (T.first signals.now bytes.now)
         (T.further signals.now bytes.now)
         (shown_rows bytes.now (T.plan_of signals.now) (T.plan_of signals.now).rows)) }
@@ -99,7 +105,7 @@ fn push_runs<T: SignalText>(text: &mut Draft, signals: &T, bytes: &[u8]) -> Resu
 /// its loop.
 #[inline(never)]
 pub fn push_signals<T: SignalText>(
-    text: &mut Draft,
+    text: &mut TextBuffer,
     signals: &T,
     bytes: &[u8],
 ) -> Result<(), Memory>

@@ -12,11 +12,11 @@ use crate::value::push_reading;
 use can_layout::{Plan, Row};
 use dbc_values::Memory;
 use log_frames::Frame;
-use ready_texts::{Digits, Draft, ReadyText, push_bytes, push_small_number};
+use ready_texts::{Digits, ReadyText, TextBuffer, push_bytes, push_small_number};
 use std::marker::Model;
 
 /// A whole number.
-pub fn push_number(text: &mut Draft, number: u64) -> Result<(), Memory>
+pub fn push_number(text: &mut TextBuffer, number: u64) -> Result<(), Memory>
     ensures { OnOk result (text.new.items ≡ text.old.items ++ decimal number) }
 {
     if number < 1000 {
@@ -29,7 +29,7 @@ pub fn push_number(text: &mut Draft, number: u64) -> Result<(), Memory>
 
 // What stands before the value of a signal, behind others where `some` says so.
 #[inline(always)]
-fn push_label(text: &mut Draft, some: bool, label: &ReadyText, row: &Row) -> Result<(), Memory>
+fn push_label(text: &mut TextBuffer, some: bool, label: &ReadyText, row: &Row) -> Result<(), Memory>
     requires { label.now ≡ label_of row.now }
     ensures { OnOk result (text.new.items ≡ text.old.items ++ (if some then label_of row.now else row.now.name ++ codes ": ")) }
 {
@@ -43,7 +43,7 @@ fn push_label(text: &mut Draft, some: bool, label: &ReadyText, row: &Row) -> Res
 // A signal, behind others where `some` says so.
 #[inline(always)]
 fn push_next(
-    text: &mut Draft,
+    text: &mut TextBuffer,
     some: bool,
     label: &ReadyText,
     row: &Row,
@@ -86,21 +86,27 @@ impl<'a> SignalText for PlainSignals<'a> {
     }
 
     #[inline(always)]
-    fn push(&self, text: &mut Draft, some: bool, place: usize, bytes: &[u8]) -> Result<(), Memory> {
+    fn push(
+        &self,
+        text: &mut TextBuffer,
+        some: bool,
+        place: usize,
+        bytes: &[u8],
+    ) -> Result<(), Memory> {
         let (label, row) = self.plan.labelled(place);
         push_next(text, some, label, row, bytes)
     }
 }
 
 // The signals that are shown, a comma and a blank between them.
-fn push_plain(text: &mut Draft, plan: &Plan, bytes: &[u8]) -> Result<(), Memory>
+fn push_plain(text: &mut TextBuffer, plan: &Plan, bytes: &[u8]) -> Result<(), Memory>
     ensures { OnOk result (text.new.items ≡ text.old.items ++ signals_text bytes.now
         (shown_rows bytes.now plan.now plan.now.rows)) }
 {
     push_signals(text, &PlainSignals { plan }, bytes)
 }
 
-fn push_destination(text: &mut Draft, identifier: u32) -> Result<(), Memory>
+fn push_destination(text: &mut TextBuffer, identifier: u32) -> Result<(), Memory>
     ensures { OnOk result (text.new.items ≡ text.old.items ++ destination_text identifier) }
 {
     let fields = J1939::of(identifier);
@@ -116,7 +122,7 @@ const FIRST_BROADCAST_FORMAT: u8 = 240;
 
 // Priority, source and destination.
 #[tactic(auto, using(crate::proofs::Pushing::pushed_then), unfolding(crate::specs::DecodedLines::group_text))]
-fn push_group(text: &mut Draft, identifier: u32) -> Result<(), Memory>
+fn push_group(text: &mut TextBuffer, identifier: u32) -> Result<(), Memory>
     ensures { OnOk result (text.new.items ≡ text.old.items ++ group_text identifier) }
 {
     let fields = J1939::of(identifier);
@@ -128,7 +134,7 @@ fn push_group(text: &mut Draft, identifier: u32) -> Result<(), Memory>
     text.push_piece(b"]")
 }
 
-fn push_bracket(text: &mut Draft, identifier: u32, group: bool) -> Result<(), Memory>
+fn push_bracket(text: &mut TextBuffer, identifier: u32, group: bool) -> Result<(), Memory>
     ensures { OnOk result (text.new.items ≡ text.old.items ++ bracket_text identifier group) }
 {
     if group {
@@ -141,7 +147,7 @@ fn push_bracket(text: &mut Draft, identifier: u32, group: bool) -> Result<(), Me
 /// The message's name, and the signals that are shown.
 #[tactic(auto, using(crate::proofs::Pushing::pushed_then), unfolding(crate::specs::DecodedLines::message_text))]
 pub(crate) fn push_message(
-    text: &mut Draft,
+    text: &mut TextBuffer,
     frame: &Frame,
     target: &Target<'_>,
 ) -> Result<(), Memory>

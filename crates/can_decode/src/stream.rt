@@ -15,7 +15,7 @@ use can_layout::{Meter, Plan};
 use dbc_records::Database;
 use dbc_values::Memory;
 use line_stream::{LineText, StreamFault, stream_texts};
-use ready_texts::Draft;
+use ready_texts::TextBuffer;
 use std::alloc::Global;
 use std::mem::swap;
 
@@ -34,7 +34,7 @@ impl<'a, C: Choose> LineText for PlainLines<'a, C> {
 
     ghost next = { λ lines line. lines };
 
-    fn renew(&mut self, text: &mut Draft, line: &[u8]) -> Result<(), Memory> {
+    fn renew(&mut self, text: &mut TextBuffer, line: &[u8]) -> Result<(), Memory> {
         text.clear();
         push_line(text.allocator(), text, &mut self.finder, line)?;
         text.push(b'\n')?;
@@ -58,7 +58,7 @@ impl<T: LineText> LineText for Counted<T> {
 
     ghost next = { λ counted line. record { texts = T.next counted.texts line; meter = with_line counted.meter } };
 
-    fn renew(&mut self, text: &mut Draft, line: &[u8]) -> Result<(), Memory> {
+    fn renew(&mut self, text: &mut TextBuffer, line: &[u8]) -> Result<(), Memory> {
         self.texts.renew(text, line)?;
         self.meter.count_line();
         Ok(())

@@ -6,7 +6,7 @@ ghost use Rattle.can_decode.specs.Values.{fewest_places, fixed_text, sign_of, sc
 use can_layout::{Decoder, Reading};
 use dbc_values::Memory;
 use itoa::Buffer;
-use ready_texts::{Digits, Draft, EightDigits, push_bytes, push_shown, push_small_number};
+use ready_texts::{Digits, EightDigits, TextBuffer, push_bytes, push_shown, push_small_number};
 
 // The same number with the fewest places behind its point, where it is one of a word, as most are.
 fn fewest_places_of_word(digits: u64, places: u8) -> (u64, u8)
@@ -36,7 +36,7 @@ fn fewest_places_of_any(digits: u128, places: u8) -> (u128, u8)
     (number, behind)
 }
 
-fn push_zeros(text: &mut Draft, count: usize) -> Result<(), Memory>
+fn push_zeros(text: &mut TextBuffer, count: usize) -> Result<(), Memory>
     ensures { OnOk result (text.new.items ≡ text.old.items ++ zeros count) }
 {
     for _zero in 0..count {
@@ -47,7 +47,7 @@ fn push_zeros(text: &mut Draft, count: usize) -> Result<(), Memory>
 
 // Digits with a point before the last of them, and zeros in front where there are too few.
 #[tactic(auto, using(crate::proofs::Pushing::pushed_then))]
-fn push_pointed(text: &mut Draft, digits: &[u8], places: usize) -> Result<(), Memory>
+fn push_pointed(text: &mut TextBuffer, digits: &[u8], places: usize) -> Result<(), Memory>
     ensures { OnOk result (text.new.items ≡ text.old.items ++ point_before_last places (filled places digits.now)) }
 {
     if digits.len() > places {
@@ -64,7 +64,7 @@ fn push_pointed(text: &mut Draft, digits: &[u8], places: usize) -> Result<(), Me
 
 // The same where there are more digits than places.
 #[tactic(auto, using(crate::proofs::Pushing::pushed_then))]
-fn push_parted(text: &mut Draft, digits: &Digits, places: usize) -> Result<(), Memory>
+fn push_parted(text: &mut TextBuffer, digits: &Digits, places: usize) -> Result<(), Memory>
     requires { places < length digits.now }
     ensures { OnOk result (text.new.items ≡ text.old.items ++ point_before_last places (filled places digits.now)) }
 {
@@ -76,7 +76,7 @@ fn push_parted(text: &mut Draft, digits: &Digits, places: usize) -> Result<(), M
 
 // A whole number of one word with the point that many places from the right.
 #[tactic(auto, unfolding(crate::specs::Values::fixed_text))]
-fn push_fixed_word(text: &mut Draft, number: u64, places: u8) -> Result<(), Memory>
+fn push_fixed_word(text: &mut TextBuffer, number: u64, places: u8) -> Result<(), Memory>
     ensures { OnOk result (text.new.items ≡ text.old.items ++ fixed_text (record { digits = number; places = places })) }
 {
     let mut digits = Digits::none();
@@ -93,7 +93,7 @@ fn push_fixed_word(text: &mut Draft, number: u64, places: u8) -> Result<(), Memo
 
 // Any whole number with the point that many places from the right.
 #[tactic(auto, unfolding(crate::specs::Values::fixed_text))]
-fn push_fixed_any(text: &mut Draft, digits: u128, places: u8) -> Result<(), Memory>
+fn push_fixed_any(text: &mut TextBuffer, digits: u128, places: u8) -> Result<(), Memory>
     ensures { OnOk result (text.new.items ≡ text.old.items ++ fixed_text (record { digits = digits; places = places })) }
 {
     let mut room = Buffer::new();
@@ -105,7 +105,7 @@ fn push_fixed_any(text: &mut Draft, digits: u128, places: u8) -> Result<(), Memo
     }
 }
 
-fn push_sign(text: &mut Draft, value: i128) -> Result<(), Memory>
+fn push_sign(text: &mut TextBuffer, value: i128) -> Result<(), Memory>
     ensures { OnOk result (text.new.items ≡ text.old.items ++ sign_of value) }
 {
     text.push_if(value < 0, b'-')
@@ -113,7 +113,7 @@ fn push_sign(text: &mut Draft, value: i128) -> Result<(), Memory>
 
 // A number of at most eight digits over ten to the number of places, by parts of its digits.
 #[inline(always)]
-fn push_short(text: &mut Draft, number: u32, places: u8) -> Result<(), Memory>
+fn push_short(text: &mut TextBuffer, number: u32, places: u8) -> Result<(), Memory>
     requires number { number < 10 ^ 8 }
     requires places { places < 8 }
     ensures { OnOk result (text.new.items ≡ text.old.items ++ fixed_text (fewest_places number places)) }
@@ -129,7 +129,7 @@ fn push_short(text: &mut Draft, number: u32, places: u8) -> Result<(), Memory>
 // A number of one word over ten to the number of places. Most values have at most eight digits.
 #[inline(always)]
 #[tactic(auto, unfolding(crate::specs::Values::fixed_text))]
-fn push_shortest_word(text: &mut Draft, number: u64, places: u8) -> Result<(), Memory>
+fn push_shortest_word(text: &mut TextBuffer, number: u64, places: u8) -> Result<(), Memory>
     ensures { OnOk result (text.new.items ≡ text.old.items ++ fixed_text (fewest_places number places)) }
 {
     if places == 0 && number < 1000 {
@@ -145,7 +145,7 @@ fn push_shortest_word(text: &mut Draft, number: u64, places: u8) -> Result<(), M
 // A number over ten to the number of places.
 #[inline(always)]
 #[tactic(auto, unfolding(crate::specs::Values::fixed_text))]
-fn push_shortest(text: &mut Draft, number: u128, places: u8) -> Result<(), Memory>
+fn push_shortest(text: &mut TextBuffer, number: u128, places: u8) -> Result<(), Memory>
     ensures { OnOk result (text.new.items ≡ text.old.items ++ fixed_text (fewest_places number places)) }
 {
     match u64::try_from(number) {
@@ -189,7 +189,7 @@ fn small_number(value: i128, places: u8) -> Option<u16>
 // A value over ten to the number of places, with its sign.
 #[inline(always)]
 #[tactic(auto, using(crate::proofs::Pushing::pushed_then), unfolding(crate::specs::Values::scaled_text))]
-fn push_signed(text: &mut Draft, value: i128, places: u8) -> Result<(), Memory>
+fn push_signed(text: &mut TextBuffer, value: i128, places: u8) -> Result<(), Memory>
     ensures { OnOk result (text.new.items ≡ text.old.items ++ scaled_text value places) }
 {
     push_sign(text, value)?;
@@ -198,7 +198,7 @@ fn push_signed(text: &mut Draft, value: i128, places: u8) -> Result<(), Memory>
 
 /// Appends a value over ten to the number of places, as an exact decimal.
 #[inline(always)]
-pub fn push_scaled(text: &mut Draft, value: i128, places: u8) -> Result<(), Memory>
+pub fn push_scaled(text: &mut TextBuffer, value: i128, places: u8) -> Result<(), Memory>
     ensures { OnOk result (text.new.items ≡ text.old.items ++ scaled_text value places) }
 {
     match small_number(value, places) {
@@ -209,7 +209,7 @@ pub fn push_scaled(text: &mut Draft, value: i128, places: u8) -> Result<(), Memo
 
 // A value as a number with its unit.
 #[tactic(auto, using(crate::proofs::Pushing::pushed_then))]
-fn push_number(text: &mut Draft, decoder: &Decoder, raw: i128) -> Result<(), Memory>
+fn push_number(text: &mut TextBuffer, decoder: &Decoder, raw: i128) -> Result<(), Memory>
     requires { unsigned_abs raw ≤ 2 ^ decoder.now.scale.length }
     ensures { OnOk result (text.new.items ≡ text.old.items ++ number_text decoder.now raw) }
 {
@@ -219,7 +219,7 @@ fn push_number(text: &mut Draft, decoder: &Decoder, raw: i128) -> Result<(), Mem
 
 // A value by its name, which is looked for among the entries, or as a number.
 #[inline(always)]
-fn push_searched(text: &mut Draft, decoder: &Decoder, raw: i128) -> Result<(), Memory>
+fn push_searched(text: &mut TextBuffer, decoder: &Decoder, raw: i128) -> Result<(), Memory>
     requires { unsigned_abs raw ≤ 2 ^ decoder.now.scale.length }
     ensures { OnOk result (text.new.items ≡ text.old.items ++ decoder_text decoder.now raw) }
 {
@@ -232,11 +232,11 @@ fn push_searched(text: &mut Draft, decoder: &Decoder, raw: i128) -> Result<(), M
 // A value by its name, or as a number. Most names are kept ready.
 #[inline(always)]
 #[tactic(auto, using(crate::proofs::Named::with_name, crate::proofs::Named::without_name))]
-fn push_value(text: &mut Draft, decoder: &Decoder, raw: i128) -> Result<(), Memory>
+fn push_value(text: &mut TextBuffer, decoder: &Decoder, raw: i128) -> Result<(), Memory>
     requires { unsigned_abs raw ≤ 2 ^ decoder.now.scale.length }
     ensures { OnOk result (text.new.items ≡ text.old.items ++ decoder_text decoder.now raw) }
 {
-    match decoder.kept_name(raw) {
+    match decoder.cached_name(raw) {
         Some(Some(name)) => name.push_to(text),
         Some(None) => push_number(text, decoder, raw),
         None => push_searched(text, decoder, raw),
@@ -246,7 +246,11 @@ fn push_value(text: &mut Draft, decoder: &Decoder, raw: i128) -> Result<(), Memo
 /// The value of a signal in data, or why there is none.
 #[inline(always)]
 #[tactic(auto, using(crate::proofs::Pushing::pushed_then))]
-pub(crate) fn push_reading(text: &mut Draft, reading: &Reading, bytes: &[u8]) -> Result<(), Memory>
+pub(crate) fn push_reading(
+    text: &mut TextBuffer,
+    reading: &Reading,
+    bytes: &[u8],
+) -> Result<(), Memory>
     ensures { OnOk result (text.new.items ≡ text.old.items ++ reading_text bytes.now reading.now) }
 {
     match reading {

@@ -7,7 +7,7 @@ use crate::finding::Finding;
 use crate::message_locations::push_messages;
 use crate::row_locations::with_entry_findings;
 use crate::row_starts::{KeyedStarts, SignalRowStarts};
-use can_references::Known;
+use can_references::CrossReferences;
 use can_rows::{Indexed, Lookup};
 use dbc_reader::Starts;
 use dbc_records::Database;
@@ -18,7 +18,7 @@ use std::alloc::Global;
 #[tactic(auto, using(crate::proofs::Rows::pushed_then), unfolding(crate::specs::AllFindings::all_findings))]
 fn findings_by<'a, L: Lookup>(
     alloc: Global,
-    known: Known<'a, L>,
+    known: CrossReferences<'a, L>,
     starts: &'a Starts,
     rows: &KeyedStarts<'_>,
 ) -> Result<Vec<Finding>, Memory>
@@ -40,7 +40,7 @@ fn findings_by<'a, L: Lookup>(
 // By what is known of the database, and the keys of its entries.
 fn findings_by_keys<'a, L: Lookup>(
     alloc: Global,
-    known: Known<'a, L>,
+    known: CrossReferences<'a, L>,
     starts: &'a Starts,
     rows: &SignalRowStarts<'_>,
 ) -> Result<Vec<Finding>, Memory>
@@ -56,7 +56,7 @@ fn findings_by_keys<'a, L: Lookup>(
 // By what is known of the database.
 fn findings_known<'a, L: Lookup>(
     alloc: Global,
-    known: Known<'a, L>,
+    known: CrossReferences<'a, L>,
     starts: &'a Starts,
 ) -> Result<Vec<Finding>, Memory>
     ensures { IfOk result (λ finding. finding.items ≡ all_findings known.entry starts.now) }
@@ -72,7 +72,7 @@ fn findings_with<'a, L: Lookup>(
 ) -> Result<Vec<Finding>, Memory>
     ensures { IfOk result (λ finding. finding.items ≡ all_findings (L.whole lookup.now) starts.now) }
 {
-    match Known::of(alloc, lookup) {
+    match CrossReferences::of(alloc, lookup) {
         Ok(known) => findings_known(alloc, known, starts),
         Err(Memory) => Err(Memory),
     }

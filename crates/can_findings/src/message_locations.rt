@@ -11,7 +11,7 @@ use crate::beginnings::{after_first, first_start, no_start, parted};
 use crate::finding::{Finding, Location};
 use crate::row_starts::{KeyedStarts, RowStart, start_in};
 use can_check::{Code, Diagnostic, Occupancy, Subject, report_message};
-use can_references::Known;
+use can_references::CrossReferences;
 use can_rows::{Index, Lookup};
 use dbc_reader::{Start, Starts};
 use dbc_records::{Message, Signal};
@@ -20,7 +20,7 @@ use std::alloc::Global;
 
 // A message, and where it and its signals begin.
 #[derive(Clone, Copy)]
-struct Begun<'m, 'l> {
+struct LocatedMessage<'m, 'l> {
     message: &'m Message,
     start: Start,
     signals: &'l [Start],
@@ -139,7 +139,7 @@ fn push_findings(
 // Adds diagnostics of a message whose signals begin there.
 fn push_found(
     findings: &mut Vec<Finding>,
-    here: &Begun<'_, '_>,
+    here: &LocatedMessage<'_, '_>,
     named: &[RowStart<'_>],
     rows: &KeyedStarts<'_>,
     found: Vec<Diagnostic>,
@@ -163,9 +163,9 @@ fn push_found(
 // Adds the diagnostics of a message. The table for overlaps is empty before and after.
 fn push_message<'a, L: Lookup>(
     findings: &mut Vec<Finding>,
-    known: &Known<'a, L>,
+    known: &CrossReferences<'a, L>,
     occupancy: Occupancy,
-    here: &Begun<'a, '_>,
+    here: &LocatedMessage<'a, '_>,
     rows: &KeyedStarts<'_>,
 ) -> Result<Occupancy, Memory>
     ensures { OnOk result (findings.new.items ≡ findings.old.items ++ map (findings_in rows.now here.now.message.now.signals
@@ -190,7 +190,7 @@ fn push_message<'a, L: Lookup>(
 /// Adds the diagnostics of messages, in order.
 pub(crate) fn push_messages<'a, L: Lookup>(
     findings: &mut Vec<Finding>,
-    known: &Known<'a, L>,
+    known: &CrossReferences<'a, L>,
     messages: &'a [Message],
     starts: &Starts,
     rows: &KeyedStarts<'_>,
@@ -204,7 +204,7 @@ pub(crate) fn push_messages<'a, L: Lookup>(
     'messages: while let [message, others @ ..] = left {
         let (signals, behind) = parted(further, message.signals.len());
         let start = first_start(heads);
-        let here = Begun {
+        let here = LocatedMessage {
             message,
             start,
             signals,

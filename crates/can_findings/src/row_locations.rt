@@ -8,7 +8,7 @@ use crate::beginnings::{after_first, first_start};
 use crate::finding::{Finding, Location};
 use can_check::Diagnostic;
 use can_keys::EntryKeys;
-use can_references::{Known, push_row};
+use can_references::{CrossReferences, push_row};
 use can_rows::Lookup;
 use dbc_reader::{Start, Starts};
 use dbc_records::{DatabaseEntry, EntryKind, EntryVisitor};
@@ -32,7 +32,7 @@ fn push_at(findings: &mut Vec<Finding>, start: Start, found: Vec<Diagnostic>) ->
 // Adds the diagnostics of an entry, given the entries before it, and adds it to those.
 fn push_row_at<'a, L: Lookup, R: DatabaseEntry>(
     findings: &mut Vec<Finding>,
-    known: &Known<'a, L>,
+    known: &CrossReferences<'a, L>,
     seen: &mut EntryKeys<'a>,
     row: &'a R,
     start: Start,
@@ -49,7 +49,7 @@ fn push_row_at<'a, L: Lookup, R: DatabaseEntry>(
 // Adds the diagnostics of entries of one kind, which begin there, given the entries before them.
 fn push_rows_at<'a, L: Lookup, R: DatabaseEntry>(
     findings: &mut Vec<Finding>,
-    known: &Known<'a, L>,
+    known: &CrossReferences<'a, L>,
     seen: &mut EntryKeys<'a>,
     rows: &'a [R],
     starts: &[Start],
@@ -69,7 +69,7 @@ fn push_rows_at<'a, L: Lookup, R: DatabaseEntry>(
 // The findings about the entries seen so far, and before them others.
 #[derive(Drop)]
 struct EntryFindings<'a, L: Lookup> {
-    known: Known<'a, L>,
+    known: CrossReferences<'a, L>,
     starts: &'a Starts,
     seen: EntryKeys<'a>,
     findings: Vec<Finding>,
@@ -108,7 +108,7 @@ impl<'a, L: Lookup> EntryVisitor<'a> for EntryFindings<'a, L> {
 #[tactic(auto, using(crate::proofs::Rows::all_added))]
 pub(crate) fn with_entry_findings<'a, L: Lookup>(
     findings: Vec<Finding>,
-    known: Known<'a, L>,
+    known: CrossReferences<'a, L>,
     starts: &'a Starts,
 ) -> Result<Vec<Finding>, Memory>
     ensures { IfOk result (λ all. all.items ≡ findings.items ++ findings_after known.entry [] (all_rows known.entry starts.now)) }

@@ -1,4 +1,4 @@
-pub mod MixedKeys
+pub mod HashedKeys
 pub mod SameKeys
 pub mod Ranks
 pub mod Runs

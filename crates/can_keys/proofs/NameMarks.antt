@@ -7,55 +7,55 @@ use Rattle.std.proofs.lemmas.Bool.{le-leb, lt-leb, false_from_ne_true}
 use Rattle.std.proofs.lemmas.List.{get_or-map, get_or_default, length-map, take-append-le}
 use Rattle.std.proofs.lemmas.List.Edits.{map_over_more}
 use Rattle.std.proofs.lemmas.Slice.Eq.{bytes_eq-Decides}
-use Rattle.can_keys.specs.Mixes.{mixed_bytes}
-use Rattle.can_keys.specs.Marks.{mixed_word, mixed_words, mixed_name, name_mark, mark_of}
+use Rattle.can_keys.specs.Hashes.{hashed_bytes}
+use Rattle.can_keys.specs.Marks.{mixed_word, hashed_words, hashed_name, name_mark, mark_of}
 use Rattle.can_keys.specs.SignalRuns.{message_number, signal_of, marked, HasMark, DifferAfter, AreSearchable}
 use Rattle.can_keys.specs.declared.numbered.Numbered.{Numbered}
 
 -- ---- numbers of names
 
-words_more : (mix : ℕ) (bytes : List ℕ) → 8 ≤ length bytes
-    → mixed_words (mixed_word mix (take 8 bytes)) (drop 8 bytes) ≡ mixed_words mix bytes
-unfolding mixed_words
-words_more mix [] long = absurd (omega arith)
-words_more mix (a ∷ []) long = absurd (omega arith)
-words_more mix (a ∷ (b ∷ [])) long = absurd (omega arith)
-words_more mix (a ∷ (b ∷ (c ∷ []))) long = absurd (omega arith)
-words_more mix (a ∷ (b ∷ (c ∷ (d ∷ [])))) long = absurd (omega arith)
-words_more mix (a ∷ (b ∷ (c ∷ (d ∷ (e ∷ []))))) long = absurd (omega arith)
-words_more mix (a ∷ (b ∷ (c ∷ (d ∷ (e ∷ (f ∷ [])))))) long = absurd (omega arith)
-words_more mix (a ∷ (b ∷ (c ∷ (d ∷ (e ∷ (f ∷ (g ∷ []))))))) long = absurd (omega arith)
-words_more mix (a ∷ (b ∷ (c ∷ (d ∷ (e ∷ (f ∷ (g ∷ (h ∷ rest)))))))) long = refl
+words_more : (hash : ℕ) (bytes : List ℕ) → 8 ≤ length bytes
+    → hashed_words (mixed_word hash (take 8 bytes)) (drop 8 bytes) ≡ hashed_words hash bytes
+unfolding hashed_words
+words_more hash [] long = absurd (omega arith)
+words_more hash (a ∷ []) long = absurd (omega arith)
+words_more hash (a ∷ (b ∷ [])) long = absurd (omega arith)
+words_more hash (a ∷ (b ∷ (c ∷ []))) long = absurd (omega arith)
+words_more hash (a ∷ (b ∷ (c ∷ (d ∷ [])))) long = absurd (omega arith)
+words_more hash (a ∷ (b ∷ (c ∷ (d ∷ (e ∷ []))))) long = absurd (omega arith)
+words_more hash (a ∷ (b ∷ (c ∷ (d ∷ (e ∷ (f ∷ [])))))) long = absurd (omega arith)
+words_more hash (a ∷ (b ∷ (c ∷ (d ∷ (e ∷ (f ∷ (g ∷ []))))))) long = absurd (omega arith)
+words_more hash (a ∷ (b ∷ (c ∷ (d ∷ (e ∷ (f ∷ (g ∷ (h ∷ rest)))))))) long = refl
 
-pub words_on : (mix next : ℕ) (bytes word behind : List ℕ) → word ≡ take 8 bytes → behind ≡ drop 8 bytes
-    → length behind + 8 ≡ length bytes → next ≡ mixed_word mix word → mixed_words next behind ≡ mixed_words mix bytes
-words_on mix next bytes word behind front rest long is =
-    ap (mixed_words next) rest ∙ ap (λ n. mixed_words n (drop 8 bytes)) (is ∙ ap (mixed_word mix) front)
-    ∙ words_more mix bytes (omega (arith, long))
+pub words_on : (hash next : ℕ) (bytes word behind : List ℕ) → word ≡ take 8 bytes → behind ≡ drop 8 bytes
+    → length behind + 8 ≡ length bytes → next ≡ mixed_word hash word → hashed_words next behind ≡ hashed_words hash bytes
+words_on hash next bytes word behind front rest long is =
+    ap (hashed_words next) rest ∙ ap (λ n. hashed_words n (drop 8 bytes)) (is ∙ ap (mixed_word hash) front)
+    ∙ words_more hash bytes (omega (arith, long))
 
-pub words_end : (mix : ℕ) (bytes : List ℕ) → length bytes < 8 → mix ≡ mixed_words mix bytes
-unfolding mixed_words
-words_end mix [] short = refl
-words_end mix (a ∷ []) short = refl
-words_end mix (a ∷ (b ∷ [])) short = refl
-words_end mix (a ∷ (b ∷ (c ∷ []))) short = refl
-words_end mix (a ∷ (b ∷ (c ∷ (d ∷ [])))) short = refl
-words_end mix (a ∷ (b ∷ (c ∷ (d ∷ (e ∷ []))))) short = refl
-words_end mix (a ∷ (b ∷ (c ∷ (d ∷ (e ∷ (f ∷ [])))))) short = refl
-words_end mix (a ∷ (b ∷ (c ∷ (d ∷ (e ∷ (f ∷ (g ∷ []))))))) short = refl
-words_end mix (a ∷ (b ∷ (c ∷ (d ∷ (e ∷ (f ∷ (g ∷ (h ∷ rest)))))))) short = absurd (omega arith)
+pub words_end : (hash : ℕ) (bytes : List ℕ) → length bytes < 8 → hash ≡ hashed_words hash bytes
+unfolding hashed_words
+words_end hash [] short = refl
+words_end hash (a ∷ []) short = refl
+words_end hash (a ∷ (b ∷ [])) short = refl
+words_end hash (a ∷ (b ∷ (c ∷ []))) short = refl
+words_end hash (a ∷ (b ∷ (c ∷ (d ∷ [])))) short = refl
+words_end hash (a ∷ (b ∷ (c ∷ (d ∷ (e ∷ []))))) short = refl
+words_end hash (a ∷ (b ∷ (c ∷ (d ∷ (e ∷ (f ∷ [])))))) short = refl
+words_end hash (a ∷ (b ∷ (c ∷ (d ∷ (e ∷ (f ∷ (g ∷ []))))))) short = refl
+words_end hash (a ∷ (b ∷ (c ∷ (d ∷ (e ∷ (f ∷ (g ∷ (h ∷ rest)))))))) short = absurd (omega arith)
 
 pub of_long : (name front last : List ℕ) (words : ℕ) → length front + 8 ≡ length name → last ≡ drop (length name - 8) name
-    → words ≡ mixed_words 0 name → mixed_word words last ≡ mixed_name name
-unfolding mixed_name
+    → words ≡ hashed_words 0 name → mixed_word words last ≡ hashed_name name
+unfolding hashed_name
 of_long name front last words long behind is =
     rw (le-leb 8 (length name) (omega (arith, long))) (ap (mixed_word words) behind
     ∙ ap (λ n. mixed_word n (drop (length name - 8) name)) is)
 
-pub of_short : (name : List ℕ) (mix : ℕ) → length name < 8 → mix ≡ mixed_bytes 0 name
-    → (mix * 11400714819323198485) % 2 ^ 64 ≡ mixed_name name
-unfolding mixed_name
-of_short name mix short is = rw (lt-leb 8 (length name) short) (ap (λ n. (n * 11400714819323198485) % 2 ^ 64) is)
+pub of_short : (name : List ℕ) (hash : ℕ) → length name < 8 → hash ≡ hashed_bytes 0 name
+    → (hash * 11400714819323198485) % 2 ^ 64 ≡ hashed_name name
+unfolding hashed_name
+of_short name hash short is = rw (lt-leb 8 (length name) short) (ap (λ n. (n * 11400714819323198485) % 2 ^ 64) is)
 
 -- ---- signals that have their marks
 

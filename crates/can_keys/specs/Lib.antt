@@ -4,4 +4,4 @@ pub mod SignalNames
 pub mod Marks
 pub mod SignalRuns
 pub mod SignalSearches
-pub mod Mixes
+pub mod Hashes

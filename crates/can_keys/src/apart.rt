@@ -4,7 +4,7 @@ ghost use Rattle.std.specs.List.{IsDistinct};
 ghost use Rattle.std.specs.List.Sorted.{IsStrictlyIncreasing};
 
 // Whether each number is below the next.
-fn rise(numbers: &[u64]) -> bool
+fn is_strictly_increasing(numbers: &[u64]) -> bool
     ensures { IsTrue result ↔ IsStrictlyIncreasing numbers.now }
 {
     let mut place = 1;
@@ -22,5 +22,5 @@ pub fn all_differ(mut numbers: Vec<u64>) -> bool
     ensures { IsTrue result ↔ IsDistinct eqb numbers.items }
 {
     numbers.sort_unstable();
-    rise(numbers.as_slice())
+    is_strictly_increasing(numbers.as_slice())
 }

@@ -4,8 +4,8 @@ ghost use Rattle.std.specs.List.{list_any};
 ghost use Rattle.dbc_records.specs.EntryKeys.{same_key};
 ghost use Rattle.dbc_records.specs.EntryKeys.{entry_key};
 
+use crate::hash::{Hashed, entry_hash};
 use crate::keys::Keys;
-use crate::mix::{Mixed, entry_mix};
 use dbc_records::EntryKeyRef;
 use dbc_values::Memory;
 use std::alloc::Global;
@@ -14,20 +14,20 @@ use std::marker::Model;
 /// Keys of entries that were added, in order.
 #[derive(Drop)]
 pub struct EntryKeys<'a> {
-    keys: Keys<Mixed<EntryKeyRef<'a>>>,
+    keys: Keys<Hashed<EntryKeyRef<'a>>>,
 }
 
 impl<'a> Model for EntryKeys<'a> {
     ghost use Rattle.std.specs.Prelude.{◌≡◌, List, All, map};
-    ghost use Rattle.can_keys.specs.Mixes.{entry_mix};
+    ghost use Rattle.can_keys.specs.Hashes.{entry_hash};
     ghost use Rattle.dbc_records.specs.declared.entry_key.EntryKey.{EntryKey};
     ghost use Rattle.dbc_records.specs.EntryKeys.{entry_key};
 
     ghost Value = { List EntryKey };
 
-    ghost view = { λ keys. map (λ mixed. entry_key mixed.key) keys.keys };
+    ghost view = { λ keys. map (λ hashed. entry_key hashed.key) keys.keys };
 
-    ghost invariant = { λ keys. All (λ mixed. mixed.mix ≡ entry_mix (entry_key mixed.key)) keys.keys };
+    ghost invariant = { λ keys. All (λ hashed. hashed.hash ≡ entry_hash (entry_key hashed.key)) keys.keys };
 }
 
 impl<'a> EntryKeys<'a> {
@@ -46,8 +46,8 @@ impl<'a> EntryKeys<'a> {
         ensures is_new { IfOk result (λ is_new. is_new ≡ not (list_any (same_key (entry_key key.entry)) self.old)) }
         ensures err { OnErr result (self.new ≡ self.old) }
     {
-        self.keys.add(Mixed {
-            mix: entry_mix(&key),
+        self.keys.add(Hashed {
+            hash: entry_hash(&key),
             key,
         })
     }

@@ -2,10 +2,10 @@
 ghost use Rattle.std.specs.Prelude.{◌≡◌, All, map, IfOk};
 ghost use Rattle.std.specs.List.{list_any};
 ghost use Rattle.std.specs.List.Sorted.{IsPermutation};
-ghost use Rattle.can_keys.specs.Mixes.{mixed_bytes};
+ghost use Rattle.can_keys.specs.Hashes.{hashed_bytes};
 ghost use Rattle.can_keys.specs.SignalNames.{same_signal, named_signal};
 
-use crate::mix::{Mixed, mixed_bytes};
+use crate::hash::{Hashed, hashed_bytes};
 use crate::sorted::Sorted;
 use dbc_values::Memory;
 use std::alloc::Global;
@@ -14,44 +14,44 @@ use std::marker::Model;
 /// Signals, in any order: the number of the message, and the signal's name. Any number of them may have the same number.
 #[derive(Drop)]
 pub(crate) struct HashedSignals<'a> {
-    keys: Sorted<Mixed<(u32, &'a [u8])>>,
+    keys: Sorted<Hashed<(u32, &'a [u8])>>,
 }
 
 impl<'a> Model for HashedSignals<'a> {
     ghost use Rattle.std.specs.Prelude.{◌≡◌, ℕ, List, All, map};
-    ghost use Rattle.can_keys.specs.Mixes.{mixed_bytes};
+    ghost use Rattle.can_keys.specs.Hashes.{hashed_bytes};
     ghost use Rattle.can_keys.specs.SignalNames.{named_signal};
 
     ghost Value = { List (ℕ × List ℕ) };
 
-    ghost view = { λ names. map (λ mixed. named_signal mixed.key) names.keys };
+    ghost view = { λ names. map (λ hashed. named_signal hashed.key) names.keys };
 
-    ghost invariant = { λ names. All (λ mixed. mixed.mix ≡ mixed_bytes mixed.key.0 mixed.key.1.now) names.keys };
+    ghost invariant = { λ names. All (λ hashed. hashed.hash ≡ hashed_bytes hashed.key.0 hashed.key.1.now) names.keys };
 }
 
 // The signal behind its number.
-fn mixed<'a>(key: (u32, &'a [u8])) -> Mixed<(u32, &'a [u8])>
+fn hashed<'a>(key: (u32, &'a [u8])) -> Hashed<(u32, &'a [u8])>
     ensures number { result.key.0 ≡ key.entry.0 }
     ensures name { result.key.1.now ≡ key.entry.1.now }
-    ensures mix { result.mix ≡ mixed_bytes key.entry.0 key.entry.1.now }
+    ensures hash { result.hash ≡ hashed_bytes key.entry.0 key.entry.1.now }
 {
-    Mixed {
-        mix: mixed_bytes(u64::from(key.0), key.1),
+    Hashed {
+        hash: hashed_bytes(u64::from(key.0), key.1),
         key,
     }
 }
 
 // The signals behind their numbers.
-fn mixed_all<'a>(
+fn hashed_all<'a>(
     alloc: Global,
     signals: &[(u32, &'a [u8])],
-) -> Result<Vec<Mixed<(u32, &'a [u8])>>, Memory>
-    ensures keys { IfOk result (λ keys. map (λ mixed. named_signal mixed.key) keys.items ≡ map named_signal signals.now) }
-    ensures mixes { IfOk result (λ keys. All (λ mixed. mixed.mix ≡ mixed_bytes mixed.key.0 mixed.key.1.now) keys.items) }
+) -> Result<Vec<Hashed<(u32, &'a [u8])>>, Memory>
+    ensures keys { IfOk result (λ keys. map (λ hashed. named_signal hashed.key) keys.items ≡ map named_signal signals.now) }
+    ensures hashes { IfOk result (λ keys. All (λ hashed. hashed.hash ≡ hashed_bytes hashed.key.0 hashed.key.1.now) keys.items) }
 {
     let mut keys = Vec::with_capacity(alloc, signals.len())?;
     for signal in signals {
-        keys.push(mixed(*signal))?;
+        keys.push(hashed(*signal))?;
     }
     Ok(keys)
 }
@@ -65,7 +65,7 @@ impl<'a> HashedSignals<'a> {
         ensures { IfOk result (λ made. IsPermutation (map named_signal signals.now) made) }
     {
         Ok(HashedSignals {
-            keys: Sorted::of(mixed_all(alloc, signals)?),
+            keys: Sorted::of(hashed_all(alloc, signals)?),
         })
     }
 
@@ -73,6 +73,6 @@ impl<'a> HashedSignals<'a> {
     pub(crate) fn has(&self, key: (u32, &'a [u8])) -> bool
         ensures { result ≡ list_any (same_signal (key.entry.0, key.entry.1.now)) self.now }
     {
-        self.keys.has(mixed(key))
+        self.keys.has(hashed(key))
     }
 }

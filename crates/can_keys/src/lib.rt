@@ -7,11 +7,11 @@
 
 mod apart;
 mod entry_keys;
+mod hash;
 mod hashed_signals;
 mod integers;
 mod keys;
 mod marks;
-mod mix;
 mod names;
 mod numbered;
 mod numbered_signals;
@@ -22,8 +22,8 @@ mod sorted;
 
 pub use apart::all_differ;
 pub use entry_keys::EntryKeys;
+pub use hash::entry_hash;
 pub use integers::Integers;
-pub use mix::entry_mix;
 pub use names::Names;
 pub use numbers::Numbers;
 pub use signal_names::SignalNames;

@@ -3,9 +3,9 @@ ghost use Rattle.std.specs.Prelude.{◌≡◌, nat_le, All, map, count_by, IfOk}
 ghost use Rattle.std.specs.List.{list_any};
 ghost use Rattle.std.specs.List.Sorted.{IsPermutation};
 ghost use Rattle.std.specs.Str.{bytes_eq};
-ghost use Rattle.can_keys.specs.Mixes.{mixed_bytes};
+ghost use Rattle.can_keys.specs.Hashes.{hashed_bytes};
 
-use crate::mix::{Mixed, mixed_bytes};
+use crate::hash::{Hashed, hashed_bytes};
 use crate::sorted::Sorted;
 use dbc_values::Memory;
 use std::alloc::Global;
@@ -14,39 +14,39 @@ use std::marker::Model;
 /// Names, in any order.
 #[derive(Drop)]
 pub struct Names<'a> {
-    keys: Sorted<Mixed<&'a [u8]>>,
+    keys: Sorted<Hashed<&'a [u8]>>,
 }
 
 impl<'a> Model for Names<'a> {
     ghost use Rattle.std.specs.Prelude.{◌≡◌, ℕ, List, All, map};
-    ghost use Rattle.can_keys.specs.Mixes.{mixed_bytes};
+    ghost use Rattle.can_keys.specs.Hashes.{hashed_bytes};
 
     ghost Value = { List (List ℕ) };
 
-    ghost view = { λ names. map (λ mixed. mixed.key.now) names.keys };
+    ghost view = { λ names. map (λ hashed. hashed.key.now) names.keys };
 
-    ghost invariant = { λ names. All (λ mixed. mixed.mix ≡ mixed_bytes 0 mixed.key.now) names.keys };
+    ghost invariant = { λ names. All (λ hashed. hashed.hash ≡ hashed_bytes 0 hashed.key.now) names.keys };
 }
 
 // The name behind its number.
-fn mixed(name: &[u8]) -> Mixed<&[u8]>
+fn hashed(name: &[u8]) -> Hashed<&[u8]>
     ensures key { result.key.now ≡ name.now }
-    ensures mix { result.mix ≡ mixed_bytes 0 name.now }
+    ensures hash { result.hash ≡ hashed_bytes 0 name.now }
 {
-    Mixed {
-        mix: mixed_bytes(0, name),
+    Hashed {
+        hash: hashed_bytes(0, name),
         key: name,
     }
 }
 
 // The names behind their numbers.
-fn mixed_all<'a>(alloc: Global, names: &[&'a [u8]]) -> Result<Vec<Mixed<&'a [u8]>>, Memory>
-    ensures keys { IfOk result (λ keys. map (λ mixed. mixed.key.now) keys.items ≡ map (λ name. name.now) names.now) }
-    ensures mixes { IfOk result (λ keys. All (λ mixed. mixed.mix ≡ mixed_bytes 0 mixed.key.now) keys.items) }
+fn hashed_all<'a>(alloc: Global, names: &[&'a [u8]]) -> Result<Vec<Hashed<&'a [u8]>>, Memory>
+    ensures keys { IfOk result (λ keys. map (λ hashed. hashed.key.now) keys.items ≡ map (λ name. name.now) names.now) }
+    ensures hashes { IfOk result (λ keys. All (λ hashed. hashed.hash ≡ hashed_bytes 0 hashed.key.now) keys.items) }
 {
     let mut keys = Vec::with_capacity(alloc, names.len())?;
     for name in names {
-        keys.push(mixed(name))?;
+        keys.push(hashed(name))?;
     }
     Ok(keys)
 }
@@ -57,7 +57,7 @@ impl<'a> Names<'a> {
         ensures { IfOk result (λ made. IsPermutation (map (λ name. name.now) names.now) made) }
     {
         Ok(Names {
-            keys: Sorted::of(mixed_all(alloc, names)?),
+            keys: Sorted::of(hashed_all(alloc, names)?),
         })
     }
 
@@ -65,13 +65,13 @@ impl<'a> Names<'a> {
     pub fn has(&self, name: &'a [u8]) -> bool
         ensures { result ≡ list_any (bytes_eq name.now) self.now }
     {
-        self.keys.has(mixed(name))
+        self.keys.has(hashed(name))
     }
 
     /// Whether the name is among them at least twice.
     pub fn is_shared(&self, name: &'a [u8]) -> bool
         ensures { result ≡ nat_le 2 (count_by (bytes_eq name.now) self.now) }
     {
-        self.keys.is_shared(mixed(name))
+        self.keys.is_shared(hashed(name))
     }
 }

@@ -14,8 +14,8 @@ use Rattle.can_layout.specs.Plans.{chain_of, row_of, plan_rows, is_met, are_met,
 use Rattle.can_layout.specs.Presence.{link_of, chain_at, AreChained, ArePlain, is_top, are_plain}
 use Rattle.can_mux.specs.Switches.{above_of, aboves_of}
 use Rattle.can_mux.specs.Walks.{above_or_missing, above_at, with_link, walk_above, walk_up, walk_of, links_in}
-use Rattle.can_mux.specs.declared.above.Above.{Above}
-use Rattle.can_mux.specs.declared.above.Above.TheVariants.{Nothing, Missing, Switch}
+use Rattle.can_mux.specs.declared.mux_parent.MuxParent.{MuxParent}
+use Rattle.can_mux.specs.declared.mux_parent.MuxParent.TheVariants.{Nothing, Missing, Switch}
 use Rattle.can_layout.specs.declared.row.Row.{Row}
 use Rattle.can_mux.specs.declared.walk.Walk.{Walk}
 use Rattle.can_mux.specs.declared.walk.Walk.TheVariants.{Chain, Absent, Loop}
@@ -52,9 +52,9 @@ module _ (bytes : List ℕ) (rows : List Row) where
   asks_met = record { top = refl; missing = refl; loop = refl; link = met_by_link }
 
 -- one turn of the code
-module _ (asked : Walk → Bool) (met : Link → Bool) (asks : IsAsked asked met) (aboves : List Above) (n place : ℕ) (answer : Bool)
+module _ (asked : Walk → Bool) (met : Link → Bool) (asks : IsAsked asked met) (aboves : List MuxParent) (n place : ℕ) (answer : Bool)
     (so_far : answer ≡ asked (walk_up n aboves place)) where
-  turn : (above : Above) → 0 < n → above_at aboves place ≡ above → answer ≡ asked (walk_above above (walk_up (n - 1) aboves))
+  turn : (above : MuxParent) → 0 < n → above_at aboves place ≡ above → answer ≡ asked (walk_above above (walk_up (n - 1) aboves))
   turn above some is =
       so_far ∙ ap asked (walk_step aboves n place some) ∙ ap (λ above. asked (walk_above above (walk_up (n - 1) aboves))) is
 
@@ -81,7 +81,7 @@ module _ (asked : Walk → Bool) (met : Link → Bool) (asks : IsAsked asked met
 -- ---- whole ways
 
 -- the way from a signal, by what stands above it
-pub way : (aboves : List Above) (place : ℕ) (above : Above) → above_at aboves place ≡ above
+pub way : (aboves : List MuxParent) (place : ℕ) (above : MuxParent) → above_at aboves place ≡ above
     → walk_of aboves place ≡ walk_above above (walk_up (length aboves) aboves)
 way aboves place above is =
     let less : length aboves + 1 - 1 ≡ length aboves = omega arith in
@@ -89,7 +89,7 @@ way aboves place above is =
     ∙ ap (λ above. walk_above above (walk_up (length aboves + 1 - 1) aboves)) is
     ∙ ap (λ (n : ℕ). walk_above above (walk_up n aboves)) less
 
-module _ (aboves : List Above) (place : ℕ) (links : List Link) (chain : walk_of aboves place ≡ Chain links) where
+module _ (aboves : List MuxParent) (place : ℕ) (links : List Link) (chain : walk_of aboves place ≡ Chain links) where
   same_links : (walk : Walk) (others : List Link) → walk ≡ Chain others → walk ≡ Chain links → links ≡ others
   same_links walk others is so = sym (ap links_in so) ∙ ap links_in is
 
@@ -130,19 +130,19 @@ module _ (aboves : List Above) (place : ℕ) (links : List Link) (chain : walk_o
   pub next_links : (link : Link) → above_at aboves place ≡ Switch link → links ≡ link ∷ links_in (walk_of aboves link.switch)
   next_links link is = begins link is (walk_of aboves link.switch) refl
 
-abbrev switch_or : Link → Option Link → Above
+abbrev switch_or : Link → Option Link → MuxParent
 switch_or other None = Switch other
 switch_or other (Some link) = Switch link
 
 -- a link that stands above a signal is that of a switch
-pub above_of_link : (above : Above) (link : Link) → link_of above ≡ Some link → above ≡ Switch link
+pub above_of_link : (above : MuxParent) (link : Link) → link_of above ≡ Some link → above ≡ Switch link
 above_of_link Nothing link is = absurd (let no : None ≡ Some link = is in cc)
 above_of_link Missing link is = absurd (let no : None ≡ Some link = is in cc)
 above_of_link (Switch other) link is = ap (λ found. switch_or other found) is
 
 -- ---- the rows of a plan
 
-module _ (rows : SignalRows) (aboves : List Above) (size : ℕ) where
+module _ (rows : SignalRows) (aboves : List MuxParent) (size : ℕ) where
   abbrev row_at : ℕ × Signal → Row
   row_at placed = row_of rows aboves size placed.0 placed.1
 
@@ -176,11 +176,11 @@ module _ (rows : SignalRows) (aboves : List Above) (size : ℕ) where
       (cases_lt place (length signals))
 
 -- the rows of a plan are chained by what is above the signals
-pub plan_chained : (rows : SignalRows) (size : ℕ) (signals : List Signal) (aboves : List Above) (made : List Row)
+pub plan_chained : (rows : SignalRows) (size : ℕ) (signals : List Signal) (aboves : List MuxParent) (made : List Row)
     → aboves ≡ aboves_of rows signals → made ≡ plan_rows rows aboves size signals → AreChained made aboves
 plan_chained rows size signals aboves made above is =
     let as_many : length aboves ≡ length signals =
-    ap (λ (aboves : List Above). length aboves) above ∙ length-map signals (above_of rows signals) in
+    ap (λ (aboves : List MuxParent). length aboves) above ∙ length-map signals (above_of rows signals) in
     subst (λ made. AreChained made aboves) (sym is) (are_chained rows aboves size signals as_many)
 
 -- whether a signal is there is whether its way is met
@@ -194,7 +194,7 @@ present_by_chain bytes rows place =
     ]
 
 -- a signal under a switch is there where its link is met and its switch is there
-pub present_under : (bytes : List ℕ) (rows : List Row) (aboves : List Above) → AreChained rows aboves → (place : ℕ) (link : Link)
+pub present_under : (bytes : List ℕ) (rows : List Row) (aboves : List MuxParent) → AreChained rows aboves → (place : ℕ) (link : Link)
     → above_at aboves place ≡ Switch link
     → is_present bytes rows (slice_get rows place)
     ≡ (is_met bytes rows link && is_present bytes rows (slice_get rows link.switch))

@@ -5,7 +5,7 @@ use Rattle.std.proofs.lemmas.Simd.{map-map}
 use Rattle.std.proofs.lemmas.List.Folds.{flat_map-map}
 use Rattle.dbc_records.specs.Records.{Signal}
 use Rattle.can_rows.specs.Rows.{SignalRows}
-use Rattle.can_mux.specs.declared.above.Above.{Above}
+use Rattle.can_mux.specs.declared.mux_parent.MuxParent.{MuxParent}
 use Rattle.can_layout.specs.Plans.{plan_rows}
 use Rattle.can_layout.specs.Pictures.{legend_text}
 use Rattle.can_layout.specs.Layouts.{SignalLayout, layout_of, row_by, legend_by}
@@ -17,7 +17,7 @@ placed_map : {X Y : Type 0} (f : X → Y) (i : ℕ) (xs : List X)
 placed_map f i [] = refl
 placed_map f i (x ∷ xs) = ap (λ more. (i, f x) ∷ more) (placed_map f (i + 1) xs)
 
-module _ (rows : SignalRows) (aboves : List Above) (size : ℕ) (signals : List Signal) where
+module _ (rows : SignalRows) (aboves : List MuxParent) (size : ℕ) (signals : List Signal) where
   abbrev placed : ℕ × Signal → ℕ × SignalLayout
   placed it = (it.0, layout_of rows size it.1)
 

@@ -6,8 +6,8 @@ use Rattle.std.proofs.lemmas.Bool.{cases_lt}
 use Rattle.std.proofs.lemmas.Option.{slice_get-get_or}
 use Rattle.can_mux.specs.Links.{Link}
 use Rattle.can_mux.specs.Walks.{above_at, with_link, walk_above, walk_up, walk_of}
-use Rattle.can_mux.specs.declared.above.Above.{Above}
-use Rattle.can_mux.specs.declared.above.Above.TheVariants.{Nothing, Missing, Switch}
+use Rattle.can_mux.specs.declared.mux_parent.MuxParent.{MuxParent}
+use Rattle.can_mux.specs.declared.mux_parent.MuxParent.TheVariants.{Nothing, Missing, Switch}
 use Rattle.can_mux.specs.declared.walk.Walk.{Walk}
 use Rattle.can_mux.specs.declared.walk.Walk.TheVariants.{Chain, Absent, Loop}
 use Rattle.can_mux.proofs.WalkLaws.{further}
@@ -48,16 +48,16 @@ longest_of_other told other from back agree again count place end longest = reco
 -- ---- chains and what is above signals
 
 -- the chain of a signal, by what is above it
-abbrev chain_by : List Above → Above → Option (List Link)
+abbrev chain_by : List MuxParent → MuxParent → Option (List Link)
 chain_by aboves above = chain_of (walk_above above (walk_up (length aboves) aboves))
 
 -- what is above a signal, by its chain
-abbrev above_by : Option (List Link) → Above
+abbrev above_by : Option (List Link) → MuxParent
 above_by None = Missing
 above_by (Some []) = Nothing
 above_by (Some (link ∷ links)) = Switch link
 
-module _ (rows : List Row) (aboves : List Above) (chained : AreChained rows aboves) (place : ℕ) where
+module _ (rows : List Row) (aboves : List MuxParent) (chained : AreChained rows aboves) (place : ℕ) where
   pub chain_by_parent : chain_at rows place ≡ chain_by aboves (parent_at rows aboves place)
   chain_by_parent =
       elim (chain_at rows place) as (λ chain. chain_at rows place ≡ chain
@@ -72,7 +72,7 @@ module _ (rows : List Row) (aboves : List Above) (chained : AreChained rows abov
   above_of_walk links link (Absent own) is = absurd (let no : None ≡ Some links = is in cc)
   above_of_walk links link Loop is = absurd (let no : None ≡ Some links = is in cc)
 
-  above_of_chain : (links : List Link) → chain_at rows place ≡ Some links → (above : Above) → above_at aboves place ≡ above
+  above_of_chain : (links : List Link) → chain_at rows place ≡ Some links → (above : MuxParent) → above_at aboves place ≡ above
       → above ≡ above_by (chain_at rows place)
   above_of_chain links is Nothing so = sym (ap above_by (chained place ∙ ap chain_of (way aboves place Nothing so)))
   above_of_chain links is Missing so = sym (ap above_by (chained place ∙ ap chain_of (way aboves place Missing so)))
@@ -90,7 +90,7 @@ module _ (rows : List Row) (aboves : List Above) (chained : AreChained rows abov
       ] refl
 
 -- signals with the same parent multiplexor have the same chain, and no others
-pub chained_run : (rows : List Row) (aboves : List Above) → AreChained rows aboves → (count place end : ℕ)
+pub chained_run : (rows : List Row) (aboves : List MuxParent) → AreChained rows aboves → (count place end : ℕ)
     → IsLongestRun (parent_at rows aboves) count place end → IsLongestRun (chain_at rows) count place end
 chained_run rows aboves chained count place end longest =
     longest_of_other (parent_at rows aboves) (chain_at rows) (chain_by aboves) above_by (chain_by_parent rows aboves chained)

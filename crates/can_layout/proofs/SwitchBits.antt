@@ -9,8 +9,8 @@ use Rattle.can_bits.specs.Bits.{unsigned_raw}
 use Rattle.can_mux.specs.Links.{Link}
 use Rattle.dbc_records.specs.Ranges.{in_range}
 use Rattle.can_mux.specs.Walks.{above_at}
-use Rattle.can_mux.specs.declared.above.Above.{Above}
-use Rattle.can_mux.specs.declared.above.Above.TheVariants.{Nothing, Missing, Switch}
+use Rattle.can_mux.specs.declared.mux_parent.MuxParent.{MuxParent}
+use Rattle.can_mux.specs.declared.mux_parent.MuxParent.TheVariants.{Nothing, Missing, Switch}
 use Rattle.can_layout.specs.declared.row.Reading.{Reading}
 use Rattle.can_layout.specs.declared.row.Reading.TheVariants.{Refused, Read}
 use Rattle.can_layout.specs.declared.row.Row.{Row}
@@ -44,15 +44,15 @@ module _ (bytes : List ℕ) (ranges : List Range) where
   by_row rows (Some row) = by_parts (is_whole bytes row) (are_met bytes rows row.chain) row.reading
 
 -- a signal under a switch is there where a range has the raw bits of the switch
-pub present_by_raw : (bytes : List ℕ) (rows : List Row) (aboves : List Above) → AreChained rows aboves → (place : ℕ) (link : Link)
+pub present_by_raw : (bytes : List ℕ) (rows : List Row) (aboves : List MuxParent) → AreChained rows aboves → (place : ℕ) (link : Link)
     → above_at aboves place ≡ Switch link
     → is_present bytes rows (slice_get rows place) ≡ is_among link.ranges (switch_raw bytes rows (slice_get rows link.switch))
 present_by_raw bytes rows aboves chained place link is =
     present_under bytes rows aboves chained place link is ∙ by_row bytes link.ranges rows (slice_get rows link.switch)
 
 -- whether a signal is there, by what is above it where it has a chain
-module _ (bytes : List ℕ) (rows : List Row) (aboves : List Above) (chained : AreChained rows aboves) (place : ℕ) where
-  by_above : (above : Above) → above_at aboves place ≡ above
+module _ (bytes : List ℕ) (rows : List Row) (aboves : List MuxParent) (chained : AreChained rows aboves) (place : ℕ) where
+  by_above : (above : MuxParent) → above_at aboves place ≡ above
       → is_present bytes rows (slice_get rows place) ≡ there_by bytes rows above
   by_above Nothing is =
       present_by_chain bytes rows place ∙ ap (are_met bytes rows) (chained place ∙ ap chain_of (way aboves place Nothing is))

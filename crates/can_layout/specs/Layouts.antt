@@ -6,7 +6,7 @@ use Rattle.can_bits.specs.Bits.{field_of}
 use Rattle.can_rows.specs.Rows.{SignalRows}
 use Rattle.can_mux.specs.Walks.{walk_of}
 use Rattle.can_mux.specs.Switches.{aboves_of}
-use Rattle.can_mux.specs.declared.above.Above.{Above}
+use Rattle.can_mux.specs.declared.mux_parent.MuxParent.{MuxParent}
 use Rattle.can_layout.specs.Plans.{cause_of, chain_of, reading_unless}
 use Rattle.can_layout.specs.Pictures.{legend_line}
 use Rattle.can_layout.specs.declared.refusal.Cause.{Cause}
@@ -31,12 +31,12 @@ pub record Layout : Type 0 where
   pub message : Message
 
 -- what is kept of it
-abbrev pub IsLayout : Layout → List Above → List SignalLayout → Type 0
+abbrev pub IsLayout : Layout → List MuxParent → List SignalLayout → Type 0
 IsLayout layout aboves signals = (aboves ≡ aboves_of layout.rows layout.message.signals)
     × (signals ≡ map (layout_of layout.rows layout.message.head.size) layout.message.signals)
 
 -- the row of the signal at a place
-abbrev pub row_by : SignalRows → List Above → ℕ → SignalLayout → Row
+abbrev pub row_by : SignalRows → List MuxParent → ℕ → SignalLayout → Row
 row_by rows aboves place layout =
     record {
       name = layout.signal.name;
@@ -46,5 +46,5 @@ row_by rows aboves place layout =
     }
 
 -- its line of the legend
-abbrev pub legend_by : List Signal → List Above → ℕ → SignalLayout → List ℕ
+abbrev pub legend_by : List Signal → List MuxParent → ℕ → SignalLayout → List ℕ
 legend_by signals aboves place layout = legend_line signals place layout.signal layout.cause (walk_of aboves place)

@@ -12,7 +12,7 @@ use Rattle.can_mux.specs.Links.{Link}
 use Rattle.can_mux.specs.Walks.{walk_of}
 use Rattle.can_mux.specs.Switches.{aboves_of}
 use Rattle.can_layout.specs.Plans.{cause_of}
-use Rattle.can_mux.specs.declared.above.Above.{Above}
+use Rattle.can_mux.specs.declared.mux_parent.MuxParent.{MuxParent}
 use Rattle.can_layout.specs.declared.refusal.Cause.{Cause}
 use Rattle.can_layout.specs.declared.refusal.Cause.TheVariants as causes
 use Rattle.can_mux.specs.declared.walk.Walk.{Walk}
@@ -78,7 +78,7 @@ legend_line signals place signal cause walk = signal_text place signal
     ++ (cause_text cause ++ (walk_text signals walk ++ codes "\n"))
 
 -- a line for each signal, where `aboves` stand above the signals
-abbrev pub legend_text : SignalRows → List Above → ℕ → List Signal → List ℕ
+abbrev pub legend_text : SignalRows → List MuxParent → ℕ → List Signal → List ℕ
 legend_text rows aboves size signals =
     flat_map (λ placed. legend_line signals placed.0 placed.1 (cause_of rows size placed.1) (walk_of aboves placed.0))
     (enumerate_from 0 signals)

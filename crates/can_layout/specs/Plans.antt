@@ -17,7 +17,7 @@ use Rattle.can_mux.specs.Links.{Link}
 use Rattle.dbc_records.specs.Ranges.{in_range}
 use Rattle.can_mux.specs.Walks.{walk_of}
 use Rattle.can_mux.specs.Switches.{aboves_of}
-use Rattle.can_mux.specs.declared.above.Above.{Above}
+use Rattle.can_mux.specs.declared.mux_parent.MuxParent.{MuxParent}
 use Rattle.can_layout.specs.declared.refusal.Cause.{Cause}
 use Rattle.can_layout.specs.declared.refusal.Cause.TheVariants as causes
 use Rattle.can_layout.specs.declared.row.Reading.{Reading}
@@ -60,7 +60,7 @@ chain_of (walks.Absent own) = None
 chain_of walks.Loop = None
 
 -- the row of the signal at a place, where `aboves` stand above the signals of its message
-abbrev pub row_of : SignalRows → List Above → ℕ → ℕ → Signal → Row
+abbrev pub row_of : SignalRows → List MuxParent → ℕ → ℕ → Signal → Row
 row_of rows aboves size place signal =
     record {
       name = signal.name;
@@ -70,7 +70,7 @@ row_of rows aboves size place signal =
     }
 
 -- a row for each signal, in order
-abbrev pub plan_rows : SignalRows → List Above → ℕ → List Signal → List Row
+abbrev pub plan_rows : SignalRows → List MuxParent → ℕ → List Signal → List Row
 plan_rows rows aboves size signals = map (λ placed. row_of rows aboves size placed.0 placed.1) (enumerate_from 0 signals)
 
 pub record Plan : Type 0 where

@@ -9,8 +9,8 @@ use Rattle.can_mux.specs.Links.{Link}
 use Rattle.dbc_records.specs.Ranges.{in_range}
 use Rattle.can_mux.specs.Walks.{walk_of, above_at}
 use Rattle.can_layout.specs.Plans.{chain_of, is_present, is_whole}
-use Rattle.can_mux.specs.declared.above.Above.{Above}
-use Rattle.can_mux.specs.declared.above.Above.TheVariants.{Nothing, Missing, Switch}
+use Rattle.can_mux.specs.declared.mux_parent.MuxParent.{MuxParent}
+use Rattle.can_mux.specs.declared.mux_parent.MuxParent.TheVariants.{Nothing, Missing, Switch}
 use Rattle.can_layout.specs.declared.row.Reading.{Reading}
 use Rattle.can_layout.specs.declared.row.Reading.TheVariants.{Refused, Read}
 use Rattle.can_layout.specs.declared.asked.Asked.{Asked}
@@ -19,7 +19,7 @@ use Rattle.can_layout.specs.declared.row.Row.{Row}
 use Rattle.can_layout.specs.declared.runs.Run.{Run}
 
 -- the link that stands above a signal
-abbrev pub link_of : Above → Option Link
+abbrev pub link_of : MuxParent → Option Link
 link_of Nothing = None
 link_of Missing = None
 link_of (Switch link) = Some link
@@ -29,7 +29,7 @@ abbrev pub chain_at : List Row → ℕ → Option (List Link)
 chain_at rows place = option_and_then (λ row. row.chain) (slice_get rows place)
 
 -- these stand above the signals of the rows
-abbrev pub AreChained : List Row → List Above → Type 0
+abbrev pub AreChained : List Row → List MuxParent → Type 0
 AreChained rows aboves = (place : ℕ) → chain_at rows place ≡ chain_of (walk_of aboves place)
 
 -- no row has a switch above it
@@ -58,7 +58,7 @@ pub record IsLongestRun {X : Type 0} (told : ℕ → X) (count place end : ℕ) 
   pub last : end < count → told end ≢ told place
 
 -- what is above the signal at a place, if it has a chain
-abbrev pub parent_at : List Row → List Above → ℕ → Above
+abbrev pub parent_at : List Row → List MuxParent → ℕ → MuxParent
 parent_at rows aboves place = if is_some (chain_at rows place) then above_at aboves place else Missing
 
 abbrev pub known_at : List (Option Bool) → ℕ → Option Bool
@@ -85,7 +85,7 @@ is_among ranges None = false
 is_among ranges (Some raw) = list_any (in_range raw) ranges
 
 -- whether a signal is there, by what is above it where it has a chain
-abbrev pub there_by : List ℕ → List Row → Above → Bool
+abbrev pub there_by : List ℕ → List Row → MuxParent → Bool
 there_by bytes rows Nothing = true
 there_by bytes rows Missing = false
 there_by bytes rows (Switch link) = is_among link.ranges (switch_raw bytes rows (slice_get rows link.switch))

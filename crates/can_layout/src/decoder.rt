@@ -8,7 +8,7 @@ use crate::naming::ready_unit;
 use can_bits::{Field, Steps};
 use dbc_records::{Entry, Signal};
 use dbc_values::{Copied, Memory, Scale, Text};
-use ready_texts::{Draft, ReadyText};
+use ready_texts::{ReadyText, TextBuffer};
 use std::marker::Model;
 use std::rc::Rc;
 
@@ -56,7 +56,7 @@ impl Model for Decoder {
 impl Decoder {
     /// How the values of a signal are read, by a scale for as many bits and by its named values. Its texts are made in the draft.
     pub(crate) fn of(
-        draft: &mut Draft,
+        buffer: &mut TextBuffer,
         signal: &Signal,
         scale: Scale,
         named: Option<Rc<Named>>,
@@ -70,9 +70,9 @@ impl Decoder {
           entries = entries_in (option_map (λ one. one.value) named);
         }) }
     {
-        let bits = Steps::of(draft.allocator(), Field::of(signal));
+        let bits = Steps::of(buffer.allocator(), Field::of(signal));
         let unit = signal.unit.copy()?;
-        let unit_text = ready_unit(draft, unit.as_bytes())?;
+        let unit_text = ready_unit(buffer, unit.as_bytes())?;
         Ok(Decoder {
             named,
             signed: signal.signed,
@@ -101,11 +101,11 @@ impl Decoder {
     }
 
     /// The name of a raw value, or that it has none, if that is kept ready. Else it has to be looked for among the entries.
-    pub fn kept_name(&self, raw: i128) -> Option<Option<&ReadyText>>
+    pub fn cached_name(&self, raw: i128) -> Option<Option<&ReadyText>>
         ensures { IfSome result (λ name. option_map (λ ready. ready.now) name ≡ name_of raw self.now.entries) }
     {
         match &self.named {
-            Some(named) => named.as_ref().kept_name(raw),
+            Some(named) => named.as_ref().cached_name(raw),
             None => Some(None),
         }
     }

@@ -16,7 +16,7 @@ use std::alloc::Global;
 use std::collections::BTreeMap;
 
 // At most so many entries are gone through.
-const FEW: usize = 16;
+const LINEAR_SEARCH_LIMIT: usize = 16;
 
 // For each number the place of the first entry that has it.
 type Places = BTreeMap<i128, usize>;
@@ -56,7 +56,7 @@ pub(crate) fn search_of_many(
 ) -> Result<Option<EntrySearch>, Memory>
     ensures { IfOk result (λ search. IfSome search (λ search. IsEntrySearch search entries.now)) }
 {
-    if entries.as_slice().len() <= FEW {
+    if entries.as_slice().len() <= LINEAR_SEARCH_LIMIT {
         return Ok(None);
     }
     if let Some(order) = entries.order() {

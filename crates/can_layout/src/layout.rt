@@ -6,7 +6,7 @@ ghost use Rattle.can_layout.specs.Layouts.{layout_of};
 
 use crate::refusal::{Cause, scale_of};
 use crate::sharing::{PlanRows, Sharing};
-use can_mux::{Above, MessageRows, aboves_of};
+use can_mux::{MessageRows, MuxParent, aboves_of};
 use can_rows::Lookup;
 use dbc_records::{Message, Signal};
 use dbc_values::{List, Memory, Scale};
@@ -86,7 +86,7 @@ fn signals_of<'a, L: Lookup>(
 pub(crate) struct Layout<'a, L: Lookup> {
     rows: PlanRows<'a, L>,
     message: &'a Message,
-    aboves: Rc<List<Above>>,
+    aboves: Rc<List<MuxParent>>,
     signals: Vec<SignalLayout<'a>>,
 }
 
@@ -140,14 +140,14 @@ impl<'a, L: Lookup> Layout<'a, L> {
     }
 
     /// What stands above each of its signals.
-    pub(crate) fn aboves(&self) -> &[Above]
+    pub(crate) fn aboves(&self) -> &[MuxParent]
         ensures { result.now ≡ aboves_of self.now.rows self.now.message.signals }
     {
         self.aboves.as_ref().as_slice()
     }
 
     /// The same, shared.
-    pub(crate) fn shared_aboves(&self) -> Result<Rc<List<Above>>, Memory>
+    pub(crate) fn shared_aboves(&self) -> Result<Rc<List<MuxParent>>, Memory>
         ensures { IfOk result (λ aboves. aboves.value ≡ aboves_of self.now.rows self.now.message.signals) }
     {
         let aboves = self.aboves.clone()?;

@@ -9,7 +9,7 @@ ghost use Rattle.can_layout.specs.Layouts.{legend_by};
 use crate::layout::{Layout, SignalLayout};
 use crate::text::{push_bytes, push_cause, push_span, push_title, push_walk};
 use can_bits::{fields_of, push_grid, push_right};
-use can_mux::{Above, Walk, walk_of};
+use can_mux::{MuxParent, Walk, walk_of};
 use can_rows::Lookup;
 use dbc_records::{Message, Signal};
 use dbc_values::Memory;
@@ -58,7 +58,7 @@ fn push_legend_line(
 fn push_lines(
     text: &mut Vec<u8>,
     signals: &[Signal],
-    aboves: &[Above],
+    aboves: &[MuxParent],
     layouts: &[SignalLayout<'_>],
 ) -> Result<(), Memory>
     ensures { OnOk result (text.new.items ≡ text.old.items ++ flat_map (λ placed. legend_by signals.now aboves.now placed.0

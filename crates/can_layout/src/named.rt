@@ -6,7 +6,7 @@ use crate::entries::{EntrySearch, entry_of, search_of_many};
 use crate::naming::ready_names;
 use dbc_records::{Entries, Entry};
 use dbc_values::Memory;
-use ready_texts::{Draft, ReadyText};
+use ready_texts::{ReadyText, TextBuffer};
 use std::marker::Model;
 
 /// The named values of a signal, found by their raw values.
@@ -34,11 +34,11 @@ impl Model for Named {
 
 impl Named {
     /// These named values. Their texts are made in the draft.
-    pub(crate) fn of(draft: &mut Draft, entries: Entries) -> Result<Named, Memory>
+    pub(crate) fn of(buffer: &mut TextBuffer, entries: Entries) -> Result<Named, Memory>
         ensures { IfOk result (λ named. named ≡ entries) }
     {
-        let search = search_of_many(draft.allocator(), &entries)?;
-        let names = ready_names(draft, &search, entries.as_slice())?;
+        let search = search_of_many(buffer.allocator(), &entries)?;
+        let names = ready_names(buffer, &search, entries.as_slice())?;
         Ok(Named {
             names,
             entries,
@@ -54,7 +54,7 @@ impl Named {
     }
 
     /// The name of a raw value, or that it has none, if that is kept ready. Else it has to be looked for among the entries.
-    pub(crate) fn kept_name(&self, raw: i128) -> Option<Option<&ReadyText>>
+    pub(crate) fn cached_name(&self, raw: i128) -> Option<Option<&ReadyText>>
         ensures { IfSome result (λ name. option_map (λ ready. ready.now) name ≡ name_of raw self.now) }
     {
         let Ok(place) = usize::try_from(raw) else {

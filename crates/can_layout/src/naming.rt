@@ -6,14 +6,14 @@ ghost use Rattle.can_layout.specs.Searches.{IsEntrySearch};
 use crate::entries::{EntrySearch, entry_of};
 use dbc_records::Entry;
 use dbc_values::Memory;
-use ready_texts::{Draft, ReadyText, push_bytes, push_shown};
+use ready_texts::{ReadyText, TextBuffer, push_bytes, push_shown};
 
 // At most so many raw values have their names kept ready.
 const MOST: usize = 64;
 
 // A blank and a unit, where there is one.
 #[tactic(auto, using(crate::proofs::Pushing::pushed_then))]
-fn push_unit(text: &mut Draft, unit: &[u8]) -> Result<(), Memory>
+fn push_unit(text: &mut TextBuffer, unit: &[u8]) -> Result<(), Memory>
     ensures { OnOk result (text.new.items ≡ text.old.items ++ unit_text unit.now) }
 {
     match unit {
@@ -26,12 +26,12 @@ fn push_unit(text: &mut Draft, unit: &[u8]) -> Result<(), Memory>
 }
 
 /// What is written of a unit, kept ready.
-pub(crate) fn ready_unit(draft: &mut Draft, unit: &[u8]) -> Result<ReadyText, Memory>
+pub(crate) fn ready_unit(buffer: &mut TextBuffer, unit: &[u8]) -> Result<ReadyText, Memory>
     ensures { IfOk result (λ ready. ready ≡ unit_text unit.now) }
 {
-    draft.clear();
-    push_unit(draft, unit)?;
-    ReadyText::of(draft.allocator(), draft.as_slice())
+    buffer.clear();
+    push_unit(buffer, unit)?;
+    ReadyText::of(buffer.allocator(), buffer.as_slice())
 }
 
 /// The first entry for a raw value.
@@ -48,7 +48,7 @@ pub fn first_entry(entries: &[Entry], raw: i128) -> Option<&Entry>
 
 // The name of a raw value, kept ready.
 fn ready_name(
-    draft: &mut Draft,
+    buffer: &mut TextBuffer,
     search: &Option<EntrySearch>,
     entries: &[Entry],
     raw: i128,
@@ -59,15 +59,15 @@ fn ready_name(
     let Some(entry) = entry_of(search, entries, raw) else {
         return Ok(None);
     };
-    draft.clear();
-    push_shown(draft, entry.text.as_bytes())?;
-    let ready = ReadyText::of(draft.allocator(), draft.as_slice())?;
+    buffer.clear();
+    push_shown(buffer, entry.text.as_bytes())?;
+    let ready = ReadyText::of(buffer.allocator(), buffer.as_slice())?;
     Ok(Some(ready))
 }
 
 /// The names of the first raw values, kept ready. There are as many of them as entries, but not more than a few.
 pub(crate) fn ready_names(
-    draft: &mut Draft,
+    buffer: &mut TextBuffer,
     search: &Option<EntrySearch>,
     entries: &[Entry],
 ) -> Result<Vec<Option<ReadyText>>, Memory>
@@ -75,9 +75,9 @@ pub(crate) fn ready_names(
     ensures { IfOk result (λ names. AreNames entries.now names.items) }
 {
     let count = entries.len().min(MOST);
-    let mut names = Vec::with_capacity(draft.allocator(), count)?;
+    let mut names = Vec::with_capacity(buffer.allocator(), count)?;
     for raw in 0..count as u8 {
-        names.push(ready_name(draft, search, entries, i128::from(raw))?)?;
+        names.push(ready_name(buffer, search, entries, i128::from(raw))?)?;
     }
     Ok(names)
 }

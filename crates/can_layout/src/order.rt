@@ -1,7 +1,7 @@
 //! In which order the runs of a message are looked for in data.
 
 use crate::runs::Run;
-use can_mux::Above;
+use can_mux::MuxParent;
 use dbc_values::Memory;
 use std::alloc::Global;
 
@@ -20,8 +20,8 @@ struct Under {
 // Whether the parent multiplexor of a signal has one itself.
 fn is_deep(runs: &[Run], run: &Run) -> bool {
     match &run.parent {
-        Above::Switch(link) => match runs.get(link.switch) {
-            Some(parent) => matches!(parent.parent, Above::Switch(_)),
+        MuxParent::Switch(link) => match runs.get(link.switch) {
+            Some(parent) => matches!(parent.parent, MuxParent::Switch(_)),
             None => false,
         },
         _ => false,
@@ -47,7 +47,7 @@ fn under_of(alloc: Global, runs: &[Run]) -> Result<Vec<Under>, Memory> {
     for passed in 0..runs.len() {
         let place = runs.len() - 1 - passed;
         let run = &runs[place];
-        if let Above::Switch(link) = &run.parent {
+        if let MuxParent::Switch(link) = &run.parent {
             if run.first == place {
                 put_under(&mut under, place, link.switch);
             }
@@ -96,7 +96,7 @@ fn push_under(
 // Adds the runs that have runs under them, each after the run of its parent multiplexor.
 fn push_parents(order: &mut Vec<usize>, runs: &[Run], under: &[Under]) -> Result<(), Memory> {
     for (signal, run) in runs.iter().enumerate() {
-        if matches!(run.parent, Above::Nothing) {
+        if matches!(run.parent, MuxParent::Nothing) {
             push_under(order, runs, under, signal, true)?;
         }
     }
@@ -152,7 +152,7 @@ const SEEN: usize = usize::MAX - 1;
 // The multiplexor of a run that begins at an index.
 fn switch_of(run: &Run, place: usize) -> Option<usize> {
     match &run.parent {
-        Above::Switch(link) if run.first == place => Some(link.switch),
+        MuxParent::Switch(link) if run.first == place => Some(link.switch),
         _ => None,
     }
 }

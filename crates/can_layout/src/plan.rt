@@ -9,7 +9,7 @@ ghost use Rattle.can_layout.specs.declared.runs.Run.{Run as PlainRun};
 ghost use Rattle.std.specs.List.{list_any, enumerate_from};
 ghost use Rattle.dbc_records.specs.Ranges.{in_range};
 ghost use Rattle.can_mux.specs.Walks.{walk_of};
-ghost use Rattle.can_mux.specs.declared.above.Above.{Above as PlainAbove};
+ghost use Rattle.can_mux.specs.declared.mux_parent.MuxParent.{MuxParent as PlainAbove};
 
 use crate::asked::{Asked, MAX_KEPT, Switches};
 use crate::decoder::Decoder;
@@ -21,11 +21,11 @@ use crate::runs::{Run, runs_of};
 use crate::sharing::PlanRows;
 use crate::switch_chain::Chain;
 use can_bits::Field;
-use can_mux::{Above, Link, above_at};
+use can_mux::{Link, MuxParent, above_at};
 use can_rows::Lookup;
 use dbc_records::Range;
 use dbc_values::{Copied, List, Memory};
-use ready_texts::{Draft, ReadyText, push_bytes};
+use ready_texts::{ReadyText, TextBuffer, push_bytes};
 use std::alloc::Global;
 use std::marker::Model;
 use std::rc::Rc;
@@ -38,7 +38,7 @@ pub struct Plan {
     // What stands between the value of each signal and that of the one before.
     labels: Vec<ReadyText>,
     // What stands above the signals.
-    aboves: Rc<List<Above>>,
+    aboves: Rc<List<MuxParent>>,
     // In which order runs are looked for, if some chain has more links than one.
     order: Order,
     // If signals have multiplexors in turn: for each such multiplexor where what was found of it is kept.
@@ -64,7 +64,7 @@ impl Model for Plan {
 }
 
 fn reading_of<L: Lookup>(
-    draft: &mut Draft,
+    buffer: &mut TextBuffer,
     rows: &PlanRows<'_, L>,
     layout: &SignalLayout<'_>,
 ) -> Result<Reading, Memory>
@@ -73,8 +73,8 @@ fn reading_of<L: Lookup>(
     let signal = layout.signal;
     match layout.scale {
         Ok(scale) => {
-            let named = rows.named(draft, &signal.name)?;
-            let decoder = Decoder::of(draft, signal, scale, named)?;
+            let named = rows.named(buffer, &signal.name)?;
+            let decoder = Decoder::of(buffer, signal, scale, named)?;
             Ok(Reading::Read(decoder))
         }
         Err(cause) => Ok(Reading::Refused(cause)),
@@ -82,7 +82,7 @@ fn reading_of<L: Lookup>(
 }
 
 fn row_of<L: Lookup>(
-    draft: &mut Draft,
+    buffer: &mut TextBuffer,
     rows: &PlanRows<'_, L>,
     chain: Option<Chain>,
     layout: &SignalLayout<'_>,
@@ -92,7 +92,7 @@ fn row_of<L: Lookup>(
 {
     let signal = layout.signal;
     let name = signal.name.copy()?;
-    let reading = reading_of(draft, rows, layout)?;
+    let reading = reading_of(buffer, rows, layout)?;
     Ok(Row {
         name,
         field: Field::of(signal),
@@ -103,51 +103,51 @@ fn row_of<L: Lookup>(
 
 // A row for each signal. Texts are made in the draft.
 fn rows_by<L: Lookup>(
-    draft: &mut Draft,
+    buffer: &mut TextBuffer,
     rows: &PlanRows<'_, L>,
-    aboves: &Rc<List<Above>>,
+    aboves: &Rc<List<MuxParent>>,
     signals: &[SignalLayout<'_>],
 ) -> Result<List<Row>, Memory>
     ensures { IfOk result (λ made. made ≡ map (λ placed. row_by rows.now aboves.now.value placed.0 placed.1)
         (enumerate_from 0 signals.now)) }
 {
-    let mut made = List::with_capacity(draft.allocator(), signals.len())?;
+    let mut made = List::with_capacity(buffer.allocator(), signals.len())?;
     for (place, layout) in signals.iter().enumerate() {
         let chain = Chain::of(aboves, place)?;
-        made.push(row_of(draft, rows, chain, layout)?)?;
+        made.push(row_of(buffer, rows, chain, layout)?)?;
     }
     Ok(made)
 }
 
 // The same of a message that is laid out so.
 fn plan_rows<L: Lookup>(
-    draft: &mut Draft,
+    buffer: &mut TextBuffer,
     layout: &Layout<'_, L>,
-    aboves: &Rc<List<Above>>,
+    aboves: &Rc<List<MuxParent>>,
 ) -> Result<List<Row>, Memory>
     ensures { IfOk result (λ made. made ≡ plan_rows layout.now.rows aboves.now.value layout.now.message.head.size
         layout.now.message.signals) }
 {
-    let made = rows_by(draft, layout.rows(), aboves, layout.signals())?;
+    let made = rows_by(buffer, layout.rows(), aboves, layout.signals())?;
     Ok(made)
 }
 
-fn label_of(draft: &mut Draft, row: &Row) -> Result<ReadyText, Memory>
+fn label_of(buffer: &mut TextBuffer, row: &Row) -> Result<ReadyText, Memory>
     ensures { IfOk result (λ label. label ≡ label_of row.now) }
 {
-    draft.clear();
-    push_bytes(draft, b", ")?;
-    push_bytes(draft, row.name.as_bytes())?;
-    push_bytes(draft, b": ")?;
-    ReadyText::of(draft.allocator(), draft.as_slice())
+    buffer.clear();
+    push_bytes(buffer, b", ")?;
+    push_bytes(buffer, row.name.as_bytes())?;
+    push_bytes(buffer, b": ")?;
+    ReadyText::of(buffer.allocator(), buffer.as_slice())
 }
 
-fn labels_of(draft: &mut Draft, rows: &[Row]) -> Result<Vec<ReadyText>, Memory>
+fn labels_of(buffer: &mut TextBuffer, rows: &[Row]) -> Result<Vec<ReadyText>, Memory>
     ensures { IfOk result (λ labels. labels.items ≡ map label_of rows.now) }
 {
-    let mut labels = Vec::with_capacity(draft.allocator(), rows.len())?;
+    let mut labels = Vec::with_capacity(buffer.allocator(), rows.len())?;
     for row in rows {
-        labels.push(label_of(draft, row)?)?;
+        labels.push(label_of(buffer, row)?)?;
     }
     Ok(labels)
 }
@@ -175,7 +175,7 @@ fn runs_unless(
     alloc: Global,
     plain: bool,
     rows: &[Row],
-    aboves: &[Above],
+    aboves: &[MuxParent],
 ) -> Result<Vec<Run>, Memory>
     requires chained { AreChained rows.now aboves.now }
     requires plain { plain ≡ true → ArePlain rows.now }
@@ -194,10 +194,10 @@ fn runs_unless(
 pub(crate) fn plan_in<L: Lookup>(alloc: Global, layout: &Layout<'_, L>) -> Result<Plan, Memory>
     ensures { IfOk result (λ plan. plan ≡ plan_in layout.now.rows layout.now.message) }
 {
-    let mut draft = Draft::new(alloc);
+    let mut buffer = TextBuffer::new(alloc);
     let aboves = layout.shared_aboves()?;
-    let made = plan_rows(&mut draft, layout, &aboves)?;
-    let labels = labels_of(&mut draft, made.as_slice())?;
+    let made = plan_rows(&mut buffer, layout, &aboves)?;
+    let labels = labels_of(&mut buffer, made.as_slice())?;
     let plain = are_plain(made.as_slice());
     let runs = runs_unless(alloc, plain, made.as_slice(), aboves.as_ref().as_slice())?;
     let order = order_of(alloc, &runs)?;
@@ -280,14 +280,14 @@ fn is_among(link: &Link, raw: Option<u64>) -> bool
 
 // Whether the way up from a place is a chain of which each switch has one of its numbers.
 #[inline(never)]
-fn are_met(rows: &[Row], aboves: &[Above], place: usize, bytes: &[u8]) -> bool
+fn are_met(rows: &[Row], aboves: &[MuxParent], place: usize, bytes: &[u8]) -> bool
     ensures { result ≡ are_met bytes.now rows.now (chain_of (walk_of aboves.now place)) }
 {
     let mut current = place;
     for _passed in 0..aboves.len() + 1 {
         match above_at(aboves, current) {
-            Some(Above::Nothing) => return true,
-            Some(Above::Switch(link)) if is_met(rows, link, bytes) => current = link.switch,
+            Some(MuxParent::Nothing) => return true,
+            Some(MuxParent::Switch(link)) if is_met(rows, link, bytes) => current = link.switch,
             _ => return false,
         }
     }
@@ -385,9 +385,9 @@ impl Plan {
             return true;
         };
         match &run.parent {
-            Above::Nothing => true,
-            Above::Missing => false,
-            Above::Switch(_) => match known_at(known, run.first) {
+            MuxParent::Nothing => true,
+            MuxParent::Missing => false,
+            MuxParent::Switch(_) => match known_at(known, run.first) {
                 Some(there) => there,
                 None => self.present(place, bytes),
             },
@@ -450,9 +450,9 @@ impl Plan {
             return true;
         };
         match &run.parent {
-            Above::Nothing => true,
-            Above::Missing => false,
-            Above::Switch(link) => {
+            MuxParent::Nothing => true,
+            MuxParent::Missing => false,
+            MuxParent::Switch(link) => {
                 let raw = self.last_raw(known, asked, link.switch, bytes);
                 is_among(link, raw)
             }
@@ -580,9 +580,9 @@ impl Plan {
             return (true, self.rows.len());
         };
         match &run.parent {
-            Above::Nothing => (true, run.end),
-            Above::Missing => (false, run.end),
-            Above::Switch(link) => {
+            MuxParent::Nothing => (true, run.end),
+            MuxParent::Missing => (false, run.end),
+            MuxParent::Switch(link) => {
                 if let Some(there) = known_at(known, run.first) {
                     return (there, run.end);
                 }

@@ -2,11 +2,11 @@
 ghost use Rattle.std.specs.Prelude.{◌≡◌, ◌<◌, ◌≤◌, is_some, option_map, IfOk, length};
 ghost use Rattle.std.specs.Bool.{Decides};
 ghost use Rattle.can_mux.specs.Walks.{above_at, above_or_missing};
-ghost use Rattle.can_mux.specs.declared.above.Above.TheVariants.{Switch};
+ghost use Rattle.can_mux.specs.declared.mux_parent.MuxParent.TheVariants.{Switch};
 ghost use Rattle.can_layout.specs.Presence.{AreChained, AreRuns, IsLongestRun, chain_at, parent_at};
 
 use crate::row::Row;
-use can_mux::{Above, Link, above_at};
+use can_mux::{Link, MuxParent, above_at};
 use dbc_records::Range;
 use dbc_values::{Copied, Memory};
 use std::alloc::Global;
@@ -19,7 +19,7 @@ pub(crate) struct Run {
     /// The index after that of its last signal.
     pub(crate) end: usize,
     /// The parent multiplexor of its signals, with their numbers. It is missing where they have no chain, whatever the reason.
-    pub(crate) parent: Above,
+    pub(crate) parent: MuxParent,
 }
 
 // Whether the ranges are the same, in the same order.
@@ -37,14 +37,14 @@ fn is_same_link(one: &Link, other: &Link) -> bool
 }
 
 // Whether what is above two signals is the same.
-fn are_alike(one: &Above, other: &Above) -> bool
+fn are_alike(one: &MuxParent, other: &MuxParent) -> bool
     ensures { Decides result (one.now ≡ other.now) }
 {
     match one {
-        Above::Nothing => matches!(other, Above::Nothing),
-        Above::Missing => matches!(other, Above::Missing),
-        Above::Switch(link) => match other {
-            Above::Switch(other) => is_same_link(link, other),
+        MuxParent::Nothing => matches!(other, MuxParent::Nothing),
+        MuxParent::Missing => matches!(other, MuxParent::Missing),
+        MuxParent::Switch(link) => match other {
+            MuxParent::Switch(other) => is_same_link(link, other),
             _ => false,
         },
     }
@@ -61,7 +61,7 @@ pub(crate) fn has_chain(rows: &[Row], place: usize) -> bool
 }
 
 // What is above the signal at a place, if it has a chain.
-fn parent_at<'a>(rows: &[Row], aboves: &'a [Above], place: usize) -> Option<&'a Above>
+fn parent_at<'a>(rows: &[Row], aboves: &'a [MuxParent], place: usize) -> Option<&'a MuxParent>
     ensures { above_or_missing (option_map (λ above. above.now) result) ≡ parent_at rows.now aboves.now place }
 {
     if has_chain(rows, place) {
@@ -72,29 +72,29 @@ fn parent_at<'a>(rows: &[Row], aboves: &'a [Above], place: usize) -> Option<&'a 
 }
 
 // The same, to be kept.
-fn parent_of(rows: &[Row], aboves: &[Above], place: usize) -> Result<Above, Memory>
+fn parent_of(rows: &[Row], aboves: &[MuxParent], place: usize) -> Result<MuxParent, Memory>
     ensures { IfOk result (λ parent. parent ≡ parent_at rows.now aboves.now place) }
 {
     match parent_at(rows, aboves, place) {
-        Some(Above::Nothing) => Ok(Above::Nothing),
-        Some(Above::Switch(link)) => Ok(Above::Switch(link.copy()?)),
-        _ => Ok(Above::Missing),
+        Some(MuxParent::Nothing) => Ok(MuxParent::Nothing),
+        Some(MuxParent::Switch(link)) => Ok(MuxParent::Switch(link.copy()?)),
+        _ => Ok(MuxParent::Missing),
     }
 }
 
 // Whether two signals have the same parent multiplexor and numbers, or both none, or both no chain.
-fn have_same_parent(rows: &[Row], aboves: &[Above], one: usize, other: usize) -> bool
+fn have_same_parent(rows: &[Row], aboves: &[MuxParent], one: usize, other: usize) -> bool
     ensures { Decides result (parent_at rows.now aboves.now one ≡ parent_at rows.now aboves.now other) }
 {
     let (one, other) = (parent_at(rows, aboves, one), parent_at(rows, aboves, other));
     are_alike(
-        one.unwrap_or(&Above::Missing),
-        other.unwrap_or(&Above::Missing),
+        one.unwrap_or(&MuxParent::Missing),
+        other.unwrap_or(&MuxParent::Missing),
     )
 }
 
 // Up to where the signals from an index on have the same chain.
-fn run_end(rows: &[Row], aboves: &[Above], place: usize) -> usize
+fn run_end(rows: &[Row], aboves: &[MuxParent], place: usize) -> usize
     requires { place < length rows.now }
     ensures { IsLongestRun (parent_at rows.now aboves.now) (length rows.now) place result }
 {
@@ -109,7 +109,7 @@ fn run_end(rows: &[Row], aboves: &[Above], place: usize) -> usize
 // The first signal and the end of the run that an index is in, if that of the index before begins with `first` and ends at `end`.
 fn next_run(
     rows: &[Row],
-    aboves: &[Above],
+    aboves: &[MuxParent],
     place: usize,
     first: usize,
     end: usize,
@@ -129,7 +129,7 @@ fn next_run(
 }
 
 /// For each signal the run that it is in.
-pub(crate) fn runs_of(alloc: Global, rows: &[Row], aboves: &[Above]) -> Result<Vec<Run>, Memory>
+pub(crate) fn runs_of(alloc: Global, rows: &[Row], aboves: &[MuxParent]) -> Result<Vec<Run>, Memory>
     requires { AreChained rows.now aboves.now }
     ensures count { IfOk result (λ runs. length runs.items ≡ length rows.now) }
     ensures runs { IfOk result (λ runs. AreRuns rows.now runs.items) }

@@ -10,28 +10,28 @@ use can_mux::MessageRows;
 use can_rows::{Index, Lookup};
 use dbc_records::{Database, Message, ValueRow};
 use dbc_values::{Copied, Memory, Name};
-use ready_texts::Draft;
+use ready_texts::TextBuffer;
 use std::alloc::Global;
 use std::marker::Model;
 use std::rc::Rc;
 
 // The named values of a row.
-fn named_in(draft: &mut Draft, row: &ValueRow) -> Result<Rc<Named>, Memory>
+fn named_in(buffer: &mut TextBuffer, row: &ValueRow) -> Result<Rc<Named>, Memory>
     ensures { IfOk result (λ named. named.value ≡ row.now.entries) }
 {
     let entries = row.entries.copy()?;
-    let named = Named::of(draft, entries)?;
-    let named = Rc::new(draft.allocator(), named)?;
+    let named = Named::of(buffer, entries)?;
+    let named = Rc::new(buffer.allocator(), named)?;
     Ok(named)
 }
 
 // The same, where there is a row.
-fn named_of(draft: &mut Draft, row: Option<&ValueRow>) -> Result<Option<Rc<Named>>, Memory>
+fn named_of(buffer: &mut TextBuffer, row: Option<&ValueRow>) -> Result<Option<Rc<Named>>, Memory>
     ensures { IfOk result (λ named. entries_in (option_map (λ one. one.value) named) ≡ entries_of (option_map (λ row. row.now)
         row.entry)) }
 {
     match row {
-        Some(row) => Ok(Some(named_in(draft, row)?)),
+        Some(row) => Ok(Some(named_in(buffer, row)?)),
         None => Ok(None),
     }
 }
@@ -106,10 +106,10 @@ fn named_by<'a>(
     ensures { IfOk result (λ named. map row_of named.items ≡ filter (λ row. is_shared numbers.now row.number) rows.now) }
 {
     let mut all = Vec::new(alloc);
-    let mut draft = Draft::new(alloc);
+    let mut buffer = TextBuffer::new(alloc);
     for row in rows {
         if is_shared(numbers, row.number) {
-            let named = named_in(&mut draft, row)?;
+            let named = named_in(&mut buffer, row)?;
             all.push(NamedRow { row, named })?;
         }
     }
@@ -264,7 +264,7 @@ impl<'a, L: Lookup> Sharing<'a, L> {
     // The named values of a signal.
     fn named(
         &self,
-        draft: &mut Draft,
+        buffer: &mut TextBuffer,
         number: u32,
         signal: &Name,
     ) -> Result<Option<Rc<Named>>, Memory>
@@ -273,7 +273,7 @@ impl<'a, L: Lookup> Sharing<'a, L> {
     {
         match self.shared_row(number, signal) {
             Some(shared) => Ok(Some(shared.named.clone()?)),
-            None => named_of(draft, self.lookup.values(number, signal)),
+            None => named_of(buffer, self.lookup.values(number, signal)),
         }
     }
 }
@@ -311,12 +311,12 @@ impl<'a, L: Lookup> PlanRows<'a, L> {
     /// The named values of a signal. Their texts are made in the draft.
     pub(crate) fn named(
         &self,
-        draft: &mut Draft,
+        buffer: &mut TextBuffer,
         signal: &Name,
     ) -> Result<Option<Rc<Named>>, Memory>
         ensures { IfOk result (λ named. entries_in (option_map (λ one. one.value) named) ≡ entries_of (first_values signal.now
             self.now)) }
     {
-        self.sharing.named(draft, self.number, signal)
+        self.sharing.named(buffer, self.number, signal)
     }
 }

@@ -5,7 +5,7 @@ ghost use Rattle.can_layout.specs.Plans.{chain_of};
 ghost use Rattle.can_layout.specs.Presence.{link_of, is_top};
 ghost use Rattle.can_mux.specs.Walks.{walk_of, above_at};
 
-use can_mux::{Above, Link, above_at};
+use can_mux::{Link, MuxParent, above_at};
 use dbc_values::{List, Memory};
 use std::marker::Model;
 use std::rc::Rc;
@@ -14,7 +14,7 @@ use std::rc::Rc;
 /// the signals of a message is there once.
 #[derive(Drop)]
 pub struct Chain {
-    aboves: Rc<List<Above>>,
+    aboves: Rc<List<MuxParent>>,
     place: usize,
 }
 
@@ -33,14 +33,14 @@ impl Model for Chain {
 }
 
 // Whether the way up from a place is a chain.
-fn is_chain(aboves: &[Above], place: usize) -> bool
+fn is_chain(aboves: &[MuxParent], place: usize) -> bool
     ensures { result ≡ is_some (chain_of (walk_of aboves.now place)) }
 {
     let mut current = place;
     for _passed in 0..aboves.len() + 1 {
         match above_at(aboves, current) {
-            Some(Above::Nothing) => return true,
-            Some(Above::Switch(link)) => current = link.switch,
+            Some(MuxParent::Nothing) => return true,
+            Some(MuxParent::Switch(link)) => current = link.switch,
             _ => return false,
         }
     }
@@ -48,18 +48,18 @@ fn is_chain(aboves: &[Above], place: usize) -> bool
 }
 
 // The link of the signal at a place to its switch.
-fn link_at(aboves: &[Above], place: usize) -> Option<&Link>
+fn link_at(aboves: &[MuxParent], place: usize) -> Option<&Link>
     ensures { option_map (λ link. link.now) result ≡ link_of (above_at aboves.now place) }
 {
     match aboves.get(place) {
-        Some(Above::Switch(link)) => Some(link),
+        Some(MuxParent::Switch(link)) => Some(link),
         _ => None,
     }
 }
 
 impl Chain {
     /// The chain of the signal at a place, where its way up is one.
-    pub(crate) fn of(aboves: &Rc<List<Above>>, place: usize) -> Result<Option<Chain>, Memory>
+    pub(crate) fn of(aboves: &Rc<List<MuxParent>>, place: usize) -> Result<Option<Chain>, Memory>
         ensures { IfOk result (λ chain. chain ≡ chain_of (walk_of aboves.now.value place)) }
     {
         if !is_chain(aboves.as_ref().as_slice(), place) {

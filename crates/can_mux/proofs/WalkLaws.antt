@@ -8,13 +8,13 @@ use Rattle.std.proofs.lemmas.Map.Steps.{length-le_from_distinct_below}
 use Rattle.can_mux.specs.Links.{Link}
 use Rattle.can_mux.specs.Walks.{above_or_missing, above_at, Leads, IsChain, IsAbsent, IsLoop, IsWalk, with_link}
 use Rattle.can_mux.specs.Walks.{walk_above, links_in, walk_up, walk_of}
-use Rattle.can_mux.specs.declared.above.Above.{Above}
-use Rattle.can_mux.specs.declared.above.Above.TheVariants.{Nothing, Missing, Switch}
+use Rattle.can_mux.specs.declared.mux_parent.MuxParent.{MuxParent}
+use Rattle.can_mux.specs.declared.mux_parent.MuxParent.TheVariants.{Nothing, Missing, Switch}
 use Rattle.can_mux.specs.declared.walk.Walk.{Walk}
 use Rattle.can_mux.specs.declared.walk.Walk.TheVariants.{Chain, Absent, Loop}
 use Rattle.can_mux.proofs.WalkSteps.{links_then, links_then-chain, links_then-absent, walk_step}
 
-module _ (aboves : List Above) where
+module _ (aboves : List MuxParent) where
   -- ---- along links
 
   -- the walk goes along the links

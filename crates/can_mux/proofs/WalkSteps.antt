@@ -3,8 +3,8 @@ use Rattle.std.proofs.Common.{◌≡◌, ◌==◌, ℕ, zero, suc, ◌-◌, ◌<
 use Rattle.std.proofs.Common.{arith}
 use Rattle.can_mux.specs.Links.{Link}
 use Rattle.can_mux.specs.Walks.{above_at, with_link, walk_above, walk_up}
-use Rattle.can_mux.specs.declared.above.Above.{Above}
-use Rattle.can_mux.specs.declared.above.Above.TheVariants.{Nothing, Missing, Switch}
+use Rattle.can_mux.specs.declared.mux_parent.MuxParent.{MuxParent}
+use Rattle.can_mux.specs.declared.mux_parent.MuxParent.TheVariants.{Nothing, Missing, Switch}
 use Rattle.can_mux.specs.declared.walk.Walk.{Walk}
 use Rattle.can_mux.specs.declared.walk.Walk.TheVariants.{Chain, Absent, Loop}
 
@@ -32,7 +32,7 @@ pub links_then-push : (links : List Link) (link : Link) (walk : Walk) → links_
 links_then-push [] link walk = refl
 links_then-push (first ∷ links) link walk = ap (λ walk. with_link first walk) (links_then-push links link walk)
 
-module _ (aboves : List Above) where
+module _ (aboves : List MuxParent) where
   -- one signal further
   pub walk_step : (n : ℕ) (place : ℕ) → 0 < n → walk_up n aboves place ≡ walk_above (above_at aboves place) (walk_up (n - 1) aboves)
   walk_step zero place some = let no : ⊥ = omega arith in absurd no
@@ -40,7 +40,7 @@ module _ (aboves : List Above) where
 
   -- one turn of the code
   module _ (n : ℕ) (place : ℕ) (links : List Link) (walk : Walk) (so_far : walk ≡ links_then links (walk_up n aboves place)) where
-    turn : (above : Above) → 0 < n → above_at aboves place ≡ above
+    turn : (above : MuxParent) → 0 < n → above_at aboves place ≡ above
         → walk ≡ links_then links (walk_above above (walk_up (n - 1) aboves))
     turn above some is = so_far ∙ ap (λ walk. links_then links walk) (walk_step n place some
         ∙ ap (λ above. walk_above above (walk_up (n - 1) aboves)) is)

@@ -11,9 +11,9 @@ use Rattle.dbc_records.specs.declared.tag.Tag.TheVariants as tags
 use Rattle.dbc_records.specs.declared.mux_row.Range.{Range}
 use Rattle.can_rows.specs.Rows.{SignalRows, first_mux}
 use Rattle.can_mux.specs.Walks.{walk_of}
-use Rattle.can_mux.specs.declared.above.Above.{Above}
+use Rattle.can_mux.specs.declared.mux_parent.MuxParent.{MuxParent}
 use Rattle.can_mux.specs.declared.walk.Walk.{Walk}
-use Rattle.can_mux.specs.declared.above.Above.TheVariants.{Nothing, Missing, Switch}
+use Rattle.can_mux.specs.declared.mux_parent.MuxParent.TheVariants.{Nothing, Missing, Switch}
 
 -- the place of the signal of a name
 abbrev pub place_named : List ℕ → List Signal → Option ℕ
@@ -35,27 +35,27 @@ only_switch signals = if count_by (λ signal. is_switch signal.tag) signals == 1
 abbrev pub just : ℕ → List Range
 just n = record { first = n; last = n } ∷ []
 
-abbrev pub under : Option ℕ → List Range → Above
+abbrev pub under : Option ℕ → List Range → MuxParent
 under None ranges = Missing
 under (Some switch) ranges = Switch (record { switch = switch; ranges = ranges })
 
 -- by the tag: `m<n>` and `m<n>M` stand under the only switch
-abbrev pub by_tag : Option ℕ → Tag → Above
+abbrev pub by_tag : Option ℕ → Tag → MuxParent
 by_tag only tags.Plain = Nothing
 by_tag only tags.Switch = Nothing
 by_tag only (tags.Muxed n) = under only (just n)
 by_tag only (tags.Both n) = under only (just n)
 
 -- by the row, whatever the tag
-abbrev pub by_row : List Signal → Tag → Option MuxRow → Above
+abbrev pub by_row : List Signal → Tag → Option MuxRow → MuxParent
 by_row signals tag None = by_tag (only_switch signals) tag
 by_row signals tag (Some row) = under (place_named row.switch signals) row.ranges
 
-unfoldable pub above_of : SignalRows → List Signal → Signal → Above
+unfoldable pub above_of : SignalRows → List Signal → Signal → MuxParent
 above_of rows signals signal = by_row signals signal.tag (first_mux signal.name rows)
 
 -- above each signal of a message
-abbrev pub aboves_of : SignalRows → List Signal → List Above
+abbrev pub aboves_of : SignalRows → List Signal → List MuxParent
 aboves_of rows signals = map (above_of rows signals) signals
 
 -- the ways up from each signal of a message

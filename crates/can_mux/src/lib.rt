@@ -4,16 +4,16 @@
 //! signal below is there, or why there is no chain. What is read is the message and, by [`MessageRows`], the rows of its number.
 #![tactic(auto)]
 
-mod above;
 pub mod laws;
 mod link;
+mod mux_parent;
 mod rows;
 mod switches;
 mod walk;
 mod walks;
 
-pub use above::Above;
 pub use link::Link;
+pub use mux_parent::MuxParent;
 pub use rows::MessageRows;
 pub use switches::aboves_of;
 pub use walk::{Walk, above_at, walk_of};

@@ -2,8 +2,8 @@
 ghost use Rattle.std.specs.Prelude.{◌≡◌, IfOk, count_by, position};
 ghost use Rattle.can_mux.specs.Switches.{place_named, only_switch, is_switch, above_of, aboves_of, under, just, by_tag};
 
-use crate::above::Above;
 use crate::link::Link;
+use crate::mux_parent::MuxParent;
 use crate::rows::MessageRows;
 use can_rows::Lookup;
 use dbc_records::{Numbers, Range, Signal, Tag};
@@ -55,12 +55,12 @@ fn only_switch(signals: &[Signal]) -> Option<usize>
     }
 }
 
-fn under(switch: Option<usize>, numbers: Numbers) -> Above
+fn under(switch: Option<usize>, numbers: Numbers) -> MuxParent
     ensures { result ≡ under switch numbers }
 {
     match switch {
-        Some(switch) => Above::Switch(Link::new(switch, numbers)),
-        None => Above::Missing,
+        Some(switch) => MuxParent::Switch(Link::new(switch, numbers)),
+        None => MuxParent::Missing,
     }
 }
 
@@ -75,11 +75,11 @@ fn just(alloc: Global, number: u64) -> Result<Numbers, Memory>
     Numbers::of(alloc, ranges)
 }
 
-fn by_tag(alloc: Global, only: Option<usize>, tag: Tag) -> Result<Above, Memory>
+fn by_tag(alloc: Global, only: Option<usize>, tag: Tag) -> Result<MuxParent, Memory>
     ensures { IfOk result (λ above. above ≡ by_tag only tag) }
 {
     match tag {
-        Tag::Plain | Tag::Switch => Ok(Above::Nothing),
+        Tag::Plain | Tag::Switch => Ok(MuxParent::Nothing),
         Tag::Muxed(number) | Tag::Both(number) => Ok(under(only, just(alloc, number)?)),
     }
 }
@@ -92,7 +92,7 @@ fn above_of<L: Lookup>(
     signals: &[Signal],
     only: Option<usize>,
     signal: &Signal,
-) -> Result<Above, Memory>
+) -> Result<MuxParent, Memory>
     requires { only ≡ only_switch signals.now }
     ensures { IfOk result (λ above. above ≡ above_of rows.now signals.now signal.now) }
 {
@@ -110,7 +110,7 @@ pub fn aboves_of<L: Lookup>(
     alloc: Global,
     rows: &MessageRows<'_, L>,
     signals: &[Signal],
-) -> Result<List<Above>, Memory>
+) -> Result<List<MuxParent>, Memory>
     ensures { IfOk result (λ aboves. aboves ≡ aboves_of rows.now signals.now) }
 {
     let only = only_switch(signals);

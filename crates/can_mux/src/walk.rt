@@ -4,8 +4,8 @@ ghost use Rattle.std.specs.Option.{option_map};
 ghost use Rattle.can_mux.specs.Walks.{walk_of};
 ghost use Rattle.can_mux.specs.declared.walk.Walk.TheVariants.{Absent};
 
-use crate::above::Above;
 use crate::link::Link;
+use crate::mux_parent::MuxParent;
 use dbc_values::{Copied, List, Memory};
 use std::alloc::Global;
 
@@ -25,7 +25,7 @@ pub enum Walk {
 }
 
 // What stands right above the signal at a place, where there is one.
-pub fn above_at<'a>(aboves: &'a [Above], place: usize) -> Option<&'a Above>
+pub fn above_at<'a>(aboves: &'a [MuxParent], place: usize) -> Option<&'a MuxParent>
     ensures { option_map (λ above. above.now) result ≡ slice_get aboves.now place }
 {
     aboves.get(place)
@@ -41,7 +41,7 @@ fn absent(links: &List<Link>) -> Walk
 }
 
 /// The way up from the signal at a place, where `aboves` says what stands right above each signal of the message.
-pub fn walk_of(alloc: Global, aboves: &[Above], place: usize) -> Result<Walk, Memory>
+pub fn walk_of(alloc: Global, aboves: &[MuxParent], place: usize) -> Result<Walk, Memory>
     ensures { IfOk result (λ walk. walk ≡ walk_of aboves.now place) }
 {
     let mut links = List::new(alloc);
@@ -51,9 +51,9 @@ pub fn walk_of(alloc: Global, aboves: &[Above], place: usize) -> Result<Walk, Me
             return Ok(absent(&links));
         };
         match above {
-            Above::Nothing => return Ok(Walk::Chain(links)),
-            Above::Missing => return Ok(absent(&links)),
-            Above::Switch(link) => {
+            MuxParent::Nothing => return Ok(Walk::Chain(links)),
+            MuxParent::Missing => return Ok(absent(&links)),
+            MuxParent::Switch(link) => {
                 links.push(link.copy()?)?;
                 current = link.switch;
             }

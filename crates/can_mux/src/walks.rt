@@ -4,7 +4,7 @@ ghost use Rattle.std.specs.List.{range_with_len};
 ghost use Rattle.can_mux.specs.Walks.{walk_of};
 ghost use Rattle.can_mux.specs.Switches.{walks_of};
 
-use crate::above::Above;
+use crate::mux_parent::MuxParent;
 use crate::rows::MessageRows;
 use crate::switches::aboves_of;
 use crate::walk::{Walk, walk_of};
@@ -14,7 +14,7 @@ use dbc_values::Memory;
 use std::alloc::Global;
 
 // The ways up from the first signals, of all that stand below `aboves`.
-fn walks_below(alloc: Global, aboves: &[Above], count: usize) -> Result<Vec<Walk>, Memory>
+fn walks_below(alloc: Global, aboves: &[MuxParent], count: usize) -> Result<Vec<Walk>, Memory>
     ensures { IfOk result (λ walks. walks.items ≡ map (walk_of aboves.now) (range_with_len 0 count)) }
 {
     let mut walks = Vec::with_capacity(alloc, count)?;

@@ -9,7 +9,7 @@ use Rattle.can_mux.specs.Links.{Link}
 use Rattle.can_mux.specs.declared.walk.Walk.{Walk}
 use Rattle.can_mux.specs.declared.walk.Walk.TheVariants.{Chain, Absent, Loop}
 use Rattle.can_overlap.specs.Overlaps.{agree, agrees_with, ranges_meet}
-use Rattle.can_overlap.specs.Ways.{IsStep, own_at, of_switch, agrees_if_there, AreEntered}
+use Rattle.can_overlap.specs.MuxPaths.{IsStep, own_at, of_switch, agrees_if_there, AreEntered}
 use Rattle.can_overlap.proofs.Words.{eqb-apart}
 
 other_switch : (x link : Link) → (x.switch ≡ link.switch → ⊥) → agree x link ≡ true

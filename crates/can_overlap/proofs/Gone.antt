@@ -7,7 +7,7 @@ use Rattle.can_mux.specs.Links.{Link}
 use Rattle.can_mux.specs.declared.walk.Walk.{Walk}
 use Rattle.can_mux.specs.declared.walk.Walk.TheVariants.{Chain, Absent, Loop}
 use Rattle.can_overlap.specs.Overlaps.{together}
-use Rattle.can_overlap.specs.Ways.{chain_if, goes_if, goes_at}
+use Rattle.can_overlap.specs.MuxPaths.{chain_if, goes_if, goes_at}
 
 -- the way a places behind the first of some
 pub goes_behind : (links : List Link) (walks : List Walk) (from a : ℕ) (d : Walk) → from + a < length walks

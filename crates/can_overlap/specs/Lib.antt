@@ -3,4 +3,4 @@ pub mod Occupancy
 pub mod Ordered
 pub mod Overlaps
 pub mod Places
-pub mod Ways
+pub mod MuxPaths

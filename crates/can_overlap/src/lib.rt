@@ -6,20 +6,20 @@
 
 mod agreeing;
 mod apart;
-mod beside;
+mod chain_index;
 pub mod laws;
+mod mux_paths;
 mod occupancy;
 mod pair;
 mod pairing;
 mod places;
 mod ranges;
+mod sorted_link;
 mod table;
 #[cfg(test)]
 mod tests;
-mod tidy;
-mod ways;
 
 pub use agreeing::together;
-pub use apart::are_seen_apart;
+pub use apart::are_disjoint_in_sequence;
 pub use occupancy::{Marked, Occupancy};
 pub use pair::Pair;

@@ -3,11 +3,11 @@ ghost use Rattle.std.specs.Prelude.{◌≡◌, ◌++◌, ◌≤◌, ◌<◌, len
 ghost use Rattle.can_overlap.specs.Overlaps.{pairs_from};
 ghost use Rattle.can_overlap.specs.Occupancy.{IsClear};
 
+use crate::mux_paths::MuxPaths;
 use crate::pair::Pair;
 use crate::pairing::push_pairs;
 use crate::places::Places;
 use crate::table::{clear_all, empty, grow, mark_all};
-use crate::ways::Ways;
 use can_bits::Field;
 use can_mux::Walk;
 use dbc_values::Memory;
@@ -40,10 +40,14 @@ impl Occupancy {
         ensures { IfOk result (λ marked. marked ≡ record { fields = fields.now; walks = walks.now }) }
     {
         let mut rows = self.rows;
-        let ways = Ways::of(*rows.allocator(), walks)?;
+        let paths = MuxPaths::of(*rows.allocator(), walks)?;
         grow(&mut rows, fields)?;
         mark_all(&mut rows, fields);
-        Ok(Marked { rows, fields, ways })
+        Ok(Marked {
+            rows,
+            fields,
+            paths,
+        })
     }
 }
 
@@ -52,7 +56,7 @@ impl Occupancy {
 pub struct Marked<'a> {
     rows: Vec<Places>,
     fields: &'a [Field],
-    ways: Ways<'a>,
+    paths: MuxPaths<'a>,
 }
 
 impl<'a> Model for Marked<'a> {
@@ -60,9 +64,9 @@ impl<'a> Model for Marked<'a> {
 
     ghost Value = { Plain };
 
-    ghost view = { λ marked. record { fields = marked.fields.now; walks = marked.ways.walks } };
+    ghost view = { λ marked. record { fields = marked.fields.now; walks = marked.paths.walks } };
 
-    ghost invariant = { λ marked. AreMarked marked.rows.items marked.fields.now marked.ways.walks };
+    ghost invariant = { λ marked. AreMarked marked.rows.items marked.fields.now marked.paths.walks };
 }
 
 impl<'a> Marked<'a> {
@@ -72,7 +76,7 @@ impl<'a> Marked<'a> {
         requires { first < length self.now.fields }
         ensures { OnOk result (found.new.items ≡ found.old.items ++ pairs_from self.now.fields self.now.walks first) }
     {
-        push_pairs(found, &self.rows, self.fields, &self.ways, first)
+        push_pairs(found, &self.rows, self.fields, &self.paths, first)
     }
 
     /// The table, empty again.

@@ -2,7 +2,7 @@
 ghost use Rattle.std.specs.Prelude.{◌≡◌, ◌≤◌, length};
 
 use crate::agreeing::together;
-use crate::apart::are_seen_apart;
+use crate::apart::are_disjoint_in_sequence;
 use crate::occupancy::Occupancy;
 use crate::pair::Pair;
 use crate::places::Places;
@@ -188,15 +188,15 @@ fn signals_behind_each_other(rt: HostRuntime) -> Result<(), Fail> {
         intel: false,
     };
     assert_eq!(rt;
-        are_seen_apart(&[intel(48, 16), intel(0, 16), intel(16, 16), intel(32, 16)]),
+        are_disjoint_in_sequence(&[intel(48, 16), intel(0, 16), intel(16, 16), intel(32, 16)]),
         true
     );
     assert_eq!(rt;
-        are_seen_apart(&[motorola(7), motorola(23), motorola(39)]),
+        are_disjoint_in_sequence(&[motorola(7), motorola(23), motorola(39)]),
         true
     );
     assert_eq!(rt;
-        are_seen_apart(&[intel(0, 16), intel(16, 16), intel(15, 1)]),
+        are_disjoint_in_sequence(&[intel(0, 16), intel(16, 16), intel(15, 1)]),
         false
     );
     Ok(())

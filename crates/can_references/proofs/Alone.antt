@@ -8,8 +8,8 @@ use Rattle.dbc_records.specs.Databases.{Database}
 use Rattle.dbc_records.specs.EntryKeys.{same_key}
 use Rattle.can_diagnostics.specs.declared.diagnostic.Diagnostic.{Diagnostic}
 use Rattle.dbc_records.specs.declared.entry_key.EntryKey.{EntryKey}
-use Rattle.can_keys.specs.Mixes.{entry_mix}
-use Rattle.can_keys.proofs.MixedKeys.{same_rows}
+use Rattle.can_keys.specs.Hashes.{entry_hash}
+use Rattle.can_keys.proofs.HashedKeys.{same_rows}
 use Rattle.can_references.specs.Finding.{each_after, stands_in}
 use Rattle.can_references.specs.RowFaults.{faults_of_row, row_fault}
 use Rattle.can_references.proofs.Rows.{each_after-append}
@@ -40,10 +40,10 @@ parts_apart d xs ys apart =
 
 -- ---- keys whose numbers differ
 
-not_same : (x y : EntryKey) → eqb (entry_mix x) (entry_mix y) ≡ false → same_key y x ≡ false
+not_same : (x y : EntryKey) → eqb (entry_hash x) (entry_hash y) ≡ false → same_key y x ≡ false
 not_same x y differ = grind (arith, common_steps, same_rows y x)
 
-others : (x : EntryKey) (ys : List EntryKey) → AllByRecursion (λ n. eqb (entry_mix x) n ≡ false) (map entry_mix ys)
+others : (x : EntryKey) (ys : List EntryKey) → AllByRecursion (λ n. eqb (entry_hash x) n ≡ false) (map entry_hash ys)
     → AllByRecursion (λ y. same_key y x ≡ false) ys
 others x [] differ = tt
 others x (y ∷ ys) differ = (not_same x y differ.0, others x ys differ.1)
@@ -57,7 +57,7 @@ apart_more before x (y ∷ ys) apart other = (
   apart_more before x ys apart.1 other.1,
 )
 
-alone : (d : Database) (before keys : List EntryKey) → AreApart before keys → IsDistinct eqb (map entry_mix keys)
+alone : (d : Database) (before keys : List EntryKey) → AreApart before keys → IsDistinct eqb (map entry_hash keys)
     → each_after (row_fault d) before keys ≡ flat_map (faults_of_row d false) keys
 unfolding row_fault IsDistinct
 alone d before [] apart differ = refl
@@ -70,6 +70,6 @@ apart_none : (keys : List EntryKey) → AreApart [] keys
 apart_none [] = tt
 apart_none (key ∷ keys) = (refl, apart_none keys)
 
-pub each_alone : (d : Database) (keys : List EntryKey) → IsDistinct eqb (map entry_mix keys) → flat_map (faults_of_row d false) keys
+pub each_alone : (d : Database) (keys : List EntryKey) → IsDistinct eqb (map entry_hash keys) → flat_map (faults_of_row d false) keys
     ≡ each_after (row_fault d) [] keys
 each_alone d keys differ = sym (alone d [] keys (apart_none keys) differ)

@@ -11,7 +11,7 @@ use Rattle.can_diagnostics.specs.Diagnostics.{of_message, of_sender, of_receiver
 use Rattle.can_diagnostics.specs.declared.code.Code.TheVariants as codes
 use Rattle.can_diagnostics.specs.declared.diagnostic.Diagnostic.{Diagnostic}
 use Rattle.can_references.specs.Finding.{where_true, is_shared}
-use Rattle.can_references.specs.Known.{numbers_of, names_of, groups_of, is_known_node}
+use Rattle.can_references.specs.CrossReferences.{numbers_of, names_of, groups_of, is_known_node}
 
 -- the message that holds signals of no message
 abbrev pub is_pseudo : Head → Bool

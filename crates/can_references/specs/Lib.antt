@@ -1,5 +1,5 @@
 pub mod Finding
-pub mod Known
+pub mod CrossReferences
 pub mod HeadFaults
 pub mod RowFaults
 pub mod RawRanges

@@ -15,7 +15,7 @@ use Rattle.dbc_records.specs.declared.entry_key.EntryKey.{EntryKey}
 use Rattle.dbc_records.specs.declared.entry_key.EntryKey.TheVariants as keys
 use Rattle.can_keys.specs.SignalNames.{same_signal}
 use Rattle.can_references.specs.Finding.{where_true, stands_in, each_after}
-use Rattle.can_references.specs.Known.{numbers_of, signals_of, defined_in, is_known_node}
+use Rattle.can_references.specs.CrossReferences.{numbers_of, signals_of, defined_in, is_known_node}
 
 -- ---- rows of what is not there
 

@@ -15,7 +15,7 @@ use std::collections::BTreeMap;
 use std::marker::Model;
 
 /// Up to this many named values of a row are gone through for each message.
-pub(crate) const FEW: usize = 64;
+pub(crate) const LINEAR_SEARCH_LIMIT: usize = 64;
 
 // A message number, and the name of a signal.
 type Key<'a> = (u32, &'a [u8]);
@@ -34,7 +34,7 @@ fn is_wanted(wanted: Option<&[u32]>, number: u32) -> bool
 fn is_kept(numbers: &Numbers, wanted: Option<&[u32]>, row: &ValueRow) -> bool
     ensures { result ≡ is_kept (is_kept_number numbers.now (option_map (λ numbers. numbers.now) wanted.entry)) row.now }
 {
-    row.entries.as_slice().len() > FEW
+    row.entries.as_slice().len() > LINEAR_SEARCH_LIMIT
         && numbers.is_shared(row.number)
         && is_wanted(wanted, row.number)
 }

@@ -3,7 +3,7 @@ ghost use Rattle.std.specs.Prelude.{◌≡◌, ◌++◌, OnOk};
 ghost use Rattle.can_references.specs.HeadFaults.{is_pseudo, bad_identifier, shared_identifier, shared_name, in_shared_group};
 ghost use Rattle.can_references.specs.HeadFaults.{shared_group, head_faults};
 
-use crate::known::Known;
+use crate::cross_references::CrossReferences;
 use can_diagnostics::{Code, Diagnostic};
 use can_rows::{Lookup, is_bad_number};
 use dbc_records::{Head, Message};
@@ -33,7 +33,7 @@ fn push_bad_identifier(found: &mut Vec<Diagnostic>, message: &Message) -> Result
 #[tactic(auto, unfolding(crate::specs::HeadFaults::shared_identifier))]
 fn push_shared_identifier<L: Lookup>(
     found: &mut Vec<Diagnostic>,
-    known: &Known<'_, L>,
+    known: &CrossReferences<'_, L>,
     message: &Message,
 ) -> Result<(), Memory>
     ensures { OnOk result (found.new.items ≡ found.old.items ++ shared_identifier known.now message.now) }
@@ -48,7 +48,7 @@ fn push_shared_identifier<L: Lookup>(
 #[tactic(auto, unfolding(crate::specs::HeadFaults::shared_name))]
 fn push_shared_name<'a, L: Lookup>(
     found: &mut Vec<Diagnostic>,
-    known: &Known<'a, L>,
+    known: &CrossReferences<'a, L>,
     message: &'a Message,
 ) -> Result<(), Memory>
     ensures { OnOk result (found.new.items ≡ found.old.items ++ shared_name known.now message.now) }
@@ -63,7 +63,7 @@ fn push_shared_name<'a, L: Lookup>(
 // Adds the diagnostic of a message of a group that others are of, too.
 fn push_in_group<L: Lookup>(
     found: &mut Vec<Diagnostic>,
-    known: &Known<'_, L>,
+    known: &CrossReferences<'_, L>,
     head: &Head,
     group: Option<u32>,
 ) -> Result<(), Memory>
@@ -80,7 +80,7 @@ fn push_in_group<L: Lookup>(
 #[tactic(auto, unfolding(crate::specs::HeadFaults::shared_group))]
 fn push_shared_group<L: Lookup>(
     found: &mut Vec<Diagnostic>,
-    known: &Known<'_, L>,
+    known: &CrossReferences<'_, L>,
     message: &Message,
 ) -> Result<(), Memory>
     ensures { OnOk result (found.new.items ≡ found.old.items ++ shared_group known.now message.now) }
@@ -93,7 +93,7 @@ fn push_shared_group<L: Lookup>(
 #[tactic(auto, using(crate::proofs::Pushing::pushed_then), unfolding(crate::specs::HeadFaults::head_faults))]
 pub fn push_head_faults<'a, L: Lookup>(
     found: &mut Vec<Diagnostic>,
-    known: &Known<'a, L>,
+    known: &CrossReferences<'a, L>,
     message: &'a Message,
 ) -> Result<(), Memory>
     ensures { OnOk result (found.new.items ≡ found.old.items ++ head_faults known.now message.now) }

@@ -3,7 +3,7 @@ ghost use Rattle.std.specs.Prelude.{◌≡◌, ◌++◌, OnOk};
 ghost use Rattle.std.specs.List.{flat_map};
 ghost use Rattle.can_references.specs.HeadFaults.{unknown_sender, unknown_receiver, unknown_receivers, unknown_nodes};
 
-use crate::known::Known;
+use crate::cross_references::CrossReferences;
 use can_diagnostics::{Code, Diagnostic};
 use can_rows::Lookup;
 use dbc_records::{Head, Message, Signal};
@@ -11,7 +11,7 @@ use dbc_values::{Memory, Name};
 
 fn push_unknown_sender<'a, L: Lookup>(
     found: &mut Vec<Diagnostic>,
-    known: &Known<'a, L>,
+    known: &CrossReferences<'a, L>,
     head: &'a Head,
 ) -> Result<(), Memory>
     ensures { OnOk result (found.new.items ≡ found.old.items ++ unknown_sender known.now head.now) }
@@ -24,7 +24,7 @@ fn push_unknown_sender<'a, L: Lookup>(
 
 fn push_unknown_nodes_of<'a, L: Lookup>(
     found: &mut Vec<Diagnostic>,
-    known: &Known<'a, L>,
+    known: &CrossReferences<'a, L>,
     head: &Head,
     signal: &Signal,
     nodes: &'a [Name],
@@ -42,7 +42,7 @@ fn push_unknown_nodes_of<'a, L: Lookup>(
 
 fn push_unknown_receivers<'a, L: Lookup>(
     found: &mut Vec<Diagnostic>,
-    known: &Known<'a, L>,
+    known: &CrossReferences<'a, L>,
     head: &'a Head,
     signal: &'a Signal,
 ) -> Result<(), Memory>
@@ -53,7 +53,7 @@ fn push_unknown_receivers<'a, L: Lookup>(
 
 fn push_all_unknown_receivers<'a, L: Lookup>(
     found: &mut Vec<Diagnostic>,
-    known: &Known<'a, L>,
+    known: &CrossReferences<'a, L>,
     head: &'a Head,
     signals: &'a [Signal],
 ) -> Result<(), Memory>
@@ -69,7 +69,7 @@ fn push_all_unknown_receivers<'a, L: Lookup>(
 #[tactic(auto, using(crate::proofs::Pushing::pushed_then), unfolding(crate::specs::HeadFaults::unknown_nodes))]
 pub fn push_unknown_nodes<'a, L: Lookup>(
     found: &mut Vec<Diagnostic>,
-    known: &Known<'a, L>,
+    known: &CrossReferences<'a, L>,
     message: &'a Message,
 ) -> Result<(), Memory>
     ensures { OnOk result (found.new.items ≡ found.old.items ++ unknown_nodes known.now message.now) }

@@ -1,16 +1,16 @@
 //! The diagnostics of entries.
 ghost use Rattle.std.specs.Prelude.{◌≡◌, false, [], ◌∷◌, ◌++◌, IfOk, OnOk, map};
 ghost use Rattle.std.specs.List.{flat_map};
-ghost use Rattle.can_keys.specs.Mixes.{entry_mix};
+ghost use Rattle.can_keys.specs.Hashes.{entry_hash};
 ghost use Rattle.dbc_records.specs.EntryKeys.{target_of, entry_key};
 ghost use Rattle.can_diagnostics.specs.Diagnostics.{of_row};
 ghost use Rattle.can_references.specs.Finding.{where_true, each_after};
 ghost use Rattle.can_references.specs.RowFaults.{lacks_signal, lacks_target, is_dangling, lacks_definition, is_undefined};
 ghost use Rattle.can_references.specs.RowFaults.{faults_of_row, row_fault, row_faults};
 
-use crate::known::Known;
+use crate::cross_references::CrossReferences;
 use can_diagnostics::{Code, Diagnostic};
-use can_keys::{EntryKeys, all_differ, entry_mix};
+use can_keys::{EntryKeys, all_differ, entry_hash};
 use can_rows::Lookup;
 use dbc_records::{DatabaseEntry, EntryKeyRef, EntryKind, EntryVisitor, TargetRef};
 use dbc_values::Memory;
@@ -18,13 +18,13 @@ use std::alloc::Global;
 use std::marker::Model;
 
 // Whether no message of the number has the signal.
-fn lacks_signal<'a, L: Lookup>(known: &Known<'a, L>, number: u32, name: &'a [u8]) -> bool
+fn lacks_signal<'a, L: Lookup>(known: &CrossReferences<'a, L>, number: u32, name: &'a [u8]) -> bool
     ensures { result ≡ lacks_signal known.now number name.now }
 {
     !known.has_signal(number, name)
 }
 
-fn lacks_target<'a, L: Lookup>(known: &Known<'a, L>, target: TargetRef<'a>) -> bool
+fn lacks_target<'a, L: Lookup>(known: &CrossReferences<'a, L>, target: TargetRef<'a>) -> bool
     ensures { result ≡ lacks_target known.now (target_of target.entry) }
 {
     match target {
@@ -36,20 +36,20 @@ fn lacks_target<'a, L: Lookup>(known: &Known<'a, L>, target: TargetRef<'a>) -> b
 }
 
 // Whether the entry is about what is not there.
-fn is_dangling<'a, L: Lookup>(known: &Known<'a, L>, key: EntryKeyRef<'a>) -> bool
+fn is_dangling<'a, L: Lookup>(known: &CrossReferences<'a, L>, key: EntryKeyRef<'a>) -> bool
     ensures { result ≡ is_dangling known.now (entry_key key.entry) }
 {
     lacks_target(known, key.target())
 }
 
-fn lacks_definition<'a, L: Lookup>(known: &Known<'a, L>, name: &'a [u8]) -> bool
+fn lacks_definition<'a, L: Lookup>(known: &CrossReferences<'a, L>, name: &'a [u8]) -> bool
     ensures { result ≡ lacks_definition known.now name.now }
 {
     !known.is_defined(name)
 }
 
 // Whether the entry gives an attribute that is not defined.
-fn is_undefined<'a, L: Lookup>(known: &Known<'a, L>, key: EntryKeyRef<'a>) -> bool
+fn is_undefined<'a, L: Lookup>(known: &CrossReferences<'a, L>, key: EntryKeyRef<'a>) -> bool
     ensures { result ≡ is_undefined known.now (entry_key key.entry) }
 {
     match key {
@@ -79,7 +79,7 @@ fn push_where<R: DatabaseEntry>(
 #[tactic(auto, using(crate::proofs::Pushing::pushed_then), unfolding(crate::specs::RowFaults::faults_of_row))]
 fn push_faults_of_row<'a, L: Lookup, R: DatabaseEntry>(
     found: &mut Vec<Diagnostic>,
-    known: &Known<'a, L>,
+    known: &CrossReferences<'a, L>,
     row: &'a R,
     is_repeated: bool,
 ) -> Result<(), Memory>
@@ -95,7 +95,7 @@ fn push_faults_of_row<'a, L: Lookup, R: DatabaseEntry>(
 #[tactic(auto, unfolding(crate::specs::RowFaults::row_fault))]
 pub fn push_row<'a, L: Lookup, R: DatabaseEntry>(
     found: &mut Vec<Diagnostic>,
-    known: &Known<'a, L>,
+    known: &CrossReferences<'a, L>,
     seen: &mut EntryKeys<'a>,
     row: &'a R,
 ) -> Result<(), Memory>
@@ -109,7 +109,7 @@ pub fn push_row<'a, L: Lookup, R: DatabaseEntry>(
 // Adds the diagnostics of entries of one kind, each given those before it.
 fn push_in_turn<'a, L: Lookup, R: DatabaseEntry>(
     found: &mut Vec<Diagnostic>,
-    known: &Known<'a, L>,
+    known: &CrossReferences<'a, L>,
     rows: &'a [R],
 ) -> Result<(), Memory>
     ensures { OnOk result (found.new.items ≡ found.old.items ++ each_after (row_fault known.now) [] (map R.key_of rows.now)) }
@@ -124,7 +124,7 @@ fn push_in_turn<'a, L: Lookup, R: DatabaseEntry>(
 // Adds the diagnostics of entries none of which is repeated.
 fn push_alone<'a, L: Lookup, R: DatabaseEntry>(
     found: &mut Vec<Diagnostic>,
-    known: &Known<'a, L>,
+    known: &CrossReferences<'a, L>,
     rows: &'a [R],
 ) -> Result<(), Memory>
     ensures { OnOk result (found.new.items ≡ found.old.items ++ flat_map (faults_of_row known.now false) (map R.key_of
@@ -137,26 +137,26 @@ fn push_alone<'a, L: Lookup, R: DatabaseEntry>(
 }
 
 // The hashes of the entries' keys.
-fn mixes_of<R: DatabaseEntry>(alloc: Global, rows: &[R]) -> Result<Vec<u64>, Memory>
-    ensures { IfOk result (λ mixes. mixes.items ≡ map entry_mix (map R.key_of rows.now)) }
+fn hashes_of<R: DatabaseEntry>(alloc: Global, rows: &[R]) -> Result<Vec<u64>, Memory>
+    ensures { IfOk result (λ hashes. hashes.items ≡ map entry_hash (map R.key_of rows.now)) }
 {
-    let mut mixes = Vec::with_capacity(alloc, rows.len())?;
+    let mut hashes = Vec::with_capacity(alloc, rows.len())?;
     for row in rows {
-        mixes.push(entry_mix(&row.key()))?;
+        hashes.push(entry_hash(&row.key()))?;
     }
-    Ok(mixes)
+    Ok(hashes)
 }
 
 // Adds the diagnostics of entries of one kind. If the hashes of their keys differ, and mostly they do, no entry is repeated, and no
 // key is kept.
 fn push_rows<'a, L: Lookup, R: DatabaseEntry>(
     found: &mut Vec<Diagnostic>,
-    known: &Known<'a, L>,
+    known: &CrossReferences<'a, L>,
     rows: &'a [R],
 ) -> Result<(), Memory>
     ensures { OnOk result (found.new.items ≡ found.old.items ++ each_after (row_fault known.now) [] (map R.key_of rows.now)) }
 {
-    if all_differ(mixes_of(*found.allocator(), rows)?) {
+    if all_differ(hashes_of(*found.allocator(), rows)?) {
         push_alone(found, known, rows)
     } else {
         push_in_turn(found, known, rows)
@@ -166,7 +166,7 @@ fn push_rows<'a, L: Lookup, R: DatabaseEntry>(
 // The diagnostics of the entries seen so far.
 #[derive(Drop)]
 struct EntryFaults<'a, L: Lookup> {
-    known: Known<'a, L>,
+    known: CrossReferences<'a, L>,
     found: Vec<Diagnostic>,
 }
 
@@ -194,7 +194,10 @@ impl<'a, L: Lookup> EntryVisitor<'a> for EntryFaults<'a, L> {
 
 /// The diagnostics of the entries of a database, kind by kind: codes 16 to 18.
 #[tactic(auto, using(crate::proofs::ByKind::all_added), unfolding(crate::specs::RowFaults::row_faults))]
-pub fn row_faults<L: Lookup>(alloc: Global, known: Known<'_, L>) -> Result<Vec<Diagnostic>, Memory>
+pub fn row_faults<L: Lookup>(
+    alloc: Global,
+    known: CrossReferences<'_, L>,
+) -> Result<Vec<Diagnostic>, Memory>
     ensures { IfOk result (λ found. found.items ≡ row_faults known.entry) }
 {
     let database = known.database();

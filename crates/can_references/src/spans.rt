@@ -9,7 +9,7 @@ use dbc_values::Memory;
 use std::alloc::Global;
 
 // At most so many entries are gone through.
-const FEW: usize = 64;
+const LINEAR_SEARCH_LIMIT: usize = 64;
 
 /// Numbers from the least to the greatest.
 #[derive(Clone, Copy)]
@@ -86,7 +86,7 @@ fn joined(first: Span, second: Span) -> Span
 pub(crate) fn spans_of(alloc: Global, entries: &[Entry]) -> Result<Spans, Memory>
     ensures { IfOk result (λ spans. AreSpans spans entries.now) }
 {
-    if entries.len() <= FEW {
+    if entries.len() <= LINEAR_SEARCH_LIMIT {
         return Ok(Spans::Few(entries_span(entries)));
     }
     let (left, right) = entries.split_at(entries.len() / 2);

@@ -24,8 +24,8 @@ use dbc_reader::read;
 use dbc_records::Database;
 use dbc_tokens::{Cause, ReadFault};
 use dbc_values::Memory;
-use ready_texts::Draft;
-use session_log::{Fresh, Log};
+use ready_texts::TextBuffer;
+use session_log::{Log, RedecodedLine};
 use std::alloc::Global;
 use std::hash::RandomState;
 use std::marker::Model;
@@ -48,7 +48,7 @@ pub struct Session {
     log: Log,
     meter: Meter,
     // In which the texts of lines are made.
-    draft: Draft,
+    buffer: TextBuffer,
 }
 
 impl Model for Session {
@@ -74,7 +74,7 @@ fn made_after(
     short: Short,
     log: &Log,
     meter: &mut Meter,
-) -> Result<(Shown, Vec<Fresh>), Memory>
+) -> Result<(Shown, Vec<RedecodedLine>), Memory>
     requires { All (IsDecoded (record { database = accepted.before; short = short })) log.now }
     ensures shown { IfOk result (λ made. made.0 ≡ accepted.entry.after) }
     ensures fresh { IfOk result (λ made. Completes (record { database = accepted.entry.after; short = short }) log.now
@@ -112,14 +112,14 @@ fn session_of(alloc: Global, database: Database, keyed: KeyedOptions) -> Result<
         shown,
         log: log_of(alloc, keyed.keys),
         meter,
-        draft: Draft::new(alloc),
+        buffer: TextBuffer::new(alloc),
     })
 }
 
 // Gives back the room of a draft in which a longer text was made.
-fn limit_draft(draft: &mut Draft) {
-    if draft.as_slice().len() > MAX_DRAFT_SIZE {
-        *draft = Draft::new(draft.allocator());
+fn limit_buffer(buffer: &mut TextBuffer) {
+    if buffer.as_slice().len() > MAX_DRAFT_SIZE {
+        *buffer = TextBuffer::new(buffer.allocator());
     }
 }
 
@@ -194,8 +194,8 @@ impl Session {
             shown: &self.shown,
             short: self.options.short,
         };
-        let made = bus.line(&mut self.draft, line, &mut self.meter);
-        limit_draft(&mut self.draft);
+        let made = bus.line(&mut self.buffer, line, &mut self.meter);
+        limit_buffer(&mut self.buffer);
         let made = made?;
         self.log.retain(self.alloc, made)?;
         if self.log.len() > self.options.keep.most() {

@@ -9,7 +9,7 @@ use can_decode::{Bus, ReadLine, Short};
 use can_layout::Meter;
 use compiled_database::Shown;
 use dbc_values::Memory;
-use ready_texts::Draft;
+use ready_texts::TextBuffer;
 use session_log::Line;
 use smallvec::SmallVec;
 use std::marker::Model;
@@ -32,10 +32,10 @@ impl<'a> Model for ShownBus<'a> {
 }
 
 impl<'a> ShownBus<'a> {
-    /// The decoded text of a line, made in `draft`. The meter counts it, also where memory is refused.
+    /// The decoded text of a line, made in `buffer`. The meter counts it, also where memory is refused.
     pub(crate) fn decode(
         &self,
-        draft: &mut Draft,
+        buffer: &mut TextBuffer,
         line: &ReadLine<'_>,
         meter: &mut Meter,
     ) -> Result<Vec<u8>, Memory>
@@ -46,14 +46,14 @@ impl<'a> ShownBus<'a> {
             database: self.shown.database(),
             short: self.short,
         };
-        bus.renew_frame_at(draft, self.shown.chosen(line), line, meter)?;
-        draft.to_vec()
+        bus.renew_frame_at(buffer, self.shown.chosen(line), line, meter)?;
+        buffer.to_vec()
     }
 
-    /// A line with its decoded text, which is made in `draft`.
+    /// A line with its decoded text, which is made in `buffer`.
     pub(crate) fn line(
         &self,
-        draft: &mut Draft,
+        buffer: &mut TextBuffer,
         line: &[u8],
         meter: &mut Meter,
     ) -> Result<Line, Memory>
@@ -64,8 +64,8 @@ impl<'a> ShownBus<'a> {
     {
         let read = ReadLine::of(line);
         let number = read.number();
-        let bytes = SmallVec::from_slice(draft.allocator(), line)?;
-        let decoded = self.decode(draft, &read, meter)?;
+        let bytes = SmallVec::from_slice(buffer.allocator(), line)?;
+        let decoded = self.decode(buffer, &read, meter)?;
         Ok(Line {
             bytes,
             number,

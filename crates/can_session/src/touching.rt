@@ -8,29 +8,29 @@ ghost use Rattle.session_log.specs.Logs.{bytes_of, TextsAt, IsTextOf, IsDecoded,
 use crate::shown_bus::ShownBus;
 use can_decode::{ReadLine, Short};
 use can_layout::Meter;
-use compiled_database::Remade;
+use compiled_database::AppliedEdit;
 use dbc_values::Memory;
 use edit_reach::laws::untouched_lines_stay;
-use ready_texts::Draft;
-use session_log::{Fresh, Log};
+use ready_texts::TextBuffer;
+use session_log::{Log, RedecodedLine};
 use std::alloc::Global;
 
-// The text of the line at an index, made in `draft`.
+// The text of the line at an index, made in `buffer`.
 fn fresh_at(
-    draft: &mut Draft,
+    buffer: &mut TextBuffer,
     bus: &ShownBus<'_>,
     log: &Log,
     place: usize,
     meter: &mut Meter,
-) -> Result<Fresh, Memory>
+) -> Result<RedecodedLine, Memory>
     requires { place < length log.now }
     ensures place { IfOk result (λ fresh. fresh.place ≡ place) }
     ensures text { IfOk result (λ fresh. IsTextOf bus.now log.now fresh) }
     ensures lines { Raised 0 1 meter.old meter.new }
 {
     let line = ReadLine::of(log.line(place).bytes.as_slice());
-    let text = bus.decode(draft, &line, meter)?;
-    Ok(Fresh { place, text })
+    let text = bus.decode(buffer, &line, meter)?;
+    Ok(RedecodedLine { place, text })
 }
 
 // The texts of the lines at the places.
@@ -40,15 +40,15 @@ fn decode_places(
     log: &Log,
     places: &[usize],
     meter: &mut Meter,
-) -> Result<Vec<Fresh>, Memory>
+) -> Result<Vec<RedecodedLine>, Memory>
     requires { All (λ place. place < length log.now) places.now }
     ensures texts { IfOk result (λ fresh. TextsAt bus.now log.now places.now fresh.items) }
     ensures lines { Raised 0 (length places.now) meter.old meter.new }
 {
-    let mut draft = Draft::new(alloc);
+    let mut buffer = TextBuffer::new(alloc);
     let mut fresh = Vec::new(alloc);
     for place in places {
-        fresh.push(fresh_at(&mut draft, bus, log, *place, meter)?)?;
+        fresh.push(fresh_at(&mut buffer, bus, log, *place, meter)?)?;
     }
     Ok(fresh)
 }
@@ -56,11 +56,11 @@ fn decode_places(
 /// The texts, in an edited database, of the lines that the edit touches: with these in their places every line has its text.
 pub(crate) fn decode_touched(
     alloc: Global,
-    remade: &Remade<'_>,
+    remade: &AppliedEdit<'_>,
     short: Short,
     log: &Log,
     meter: &mut Meter,
-) -> Result<Vec<Fresh>, Memory>
+) -> Result<Vec<RedecodedLine>, Memory>
     requires { All (IsDecoded (record { database = remade.now.before; short = short })) log.now }
     ensures completes { IfOk result (λ fresh. Completes (record { database = remade.now.after; short = short }) log.now
         fresh.items) }

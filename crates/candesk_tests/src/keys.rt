@@ -1,6 +1,6 @@
 //! What no contract says: that calls succeed.
 
-use can_keys::{EntryKeys, Names, Numbers, SignalNames, all_differ, entry_mix};
+use can_keys::{EntryKeys, Names, Numbers, SignalNames, all_differ, entry_hash};
 use dbc_records::{Comment, DatabaseEntry, EntryKeyRef, Object, Target, TargetRef};
 use dbc_values::Text;
 use std::test::Fail;
@@ -41,16 +41,16 @@ fn signals(rt: HostRuntime) -> Result<(), Fail> {
 }
 
 #[test]
-fn mixes(rt: HostRuntime) -> Result<(), Fail> {
-    let mut mixes = Vec::new(rt.alloc());
-    mixes.push(entry_mix(&EntryKeyRef::Default(b"n")))?;
-    mixes.push(entry_mix(&EntryKeyRef::Default(b"m")))?;
-    mixes.push(entry_mix(&EntryKeyRef::Default(b"o")))?;
-    assert!(rt; all_differ(mixes));
+fn hashes(rt: HostRuntime) -> Result<(), Fail> {
+    let mut hashes = Vec::new(rt.alloc());
+    hashes.push(entry_hash(&EntryKeyRef::Default(b"n")))?;
+    hashes.push(entry_hash(&EntryKeyRef::Default(b"m")))?;
+    hashes.push(entry_hash(&EntryKeyRef::Default(b"o")))?;
+    assert!(rt; all_differ(hashes));
     let mut twice = Vec::new(rt.alloc());
-    twice.push(entry_mix(&EntryKeyRef::Default(b"n")))?;
-    twice.push(entry_mix(&EntryKeyRef::Default(b"m")))?;
-    twice.push(entry_mix(&EntryKeyRef::Default(b"n")))?;
+    twice.push(entry_hash(&EntryKeyRef::Default(b"n")))?;
+    twice.push(entry_hash(&EntryKeyRef::Default(b"m")))?;
+    twice.push(entry_hash(&EntryKeyRef::Default(b"n")))?;
     assert!(rt; !all_differ(twice));
     Ok(())
 }

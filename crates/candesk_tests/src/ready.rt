@@ -1,5 +1,5 @@
 //! Texts as long as a front, and longer; and a text of two lines.
-use ready_texts::{Draft, ReadyText, push_bytes, push_shown};
+use ready_texts::{ReadyText, TextBuffer, push_bytes, push_shown};
 use std::test::Fail;
 
 #[test]
@@ -7,7 +7,7 @@ fn texts_of_each_length(rt: HostRuntime) -> Result<(), Fail> {
     let all = b"abcdefghijklmnopqrstuvwxyz0123456789";
     for count in 0..37 {
         let ready = ReadyText::of(rt.alloc(), &all[..count])?;
-        let mut text = Draft::new(rt.alloc());
+        let mut text = TextBuffer::new(rt.alloc());
         push_bytes(&mut text, b"< ")?;
         ready.push_to(&mut text)?;
         assert_eq!(rt; &text.as_slice()[2..], &all[..count]);
@@ -17,7 +17,7 @@ fn texts_of_each_length(rt: HostRuntime) -> Result<(), Fail> {
 
 #[test]
 fn a_text_of_two_lines(rt: HostRuntime) -> Result<(), Fail> {
-    let mut text = Draft::new(rt.alloc());
+    let mut text = TextBuffer::new(rt.alloc());
     push_shown(&mut text, b"a\r\nb")?;
     assert_eq!(rt; text.as_slice(), b"a  b".as_slice());
     Ok(())

@@ -147,21 +147,21 @@ command_found name rows =
     else (if bytes_eq name (codes "session") then option_map (λ keep. commands.Session short keep) (keep_found rows) else None)))))
 
 -- what a job says: the command, and its FILE
-abbrev pub Said : Type 0
-Said = Command × Text
+abbrev pub JobParts : Type 0
+JobParts = Command × Text
 
 -- that of the words, from what clap finds in them
-abbrev pub job_found : Option (Text × List Row) → Option Said
+abbrev pub job_found : Option (Text × List Row) → Option JobParts
 job_found None = None
 job_found (Some found) = option_and_then
     (λ command. option_map (λ file. (command, file)) (first_of (codes "FILE") found.1))
     (command_found found.0 found.1)
 
-abbrev pub job_as_found : Job → Said
+abbrev pub job_as_found : Job → JobParts
 job_as_found job = (job.command, job.file.bytes.items)
 
 -- the job that the words name
-abbrev pub job_named : List Text → Option Said
+abbrev pub job_named : List Text → Option JobParts
 job_named words = job_found (subcommand_of command_line words)
 
 -- what is said of words with a fault of this kind

@@ -76,12 +76,12 @@ impl<'a> Accepted<'a> {
     }
 
     /// Makes what is shown of the database after it. Only of messages that have one of its numbers are plans and diagrams made.
-    pub fn remade(self, alloc: Global, meter: &mut Meter) -> Result<Remade<'a>, Memory>
+    pub fn remade(self, alloc: Global, meter: &mut Meter) -> Result<AppliedEdit<'a>, Memory>
         ensures same { IfOk result (λ remade. remade ≡ self.entry) }
         ensures made { Raised (count_here (numbers_of self.entry) self.entry.after) 0 meter.old meter.new }
     {
         let parts = parts_after(alloc, &self, meter)?;
-        Ok(Remade {
+        Ok(AppliedEdit {
             before: self.before,
             edit: self.edit,
             numbers: self.numbers,
@@ -92,14 +92,14 @@ impl<'a> Accepted<'a> {
 
 /// An edit that was accepted, with what is shown of the database that it gives.
 #[derive(Drop)]
-pub struct Remade<'a> {
+pub struct AppliedEdit<'a> {
     before: &'a Shown,
     edit: &'a Edit,
     numbers: Numbers,
     after: Shown,
 }
 
-impl<'a> Model for Remade<'a> {
+impl<'a> Model for AppliedEdit<'a> {
     ghost use Rattle.compiled_database.specs.Acceptance.{Acceptance, IsAccepted};
 
     ghost Value = { Acceptance };
@@ -109,7 +109,7 @@ impl<'a> Model for Remade<'a> {
     ghost invariant = { λ a. IsAccepted (record { before = a.before.now; edit = a.edit.now; after = a.after }) a.numbers.items };
 }
 
-impl<'a> Remade<'a> {
+impl<'a> AppliedEdit<'a> {
     /// What is shown of the database after the edit.
     pub fn shown(&self) -> &Shown
         ensures shown { result.now ≡ self.now.after }

@@ -10,7 +10,7 @@ ghost use Rattle.compiled_database.specs.Shown.{AreDiagnosed};
 use can_check::laws::faults_in_order;
 use can_check::{Diagnostic, Occupancy, push_own_faults};
 use can_layout::Lookup;
-use can_references::{Known, push_head_faults, row_faults};
+use can_references::{CrossReferences, push_head_faults, row_faults};
 use dbc_records::Message;
 use dbc_values::{Copied, Memory};
 use std::alloc::Global;
@@ -36,7 +36,7 @@ pub(crate) struct Diagnosed {
 // Adds the diagnostics of a message's head, and says how many there are.
 fn push_head<'a, L: Lookup>(
     found: &mut Vec<Diagnostic>,
-    known: &Known<'a, L>,
+    known: &CrossReferences<'a, L>,
     message: &'a Message,
 ) -> Result<usize, Memory>
     ensures found { OnOk result (found.new.items ≡ found.old.items ++ head_faults known.now message.now) }
@@ -73,7 +73,7 @@ impl Diagnosed {
     /// Adds the diagnostics of a message. The table for overlaps is empty before and after.
     pub(crate) fn push_new<'a, L: Lookup>(
         &mut self,
-        known: &Known<'a, L>,
+        known: &CrossReferences<'a, L>,
         occupancy: Occupancy,
         message: &'a Message,
     ) -> Result<Occupancy, Memory>
@@ -93,7 +93,7 @@ impl Diagnosed {
     pub(crate) fn push_entries<L: Lookup>(
         &mut self,
         alloc: Global,
-        known: Known<'_, L>,
+        known: CrossReferences<'_, L>,
     ) -> Result<(), Memory>
         ensures diagnostics { OnOk result (self.new.diagnostics.items ≡ self.old.diagnostics.items ++ row_faults known.entry) }
         ensures counts { OnOk result (self.new.counts.items ≡ self.old.counts.items) }
@@ -106,7 +106,7 @@ impl Diagnosed {
     /// Adds the diagnostics of a message, with copies of its own ones.
     pub(crate) fn push_kept<'a, L: Lookup>(
         &mut self,
-        known: &Known<'a, L>,
+        known: &CrossReferences<'a, L>,
         message: &'a Message,
         own: &[Diagnostic],
     ) -> Result<(), Memory>
@@ -131,7 +131,7 @@ impl Diagnosed {
 fn push_messages<'a, L: Lookup>(
     made: &mut Diagnosed,
     alloc: Global,
-    known: &Known<'a, L>,
+    known: &CrossReferences<'a, L>,
     messages: &'a [Message],
 ) -> Result<(), Memory>
     ensures diagnostics { OnOk result (made.new.diagnostics.items ≡ made.old.diagnostics.items
@@ -150,7 +150,7 @@ pub(crate) fn diagnose<L: Lookup>(alloc: Global, lookup: &L) -> Result<Diagnosed
     ensures { IfOk result (λ made. AreDiagnosed (L.whole lookup.now) made.diagnostics.items made.counts.items) }
 {
     faults_in_order();
-    let known = Known::of(alloc, lookup)?;
+    let known = CrossReferences::of(alloc, lookup)?;
     let messages = known.database().messages.as_slice();
     let mut made = Diagnosed::with_room(alloc, messages.len())?;
     push_messages(&mut made, alloc, &known, messages)?;

@@ -12,5 +12,5 @@ mod rediagnosing;
 mod shown;
 mod splitting;
 
-pub use accepted::{Accepted, Remade};
+pub use accepted::{Accepted, AppliedEdit};
 pub use shown::Shown;

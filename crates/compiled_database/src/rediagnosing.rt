@@ -14,7 +14,7 @@ use crate::shown::{Shown, messages_of};
 use can_check::laws::{faults_in_order, own_rows_and_nodes_alone};
 use can_check::{Diagnostic, Occupancy};
 use can_layout::Lookup;
-use can_references::{Known, row_faults};
+use can_references::{CrossReferences, row_faults};
 use dbc_records::Message;
 use dbc_values::Memory;
 use edit_reach::laws::others_stay;
@@ -59,7 +59,7 @@ fn kept_own_after<'a>(
 // Adds the diagnostics of messages, in order: of a message that has none of the numbers its own ones are the next of the kept ones.
 fn push_merged<'a, L: Lookup>(
     made: &mut Diagnosed,
-    known: &Known<'a, L>,
+    known: &CrossReferences<'a, L>,
     numbers: &[u32],
     kept: &Vec<&[Diagnostic]>,
     messages: &'a [Message],
@@ -93,7 +93,7 @@ pub(crate) fn diagnose_after<L: Lookup>(
     ensures { IfOk result (λ made. AreDiagnosed accepted.now.after made.diagnostics.items made.counts.items) }
 {
     faults_in_order();
-    let known = Known::among(alloc, lookup, accepted.numbers())?;
+    let known = CrossReferences::among(alloc, lookup, accepted.numbers())?;
     let kept = kept_own_after(alloc, accepted)?;
     let messages = messages_of(known.database());
     let mut made = Diagnosed::with_room(alloc, messages.len())?;

@@ -9,7 +9,7 @@ ghost use Rattle.csv_lines.specs.Prepared.{doubled, further_field};
 use can_decode::{push_number, push_scaled};
 use dbc_values::Memory;
 use json_texts::{characters_of, is_plain};
-use ready_texts::{Draft, push_bytes};
+use ready_texts::{TextBuffer, push_bytes};
 
 // Whether a field with this byte stands in quotes.
 #[inline(always)]
@@ -26,7 +26,7 @@ fn needs_quotes(field: &[u8]) -> bool
 }
 
 // A byte between quotes.
-fn push_doubled(text: &mut Draft, b: u8) -> Result<(), Memory>
+fn push_doubled(text: &mut TextBuffer, b: u8) -> Result<(), Memory>
     ensures { OnOk result (text.new.items ≡ text.old.items ++ doubled b) }
 {
     if b == b'"' {
@@ -36,7 +36,7 @@ fn push_doubled(text: &mut Draft, b: u8) -> Result<(), Memory>
     }
 }
 
-fn push_all_doubled(text: &mut Draft, field: &[u8]) -> Result<(), Memory>
+fn push_all_doubled(text: &mut TextBuffer, field: &[u8]) -> Result<(), Memory>
     ensures { OnOk result (text.new.items ≡ text.old.items ++ flat_map doubled field.now) }
 {
     for b in field {
@@ -46,7 +46,7 @@ fn push_all_doubled(text: &mut Draft, field: &[u8]) -> Result<(), Memory>
 }
 
 // A field in quotes.
-fn push_quoted(text: &mut Draft, field: &[u8]) -> Result<(), Memory>
+fn push_quoted(text: &mut TextBuffer, field: &[u8]) -> Result<(), Memory>
     ensures { OnOk result (text.new.items ≡ text.old.items ++ quoted default_writer field.now) }
 {
     text.push(b'"')?;
@@ -57,7 +57,7 @@ fn push_quoted(text: &mut Draft, field: &[u8]) -> Result<(), Memory>
 
 /// Appends a field, in quotes if it needs them.
 #[tactic(auto, using(crate::proofs::Fields::in_quotes, crate::proofs::Fields::without_quotes))]
-pub(crate) fn push_field(text: &mut Draft, field: &[u8]) -> Result<(), Memory>
+pub(crate) fn push_field(text: &mut TextBuffer, field: &[u8]) -> Result<(), Memory>
     ensures { OnOk result (text.new.items ≡ text.old.items ++ field_text default_writer field.now) }
 {
     if needs_quotes(field) {
@@ -68,7 +68,7 @@ pub(crate) fn push_field(text: &mut Draft, field: &[u8]) -> Result<(), Memory>
 }
 
 // A field of bytes that are no UTF-8.
-fn push_characters(text: &mut Draft, bytes: &[u8]) -> Result<(), Memory>
+fn push_characters(text: &mut TextBuffer, bytes: &[u8]) -> Result<(), Memory>
     ensures { OnOk result (text.new.items ≡ text.old.items ++ field_text default_writer (characters bytes.now)) }
 {
     let characters = characters_of(text.allocator(), bytes)?;
@@ -77,7 +77,7 @@ fn push_characters(text: &mut Draft, bytes: &[u8]) -> Result<(), Memory>
 
 // A field of any bytes.
 #[tactic(auto, using(json_texts::proofs::Spellings::own_text, json_texts::proofs::Spellings::text_of_characters))]
-fn push_any_text(text: &mut Draft, bytes: &[u8]) -> Result<(), Memory>
+fn push_any_text(text: &mut TextBuffer, bytes: &[u8]) -> Result<(), Memory>
     ensures { OnOk result (text.new.items ≡ text.old.items ++ field_text default_writer (text_of bytes.now)) }
 {
     match std::str::from_utf8(bytes) {
@@ -88,7 +88,7 @@ fn push_any_text(text: &mut Draft, bytes: &[u8]) -> Result<(), Memory>
 
 /// Appends the text of bytes as a field. Most bytes are a text by themselves.
 #[tactic(auto, using(json_texts::proofs::Plain::plain_text))]
-pub(crate) fn push_text(text: &mut Draft, bytes: &[u8]) -> Result<(), Memory>
+pub(crate) fn push_text(text: &mut TextBuffer, bytes: &[u8]) -> Result<(), Memory>
     ensures { OnOk result (text.new.items ≡ text.old.items ++ field_text default_writer (text_of bytes.now)) }
 {
     if is_plain(bytes) {
@@ -99,7 +99,7 @@ pub(crate) fn push_text(text: &mut Draft, bytes: &[u8]) -> Result<(), Memory>
 }
 
 /// Appends a field after others.
-pub(crate) fn push_further(text: &mut Draft, field: &[u8]) -> Result<(), Memory>
+pub(crate) fn push_further(text: &mut TextBuffer, field: &[u8]) -> Result<(), Memory>
     ensures { OnOk result (text.new.items ≡ text.old.items ++ further_field field.now) }
 {
     text.push(b',')?;
@@ -108,7 +108,7 @@ pub(crate) fn push_further(text: &mut Draft, field: &[u8]) -> Result<(), Memory>
 }
 
 /// Appends the text of bytes as a field after others.
-pub(crate) fn push_further_text(text: &mut Draft, bytes: &[u8]) -> Result<(), Memory>
+pub(crate) fn push_further_text(text: &mut TextBuffer, bytes: &[u8]) -> Result<(), Memory>
     ensures { OnOk result (text.new.items ≡ text.old.items ++ further_field (text_of bytes.now)) }
 {
     text.push(b',')?;
@@ -117,7 +117,7 @@ pub(crate) fn push_further_text(text: &mut Draft, bytes: &[u8]) -> Result<(), Me
 }
 
 /// Appends a whole number as a field after others.
-pub(crate) fn push_further_number(text: &mut Draft, number: u64) -> Result<(), Memory>
+pub(crate) fn push_further_number(text: &mut TextBuffer, number: u64) -> Result<(), Memory>
     ensures { OnOk result (text.new.items ≡ text.old.items ++ further_field (decimal number)) }
 {
     text.push(b',')?;
@@ -127,7 +127,7 @@ pub(crate) fn push_further_number(text: &mut Draft, number: u64) -> Result<(), M
 
 /// Appends a value over ten to the number of places, as an exact decimal.
 #[inline(always)]
-pub(crate) fn push_decimal(text: &mut Draft, value: i128, places: u8) -> Result<(), Memory>
+pub(crate) fn push_decimal(text: &mut TextBuffer, value: i128, places: u8) -> Result<(), Memory>
     ensures { OnOk result (text.new.items ≡ text.old.items ++ field_text default_writer (scaled_text value places)) }
 {
     push_scaled(text, value, places)?;

@@ -12,11 +12,11 @@ use dbc_values::Memory;
 use json_lines::words_of;
 use log_frames::{Frame, body_of, fill_frame};
 use prepared_texts::PreparedFinder;
-use ready_texts::Draft;
+use ready_texts::TextBuffer;
 
 // Time, interface and identifier, as the first fields of a row.
 fn push_words(
-    text: &mut Draft,
+    text: &mut TextBuffer,
     time: &[u8],
     interface: &[u8],
     identifier: u32,
@@ -30,7 +30,7 @@ fn push_words(
     Ok(())
 }
 
-fn push_came(text: &mut Draft, body: &[u8], frame: &Frame) -> Result<(), Memory>
+fn push_came(text: &mut TextBuffer, body: &[u8], frame: &Frame) -> Result<(), Memory>
     ensures { OnOk result (text.new.items ≡ text.old.items ++ body_text (came_fields body.now frame.now)) }
 {
     let words = words_of(body);
@@ -39,8 +39,8 @@ fn push_came(text: &mut Draft, body: &[u8], frame: &Frame) -> Result<(), Memory>
 
 // The rows of a message. What stands first in each is made in `came`, whatever that holds before.
 fn push_message(
-    text: &mut Draft,
-    came: &mut Draft,
+    text: &mut TextBuffer,
+    came: &mut TextBuffer,
     body: &[u8],
     frame: &Frame,
     target: &CsvTarget<'_>,
@@ -59,8 +59,8 @@ fn push_message(
 
 // The rows of a data frame.
 fn push_data(
-    text: &mut Draft,
-    came: &mut Draft,
+    text: &mut TextBuffer,
+    came: &mut TextBuffer,
     body: &[u8],
     frame: &Frame,
     target: Option<&CsvTarget<'_>>,
@@ -76,8 +76,8 @@ fn push_data(
 
 // The rows of a frame.
 fn push_frame(
-    text: &mut Draft,
-    came: &mut Draft,
+    text: &mut TextBuffer,
+    came: &mut TextBuffer,
     body: &[u8],
     frame: &Frame,
     target: Option<&CsvTarget<'_>>,
@@ -95,8 +95,8 @@ fn push_frame(
 /// Appends the rows of a line. What stands first in each is made in `came`, whatever that holds before.
 #[tactic(auto, unfolding(crate::specs::Rows::line_rows))]
 pub(crate) fn push_line<C: Choose>(
-    text: &mut Draft,
-    came: &mut Draft,
+    text: &mut TextBuffer,
+    came: &mut TextBuffer,
     finder: &mut PreparedFinder<'_, C, Columns>,
     line: &[u8],
 ) -> Result<(), Memory>

@@ -10,7 +10,7 @@ use can_layout::{Cause, Reading, Row};
 use dbc_records::Message;
 use dbc_values::Memory;
 use prepared_texts::Prepare;
-use ready_texts::{Draft, ReadyText, push_bytes};
+use ready_texts::{ReadyText, TextBuffer, push_bytes};
 
 /// What is written of a signal before and after its value.
 #[derive(Drop)]
@@ -23,14 +23,14 @@ pub struct RowTexts {
 
 // `,?float`
 #[tactic(auto, using(crate::proofs::Fields::cause_pushed))]
-fn push_cause(text: &mut Draft, cause: Cause) -> Result<(), Memory>
+fn push_cause(text: &mut TextBuffer, cause: Cause) -> Result<(), Memory>
     ensures { OnOk result (text.new.items ≡ text.old.items ++ further_field (codes "?" ++ cause_word cause)) }
 {
     text.push_piece(b",?")?;
     push_bytes(text, cause.word())
 }
 
-fn push_refused(text: &mut Draft, cause: Cause) -> Result<(), Memory>
+fn push_refused(text: &mut TextBuffer, cause: Cause) -> Result<(), Memory>
     ensures { OnOk result (text.new.items ≡ text.old.items ++ value_label (Refused cause)) }
 {
     push_cause(text, cause)?;
@@ -38,7 +38,7 @@ fn push_refused(text: &mut Draft, cause: Cause) -> Result<(), Memory>
     Ok(())
 }
 
-fn push_value_label(text: &mut Draft, reading: &Reading) -> Result<(), Memory>
+fn push_value_label(text: &mut TextBuffer, reading: &Reading) -> Result<(), Memory>
     ensures { OnOk result (text.new.items ≡ text.old.items ++ value_label reading.now) }
 {
     match reading {
@@ -48,7 +48,7 @@ fn push_value_label(text: &mut Draft, reading: &Reading) -> Result<(), Memory>
 }
 
 #[tactic(auto, using(crate::proofs::Pushing::pushed_then))]
-fn push_row_label(text: &mut Draft, message: &[u8], row: &Row) -> Result<(), Memory>
+fn push_row_label(text: &mut TextBuffer, message: &[u8], row: &Row) -> Result<(), Memory>
     ensures { OnOk result (text.new.items ≡ text.old.items ++ row_label message.now row.now) }
 {
     push_further(text, message)?;
@@ -57,7 +57,7 @@ fn push_row_label(text: &mut Draft, message: &[u8], row: &Row) -> Result<(), Mem
     Ok(())
 }
 
-fn push_unit(text: &mut Draft, unit: &[u8]) -> Result<(), Memory>
+fn push_unit(text: &mut TextBuffer, unit: &[u8]) -> Result<(), Memory>
     ensures { OnOk result (text.new.items ≡ text.old.items ++ rest_text (text_of unit.now ∷ [] ∷ [])) }
 {
     push_further_text(text, unit)?;
@@ -65,7 +65,7 @@ fn push_unit(text: &mut Draft, unit: &[u8]) -> Result<(), Memory>
     Ok(())
 }
 
-fn push_row_tail(text: &mut Draft, reading: &Reading) -> Result<(), Memory>
+fn push_row_tail(text: &mut TextBuffer, reading: &Reading) -> Result<(), Memory>
     ensures { OnOk result (text.new.items ≡ text.old.items ++ row_tail reading.now) }
 {
     match reading {
@@ -75,7 +75,7 @@ fn push_row_tail(text: &mut Draft, reading: &Reading) -> Result<(), Memory>
 }
 
 // (Each is made in a draft, whatever it holds before.)
-fn ready_label(text: &mut Draft, message: &[u8], row: &Row) -> Result<ReadyText, Memory>
+fn ready_label(text: &mut TextBuffer, message: &[u8], row: &Row) -> Result<ReadyText, Memory>
     ensures { IfOk result (λ ready. ready ≡ row_label message.now row.now) }
 {
     text.clear();
@@ -83,7 +83,7 @@ fn ready_label(text: &mut Draft, message: &[u8], row: &Row) -> Result<ReadyText,
     ReadyText::of(text.allocator(), text.as_slice())
 }
 
-fn ready_tail(text: &mut Draft, row: &Row) -> Result<ReadyText, Memory>
+fn ready_tail(text: &mut TextBuffer, row: &Row) -> Result<ReadyText, Memory>
     ensures { IfOk result (λ ready. ready ≡ row_tail row.now.reading) }
 {
     text.clear();
@@ -91,7 +91,7 @@ fn ready_tail(text: &mut Draft, row: &Row) -> Result<ReadyText, Memory>
     ReadyText::of(text.allocator(), text.as_slice())
 }
 
-fn row_texts(text: &mut Draft, message: &[u8], row: &Row) -> Result<RowTexts, Memory>
+fn row_texts(text: &mut TextBuffer, message: &[u8], row: &Row) -> Result<RowTexts, Memory>
     ensures { IfOk result (λ texts. texts ≡ row_texts message.now row.now) }
 {
     let label = ready_label(text, message, row)?;
@@ -114,11 +114,16 @@ impl Prepare for Columns {
 
     ghost signal_of = { λ message row. row_texts message.head.name row };
 
-    fn head(&self, _text: &mut Draft, _message: &Message) -> Result<(), Memory> {
+    fn head(&self, _text: &mut TextBuffer, _message: &Message) -> Result<(), Memory> {
         Ok(())
     }
 
-    fn signal(&self, text: &mut Draft, message: &Message, row: &Row) -> Result<RowTexts, Memory> {
+    fn signal(
+        &self,
+        text: &mut TextBuffer,
+        message: &Message,
+        row: &Row,
+    ) -> Result<RowTexts, Memory> {
         row_texts(text, message.head.name.as_bytes(), row)
     }
 }

@@ -16,7 +16,7 @@ use can_decode::{SignalText, push_signals};
 use can_layout::{Decoder, Plan, Reading};
 use dbc_values::Memory;
 use prepared_texts::PreparedTarget;
-use ready_texts::{Draft, push_bytes};
+use ready_texts::{TextBuffer, push_bytes};
 use std::marker::Model;
 
 /// The message that a frame goes to, with the texts that are prepared of it.
@@ -42,7 +42,7 @@ impl<'a, 'c> Model for CsvSignals<'a, 'c> {
 }
 
 // The name of a value, and the end of the row.
-fn push_name(text: &mut Draft, name: &[u8]) -> Result<(), Memory>
+fn push_name(text: &mut TextBuffer, name: &[u8]) -> Result<(), Memory>
     ensures { OnOk result (text.new.items ≡ text.old.items ++ rest_text ([] ∷ text_of name.now ∷ [])) }
 {
     text.push(b',')?;
@@ -53,7 +53,12 @@ fn push_name(text: &mut Draft, name: &[u8]) -> Result<(), Memory>
 
 // What is told of a raw value after its number, and the end of the row.
 #[inline(always)]
-fn push_told(text: &mut Draft, texts: &RowTexts, decoder: &Decoder, raw: i128) -> Result<(), Memory>
+fn push_told(
+    text: &mut TextBuffer,
+    texts: &RowTexts,
+    decoder: &Decoder,
+    raw: i128,
+) -> Result<(), Memory>
     requires { texts.now.tail ≡ row_tail (Read decoder.now) }
     ensures { OnOk result (text.new.items ≡ text.old.items ++ rest_text (told_fields decoder.now
         (first_entry raw decoder.now.entries))) }
@@ -68,7 +73,7 @@ fn push_told(text: &mut Draft, texts: &RowTexts, decoder: &Decoder, raw: i128) -
 #[inline(always)]
 #[tactic(auto, using(crate::proofs::Pushing::pushed_then))]
 fn push_value(
-    text: &mut Draft,
+    text: &mut TextBuffer,
     texts: &RowTexts,
     decoder: &Decoder,
     raw: i128,
@@ -86,7 +91,7 @@ fn push_value(
 // What follows the label of a signal: nothing if it can't be decoded.
 #[inline(always)]
 fn push_behind_label(
-    text: &mut Draft,
+    text: &mut TextBuffer,
     texts: &RowTexts,
     reading: &Reading,
     bytes: &[u8],
@@ -118,7 +123,7 @@ impl<'a, 'c> SignalText for CsvSignals<'a, 'c> {
     #[inline(always)]
     fn push(
         &self,
-        text: &mut Draft,
+        text: &mut TextBuffer,
         _some: bool,
         place: usize,
         bytes: &[u8],
@@ -136,7 +141,7 @@ impl<'a, 'c> SignalText for CsvSignals<'a, 'c> {
 /// Appends a row for each signal of a message that is shown, each after what stands first in it.
 #[tactic(auto, using(crate::proofs::Rows::listed_rows))]
 pub(crate) fn push_signal_rows(
-    text: &mut Draft,
+    text: &mut TextBuffer,
     came: &[u8],
     target: &CsvTarget<'_>,
     bytes: &[u8],

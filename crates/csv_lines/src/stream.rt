@@ -14,7 +14,7 @@ use can_layout::Meter;
 use dbc_values::Memory;
 use line_stream::{LineText, StreamFault};
 use prepared_texts::{Prepared, PreparedFinder, prepared_finder};
-use ready_texts::Draft;
+use ready_texts::TextBuffer;
 use std::alloc::Global;
 use std::marker::Model;
 
@@ -55,7 +55,7 @@ impl<'a> CsvDecoding<'a> {
 struct CsvRows<'a, C: Choose> {
     finder: PreparedFinder<'a, Remembered<C>, Columns>,
     // what stands first in each row of a line
-    came: Draft,
+    came: TextBuffer,
 }
 
 impl<'a, C: Choose> Model for CsvRows<'a, C> {
@@ -74,7 +74,7 @@ impl<'a, C: Choose> LineText for CsvRows<'a, C> {
 
     ghost next = { λ rows line. rows };
 
-    fn renew(&mut self, text: &mut Draft, line: &[u8]) -> Result<(), Memory> {
+    fn renew(&mut self, text: &mut TextBuffer, line: &[u8]) -> Result<(), Memory> {
         text.clear();
         push_line(text, &mut self.came, &mut self.finder, line)
     }
@@ -93,7 +93,7 @@ fn rows_by<'a, C: Choose>(
 {
     CsvRows {
         finder: prepared_finder(alloc, &decoding.prepared, chooser),
-        came: Draft::new(alloc),
+        came: TextBuffer::new(alloc),
     }
 }
 

@@ -5,7 +5,7 @@ ghost use Rattle.dbc_reader.specs.Texts.{IsRead, IsReadAlone};
 ghost use Rattle.dbc_reader.specs.Reading.Cursors.{left_at};
 ghost use Rattle.dbc_reader.specs.Reading.Readers.{GivesTo, MakesTo, fault_of};
 ghost use Rattle.dbc_reader.specs.Reading.Databases.{version_at, timing_numbers_at, timing_at, timed_into, empty_database};
-ghost use Rattle.dbc_reader.specs.Reading.Databases.{database_at, message_attribute_at, one_of_six_at, statement_at};
+ghost use Rattle.dbc_reader.specs.Reading.Databases.{database_at, message_attribute_at, standalone_statement_at, statement_at};
 
 use crate::attributes::{message_target, value};
 use crate::cursor::Cursor;
@@ -174,9 +174,9 @@ fn message_attribute(alloc: Global, at: &mut Cursor<'_>) -> Result<AttrRow, Stop
     })
 }
 
-#[tactic(auto, using(crate::proofs::Facts::Keywords::values_alone), unfolding(crate::specs::Reading::Databases::one_of_six_at))]
-fn one_of_six(alloc: Global, at: &mut Cursor<'_>) -> Result<Statement, Stopped>
-    ensures { GivesTo result (left_at at.new) (one_of_six_at (left_at at.old)) }
+#[tactic(auto, using(crate::proofs::Facts::Keywords::values_alone), unfolding(crate::specs::Reading::Databases::standalone_statement_at))]
+fn standalone_statement(alloc: Global, at: &mut Cursor<'_>) -> Result<Statement, Stopped>
+    ensures { GivesTo result (left_at at.new) (standalone_statement_at (left_at at.old)) }
 {
     if at.starts_word(b"BO_") {
         return Ok(Statement::Head(head(alloc, at, 0)?));
@@ -203,7 +203,7 @@ fn one_of_six(alloc: Global, at: &mut Cursor<'_>) -> Result<Statement, Stopped>
 fn statement(alloc: Global, at: &mut Cursor<'_>) -> Result<Statement, Stopped>
     ensures { GivesTo result (left_at at.new) (statement_at (left_at at.old)) }
 {
-    let statement = one_of_six(alloc, at)?;
+    let statement = standalone_statement(alloc, at)?;
     at.end()?;
     Ok(statement)
 }

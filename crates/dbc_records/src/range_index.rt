@@ -10,7 +10,7 @@ use dbc_values::Memory;
 use std::alloc::Global;
 
 // At most so many ranges are gone through.
-const FEW: usize = 16;
+const LINEAR_SEARCH_LIMIT: usize = 16;
 
 fn greater(a: u64, b: u64) -> u64
     ensures { result ≡ max a b }
@@ -47,7 +47,7 @@ fn in_order(alloc: Global, ranges: &[Range]) -> Result<Vec<Range>, Memory>
 pub(crate) fn range_index(alloc: Global, ranges: &[Range]) -> Result<Option<Vec<Range>>, Memory>
     ensures { IfOk result (λ index. IfSome index (λ index. IsRangeIndex index.items ranges.now)) }
 {
-    if ranges.len() <= FEW {
+    if ranges.len() <= LINEAR_SEARCH_LIMIT {
         return Ok(None);
     }
     let ordered = in_order(alloc, ranges)?;

@@ -44,7 +44,7 @@ const WORD_LIMIT: u128 = 1_000_000_000_000_000_000;
 pub const LIMIT: u128 = 100_000_000_000_000_000_000_000_000_000_000_000_000;
 
 /// Greater than any length of a text, so that no count of digits makes up for an exponent of this size.
-const FAR: u128 = 1_000_000_000_000_000_000_000_000_000_000;
+const SATURATED: u128 = 1_000_000_000_000_000_000_000_000_000_000;
 
 fn is_sign(b: u8) -> bool
     ensures { result ≡ is_sign b }
@@ -293,14 +293,14 @@ fn mantissa_digits(before_point: &[u8], behind_point: &[u8]) -> Digits
     Digits::NONE.then_all(before_point).then_all(behind_point)
 }
 
-/// The value of the digits, or [`FAR`] where it is greater.
+/// The value of the digits, or [`SATURATED`] where it is greater.
 fn value_up_to_far(digits: &[u8]) -> u128
     requires { IsTrue (list_all is_digit digits.now) }
     ensures { result ≡ min (digits_value 10 digits.now) (10 ^ 30) }
 {
     let mut value = 0;
     for digit in digits {
-        value = (value * 10 + u128::from(*digit - b'0')).min(FAR);
+        value = (value * 10 + u128::from(*digit - b'0')).min(SATURATED);
     }
     value
 }

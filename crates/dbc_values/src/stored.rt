@@ -11,14 +11,14 @@ const ROOM: usize = 22;
 
 /// At most [`ROOM`] bytes.
 #[derive(Drop)]
-pub struct Few {
+pub struct Inline {
     // How many of the bytes count.
     count: u8,
     // The bytes, and zeros behind them.
     room: [u8; ROOM],
 }
 
-impl Model for Few {
+impl Model for Inline {
     ghost use Rattle.std.specs.Prelude.{ℕ, List, ◌≤◌, take};
     ghost use Rattle.dbc_values.specs.declared.stored.TheConstants.{ROOM};
 
@@ -29,9 +29,9 @@ impl Model for Few {
     ghost invariant = { λ few. few.count ≤ ROOM };
 }
 
-impl Few {
+impl Inline {
     // These bytes, or `None` where there are more than [`ROOM`].
-    fn of(bytes: &[u8]) -> Option<Few>
+    fn of(bytes: &[u8]) -> Option<Inline>
         ensures { result ≡ (if nat_le (length bytes.now) ROOM then Some bytes.now else None) }
     {
         if bytes.len() > ROOM {
@@ -39,7 +39,7 @@ impl Few {
         }
         let mut room = [0; ROOM];
         room[..bytes.len()].copy_from_slice(bytes);
-        Some(Few {
+        Some(Inline {
             count: bytes.len() as u8,
             room,
         })
@@ -51,10 +51,10 @@ impl Few {
         &self.room[..usize::from(self.count)]
     }
 
-    fn again(&self) -> Few
+    fn again(&self) -> Inline
         ensures { result ≡ self.now }
     {
-        Few {
+        Inline {
             count: self.count,
             room: self.room,
         }
@@ -65,7 +65,7 @@ impl Few {
 #[derive(Drop)]
 pub enum Place {
     /// In the value itself.
-    Here(Few),
+    Here(Inline),
     /// Behind it, shared by all copies.
     Shared(Rc<Vec<u8>>),
 }
@@ -91,7 +91,7 @@ impl Stored {
         ensures made { IfOk result (λ made. made ≡ bytes.now) }
         ensures memory_for_many { OnErr result (ROOM < length bytes.now) }
     {
-        if let Some(few) = Few::of(bytes) {
+        if let Some(few) = Inline::of(bytes) {
             return Ok(Stored {
                 place: Place::Here(few),
             });

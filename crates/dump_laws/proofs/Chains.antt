@@ -13,8 +13,8 @@ use Rattle.can_rows.specs.Rows.{SignalRows, first_mux}
 use Rattle.can_mux.specs.Links.{Link, IsLink}
 use Rattle.can_mux.specs.Walks.{walk_of, walk_up, walk_above, with_link, above_at, above_or_missing}
 use Rattle.can_mux.specs.Switches.{under, just, by_tag, by_row, above_of, aboves_of, place_named, only_switch}
-use Rattle.can_mux.specs.declared.above.Above.{Above}
-use Rattle.can_mux.specs.declared.above.Above.TheVariants.{Nothing, Missing, Switch}
+use Rattle.can_mux.specs.declared.mux_parent.MuxParent.{MuxParent}
+use Rattle.can_mux.specs.declared.mux_parent.MuxParent.TheVariants.{Nothing, Missing, Switch}
 use Rattle.can_mux.specs.declared.walk.Walk.{Walk}
 use Rattle.can_mux.specs.declared.walk.Walk.TheVariants as walks
 use Rattle.can_layout.specs.Plans.{chain_of}
@@ -22,7 +22,7 @@ use Rattle.dump_laws.proofs.Written.{first_of, rest_of}
 
 -- ---- what stands above a signal
 
-abbrev IsBounded : Above → Type 0
+abbrev IsBounded : MuxParent → Type 0
 IsBounded Nothing = Unit {0}
 IsBounded Missing = Unit {0}
 IsBounded (Switch link) = All IsRange link.ranges
@@ -86,14 +86,14 @@ module _ (rows : SignalRows) (all : List Signal) (valid : All IsMuxRow rows.muxe
 abbrev pub AreBounded : Option (List Link) → Type 0
 AreBounded chain = IfSome chain (AllByRecursion IsLink)
 
-module _ (aboves : List Above) (bounded : (place : ℕ) → IsBounded (above_at aboves place)) where
+module _ (aboves : List MuxParent) (bounded : (place : ℕ) → IsBounded (above_at aboves place)) where
   with_bounded : (link : Link) (walk : Walk) → All IsRange link.ranges → AreBounded (chain_of walk)
       → AreBounded (chain_of (with_link link walk))
   with_bounded link (walks.Chain links) here rest = (record { ranges = here }, rest)
   with_bounded link (walks.Absent own) here rest = tt
   with_bounded link walks.Loop here rest = tt
 
-  above_then : (above : Above) (further : ℕ → Walk) → IsBounded above → ((place : ℕ) → AreBounded (chain_of (further place)))
+  above_then : (above : MuxParent) (further : ℕ → Walk) → IsBounded above → ((place : ℕ) → AreBounded (chain_of (further place)))
       → AreBounded (chain_of (walk_above above further))
   above_then Nothing further is rest = tt
   above_then Missing further is rest = tt

@@ -26,7 +26,7 @@ use Rattle.can_rows.specs.Rows.{SignalRows, rows_of, first_values, entries_of}
 use Rattle.can_rows.specs.Groups.{group_of, group_number_of, is_group_number, is_bad_number, is_extended, format_of}
 use Rattle.can_mux.specs.Links.{Link, IsLink}
 use Rattle.can_mux.specs.Switches.{aboves_of}
-use Rattle.can_mux.specs.declared.above.Above.{Above}
+use Rattle.can_mux.specs.declared.mux_parent.MuxParent.{MuxParent}
 use Rattle.can_layout.specs.Plans.{plan_of, plan_in, row_of}
 use Rattle.can_layout.specs.Pictures.{cause_word, name_of}
 use Rattle.can_layout.specs.declared.row.Row.{Row}

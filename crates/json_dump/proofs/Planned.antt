@@ -14,7 +14,7 @@ use Rattle.dbc_records.specs.Databases.{Database}
 use Rattle.can_rows.specs.Rows.{rows_of}
 use Rattle.can_mux.specs.Walks.{walk_of}
 use Rattle.can_mux.specs.Switches.{aboves_of}
-use Rattle.can_mux.specs.declared.above.Above.{Above}
+use Rattle.can_mux.specs.declared.mux_parent.MuxParent.{MuxParent}
 use Rattle.can_layout.specs.Plans.{Plan, plan_of, plan_in, plan_rows, row_of, chain_of}
 use Rattle.can_layout.specs.Presence.{AreChained, chain_at}
 use Rattle.can_layout.specs.declared.row.Row.{Row}
@@ -28,7 +28,7 @@ rows_as_many database message =
     let made : ℕ × Signal → Row = λ placed. row_of rows (aboves_of rows message.signals) message.head.size placed.0 placed.1 in
     length-map (enumerate_from 0 message.signals) made ∙ length-enumerate_from 0 message.signals
 
-pub rows_chained : (database : Database) (message : Message) (aboves : List Above)
+pub rows_chained : (database : Database) (message : Message) (aboves : List MuxParent)
     → aboves ≡ aboves_of (rows_of message.head.number database) message.signals
     → AreChained (plan_of database message).rows aboves
 unfolding plan_in
@@ -36,10 +36,10 @@ rows_chained database message aboves above =
     plan_chained (rows_of message.head.number database) message.head.size message.signals aboves
     (plan_of database message).rows above
     (ap (λ aboves. plan_rows (rows_of message.head.number database) aboves message.head.size message.signals) (sym above)
-    ∙ ap (λ (aboves : List Above). plan_rows (rows_of message.head.number database) aboves message.head.size message.signals) refl)
+    ∙ ap (λ (aboves : List MuxParent). plan_rows (rows_of message.head.number database) aboves message.head.size message.signals) refl)
 
 -- the chain of the entry at an index
-pub chain_is : (rows : List Row) (aboves : List Above) (place : ℕ) (row : Row) → AreChained rows aboves
+pub chain_is : (rows : List Row) (aboves : List MuxParent) (place : ℕ) (row : Row) → AreChained rows aboves
     → Some row ≡ slice_get rows place → row.chain ≡ chain_of (walk_of aboves place)
 chain_is rows aboves place row are here =
     ap (λ one. option_and_then (λ (row : Row). row.chain) one) here ∙ are place

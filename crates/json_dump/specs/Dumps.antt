@@ -14,7 +14,7 @@ use Rattle.dbc_records.specs.declared.target.Target.{Target}
 use Rattle.dbc_records.specs.declared.target.Target.TheVariants as targets
 use Rattle.can_keys.specs.SignalNames.{same_signal}
 use Rattle.can_references.specs.Finding.{stands_in}
-use Rattle.can_references.specs.Known.{numbers_of, signals_of}
+use Rattle.can_references.specs.CrossReferences.{numbers_of, signals_of}
 use Rattle.json_dump.specs.Messages.{message_json}
 
 -- whether a message has the number

@@ -8,7 +8,7 @@ ghost use Rattle.json_dump.specs.Dumps.{json_line, rest_json, dump_lines};
 use crate::message::Messages;
 use crate::rest::write_rest;
 use can_layout::{Meter, Plan, plans_with};
-use can_references::Known;
+use can_references::CrossReferences;
 use can_rows::Lookup;
 use dbc_records::{Database, Message};
 use dbc_values::Memory;
@@ -20,7 +20,7 @@ use std::marker::Model;
 #[derive(Drop)]
 pub struct Dump<'a, L: Lookup> {
     messages: Messages<'a, L>,
-    known: Known<'a, L>,
+    known: CrossReferences<'a, L>,
     plans: Vec<Plan>,
 }
 
@@ -60,7 +60,7 @@ impl<'a, L: Lookup> Dump<'a, L> {
         let mut meter = Meter::new();
         let plans = plans_with(alloc, lookup, &mut meter)?;
         let messages = Messages::of(alloc, lookup)?;
-        let known = Known::of(alloc, lookup)?;
+        let known = CrossReferences::of(alloc, lookup)?;
         Ok(Dump {
             messages,
             known,

@@ -22,7 +22,7 @@ use crate::signal::{
 };
 use crate::subject::Subject;
 use can_layout::{Plan, Row};
-use can_mux::{Above, MessageRows, Walk, aboves_of, walk_of};
+use can_mux::{MessageRows, MuxParent, Walk, aboves_of, walk_of};
 use can_rows::{Lookup, group_in, is_bad_number};
 use dbc_records::{Head, Message, Signal, ValueRow};
 use dbc_values::{List, Memory, Name};
@@ -227,7 +227,7 @@ fn write_placed_plan(text: &mut JsonText, placed: &Placed<'_>) -> Result<(), Mem
 struct Planned<'a> {
     message: &'a Message,
     plan: &'a Plan,
-    aboves: List<Above>,
+    aboves: List<MuxParent>,
 }
 
 impl<'a> Model for Planned<'a> {

@@ -10,7 +10,7 @@ ghost use Rattle.json_records.specs.Records.{attribute_json, values_json, float_
 ghost use Rattle.json_dump.specs.Dumps.{is_told, other_comments, other_attributes, other_values, other_floats, other_muxes};
 ghost use Rattle.json_dump.specs.Dumps.{front_members, definition_members, other_members, rest_json};
 
-use can_references::Known;
+use can_references::CrossReferences;
 use can_rows::Lookup;
 use dbc_records::{
     AttrDef, AttrDefault, AttrRow, Comment, Database, FloatRow, MuxRow, TableRow, Target, ValueRow,
@@ -27,11 +27,11 @@ trait Tells: ToJson {
     ghost is_told: { Whole → Self → Bool };
 
     // Whether it speaks of one that is.
-    fn is_told<'a, L: Lookup>(&'a self, known: &Known<'a, L>) -> bool
+    fn is_told<'a, L: Lookup>(&'a self, known: &CrossReferences<'a, L>) -> bool
         ensures { result ≡ is_told known.now self.now };
 }
 
-fn is_told_target<'a, L: Lookup>(target: &'a Target, known: &Known<'a, L>) -> bool
+fn is_told_target<'a, L: Lookup>(target: &'a Target, known: &CrossReferences<'a, L>) -> bool
     ensures { result ≡ is_told known.now target.now }
 {
     match target {
@@ -47,7 +47,7 @@ impl Tells for Comment {
 
     ghost is_told = { λ database comment. dumps.is_told database comment.target };
 
-    fn is_told<'a, L: Lookup>(&'a self, known: &Known<'a, L>) -> bool {
+    fn is_told<'a, L: Lookup>(&'a self, known: &CrossReferences<'a, L>) -> bool {
         is_told_target(&self.target, known)
     }
 }
@@ -57,7 +57,7 @@ impl Tells for AttrRow {
 
     ghost is_told = { λ database row. dumps.is_told database row.target };
 
-    fn is_told<'a, L: Lookup>(&'a self, known: &Known<'a, L>) -> bool {
+    fn is_told<'a, L: Lookup>(&'a self, known: &CrossReferences<'a, L>) -> bool {
         is_told_target(&self.target, known)
     }
 }
@@ -67,7 +67,7 @@ impl Tells for ValueRow {
 
     ghost is_told = { λ database row. has_signal database row.number row.signal };
 
-    fn is_told<'a, L: Lookup>(&'a self, known: &Known<'a, L>) -> bool {
+    fn is_told<'a, L: Lookup>(&'a self, known: &CrossReferences<'a, L>) -> bool {
         known.has_signal(self.number, self.signal.as_bytes())
     }
 }
@@ -77,7 +77,7 @@ impl Tells for FloatRow {
 
     ghost is_told = { λ database row. has_signal database row.number row.signal };
 
-    fn is_told<'a, L: Lookup>(&'a self, known: &Known<'a, L>) -> bool {
+    fn is_told<'a, L: Lookup>(&'a self, known: &CrossReferences<'a, L>) -> bool {
         known.has_signal(self.number, self.signal.as_bytes())
     }
 }
@@ -87,7 +87,7 @@ impl Tells for MuxRow {
 
     ghost is_told = { λ database row. has_signal database row.number row.signal };
 
-    fn is_told<'a, L: Lookup>(&'a self, known: &Known<'a, L>) -> bool {
+    fn is_told<'a, L: Lookup>(&'a self, known: &CrossReferences<'a, L>) -> bool {
         known.has_signal(self.number, self.signal.as_bytes())
     }
 }
@@ -95,7 +95,7 @@ impl Tells for MuxRow {
 // One that speaks of none; else nothing.
 fn write_other<'a, T: Tells, L: Lookup>(
     text: &mut JsonText,
-    known: &Known<'a, L>,
+    known: &CrossReferences<'a, L>,
     row: &'a T,
 ) -> Result<(), Memory>
     ensures { OnOk result (text.new ≡ text.old ++ (if not (T.is_told known.now row.now) then json_tokens (T.json_of row.now) else
@@ -118,7 +118,7 @@ fn row_at<T>(rows: &[T], place: usize) -> &T
 // Those that speak of none, one after another.
 fn write_others_in<'a, T: Tells, L: Lookup>(
     text: &mut JsonText,
-    known: &Known<'a, L>,
+    known: &CrossReferences<'a, L>,
     rows: &'a [T],
 ) -> Result<(), Memory>
     ensures { OnOk result (text.new ≡ text.old ++ flat_map (λ row. json_tokens (T.json_of row)) (filter (λ row. not
@@ -132,7 +132,7 @@ fn write_others_in<'a, T: Tells, L: Lookup>(
 
 fn write_other_array<'a, T: Tells, L: Lookup>(
     text: &mut JsonText,
-    known: &Known<'a, L>,
+    known: &CrossReferences<'a, L>,
     rows: &'a [T],
 ) -> Result<(), Memory>
     ensures { OnOk result (text.new ≡ text.old ++ json_tokens (array_of (map T.json_of (filter (λ row. not
@@ -148,7 +148,7 @@ fn write_other_array<'a, T: Tells, L: Lookup>(
 fn write_others<'a, T: Tells, L: Lookup>(
     text: &mut JsonText,
     key: &str,
-    known: &Known<'a, L>,
+    known: &CrossReferences<'a, L>,
     rows: &'a [T],
 ) -> Result<(), Memory>
     ensures { OnOk result (text.new ≡ text.old ++ tokens_of ((
@@ -286,7 +286,10 @@ fn write_definitions(text: &mut JsonText, database: &Database) -> Result<(), Mem
 
 // ---- what speaks of no message that is there
 
-fn write_comments<L: Lookup>(text: &mut JsonText, known: &Known<'_, L>) -> Result<(), Memory>
+fn write_comments<L: Lookup>(
+    text: &mut JsonText,
+    known: &CrossReferences<'_, L>,
+) -> Result<(), Memory>
     ensures { OnOk result (text.new ≡ text.old ++ tokens_of ((
       codes "comments",
       array_of (map comment_json (other_comments
@@ -298,7 +301,10 @@ fn write_comments<L: Lookup>(text: &mut JsonText, known: &Known<'_, L>) -> Resul
     Ok(())
 }
 
-fn write_attributes<L: Lookup>(text: &mut JsonText, known: &Known<'_, L>) -> Result<(), Memory>
+fn write_attributes<L: Lookup>(
+    text: &mut JsonText,
+    known: &CrossReferences<'_, L>,
+) -> Result<(), Memory>
     ensures { OnOk result (text.new ≡ text.old ++ tokens_of ((
       codes "attributes",
       array_of (map attribute_json (other_attributes
@@ -310,7 +316,10 @@ fn write_attributes<L: Lookup>(text: &mut JsonText, known: &Known<'_, L>) -> Res
     Ok(())
 }
 
-fn write_values_of<L: Lookup>(text: &mut JsonText, known: &Known<'_, L>) -> Result<(), Memory>
+fn write_values_of<L: Lookup>(
+    text: &mut JsonText,
+    known: &CrossReferences<'_, L>,
+) -> Result<(), Memory>
     ensures { OnOk result (text.new ≡ text.old ++ tokens_of ((
       codes "values",
       array_of (map values_json (other_values
@@ -322,7 +331,10 @@ fn write_values_of<L: Lookup>(text: &mut JsonText, known: &Known<'_, L>) -> Resu
     Ok(())
 }
 
-fn write_value_types<L: Lookup>(text: &mut JsonText, known: &Known<'_, L>) -> Result<(), Memory>
+fn write_value_types<L: Lookup>(
+    text: &mut JsonText,
+    known: &CrossReferences<'_, L>,
+) -> Result<(), Memory>
     ensures { OnOk result (text.new ≡ text.old ++ tokens_of ((
       codes "value_types",
       array_of (map float_json (other_floats
@@ -334,7 +346,10 @@ fn write_value_types<L: Lookup>(text: &mut JsonText, known: &Known<'_, L>) -> Re
     Ok(())
 }
 
-fn write_multiplexing<L: Lookup>(text: &mut JsonText, known: &Known<'_, L>) -> Result<(), Memory>
+fn write_multiplexing<L: Lookup>(
+    text: &mut JsonText,
+    known: &CrossReferences<'_, L>,
+) -> Result<(), Memory>
     ensures { OnOk result (text.new ≡ text.old ++ tokens_of ((
       codes "multiplexing",
       array_of (map mux_json (other_muxes
@@ -346,14 +361,17 @@ fn write_multiplexing<L: Lookup>(text: &mut JsonText, known: &Known<'_, L>) -> R
     Ok(())
 }
 
-fn write_kept<L: Lookup>(text: &mut JsonText, known: &Known<'_, L>) -> Result<(), Memory>
+fn write_kept<L: Lookup>(text: &mut JsonText, known: &CrossReferences<'_, L>) -> Result<(), Memory>
     ensures { OnOk result (text.new ≡ text.old ++ tokens_of ((codes "kept", array_of (map kept_json known.now.kept)) ∷ [])) }
 {
     let database = known.database();
     write_array_member(text, "kept", database.kept.as_slice())
 }
 
-fn write_other_remarks<L: Lookup>(text: &mut JsonText, known: &Known<'_, L>) -> Result<(), Memory>
+fn write_other_remarks<L: Lookup>(
+    text: &mut JsonText,
+    known: &CrossReferences<'_, L>,
+) -> Result<(), Memory>
     ensures { OnOk result (text.new ≡ text.old ++ tokens_of ((
       codes "comments",
       array_of (map comment_json (other_comments
@@ -365,7 +383,10 @@ fn write_other_remarks<L: Lookup>(text: &mut JsonText, known: &Known<'_, L>) -> 
     Ok(())
 }
 
-fn write_other_values<L: Lookup>(text: &mut JsonText, known: &Known<'_, L>) -> Result<(), Memory>
+fn write_other_values<L: Lookup>(
+    text: &mut JsonText,
+    known: &CrossReferences<'_, L>,
+) -> Result<(), Memory>
     ensures { OnOk result (text.new ≡ text.old ++ tokens_of ((
       codes "values",
       array_of (map values_json (other_values
@@ -379,7 +400,7 @@ fn write_other_values<L: Lookup>(text: &mut JsonText, known: &Known<'_, L>) -> R
 
 fn write_multiplexing_and_kept<L: Lookup>(
     text: &mut JsonText,
-    known: &Known<'_, L>,
+    known: &CrossReferences<'_, L>,
 ) -> Result<(), Memory>
     ensures { OnOk result (text.new ≡ text.old ++ tokens_of ((
       codes "multiplexing",
@@ -392,7 +413,10 @@ fn write_multiplexing_and_kept<L: Lookup>(
     Ok(())
 }
 
-fn write_other_rows<L: Lookup>(text: &mut JsonText, known: &Known<'_, L>) -> Result<(), Memory>
+fn write_other_rows<L: Lookup>(
+    text: &mut JsonText,
+    known: &CrossReferences<'_, L>,
+) -> Result<(), Memory>
     ensures { OnOk result (text.new ≡ text.old ++ tokens_of ((
       codes "values",
       array_of (map values_json (other_values
@@ -406,7 +430,10 @@ fn write_other_rows<L: Lookup>(text: &mut JsonText, known: &Known<'_, L>) -> Res
     Ok(())
 }
 
-fn write_rest_of<L: Lookup>(text: &mut JsonText, known: &Known<'_, L>) -> Result<(), Memory>
+fn write_rest_of<L: Lookup>(
+    text: &mut JsonText,
+    known: &CrossReferences<'_, L>,
+) -> Result<(), Memory>
     ensures { OnOk result (text.new ≡ text.old ++ tokens_of (other_members known.now)) }
 {
     write_other_remarks(text, known)?;
@@ -415,7 +442,10 @@ fn write_rest_of<L: Lookup>(text: &mut JsonText, known: &Known<'_, L>) -> Result
 }
 
 #[tactic(auto, using(json_records::proofs::Tokens::members_then))]
-fn write_behind_front<L: Lookup>(text: &mut JsonText, known: &Known<'_, L>) -> Result<(), Memory>
+fn write_behind_front<L: Lookup>(
+    text: &mut JsonText,
+    known: &CrossReferences<'_, L>,
+) -> Result<(), Memory>
     ensures { OnOk result (text.new ≡ text.old ++ tokens_of (definition_members known.now ++ other_members known.now)) }
 {
     write_definitions(text, known.database())?;
@@ -423,7 +453,10 @@ fn write_behind_front<L: Lookup>(text: &mut JsonText, known: &Known<'_, L>) -> R
 }
 
 #[tactic(auto, using(json_records::proofs::Tokens::members_then))]
-fn write_rest_members<L: Lookup>(text: &mut JsonText, known: &Known<'_, L>) -> Result<(), Memory>
+fn write_rest_members<L: Lookup>(
+    text: &mut JsonText,
+    known: &CrossReferences<'_, L>,
+) -> Result<(), Memory>
     ensures { OnOk result (text.new ≡ text.old ++ tokens_of (front_members known.now ++ (definition_members known.now
         ++ other_members known.now))) }
 {
@@ -433,7 +466,10 @@ fn write_rest_members<L: Lookup>(text: &mut JsonText, known: &Known<'_, L>) -> R
 
 /// Writes the object of all that belongs to no message.
 #[tactic(auto, using(json_records::proofs::Tokens::object_written))]
-pub(crate) fn write_rest<L: Lookup>(text: &mut JsonText, known: &Known<'_, L>) -> Result<(), Memory>
+pub(crate) fn write_rest<L: Lookup>(
+    text: &mut JsonText,
+    known: &CrossReferences<'_, L>,
+) -> Result<(), Memory>
     ensures { OnOk result (text.new ≡ text.old ++ json_tokens (rest_json known.now)) }
 {
     text.begin_object()?;

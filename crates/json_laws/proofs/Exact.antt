@@ -5,7 +5,7 @@ use Rattle.std.proofs.lemmas.List.Elements.{All-nil, All-cons}
 use Rattle.dbc_records.specs.Records.{Signal}
 use Rattle.can_rows.specs.Rows.{SignalRows, rows_of}
 use Rattle.can_mux.specs.Switches.{aboves_of}
-use Rattle.can_mux.specs.declared.above.Above.{Above}
+use Rattle.can_mux.specs.declared.mux_parent.MuxParent.{MuxParent}
 use Rattle.can_layout.specs.declared.refusal.Cause.{Cause}
 use Rattle.can_layout.specs.declared.row.Row.{Row}
 use Rattle.can_layout.specs.Plans.{plan_in, row_of, reading_unless, cause_of}
@@ -20,7 +20,7 @@ exact_by bytes rows size signal None is = value_exact bytes signal (fits_of rows
 abbrev RowExact : List ℕ → Row → Type 0
 RowExact bytes row = IsExact bytes row.reading
 
-rows_exact : (bytes : List ℕ) (rows : SignalRows) (aboves : List Above) (size first : ℕ) (signals : List Signal)
+rows_exact : (bytes : List ℕ) (rows : SignalRows) (aboves : List MuxParent) (size first : ℕ) (signals : List Signal)
     → All (RowExact bytes) (map (λ (placed : ℕ × Signal). row_of rows aboves size placed.0 placed.1) (enumerate_from first signals))
 rows_exact bytes rows aboves size first [] = All-nil (RowExact bytes)
 rows_exact bytes rows aboves size first (signal ∷ signals) =

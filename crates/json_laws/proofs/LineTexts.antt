@@ -19,7 +19,7 @@ use Rattle.can_rows.specs.Rows.{SignalRows, rows_of}
 use Rattle.can_rows.specs.Groups.{specific_of, format_of}
 use Rattle.can_bits.specs.Bits.{raw_value}
 use Rattle.can_mux.specs.Switches.{aboves_of}
-use Rattle.can_mux.specs.declared.above.Above.{Above}
+use Rattle.can_mux.specs.declared.mux_parent.MuxParent.{MuxParent}
 use Rattle.can_layout.specs.declared.refusal.Cause.{Cause}
 use Rattle.can_layout.specs.declared.refusal.Cause.TheVariants as causes
 use Rattle.can_layout.specs.declared.row.Row.{Row}
@@ -150,7 +150,7 @@ reading_texts bytes (Read decoder) are =
 abbrev IsNamed : Row → Type 0
 IsNamed row = IsUtf8 row.name
 
-rows_named : (rows : SignalRows) (aboves : List Above) (size first : ℕ) (signals : List Signal) → All IsSignal signals
+rows_named : (rows : SignalRows) (aboves : List MuxParent) (size first : ℕ) (signals : List Signal) → All IsSignal signals
     → All IsNamed (map (λ (placed : ℕ × Signal). row_of rows aboves size placed.0 placed.1) (enumerate_from first signals))
 rows_named rows aboves size first [] all = All-nil IsNamed
 rows_named rows aboves size first (signal ∷ signals) all =

@@ -18,7 +18,7 @@ use Rattle.can_bits.specs.Bits.{field_of, bits_of, is_outside, raw_value}
 use Rattle.can_bits.proofs.SignedValues.{value_in_range}
 use Rattle.can_rows.specs.Rows.{SignalRows, rows_of, first_float, is_float_row, first_values, entries_of}
 use Rattle.can_mux.specs.Switches.{aboves_of}
-use Rattle.can_mux.specs.declared.above.Above.{Above}
+use Rattle.can_mux.specs.declared.mux_parent.MuxParent.{MuxParent}
 use Rattle.can_layout.specs.declared.refusal.Cause.{Cause}
 use Rattle.can_layout.specs.declared.refusal.Cause.TheVariants as causes
 use Rattle.can_layout.specs.declared.row.Row.{Row}
@@ -155,7 +155,7 @@ reading_by bytes rows size signal None is = value_sound (record {
 abbrev RowSound : List ℕ → Row → Type 0
 RowSound bytes row = IsSound 1 (object_of (reading_members bytes row.reading))
 
-rows_sound : (bytes : List ℕ) (rows : SignalRows) (aboves : List Above) (size first : ℕ) (signals : List Signal)
+rows_sound : (bytes : List ℕ) (rows : SignalRows) (aboves : List MuxParent) (size first : ℕ) (signals : List Signal)
     → All (RowSound bytes) (map (λ (placed : ℕ × Signal). row_of rows aboves size placed.0 placed.1) (enumerate_from first signals))
 rows_sound bytes rows aboves size first [] = All-nil (RowSound bytes)
 rows_sound bytes rows aboves size first (signal ∷ signals) =
@@ -173,7 +173,7 @@ members_sound bytes (row ∷ rows) all =
 abbrev row_names : List Row → List (List ℕ)
 row_names rows = map (λ (row : Row). row.name) rows
 
-names_are : (rows : SignalRows) (aboves : List Above) (size first : ℕ) (signals : List Signal)
+names_are : (rows : SignalRows) (aboves : List MuxParent) (size first : ℕ) (signals : List Signal)
     → row_names (map (λ (placed : ℕ × Signal). row_of rows aboves size placed.0 placed.1) (enumerate_from first signals))
     ≡ names_of signals
 names_are rows aboves size first [] = refl

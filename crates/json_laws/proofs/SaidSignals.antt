@@ -16,7 +16,7 @@ use Rattle.dbc_records.specs.Databases.{Database}
 use Rattle.can_rows.specs.Rows.{SignalRows, rows_of, first_values, entries_of}
 use Rattle.can_bits.specs.Bits.{raw_value}
 use Rattle.can_mux.specs.Switches.{aboves_of}
-use Rattle.can_mux.specs.declared.above.Above.{Above}
+use Rattle.can_mux.specs.declared.mux_parent.MuxParent.{MuxParent}
 use Rattle.can_layout.specs.declared.refusal.Cause.{Cause}
 use Rattle.can_layout.specs.declared.row.Row.{Row}
 use Rattle.can_layout.specs.declared.row.Reading.{Reading}
@@ -79,7 +79,7 @@ reading_bytes (Some cause) rows signal unit entries = tt
 abbrev UnitBytes : Signal → Type 0
 UnitBytes signal = IsBytes signal.unit
 
-rows_bytes : (rows : SignalRows) (aboves : List Above) (size first : ℕ) (signals : List Signal) → All UnitBytes signals
+rows_bytes : (rows : SignalRows) (aboves : List MuxParent) (size first : ℕ) (signals : List Signal) → All UnitBytes signals
     → ((name : List ℕ) → All EntryBytes (entries_of (first_values name rows)))
     → All RowBytes (map (λ (placed : ℕ × Signal). row_of rows aboves size placed.0 placed.1) (enumerate_from first signals))
 rows_bytes rows aboves size first [] units entries = All-nil RowBytes

@@ -8,7 +8,7 @@ ghost use Rattle.json_lines.specs.Lines.{kind_word, flag_members};
 use dbc_values::Memory;
 use json_texts::Key;
 use log_frames::Kind;
-use ready_texts::{Draft, ReadyText};
+use ready_texts::{ReadyText, TextBuffer};
 use std::alloc::Global;
 
 /// The keys of the width and the kind.
@@ -29,7 +29,7 @@ impl FlagKeys {
     }
 }
 
-fn push_flag(text: &mut Draft, flag: bool) -> Result<(), Memory>
+fn push_flag(text: &mut TextBuffer, flag: bool) -> Result<(), Memory>
     ensures { OnOk result (text.new.items ≡ text.old.items ++ (if flag then codes "true" else codes "false")) }
 {
     if flag {
@@ -39,7 +39,7 @@ fn push_flag(text: &mut Draft, flag: bool) -> Result<(), Memory>
     }
 }
 
-fn push_flag_member(text: &mut Draft, key: &Key, flag: bool) -> Result<(), Memory>
+fn push_flag_member(text: &mut TextBuffer, key: &Key, flag: bool) -> Result<(), Memory>
     ensures { OnOk result (text.new.items ≡ text.old.items ++ keyed key.now (boolean flag)) }
 {
     key.push_to(text)?;
@@ -59,7 +59,12 @@ fn kind_word(kind: Kind) -> &'static [u8]
 }
 
 #[tactic(auto, using(crate::proofs::Labels::two_further))]
-fn push_flags(text: &mut Draft, keys: &FlagKeys, extended: bool, kind: Kind) -> Result<(), Memory>
+fn push_flags(
+    text: &mut TextBuffer,
+    keys: &FlagKeys,
+    extended: bool,
+    kind: Kind,
+) -> Result<(), Memory>
     ensures { OnOk result (text.new.items ≡ text.old.items ++ further_members (flag_members extended kind)) }
 {
     push_flag_member(text, &keys.extended, extended)?;
@@ -74,7 +79,7 @@ fn ready_flags(
 ) -> Result<ReadyText, Memory>
     ensures { IfOk result (λ ready. ready ≡ further_members (flag_members extended kind)) }
 {
-    let mut text = Draft::new(alloc);
+    let mut text = TextBuffer::new(alloc);
     push_flags(&mut text, keys, extended, kind)?;
     ReadyText::of(alloc, text.as_slice())
 }
@@ -140,7 +145,7 @@ impl Flags {
 
     /// Appends those of a frame.
     #[inline(always)]
-    pub fn push_to(&self, text: &mut Draft, extended: bool, kind: Kind) -> Result<(), Memory>
+    pub fn push_to(&self, text: &mut TextBuffer, extended: bool, kind: Kind) -> Result<(), Memory>
         ensures { OnOk result (text.new.items ≡ text.old.items ++ further_members (flag_members extended kind)) }
     {
         let flags = if extended {

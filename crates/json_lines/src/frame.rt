@@ -16,12 +16,12 @@ use can_decode::{J1939, group_number, push_number};
 use dbc_values::Memory;
 use json_texts::Key;
 use log_frames::{Frame, Kind};
-use ready_texts::{Draft, push_small_number};
+use ready_texts::{TextBuffer, push_small_number};
 
 // From this PDU format on an identifier has no destination.
 const FIRST_BROADCAST_FORMAT: u8 = 240;
 
-fn push_number_member(text: &mut Draft, key: &Key, n: u64) -> Result<(), Memory>
+fn push_number_member(text: &mut TextBuffer, key: &Key, n: u64) -> Result<(), Memory>
     ensures { OnOk result (text.new.items ≡ text.old.items ++ keyed key.now (number (decimal n))) }
 {
     key.push_to(text)?;
@@ -30,7 +30,7 @@ fn push_number_member(text: &mut Draft, key: &Key, n: u64) -> Result<(), Memory>
 }
 
 #[inline(always)]
-fn push_byte_member(text: &mut Draft, key: &Key, n: u8) -> Result<(), Memory>
+fn push_byte_member(text: &mut TextBuffer, key: &Key, n: u8) -> Result<(), Memory>
     ensures { OnOk result (text.new.items ≡ text.old.items ++ keyed key.now (number (decimal n))) }
 {
     key.push_to(text)?;
@@ -39,7 +39,7 @@ fn push_byte_member(text: &mut Draft, key: &Key, n: u8) -> Result<(), Memory>
 }
 
 // The bytes of a data frame.
-fn push_data(text: &mut Draft, keys: &LineKeys, frame: &Frame) -> Result<(), Memory>
+fn push_data(text: &mut TextBuffer, keys: &LineKeys, frame: &Frame) -> Result<(), Memory>
     ensures { OnOk result (text.new.items ≡ text.old.items ++ further_members (data_members frame.now)) }
 {
     if frame.is_data() {
@@ -51,7 +51,7 @@ fn push_data(text: &mut Draft, keys: &LineKeys, frame: &Frame) -> Result<(), Mem
 
 // The width, the kind, and the bytes of a data frame.
 #[tactic(auto, using(crate::proofs::Told::both_further))]
-fn push_behind_id(text: &mut Draft, keys: &LineKeys, frame: &Frame) -> Result<(), Memory>
+fn push_behind_id(text: &mut TextBuffer, keys: &LineKeys, frame: &Frame) -> Result<(), Memory>
     ensures { OnOk result (text.new.items ≡ text.old.items ++ further_members (flag_members frame.now.extended frame.now.kind
         ++ data_members frame.now)) }
 {
@@ -61,7 +61,11 @@ fn push_behind_id(text: &mut Draft, keys: &LineKeys, frame: &Frame) -> Result<()
 }
 
 /// The identifier, its width, the kind, and the bytes of a data frame.
-pub(crate) fn push_frame(text: &mut Draft, keys: &LineKeys, frame: &Frame) -> Result<(), Memory>
+pub(crate) fn push_frame(
+    text: &mut TextBuffer,
+    keys: &LineKeys,
+    frame: &Frame,
+) -> Result<(), Memory>
     ensures { OnOk result (text.new.items ≡ text.old.items ++ further_members (frame_members frame.now)) }
 {
     push_number_member(text, &keys.id, u64::from(frame.identifier))?;
@@ -69,7 +73,7 @@ pub(crate) fn push_frame(text: &mut Draft, keys: &LineKeys, frame: &Frame) -> Re
     Ok(())
 }
 
-fn push_destination(text: &mut Draft, keys: &GroupKeys, identifier: u32) -> Result<(), Memory>
+fn push_destination(text: &mut TextBuffer, keys: &GroupKeys, identifier: u32) -> Result<(), Memory>
     ensures { OnOk result (text.new.items ≡ text.old.items ++ further_members (destination_members identifier)) }
 {
     let fields = J1939::of(identifier);
@@ -80,7 +84,7 @@ fn push_destination(text: &mut Draft, keys: &GroupKeys, identifier: u32) -> Resu
 }
 
 // Priority, source and destination.
-fn push_addresses(text: &mut Draft, keys: &GroupKeys, identifier: u32) -> Result<(), Memory>
+fn push_addresses(text: &mut TextBuffer, keys: &GroupKeys, identifier: u32) -> Result<(), Memory>
     ensures { OnOk result (text.new.items ≡ text.old.items ++ (further_member (number_member (codes "priority")
         (priority_of identifier)) ++ (further_member (number_member (codes "source") (source_of identifier))
         ++ further_members (destination_members identifier)))) }
@@ -93,7 +97,7 @@ fn push_addresses(text: &mut Draft, keys: &GroupKeys, identifier: u32) -> Result
 }
 
 // What an identifier says, as an object.
-fn push_group(text: &mut Draft, keys: &GroupKeys, identifier: u32) -> Result<(), Memory>
+fn push_group(text: &mut TextBuffer, keys: &GroupKeys, identifier: u32) -> Result<(), Memory>
     ensures { OnOk result (text.new.items ≡ text.old.items ++ object_text (group_members identifier)) }
 {
     push_number_member(text, &keys.pgn, u64::from(group_number(identifier)))?;
@@ -102,7 +106,7 @@ fn push_group(text: &mut Draft, keys: &GroupKeys, identifier: u32) -> Result<(),
     Ok(())
 }
 
-fn push_j1939(text: &mut Draft, keys: &SaidKeys, identifier: u32) -> Result<(), Memory>
+fn push_j1939(text: &mut TextBuffer, keys: &SaidKeys, identifier: u32) -> Result<(), Memory>
     ensures { OnOk result (text.new.items ≡ text.old.items ++ further_members (j1939_members identifier true)) }
 {
     keys.j1939.push_to(text)?;
@@ -111,7 +115,7 @@ fn push_j1939(text: &mut Draft, keys: &SaidKeys, identifier: u32) -> Result<(), 
 }
 
 fn push_j1939_if(
-    text: &mut Draft,
+    text: &mut TextBuffer,
     keys: &SaidKeys,
     identifier: u32,
     group: bool,
@@ -127,7 +131,7 @@ fn push_j1939_if(
 
 // The message that a frame goes to.
 fn push_message(
-    text: &mut Draft,
+    text: &mut TextBuffer,
     keys: &SaidKeys,
     frame: &Frame,
     target: &JsonTarget<'_>,
@@ -139,7 +143,7 @@ fn push_message(
     Ok(())
 }
 
-fn push_wrong_size(text: &mut Draft, keys: &SaidKeys, wanted: u16) -> Result<(), Memory>
+fn push_wrong_size(text: &mut TextBuffer, keys: &SaidKeys, wanted: u16) -> Result<(), Memory>
     ensures { OnOk result (text.new.items ≡ text.old.items ++ further_members (wrong_size_members wanted)) }
 {
     keys.not_decoded.push_quoted(text, b"wrong size")?;
@@ -149,7 +153,7 @@ fn push_wrong_size(text: &mut Draft, keys: &SaidKeys, wanted: u16) -> Result<(),
 
 // The signals as a member.
 fn push_signals(
-    text: &mut Draft,
+    text: &mut TextBuffer,
     keys: &Keys,
     bytes: &[u8],
     target: &JsonTarget<'_>,
@@ -167,7 +171,7 @@ fn push_signals(
 
 // The signals, or that the data has the wrong size.
 fn push_values(
-    text: &mut Draft,
+    text: &mut TextBuffer,
     keys: &Keys,
     frame: &Frame,
     target: &JsonTarget<'_>,
@@ -184,7 +188,7 @@ fn push_values(
 // The message, and the signals.
 #[tactic(auto, using(crate::proofs::Told::both_further))]
 fn push_told(
-    text: &mut Draft,
+    text: &mut TextBuffer,
     keys: &Keys,
     frame: &Frame,
     target: &JsonTarget<'_>,
@@ -197,14 +201,14 @@ fn push_told(
 }
 
 // Why a frame isn't decoded.
-fn push_cause(text: &mut Draft, keys: &SaidKeys, cause: &[u8]) -> Result<(), Memory>
+fn push_cause(text: &mut TextBuffer, keys: &SaidKeys, cause: &[u8]) -> Result<(), Memory>
     ensures { OnOk result (text.new.items ≡ text.old.items ++ further_members (not_decoded cause.now ∷ [])) }
 {
     keys.not_decoded.push_quoted(text, cause)
 }
 
 fn push_data_said(
-    text: &mut Draft,
+    text: &mut TextBuffer,
     keys: &Keys,
     frame: &Frame,
     target: Option<&JsonTarget<'_>>,
@@ -220,7 +224,7 @@ fn push_data_said(
 
 /// What a frame says, by what it goes to.
 pub(crate) fn push_said(
-    text: &mut Draft,
+    text: &mut TextBuffer,
     keys: &Keys,
     frame: &Frame,
     target: Option<&JsonTarget<'_>>,

@@ -4,7 +4,7 @@ ghost use Rattle.json_texts.specs.Members.{further_members, text_members};
 
 use crate::keys::{Keys, LineKeys};
 use dbc_values::Memory;
-use ready_texts::{Draft, ReadyText};
+use ready_texts::{ReadyText, TextBuffer};
 use std::alloc::Global;
 use std::marker::Model;
 
@@ -30,7 +30,7 @@ impl Interface {
     fn of(alloc: Global, keys: &LineKeys, bytes: &[u8]) -> Result<Interface, Memory>
         ensures { IfOk result (λ interface. interface ≡ bytes.now) }
     {
-        let mut text = Draft::new(alloc);
+        let mut text = TextBuffer::new(alloc);
         keys.interface.push_texts(&mut text, bytes)?;
         let members = ReadyText::of(alloc, text.as_slice())?;
         let bytes = Vec::from_slice(alloc, bytes)?;
@@ -44,7 +44,7 @@ impl Interface {
     }
 
     #[inline(always)]
-    fn push_to(&self, text: &mut Draft) -> Result<(), Memory>
+    fn push_to(&self, text: &mut TextBuffer) -> Result<(), Memory>
         ensures { OnOk result (text.new.items ≡ text.old.items ++ further_members (text_members (codes "interface") self.now)) }
     {
         self.members.push_to(text)
@@ -67,7 +67,7 @@ impl<'a> Ready<'a> {
 
     // Appends the members of an interface, and keeps them.
     #[inline(never)]
-    fn push_first(&mut self, text: &mut Draft, interface: &[u8]) -> Result<(), Memory>
+    fn push_first(&mut self, text: &mut TextBuffer, interface: &[u8]) -> Result<(), Memory>
         ensures { OnOk result (text.new.items ≡ text.old.items ++ further_members (text_members (codes "interface")
             interface.now)) }
     {
@@ -79,7 +79,7 @@ impl<'a> Ready<'a> {
 
     /// Appends the members of a line's interface.
     #[inline(always)]
-    pub fn push_interface(&mut self, text: &mut Draft, interface: &[u8]) -> Result<(), Memory>
+    pub fn push_interface(&mut self, text: &mut TextBuffer, interface: &[u8]) -> Result<(), Memory>
         ensures { OnOk result (text.new.items ≡ text.old.items ++ further_members (text_members (codes "interface")
             interface.now)) }
     {

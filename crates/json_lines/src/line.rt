@@ -13,11 +13,11 @@ use can_choice::Choose;
 use dbc_values::Memory;
 use log_frames::{Frame, body_of, fill_frame};
 use prepared_texts::PreparedFinder;
-use ready_texts::Draft;
+use ready_texts::TextBuffer;
 
 // When and where a frame came.
 #[tactic(auto, using(crate::proofs::Pushing::pushed_then))]
-fn push_came(text: &mut Draft, ready: &mut Ready<'_>, words: &Words<'_>) -> Result<(), Memory>
+fn push_came(text: &mut TextBuffer, ready: &mut Ready<'_>, words: &Words<'_>) -> Result<(), Memory>
     ensures { OnOk result (text.new.items ≡ text.old.items ++ (keyed (record { mark = 123; name = codes "time" })
         (number words.now.time.now) ++ further_members (text_members (codes "interface") words.now.interface.now))) }
 {
@@ -27,7 +27,7 @@ fn push_came(text: &mut Draft, ready: &mut Ready<'_>, words: &Words<'_>) -> Resu
 }
 
 // What follows the frame, if anything does.
-fn push_rest(text: &mut Draft, keys: &LineKeys, rest: &[u8]) -> Result<(), Memory>
+fn push_rest(text: &mut TextBuffer, keys: &LineKeys, rest: &[u8]) -> Result<(), Memory>
     ensures { OnOk result (text.new.items ≡ text.old.items ++ further_members (rest_members rest.now)) }
 {
     match rest {
@@ -39,7 +39,7 @@ fn push_rest(text: &mut Draft, keys: &LineKeys, rest: &[u8]) -> Result<(), Memor
 // What a frame is and says, and what follows it.
 #[tactic(auto, using(crate::proofs::Pushing::pushed_then))]
 fn push_behind_came(
-    text: &mut Draft,
+    text: &mut TextBuffer,
     keys: &Keys,
     frame: &Frame,
     target: Option<&JsonTarget<'_>>,
@@ -57,7 +57,7 @@ fn push_behind_came(
 
 // A line with a frame.
 fn push_known(
-    text: &mut Draft,
+    text: &mut TextBuffer,
     ready: &mut Ready<'_>,
     body: &[u8],
     frame: &Frame,
@@ -74,7 +74,7 @@ fn push_known(
 }
 
 // A line without a frame.
-fn push_unread(text: &mut Draft, keys: &LineKeys, body: &[u8]) -> Result<(), Memory>
+fn push_unread(text: &mut TextBuffer, keys: &LineKeys, body: &[u8]) -> Result<(), Memory>
     ensures { OnOk result (text.new.items ≡ text.old.items ++ object_text (text_members (codes "line") body.now)) }
 {
     keys.line.push_texts(text, body)?;
@@ -85,7 +85,7 @@ fn push_unread(text: &mut Draft, keys: &LineKeys, body: &[u8]) -> Result<(), Mem
 /// Appends the object of a line.
 #[tactic(auto, unfolding(crate::specs::Lines::line_members))]
 pub(crate) fn push_line<C: Choose>(
-    text: &mut Draft,
+    text: &mut TextBuffer,
     ready: &mut Ready<'_>,
     finder: &mut PreparedFinder<'_, C, Keys>,
     line: &[u8],

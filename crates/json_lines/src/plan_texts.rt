@@ -11,7 +11,7 @@ use dbc_values::Memory;
 use itoa::Buffer;
 use json_texts::push_quoted;
 use prepared_texts::Prepare;
-use ready_texts::{Draft, ReadyText};
+use ready_texts::{ReadyText, TextBuffer};
 
 /// What is written of a signal before and after its value.
 #[derive(Drop)]
@@ -26,7 +26,11 @@ pub struct RowTexts {
 
 // `{"value":`, or the object of a signal that can't be decoded.
 #[tactic(auto, using(crate::proofs::Labels::refused_object))]
-fn push_value_label(text: &mut Draft, keys: &SignalKeys, reading: &Reading) -> Result<(), Memory>
+fn push_value_label(
+    text: &mut TextBuffer,
+    keys: &SignalKeys,
+    reading: &Reading,
+) -> Result<(), Memory>
     ensures { OnOk result (text.new.items ≡ text.old.items ++ value_label reading.now) }
 {
     match reading {
@@ -40,7 +44,7 @@ fn push_value_label(text: &mut Draft, keys: &SignalKeys, reading: &Reading) -> R
 }
 
 #[tactic(auto, using(crate::proofs::Pushing::pushed_then))]
-fn push_row_label(text: &mut Draft, keys: &SignalKeys, row: &Row) -> Result<(), Memory>
+fn push_row_label(text: &mut TextBuffer, keys: &SignalKeys, row: &Row) -> Result<(), Memory>
     ensures { OnOk result (text.new.items ≡ text.old.items ++ row_label row.now) }
 {
     push_quoted(text, row.name.as_bytes())?;
@@ -50,7 +54,7 @@ fn push_row_label(text: &mut Draft, keys: &SignalKeys, row: &Row) -> Result<(), 
 }
 
 // The unit, if there is one.
-fn push_unit(text: &mut Draft, keys: &SignalKeys, unit: &[u8]) -> Result<(), Memory>
+fn push_unit(text: &mut TextBuffer, keys: &SignalKeys, unit: &[u8]) -> Result<(), Memory>
     ensures { OnOk result (text.new.items ≡ text.old.items ++ further_members (unit_members unit.now)) }
 {
     match unit {
@@ -60,7 +64,11 @@ fn push_unit(text: &mut Draft, keys: &SignalKeys, unit: &[u8]) -> Result<(), Mem
 }
 
 #[tactic(auto, using(crate::proofs::Pushing::pushed_then))]
-fn push_decoder_tail(text: &mut Draft, keys: &SignalKeys, decoder: &Decoder) -> Result<(), Memory>
+fn push_decoder_tail(
+    text: &mut TextBuffer,
+    keys: &SignalKeys,
+    decoder: &Decoder,
+) -> Result<(), Memory>
     ensures { OnOk result (text.new.items ≡ text.old.items ++ (further_members (unit_members decoder.now.unit) ++ codes "}")) }
 {
     push_unit(text, keys, decoder.unit.as_bytes())?;
@@ -68,7 +76,7 @@ fn push_decoder_tail(text: &mut Draft, keys: &SignalKeys, decoder: &Decoder) -> 
     Ok(())
 }
 
-fn push_row_tail(text: &mut Draft, keys: &SignalKeys, reading: &Reading) -> Result<(), Memory>
+fn push_row_tail(text: &mut TextBuffer, keys: &SignalKeys, reading: &Reading) -> Result<(), Memory>
     ensures { OnOk result (text.new.items ≡ text.old.items ++ row_tail reading.now) }
 {
     match reading {
@@ -78,7 +86,7 @@ fn push_row_tail(text: &mut Draft, keys: &SignalKeys, reading: &Reading) -> Resu
 }
 
 // (Each is made in a draft, whatever it holds before.)
-fn ready_label(text: &mut Draft, keys: &SignalKeys, row: &Row) -> Result<ReadyText, Memory>
+fn ready_label(text: &mut TextBuffer, keys: &SignalKeys, row: &Row) -> Result<ReadyText, Memory>
     ensures { IfOk result (λ ready. ready ≡ row_label row.now) }
 {
     text.clear();
@@ -86,7 +94,7 @@ fn ready_label(text: &mut Draft, keys: &SignalKeys, row: &Row) -> Result<ReadyTe
     ReadyText::of(text.allocator(), text.as_slice())
 }
 
-fn ready_next(text: &mut Draft, keys: &SignalKeys, row: &Row) -> Result<ReadyText, Memory>
+fn ready_next(text: &mut TextBuffer, keys: &SignalKeys, row: &Row) -> Result<ReadyText, Memory>
     ensures { IfOk result (λ ready. ready ≡ next_label row.now) }
 {
     text.clear();
@@ -95,7 +103,7 @@ fn ready_next(text: &mut Draft, keys: &SignalKeys, row: &Row) -> Result<ReadyTex
     ReadyText::of(text.allocator(), text.as_slice())
 }
 
-fn ready_tail(text: &mut Draft, keys: &SignalKeys, row: &Row) -> Result<ReadyText, Memory>
+fn ready_tail(text: &mut TextBuffer, keys: &SignalKeys, row: &Row) -> Result<ReadyText, Memory>
     ensures { IfOk result (λ ready. ready ≡ row_tail row.now.reading) }
 {
     text.clear();
@@ -103,7 +111,7 @@ fn ready_tail(text: &mut Draft, keys: &SignalKeys, row: &Row) -> Result<ReadyTex
     ReadyText::of(text.allocator(), text.as_slice())
 }
 
-fn row_texts(text: &mut Draft, keys: &SignalKeys, row: &Row) -> Result<RowTexts, Memory>
+fn row_texts(text: &mut TextBuffer, keys: &SignalKeys, row: &Row) -> Result<RowTexts, Memory>
     ensures { IfOk result (λ texts. texts ≡ row_texts row.now) }
 {
     let label = ready_label(text, keys, row)?;
@@ -113,7 +121,7 @@ fn row_texts(text: &mut Draft, keys: &SignalKeys, row: &Row) -> Result<RowTexts,
 }
 
 // The message's name and number, after other members.
-fn push_message(text: &mut Draft, keys: &SaidKeys, message: &Message) -> Result<(), Memory>
+fn push_message(text: &mut TextBuffer, keys: &SaidKeys, message: &Message) -> Result<(), Memory>
     ensures { OnOk result (text.new.items ≡ text.old.items ++ message_text message.now) }
 {
     keys.message
@@ -123,7 +131,11 @@ fn push_message(text: &mut Draft, keys: &SaidKeys, message: &Message) -> Result<
     Ok(())
 }
 
-fn ready_head(text: &mut Draft, keys: &SaidKeys, message: &Message) -> Result<ReadyText, Memory>
+fn ready_head(
+    text: &mut TextBuffer,
+    keys: &SaidKeys,
+    message: &Message,
+) -> Result<ReadyText, Memory>
     ensures { IfOk result (λ ready. ready ≡ message_text message.now) }
 {
     text.clear();
@@ -143,11 +155,16 @@ impl Prepare for Keys {
 
     ghost signal_of = { λ message row. row_texts row };
 
-    fn head(&self, text: &mut Draft, message: &Message) -> Result<ReadyText, Memory> {
+    fn head(&self, text: &mut TextBuffer, message: &Message) -> Result<ReadyText, Memory> {
         ready_head(text, &self.said, message)
     }
 
-    fn signal(&self, text: &mut Draft, _message: &Message, row: &Row) -> Result<RowTexts, Memory> {
+    fn signal(
+        &self,
+        text: &mut TextBuffer,
+        _message: &Message,
+        row: &Row,
+    ) -> Result<RowTexts, Memory> {
         row_texts(text, &self.signal, row)
     }
 }

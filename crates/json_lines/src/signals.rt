@@ -13,7 +13,7 @@ use can_decode::{SignalText, push_scaled, push_signals};
 use can_layout::{Decoder, Plan, Reading};
 use dbc_values::Memory;
 use prepared_texts::PreparedTarget;
-use ready_texts::Draft;
+use ready_texts::TextBuffer;
 use std::marker::Model;
 
 /// The message that a frame goes to, with the texts that are prepared of it.
@@ -38,7 +38,7 @@ impl<'a> Model for JsonSignals<'a> {
 #[inline(always)]
 #[tactic(auto, using(crate::proofs::Pushing::pushed_then))]
 fn push_told(
-    text: &mut Draft,
+    text: &mut TextBuffer,
     keys: &SignalKeys,
     texts: &RowTexts,
     decoder: &Decoder,
@@ -62,7 +62,7 @@ fn push_told(
 #[inline(always)]
 #[tactic(auto, using(crate::proofs::Pushing::pushed_then))]
 fn push_value(
-    text: &mut Draft,
+    text: &mut TextBuffer,
     keys: &SignalKeys,
     texts: &RowTexts,
     decoder: &Decoder,
@@ -81,7 +81,7 @@ fn push_value(
 // What follows the label of a signal: nothing if it can't be decoded.
 #[inline(always)]
 fn push_behind_label(
-    text: &mut Draft,
+    text: &mut TextBuffer,
     keys: &SignalKeys,
     texts: &RowTexts,
     reading: &Reading,
@@ -98,7 +98,7 @@ fn push_behind_label(
 
 // The label of a signal, after others if `some` says so.
 #[inline(always)]
-fn push_label(text: &mut Draft, texts: &RowTexts, some: bool) -> Result<(), Memory>
+fn push_label(text: &mut TextBuffer, texts: &RowTexts, some: bool) -> Result<(), Memory>
     ensures { OnOk result (text.new.items ≡ text.old.items ++ (if some then texts.now.next else texts.now.label)) }
 {
     let label = if some { &texts.next } else { &texts.label };
@@ -121,7 +121,13 @@ impl<'a> SignalText for JsonSignals<'a> {
     }
 
     #[inline(always)]
-    fn push(&self, text: &mut Draft, some: bool, place: usize, bytes: &[u8]) -> Result<(), Memory> {
+    fn push(
+        &self,
+        text: &mut TextBuffer,
+        some: bool,
+        place: usize,
+        bytes: &[u8],
+    ) -> Result<(), Memory> {
         let target: &JsonTarget<'_> = self.target;
         let row = target.plan().row(place);
         let texts = target.signal(place);
@@ -133,7 +139,7 @@ impl<'a> SignalText for JsonSignals<'a> {
 
 /// Appends the signals of a message that are shown, as an object.
 pub(crate) fn push_signal_object<'a>(
-    text: &mut Draft,
+    text: &mut TextBuffer,
     keys: &'a SignalKeys,
     target: &'a JsonTarget<'a>,
     bytes: &[u8],

@@ -14,7 +14,7 @@ use can_layout::Meter;
 use dbc_values::Memory;
 use line_stream::{LineText, StreamFault};
 use prepared_texts::{Prepared, PreparedFinder, prepared_finder};
-use ready_texts::Draft;
+use ready_texts::TextBuffer;
 use std::alloc::Global;
 use std::marker::Model;
 
@@ -67,7 +67,7 @@ impl<'a, C: Choose> LineText for JsonLines<'a, C> {
     ghost next = { λ lines line. lines };
 
     #[tactic(auto, using(json_texts::proofs::Objects::objects_are_printed))]
-    fn renew(&mut self, text: &mut Draft, line: &[u8]) -> Result<(), Memory> {
+    fn renew(&mut self, text: &mut TextBuffer, line: &[u8]) -> Result<(), Memory> {
         text.clear();
         push_line(text, &mut self.ready, &mut self.finder, line)?;
         text.push(b'\n')?;

@@ -10,12 +10,12 @@ use crate::text::JsonText;
 use crate::value::ToJson;
 use dbc_values::{Decimal, Memory};
 use itoa::Buffer;
-use ready_texts::{Draft, push_bytes};
+use ready_texts::{TextBuffer, push_bytes};
 
 // The greatest number of digits that are written before or behind a point.
 const PLAIN_DIGITS: usize = 20;
 
-fn push_zeros(text: &mut Draft, count: usize) -> Result<(), Memory>
+fn push_zeros(text: &mut TextBuffer, count: usize) -> Result<(), Memory>
     ensures { OnOk result (text.new.items ≡ text.old.items ++ zeros count) }
 {
     for _zero in 0..count {
@@ -26,7 +26,7 @@ fn push_zeros(text: &mut Draft, count: usize) -> Result<(), Memory>
 
 // Digits with a point before the last of them, and zeros in front where there are too few.
 #[tactic(auto, using(crate::proofs::Appended::appended_then))]
-fn push_fraction(text: &mut Draft, digits: &[u8], behind: usize) -> Result<(), Memory>
+fn push_fraction(text: &mut TextBuffer, digits: &[u8], behind: usize) -> Result<(), Memory>
     ensures { OnOk result (text.new.items ≡ text.old.items ++ point_before_last behind (filled behind digits.now)) }
 {
     if digits.len() > behind {
@@ -43,7 +43,7 @@ fn push_fraction(text: &mut Draft, digits: &[u8], behind: usize) -> Result<(), M
 
 // `digits · 10^exponent`, with the exponent.
 #[tactic(auto, using(crate::proofs::Appended::appended_then))]
-fn push_with_exponent(text: &mut Draft, digits: &[u8], exponent: i16) -> Result<(), Memory>
+fn push_with_exponent(text: &mut TextBuffer, digits: &[u8], exponent: i16) -> Result<(), Memory>
     ensures { OnOk result (text.new.items ≡ text.old.items ++ with_exponent digits.now exponent) }
 {
     let mut buffer = Buffer::new();
@@ -54,7 +54,7 @@ fn push_with_exponent(text: &mut Draft, digits: &[u8], exponent: i16) -> Result<
 
 // `digits · 10^exponent`, without an exponent where at most twenty digits stand on each side of the point.
 #[tactic(auto, using(crate::proofs::Appended::appended_then), unfolding(dbc_records::specs::Layout::magnitude_text))]
-fn push_magnitude(text: &mut Draft, digits: &[u8], exponent: i16) -> Result<(), Memory>
+fn push_magnitude(text: &mut TextBuffer, digits: &[u8], exponent: i16) -> Result<(), Memory>
     requires { length digits.now ≤ 40 }
     ensures { OnOk result (text.new.items ≡ text.old.items ++ magnitude_text digits.now exponent) }
 {
@@ -70,13 +70,13 @@ fn push_magnitude(text: &mut Draft, digits: &[u8], exponent: i16) -> Result<(), 
 }
 
 #[tactic(auto, unfolding(dbc_records::specs::Layout::sign_text))]
-fn push_sign(text: &mut Draft, negative: bool) -> Result<(), Memory>
+fn push_sign(text: &mut TextBuffer, negative: bool) -> Result<(), Memory>
     ensures { OnOk result (text.new.items ≡ text.old.items ++ sign_text negative) }
 {
     text.push_if(negative, b'-')
 }
 
-fn push_unsigned(text: &mut Draft, mantissa: u128, exponent: i16) -> Result<(), Memory>
+fn push_unsigned(text: &mut TextBuffer, mantissa: u128, exponent: i16) -> Result<(), Memory>
     ensures { OnOk result (text.new.items ≡ text.old.items ++ magnitude_text (decimal mantissa) exponent) }
 {
     let mut buffer = Buffer::new();
@@ -85,7 +85,7 @@ fn push_unsigned(text: &mut Draft, mantissa: u128, exponent: i16) -> Result<(), 
 
 // The decimal: digits with a point where at most twenty stand on each side of it, else as `1E-31`.
 #[tactic(auto, using(crate::proofs::Appended::appended_then, crate::proofs::Numbers::decimal_is_number, crate::proofs::Numbers::decimal_is_utf8), unfolding(dbc_records::specs::Layout::decimal_text))]
-fn push_decimal(text: &mut Draft, number: &Decimal) -> Result<(), Memory>
+fn push_decimal(text: &mut TextBuffer, number: &Decimal) -> Result<(), Memory>
     ensures text { OnOk result (text.new.items ≡ text.old.items ++ decimal_text number.now) }
     ensures number { IsNumber (decimal_text number.now) }
     ensures utf8 { IsUtf8 (decimal_text number.now) }
@@ -99,7 +99,7 @@ impl JsonText {
     pub fn decimal(&mut self, value: &Decimal) -> Result<(), Memory>
         ensures { OnOk result (self.new ≡ self.old ++ number (decimal_text value.now) ∷ []) }
     {
-        let mut digits = Draft::new(self.allocator());
+        let mut digits = TextBuffer::new(self.allocator());
         push_decimal(&mut digits, value)?;
         match std::str::from_utf8(digits.as_slice()) {
             Ok(digits) => self.number(digits),

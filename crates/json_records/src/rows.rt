@@ -12,7 +12,7 @@ use crate::text::JsonText;
 use crate::value::ToJson;
 use dbc_records::{FloatRow, Kept, MuxRow, ValueRow};
 use dbc_values::{Memory, Pieces};
-use ready_texts::{Draft, push_bytes};
+use ready_texts::{TextBuffer, push_bytes};
 
 #[tactic(auto, using(crate::proofs::Tokens::members_then))]
 fn write_values(text: &mut JsonText, row: &ValueRow) -> Result<(), Memory>
@@ -93,14 +93,14 @@ impl ToJson for MuxRow {
 }
 
 #[tactic(auto, using(crate::proofs::Appended::appended_then))]
-fn push_token(text: &mut Draft, token: &[u8]) -> Result<(), Memory>
+fn push_token(text: &mut TextBuffer, token: &[u8]) -> Result<(), Memory>
     ensures { OnOk result (text.new.items ≡ text.old.items ++ (token.now ++ codes " ")) }
 {
     push_bytes(text, token)?;
     text.push(b' ')
 }
 
-fn push_tokens(text: &mut Draft, tokens: &Pieces) -> Result<(), Memory>
+fn push_tokens(text: &mut TextBuffer, tokens: &Pieces) -> Result<(), Memory>
     ensures { OnOk result (text.new.items ≡ text.old.items ++ flat_map (λ token. token ++ codes " ") tokens.now) }
 {
     for place in 0..tokens.len() {
@@ -113,7 +113,7 @@ fn push_tokens(text: &mut Draft, tokens: &Pieces) -> Result<(), Memory>
 
 // The statement as it is printed, without the end of its line.
 #[tactic(auto, using(crate::proofs::Appended::appended_then))]
-fn push_statement(text: &mut Draft, statement: &Kept) -> Result<(), Memory>
+fn push_statement(text: &mut TextBuffer, statement: &Kept) -> Result<(), Memory>
     ensures { OnOk result (text.new.items ≡ text.old.items ++ statement_text statement.now.tokens) }
 {
     push_tokens(text, &statement.tokens)?;
@@ -123,7 +123,7 @@ fn push_statement(text: &mut Draft, statement: &Kept) -> Result<(), Memory>
 fn write_statement(text: &mut JsonText, statement: &Kept) -> Result<(), Memory>
     ensures { OnOk result (text.new ≡ text.old ++ tokens_of (text_members (codes "text") (statement_text statement.now.tokens))) }
 {
-    let mut printed = Draft::new(text.allocator());
+    let mut printed = TextBuffer::new(text.allocator());
     push_statement(&mut printed, statement)?;
     write_text(text, "text", printed.as_slice())
 }

@@ -6,7 +6,7 @@ ghost use Rattle.json.specs.Print.{quoted};
 ghost use Rattle.json_texts.specs.Texts.{pair_text};
 
 use dbc_values::Memory;
-use ready_texts::Draft;
+use ready_texts::TextBuffer;
 
 const DIGITS: [u8; 16] = *b"0123456789ABCDEF";
 
@@ -53,7 +53,7 @@ fn pairs_of_four(bytes: &[u8; 4]) -> [u8; 8]
 }
 
 // The digits of bytes, as they stand in a string, one by one.
-fn push_few_pairs(text: &mut Draft, bytes: &[u8]) -> Result<(), Memory>
+fn push_few_pairs(text: &mut TextBuffer, bytes: &[u8]) -> Result<(), Memory>
     ensures { OnOk result (text.new.items ≡ text.old.items ++ flat_map pair_text bytes.now) }
 {
     for byte in bytes {
@@ -65,7 +65,7 @@ fn push_few_pairs(text: &mut Draft, bytes: &[u8]) -> Result<(), Memory>
 
 // The digits of bytes that are mostly fewer than eight: four at once, and the others one by one.
 #[tactic(auto, using(crate::proofs::Digits::four_first))]
-fn push_short_pairs(text: &mut Draft, bytes: &[u8]) -> Result<(), Memory>
+fn push_short_pairs(text: &mut TextBuffer, bytes: &[u8]) -> Result<(), Memory>
     ensures { OnOk result (text.new.items ≡ text.old.items ++ flat_map pair_text bytes.now) }
 {
     match bytes.split_first_chunk::<4>() {
@@ -80,7 +80,7 @@ fn push_short_pairs(text: &mut Draft, bytes: &[u8]) -> Result<(), Memory>
 
 // The same, eight bytes at a time.
 #[tactic(auto, using(crate::proofs::Digits::eight_more))]
-fn push_pairs(text: &mut Draft, bytes: &[u8]) -> Result<(), Memory>
+fn push_pairs(text: &mut TextBuffer, bytes: &[u8]) -> Result<(), Memory>
     ensures { OnOk result (text.new.items ≡ text.old.items ++ flat_map pair_text bytes.now) }
 {
     let mut rest = bytes;
@@ -92,7 +92,7 @@ fn push_pairs(text: &mut Draft, bytes: &[u8]) -> Result<(), Memory>
 }
 
 /// Appends a string of hexadecimal pairs in upper case, one for each byte.
-pub fn push_hexadecimal(text: &mut Draft, bytes: &[u8]) -> Result<(), Memory>
+pub fn push_hexadecimal(text: &mut TextBuffer, bytes: &[u8]) -> Result<(), Memory>
     ensures { OnOk result (text.new.items ≡ text.old.items ++ quoted (encode_upper bytes.now)) }
 {
     text.push(b'"')?;

@@ -11,7 +11,7 @@ ghost use Rattle.json_texts.specs.Members.{text_members, member_text};
 use crate::hexadecimal::push_hexadecimal;
 use crate::quoting::{is_plain, push_plain, push_quoted, push_string};
 use dbc_values::Memory;
-use ready_texts::{Draft, ReadyText, push_bytes};
+use ready_texts::{ReadyText, TextBuffer, push_bytes};
 use std::alloc::Global;
 use std::marker::Model;
 
@@ -37,7 +37,7 @@ impl Model for Key {
 
 // `,"key":`
 #[tactic(auto, using(crate::proofs::Pushing::pushed_then))]
-fn push_key(text: &mut Draft, mark: u8, name: &[u8]) -> Result<(), Memory>
+fn push_key(text: &mut TextBuffer, mark: u8, name: &[u8]) -> Result<(), Memory>
     ensures { OnOk result (text.new.items ≡ text.old.items ++ key_text (record { mark = mark; name = name.now })) }
 {
     text.push(mark)?;
@@ -56,7 +56,7 @@ fn hex_key(alloc: Global, name: &[u8]) -> Result<Vec<u8>, Memory>
 }
 
 // `,"key_hex":"B043"`, of bytes that are no UTF-8.
-fn push_hex_member(text: &mut Draft, name: &[u8], bytes: &[u8]) -> Result<(), Memory>
+fn push_hex_member(text: &mut TextBuffer, name: &[u8], bytes: &[u8]) -> Result<(), Memory>
     ensures { OnOk result (text.new.items ≡ text.old.items ++ further_members (hex_members name.now (Some
         (encode_upper bytes.now)))) }
 {
@@ -68,7 +68,7 @@ fn push_hex_member(text: &mut Draft, name: &[u8], bytes: &[u8]) -> Result<(), Me
 
 // `,"key_hex":"B043"`, if the bytes are no UTF-8.
 #[tactic(auto, using(crate::proofs::Spellings::without_pairs, crate::proofs::Spellings::with_pairs))]
-fn push_hex_beside(text: &mut Draft, name: &[u8], bytes: &[u8]) -> Result<(), Memory>
+fn push_hex_beside(text: &mut TextBuffer, name: &[u8], bytes: &[u8]) -> Result<(), Memory>
     ensures { OnOk result (text.new.items ≡ text.old.items ++ further_members (hex_members name.now (hex_beside bytes.now))) }
 {
     match std::str::from_utf8(bytes) {
@@ -79,7 +79,7 @@ fn push_hex_beside(text: &mut Draft, name: &[u8], bytes: &[u8]) -> Result<(), Me
 
 // `"text"`, and `,"key_hex":"B043"` if the bytes are no UTF-8.
 #[tactic(auto, using(crate::proofs::Pushing::pushed_then))]
-fn push_any_texts(text: &mut Draft, name: &[u8], bytes: &[u8]) -> Result<(), Memory>
+fn push_any_texts(text: &mut TextBuffer, name: &[u8], bytes: &[u8]) -> Result<(), Memory>
     ensures { OnOk result (text.new.items ≡ text.old.items ++ (quoted (text_of bytes.now)
         ++ further_members (hex_members name.now (hex_beside bytes.now)))) }
 {
@@ -89,7 +89,7 @@ fn push_any_texts(text: &mut Draft, name: &[u8], bytes: &[u8]) -> Result<(), Mem
 
 // The same. Most bytes stand in a string as they are.
 #[tactic(auto, using(crate::proofs::Plain::plain_texts))]
-fn push_texts(text: &mut Draft, name: &[u8], bytes: &[u8]) -> Result<(), Memory>
+fn push_texts(text: &mut TextBuffer, name: &[u8], bytes: &[u8]) -> Result<(), Memory>
     ensures { OnOk result (text.new.items ≡ text.old.items ++ (quoted (text_of bytes.now)
         ++ further_members (hex_members name.now (hex_beside bytes.now)))) }
 {
@@ -104,7 +104,7 @@ impl Key {
     fn by(alloc: Global, mark: u8, name: &[u8]) -> Result<Key, Memory>
         ensures { IfOk result (λ key. key ≡ record { mark = mark; name = name.now }) }
     {
-        let mut text = Draft::new(alloc);
+        let mut text = TextBuffer::new(alloc);
         push_key(&mut text, mark, name)?;
         let label = ReadyText::of(alloc, text.as_slice())?;
         let name = Vec::from_slice(alloc, name)?;
@@ -127,14 +127,14 @@ impl Key {
 
     /// Appends the key alone.
     #[inline(always)]
-    pub fn push_to(&self, text: &mut Draft) -> Result<(), Memory>
+    pub fn push_to(&self, text: &mut TextBuffer) -> Result<(), Memory>
         ensures { OnOk result (text.new.items ≡ text.old.items ++ key_text self.now) }
     {
         self.label.push_to(text)
     }
 
     /// Appends the member of a number that is spelled by these digits.
-    pub fn push_digits(&self, text: &mut Draft, digits: &[u8]) -> Result<(), Memory>
+    pub fn push_digits(&self, text: &mut TextBuffer, digits: &[u8]) -> Result<(), Memory>
         ensures { OnOk result (text.new.items ≡ text.old.items ++ keyed self.now (number digits.now)) }
     {
         self.push_to(text)?;
@@ -143,7 +143,7 @@ impl Key {
     }
 
     /// Appends the member of a string.
-    pub fn push_quoted(&self, text: &mut Draft, bytes: &[u8]) -> Result<(), Memory>
+    pub fn push_quoted(&self, text: &mut TextBuffer, bytes: &[u8]) -> Result<(), Memory>
         ensures { OnOk result (text.new.items ≡ text.old.items ++ keyed self.now (string bytes.now)) }
     {
         self.push_to(text)?;
@@ -152,7 +152,7 @@ impl Key {
     }
 
     /// Appends the member of bytes as hexadecimal pairs.
-    pub fn push_hexadecimal(&self, text: &mut Draft, bytes: &[u8]) -> Result<(), Memory>
+    pub fn push_hexadecimal(&self, text: &mut TextBuffer, bytes: &[u8]) -> Result<(), Memory>
         ensures { OnOk result (text.new.items ≡ text.old.items ++ keyed self.now (string (encode_upper bytes.now))) }
     {
         self.push_to(text)?;
@@ -161,7 +161,7 @@ impl Key {
     }
 
     /// Appends the members of bytes: their text, and their hexadecimal pairs if they are no UTF-8.
-    pub fn push_texts(&self, text: &mut Draft, bytes: &[u8]) -> Result<(), Memory>
+    pub fn push_texts(&self, text: &mut TextBuffer, bytes: &[u8]) -> Result<(), Memory>
         ensures { OnOk result (text.new.items ≡ text.old.items ++ keyed_texts self.now bytes.now) }
     {
         self.push_to(text)?;

@@ -5,7 +5,7 @@ ghost use Rattle.json.specs.Print.{escape_byte, escape, quoted};
 ghost use Rattle.json_texts.specs.Texts.{characters, text_of, is_plain_byte, is_plain};
 
 use dbc_values::Memory;
-use ready_texts::{Draft, push_bytes};
+use ready_texts::{TextBuffer, push_bytes};
 use std::alloc::Global;
 
 // A lower case hexadecimal digit.
@@ -22,7 +22,7 @@ fn digit(number: u8) -> u8
 
 // A byte of a string.
 #[tactic(auto, unfolding(json::specs::Print::escape_byte))]
-fn push_escaped(text: &mut Draft, byte: u8) -> Result<(), Memory>
+fn push_escaped(text: &mut TextBuffer, byte: u8) -> Result<(), Memory>
     ensures { OnOk result (text.new.items ≡ text.old.items ++ escape_byte byte) }
 {
     match byte {
@@ -46,7 +46,7 @@ fn push_escaped(text: &mut Draft, byte: u8) -> Result<(), Memory>
 }
 
 // The bytes of a string, one by one.
-fn push_escaped_bytes(text: &mut Draft, bytes: &[u8]) -> Result<(), Memory>
+fn push_escaped_bytes(text: &mut TextBuffer, bytes: &[u8]) -> Result<(), Memory>
     ensures { OnOk result (text.new.items ≡ text.old.items ++ escape bytes.now) }
 {
     for byte in bytes {
@@ -57,7 +57,7 @@ fn push_escaped_bytes(text: &mut Draft, bytes: &[u8]) -> Result<(), Memory>
 
 // A string whose bytes may be any.
 #[tactic(auto, using(crate::proofs::Pushing::pushed_then))]
-fn push_any_quoted(text: &mut Draft, bytes: &[u8]) -> Result<(), Memory>
+fn push_any_quoted(text: &mut TextBuffer, bytes: &[u8]) -> Result<(), Memory>
     ensures { OnOk result (text.new.items ≡ text.old.items ++ quoted bytes.now) }
 {
     text.push(b'"')?;
@@ -80,7 +80,7 @@ pub fn is_plain(bytes: &[u8]) -> bool
 }
 
 /// Appends a string of bytes that stand in it as they are.
-pub(crate) fn push_plain(text: &mut Draft, bytes: &[u8]) -> Result<(), Memory>
+pub(crate) fn push_plain(text: &mut TextBuffer, bytes: &[u8]) -> Result<(), Memory>
     requires { is_plain bytes.now ≡ true }
     ensures { OnOk result (text.new.items ≡ text.old.items ++ quoted bytes.now) }
 {
@@ -91,7 +91,7 @@ pub(crate) fn push_plain(text: &mut Draft, bytes: &[u8]) -> Result<(), Memory>
 }
 
 /// Appends a string: the bytes in quotes, with what JSON has for quotes, backslashes and control bytes.
-pub fn push_quoted(text: &mut Draft, bytes: &[u8]) -> Result<(), Memory>
+pub fn push_quoted(text: &mut TextBuffer, bytes: &[u8]) -> Result<(), Memory>
     ensures { OnOk result (text.new.items ≡ text.old.items ++ quoted bytes.now) }
 {
     if is_plain(bytes) {
@@ -113,7 +113,7 @@ pub fn characters_of(alloc: Global, bytes: &[u8]) -> Result<String, Memory>
 }
 
 // A string of bytes that are no UTF-8.
-fn push_characters(text: &mut Draft, bytes: &[u8]) -> Result<(), Memory>
+fn push_characters(text: &mut TextBuffer, bytes: &[u8]) -> Result<(), Memory>
     ensures { OnOk result (text.new.items ≡ text.old.items ++ quoted (characters bytes.now)) }
 {
     let characters = characters_of(text.allocator(), bytes)?;
@@ -122,7 +122,7 @@ fn push_characters(text: &mut Draft, bytes: &[u8]) -> Result<(), Memory>
 
 /// Appends the text of bytes as a string.
 #[tactic(auto, using(crate::proofs::Spellings::own_text, crate::proofs::Spellings::text_of_characters))]
-pub fn push_string(text: &mut Draft, bytes: &[u8]) -> Result<(), Memory>
+pub fn push_string(text: &mut TextBuffer, bytes: &[u8]) -> Result<(), Memory>
     ensures { OnOk result (text.new.items ≡ text.old.items ++ quoted (text_of bytes.now)) }
 {
     match std::str::from_utf8(bytes) {

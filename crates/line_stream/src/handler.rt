@@ -6,7 +6,7 @@ ghost use Rattle.line_stream.specs.Cuts.{HasNoLineFeed};
 
 use crate::fault::Stop;
 use byte_devices::{Out, Sink};
-use ready_texts::Draft;
+use ready_texts::TextBuffer;
 
 /// What is done for each line of a stream, in the order of the lines.
 ///
@@ -33,7 +33,7 @@ pub trait Handler: Drop {
     fn handle<W: Sink>(
         &self,
         state: &mut Self::State,
-        room: &mut Draft,
+        room: &mut TextBuffer,
         out: &mut Out<'_, W>,
         line: &[u8],
     ) -> Result<(), Stop>

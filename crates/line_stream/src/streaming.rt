@@ -14,7 +14,7 @@ use crate::handler::Handler;
 use arrayvec::ArrayVec;
 use byte_devices::{Broken, Out, Sink, Source, WriteFault};
 use memchr::memchr;
-use ready_texts::Draft;
+use ready_texts::TextBuffer;
 use std::alloc::Global;
 
 const PIECE: usize = 16_384;
@@ -22,7 +22,7 @@ const PIECE: usize = 16_384;
 /// Where the texts of lines are made, and where they go.
 #[derive(Drop)]
 struct Streaming<'r, 'w, W: Sink> {
-    room: &'r mut Draft,
+    room: &'r mut TextBuffer,
     out: Out<'w, W>,
 }
 
@@ -286,7 +286,7 @@ pub fn stream_lines<const MOST: usize, H: Handler, R: Source, W: Sink>(
         (R.unread source.new) (H.view state.new) (W.written sink.new) result }
     ensures leads { Leads (H.rules handler.now).Step (H.view state.old) (H.view state.new) }
 {
-    let mut room = Draft::new(alloc);
+    let mut room = TextBuffer::new(alloc);
     let mut streaming = Streaming {
         room: &mut room,
         out: Out::new(sink),

@@ -8,7 +8,7 @@ use crate::streaming::stream_lines;
 use arrayvec::ArrayVec;
 use byte_devices::{Out, Sink, Source, WriteFault};
 use dbc_values::Memory;
-use ready_texts::Draft;
+use ready_texts::TextBuffer;
 use std::alloc::Global;
 use std::marker::PhantomData;
 
@@ -24,7 +24,7 @@ pub trait LineText: Drop {
 
     /// Puts what is written for a line into `text` in the place of what it held. Where memory is wanting it is as it was, and what
     /// `text` holds means nothing. What else it changes of itself, such as a table of what was looked up, no contract sees.
-    fn renew(&mut self, text: &mut Draft, line: &[u8]) -> Result<(), Memory>
+    fn renew(&mut self, text: &mut TextBuffer, line: &[u8]) -> Result<(), Memory>
         ensures text { OnOk result (text.new.items ≡ text_of self.old line.now) }
         ensures next { OnOk result (self.new ≡ next self.old line.now) }
         ensures same { OnErr result (self.new ≡ self.old) };
@@ -53,7 +53,7 @@ impl<T: LineText> Handler for Writer<T> {
     fn handle<W: Sink>(
         &self,
         texts: &mut T,
-        room: &mut Draft,
+        room: &mut TextBuffer,
         out: &mut Out<'_, W>,
         line: &[u8],
     ) -> Result<(), Stop> {

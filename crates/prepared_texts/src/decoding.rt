@@ -11,7 +11,7 @@ use can_decode::{Decoding, remembering};
 use can_layout::Plan;
 use dbc_records::Message;
 use dbc_values::Memory;
-use ready_texts::Draft;
+use ready_texts::TextBuffer;
 use std::alloc::Global;
 use std::marker::Model;
 
@@ -53,7 +53,7 @@ fn plan_at(decoding: &Decoding, place: usize) -> &Plan
 #[tactic(auto, using(crate::proofs::Places::texts_at))]
 fn message_texts<P: Prepare>(
     alloc: Global,
-    text: &mut Draft,
+    text: &mut TextBuffer,
     preparer: &P,
     decoding: &Decoding,
     place: usize,
@@ -79,7 +79,7 @@ fn texts_of_all<P: Prepare>(
     ensures { IfOk result (λ texts. texts.items ≡ all_texts P.head_of P.signal_of decoding.now.database) }
 {
     let count = decoding.database().messages.len();
-    let mut text = Draft::new(alloc);
+    let mut text = TextBuffer::new(alloc);
     let mut texts = Vec::with_capacity(alloc, count)?;
     for place in 0..count {
         texts.push(message_texts(alloc, &mut text, preparer, decoding, place)?)?;

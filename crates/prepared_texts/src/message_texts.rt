@@ -6,7 +6,7 @@ use crate::prepare::Prepare;
 use can_layout::Plan;
 use dbc_records::Message;
 use dbc_values::Memory;
-use ready_texts::Draft;
+use ready_texts::TextBuffer;
 use std::alloc::Global;
 use std::marker::Model;
 
@@ -28,7 +28,7 @@ impl<P: Prepare> Model for MessageTexts<P> {
 // What is prepared of the signals of a plan, in order.
 fn signal_texts<P: Prepare>(
     alloc: Global,
-    text: &mut Draft,
+    text: &mut TextBuffer,
     preparer: &P,
     message: &Message,
     plan: &Plan,
@@ -46,7 +46,7 @@ impl<P: Prepare> MessageTexts<P> {
     /// That of a message by its plan.
     pub(crate) fn of(
         alloc: Global,
-        text: &mut Draft,
+        text: &mut TextBuffer,
         preparer: &P,
         message: &Message,
         plan: &Plan,

@@ -4,7 +4,7 @@ ghost use Rattle.std.specs.Prelude.{◌≡◌, IfOk};
 use can_layout::Row;
 use dbc_records::Message;
 use dbc_values::Memory;
-use ready_texts::Draft;
+use ready_texts::TextBuffer;
 
 /// What is prepared of a message, and of each of its signals. Each is made in a draft, whatever that holds before.
 pub trait Prepare: Drop {
@@ -24,10 +24,15 @@ pub trait Prepare: Drop {
     ghost signal_of: { records.Message → rows.Row → Self.Signal };
 
     /// Prepares what a message has.
-    fn head(&self, text: &mut Draft, message: &Message) -> Result<Self::Head, Memory>
+    fn head(&self, text: &mut TextBuffer, message: &Message) -> Result<Self::Head, Memory>
         ensures { IfOk result (λ head. head ≡ head_of message.now) };
 
     /// Prepares what a signal has.
-    fn signal(&self, text: &mut Draft, message: &Message, row: &Row) -> Result<Self::Signal, Memory>
+    fn signal(
+        &self,
+        text: &mut TextBuffer,
+        message: &Message,
+        row: &Row,
+    ) -> Result<Self::Signal, Memory>
         ensures { IfOk result (λ signal. signal ≡ signal_of message.now row.now) };
 }

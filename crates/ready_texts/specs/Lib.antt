@@ -1,3 +1,3 @@
-pub mod Drafts
+pub mod TextBuffers
 pub mod EightDigits
 pub mod Shown

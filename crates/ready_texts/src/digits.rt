@@ -1,7 +1,7 @@
 //! The digits of numbers of one word.
 ghost use Rattle.std.specs.Prelude.{◌≡◌, [], ◌+◌, ◌≤◌, ◌++◌, OnOk, length, take, drop, decimal};
 
-use crate::draft::Draft;
+use crate::text_buffer::TextBuffer;
 use dbc_values::Memory;
 use itoa::write_digits;
 use std::marker::Model;
@@ -65,7 +65,7 @@ impl Digits {
 
     // Appends some of the digits, from one on.
     #[inline(always)]
-    fn push_part(&self, text: &mut Draft, from: usize, count: usize) -> Result<(), Memory>
+    fn push_part(&self, text: &mut TextBuffer, from: usize, count: usize) -> Result<(), Memory>
         requires { from + count ≤ length self.now }
         ensures { OnOk result (text.new.items ≡ text.old.items ++ take count (drop from self.now)) }
     {
@@ -77,7 +77,7 @@ impl Digits {
 
     /// Appends the first digits.
     #[inline(always)]
-    pub fn push_first(&self, text: &mut Draft, count: usize) -> Result<(), Memory>
+    pub fn push_first(&self, text: &mut TextBuffer, count: usize) -> Result<(), Memory>
         requires { count ≤ length self.now }
         ensures { OnOk result (text.new.items ≡ text.old.items ++ take count self.now) }
     {
@@ -86,7 +86,7 @@ impl Digits {
 
     /// Appends the digits behind the first.
     #[inline(always)]
-    pub fn push_behind(&self, text: &mut Draft, count: usize) -> Result<(), Memory>
+    pub fn push_behind(&self, text: &mut TextBuffer, count: usize) -> Result<(), Memory>
         requires { count ≤ length self.now }
         ensures { OnOk result (text.new.items ≡ text.old.items ++ drop count self.now) }
     {

@@ -5,7 +5,7 @@ ghost use Rattle.std.specs.Int.{w64, to_le_bytes};
 ghost use Rattle.dbc_values.specs.Lexical.{point};
 ghost use Rattle.ready_texts.specs.EightDigits.{eight_digits, StartsWithZeros, EndsInZeros};
 
-use crate::draft::Draft;
+use crate::text_buffer::TextBuffer;
 use dbc_values::Memory;
 use std::marker::Model;
 
@@ -151,7 +151,7 @@ impl EightDigits {
 
     /// Appends some of the digits, from one on.
     #[inline(always)]
-    pub fn push_part(&self, text: &mut Draft, from: usize, count: usize) -> Result<(), Memory>
+    pub fn push_part(&self, text: &mut TextBuffer, from: usize, count: usize) -> Result<(), Memory>
         requires from { from < 8 }
         requires within { from + count ≤ 8 }
         ensures { OnOk result (text.new.items ≡ text.old.items ++ take count (drop from self.now)) }
@@ -161,7 +161,12 @@ impl EightDigits {
 
     /// Appends a point and some of the digits, from the one after an index on, or nothing if no digit is asked for.
     #[inline(always)]
-    pub fn push_fraction(&self, text: &mut Draft, at: usize, count: usize) -> Result<(), Memory>
+    pub fn push_fraction(
+        &self,
+        text: &mut TextBuffer,
+        at: usize,
+        count: usize,
+    ) -> Result<(), Memory>
         requires { at + count < 8 }
         ensures { OnOk result (text.new.items ≡ text.old.items ++ (if count == 0 then [] else point ∷ take count
             (drop (at + 1) self.now))) }

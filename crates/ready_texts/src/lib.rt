@@ -2,15 +2,15 @@
 #![tactic(auto)]
 
 mod digits;
-mod draft;
 mod eight_digits;
 mod ready;
 mod showing;
 mod small_number;
+mod text_buffer;
 
 pub use digits::Digits;
-pub use draft::{Draft, push_bytes};
 pub use eight_digits::EightDigits;
 pub use ready::ReadyText;
 pub use showing::push_shown;
 pub use small_number::push_small_number;
+pub use text_buffer::{TextBuffer, push_bytes};

@@ -1,7 +1,7 @@
 //! Texts kept ready to be appended.
 ghost use Rattle.std.specs.Prelude.{◌≡◌, [], ◌<◌, ◌≤◌, ◌++◌, IfOk, OnOk, drop};
 
-use crate::draft::{Draft, push_bytes};
+use crate::text_buffer::{TextBuffer, push_bytes};
 use dbc_values::Memory;
 use std::alloc::Global;
 use std::marker::Model;
@@ -32,7 +32,7 @@ impl Model for ReadyText {
 
 // Appends what stands behind a front, which is mostly nothing.
 #[inline(always)]
-fn push_rest(text: &mut Draft, rest: &[u8]) -> Result<(), Memory>
+fn push_rest(text: &mut TextBuffer, rest: &[u8]) -> Result<(), Memory>
     ensures { OnOk result (text.new.items ≡ text.old.items ++ rest.now) }
 {
     if !rest.is_empty() {
@@ -56,7 +56,7 @@ impl ReadyText {
 
     /// Appends the text.
     #[inline(always)]
-    pub fn push_to(&self, text: &mut Draft) -> Result<(), Memory>
+    pub fn push_to(&self, text: &mut TextBuffer) -> Result<(), Memory>
         ensures { OnOk result (text.new.items ≡ text.old.items ++ self.now) }
     {
         text.push_first(&self.front, self.count)?;
@@ -67,7 +67,7 @@ impl ReadyText {
     /// Appends the text behind its first two bytes.
     #[tactic(auto, using(crate::proofs::Parts::behind_two_of_short))]
     #[inline(always)]
-    pub fn push_behind_two(&self, text: &mut Draft) -> Result<(), Memory>
+    pub fn push_behind_two(&self, text: &mut TextBuffer) -> Result<(), Memory>
         ensures { OnOk result (text.new.items ≡ text.old.items ++ drop 2 self.now) }
     {
         if self.count < 2 {

@@ -3,7 +3,7 @@ ghost use Rattle.std.specs.Prelude.{◌≡◌, ◌==◌, ◌++◌, OnOk, if◌th
 ghost use Rattle.std.specs.List.{list_any};
 ghost use Rattle.ready_texts.specs.Shown.{shown_byte, breaks_line, shown};
 
-use crate::draft::{Draft, push_bytes};
+use crate::text_buffer::{TextBuffer, push_bytes};
 use dbc_values::Memory;
 
 fn breaks_line(b: u8) -> bool
@@ -19,7 +19,7 @@ fn shown_byte(b: u8) -> u8
 }
 
 // A text, byte by byte on one line.
-fn push_each_shown(text: &mut Draft, bytes: &[u8]) -> Result<(), Memory>
+fn push_each_shown(text: &mut TextBuffer, bytes: &[u8]) -> Result<(), Memory>
     ensures { OnOk result (text.new.items ≡ text.old.items ++ shown bytes.now) }
 {
     for b in bytes {
@@ -36,7 +36,7 @@ fn has_break(bytes: &[u8]) -> bool
 
 /// A text, with a blank in the place of each break of a line. Most texts have none.
 #[tactic(auto, using(crate::proofs::Shown::shown_whole))]
-pub fn push_shown(text: &mut Draft, bytes: &[u8]) -> Result<(), Memory>
+pub fn push_shown(text: &mut TextBuffer, bytes: &[u8]) -> Result<(), Memory>
     ensures { OnOk result (text.new.items ≡ text.old.items ++ shown bytes.now) }
 {
     if has_break(bytes) {

@@ -1,7 +1,7 @@
 //! Numbers below a thousand, whose digits are kept ready.
 ghost use Rattle.std.specs.Prelude.{◌≡◌, ◌<◌, ◌≤◌, ◌++◌, OnOk, take, decimal};
 
-use crate::draft::Draft;
+use crate::text_buffer::TextBuffer;
 use dbc_values::Memory;
 
 // For each number its digits, and how many these are.
@@ -62,7 +62,7 @@ fn digits_of(number: u16) -> (&'static [u8; 4], usize)
 
 /// Appends the digits of a number below a thousand. It takes no branch for how many there are, which a processor can't predict.
 #[inline(always)]
-pub fn push_small_number(text: &mut Draft, number: u16) -> Result<(), Memory>
+pub fn push_small_number(text: &mut TextBuffer, number: u16) -> Result<(), Memory>
     requires { number < 1000 }
     ensures { OnOk result (text.new.items ≡ text.old.items ++ decimal number) }
 {

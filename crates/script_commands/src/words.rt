@@ -43,16 +43,16 @@ pub(crate) fn rest_of(text: &[u8]) -> Option<&[u8]>
 }
 
 // Greater than any number that a script can write.
-const FAR: u64 = 4_294_967_296;
+const SATURATED: u64 = 4_294_967_296;
 
-// The value of the digits, or `FAR` where it is greater.
-fn value_up_to_far(digits: &[u8]) -> u64
+// The value of the digits, or `SATURATED` where it is greater.
+fn saturated_value(digits: &[u8]) -> u64
     requires { IsTrue (list_all is_digit digits.now) }
     ensures { result ≡ min (digits_value 10 digits.now) (2 ^ 32) }
 {
     let mut value: u64 = 0;
     for digit in digits {
-        value = (value * 10 + u64::from(*digit - b'0')).min(FAR);
+        value = (value * 10 + u64::from(*digit - b'0')).min(SATURATED);
     }
     value
 }
@@ -69,7 +69,7 @@ pub(crate) fn number_of(word: &[u8]) -> Option<u32>
     ensures { result ≡ number_of word.now }
 {
     if is_digits(word) {
-        u32::try_from(value_up_to_far(word)).ok()
+        u32::try_from(saturated_value(word)).ok()
     } else {
         None
     }

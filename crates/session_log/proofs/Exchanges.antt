@@ -11,7 +11,7 @@ use Rattle.std.proofs.lemmas.Bool.{or_from}
 use Rattle.std.proofs.lemmas.Bool.Decides.{eqb_tells}
 use Rattle.can_decode.specs.DecodedLines.{Bus, bus_line}
 use Rattle.session_log.specs.declared.line.Line.{Line}
-use Rattle.session_log.specs.declared.line.Fresh.{Fresh}
+use Rattle.session_log.specs.declared.line.RedecodedLine.{RedecodedLine}
 use Rattle.session_log.specs.Logs.{bytes_of, IsNumbered, IsDecoded, IsTextOf, Completes, TextsAt, place_of}
 
 pub all_but_last : {X : Type 0} (P : X → Type 0) (xs : List X) (y : X) → All P (xs ++ y ∷ []) → All P xs
@@ -42,7 +42,7 @@ numbered_still lines place line within is all = λ k d inside.
           (all k d (omega (arith, inside, length-set lines place line)))
     ]
 
-pub one_given : (bus : Bus) (lines : List Line) (line : Line) (rest : List Fresh) (fresh : Fresh)
+pub one_given : (bus : Bus) (lines : List Line) (line : Line) (rest : List RedecodedLine) (fresh : RedecodedLine)
     → bytes_of line ≡ bytes_of (slice_index_or lines fresh.place line) → line.decoded.items ≡ fresh.text.items
     → Completes bus lines (rest ++ fresh ∷ []) → Completes bus (slice_set lines fresh.place line) rest
 one_given bus lines line rest fresh same text h =
@@ -62,14 +62,14 @@ one_given bus lines line rest fresh same text h =
           ];
     }
 
-pub all_given : (bus : Bus) (lines : List Line) (fresh : List Fresh) → length fresh ≡ 0 → Completes bus lines fresh
+pub all_given : (bus : Bus) (lines : List Line) (fresh : List RedecodedLine) → length fresh ≡ 0 → Completes bus lines fresh
     → All (IsDecoded bus) lines
 all_given bus lines [] none h = λ k d within. h.others k d within refl
 all_given bus lines (text ∷ texts) none h = absurd (omega arith)
 
 -- ---- texts for places, one after another
 
-pub one_made : (bus : Bus) (lines : List Line) (places : List ℕ) (i : ℕ) (texts : List Fresh) (fresh : Fresh)
+pub one_made : (bus : Bus) (lines : List Line) (places : List ℕ) (i : ℕ) (texts : List RedecodedLine) (fresh : RedecodedLine)
     → i < length places → fresh.place ≡ get_or places i fresh.place → TextsAt bus lines (take i places) texts
     → IsTextOf bus lines fresh
     → TextsAt bus lines (take (i + 1) places) (texts ++ fresh ∷ [])

@@ -16,7 +16,7 @@ use Rattle.session_log.specs.Indexes.{Covers}
 use Rattle.can_decode.specs.DecodedLines.{Bus, bus_line}
 use Rattle.edit_reach.specs.Touched.{line_touched}
 use Rattle.session_log.specs.declared.line.Line.{Line}
-use Rattle.session_log.specs.declared.line.Fresh.{Fresh}
+use Rattle.session_log.specs.declared.line.RedecodedLine.{RedecodedLine}
 use Rattle.session_log.specs.Logs.{bytes_of, IsDecoded, place_of, is_for, TextsAt, Completes}
 
 pub length-places : {X : Type 0} (test : X → Bool) (at : ℕ) (items : List X) → length (places_from test at items)
@@ -57,12 +57,12 @@ found-place test at (item ∷ items) (suc k) n d within sum passes =
       | inr f ↦ rw f later
     ]
 
-is_for-places : (k : ℕ) (fresh : List Fresh) → is_for k fresh ≡ list_any (λ place. place == k) (map place_of fresh)
+is_for-places : (k : ℕ) (fresh : List RedecodedLine) → is_for k fresh ≡ list_any (λ place. place == k) (map place_of fresh)
 is_for-places k [] = refl
 is_for-places k (text ∷ texts) = ap (λ rest. text.place == k || rest) (is_for-places k texts)
 
 -- with a text for each touched line nothing is left: an untouched line keeps its text
-pub all_done : (before after : Bus) (numbers : List ℕ) (lines : List Line) (places : List ℕ) (fresh : List Fresh)
+pub all_done : (before after : Bus) (numbers : List ℕ) (lines : List Line) (places : List ℕ) (fresh : List RedecodedLine)
     → ((line : List ℕ) → line_touched numbers line ≡ false → bus_line after line ≡ bus_line before line)
     → All (IsDecoded before) lines → Covers numbers (map bytes_of lines) places → TextsAt after lines places fresh
     → Completes after lines fresh

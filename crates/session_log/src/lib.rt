@@ -14,5 +14,5 @@ mod log;
 mod log_hash;
 mod log_index;
 
-pub use line::{Fresh, Line};
+pub use line::{Line, RedecodedLine};
 pub use log::Log;

@@ -19,7 +19,7 @@ pub struct Line {
 
 /// A text for the line at a place.
 #[derive(Drop)]
-pub struct Fresh {
+pub struct RedecodedLine {
     /// The line's place.
     pub place: usize,
     /// Its decoded text.
@@ -27,13 +27,13 @@ pub struct Fresh {
 }
 
 /// Gives each text to the line at its place. It takes no memory.
-pub(crate) fn exchange(lines: &mut VecDeque<Line>, mut fresh: Vec<Fresh>)
+pub(crate) fn exchange(lines: &mut VecDeque<Line>, mut fresh: Vec<RedecodedLine>)
     requires { All (λ text. text.place < length lines.old.items) fresh.items }
     ensures lines { map bytes_of lines.new.items ≡ map bytes_of lines.old.items }
     ensures numbered { All IsNumbered lines.old.items → All IsNumbered lines.new.items }
     ensures decoded { (bus : Bus) → Completes bus lines.old.items fresh.items → All (IsDecoded bus) lines.new.items }
 {
-    while let Some(Fresh { place, text }) = fresh.pop() {
+    while let Some(RedecodedLine { place, text }) = fresh.pop() {
         lines[place].decoded = text;
     }
 }

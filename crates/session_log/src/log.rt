@@ -7,7 +7,7 @@ ghost use Rattle.session_log.specs.Logs.{bytes_of, IsNumbered, IsDecoded, Comple
 ghost use Rattle.session_log.specs.Places.{places_from};
 ghost use Rattle.session_log.specs.Indexes.{is_untouched_at, Covers};
 
-use crate::line::{Fresh, Line, exchange};
+use crate::line::{Line, RedecodedLine, exchange};
 use crate::log_hash::LogHash;
 use crate::log_index::LogIndex;
 use dbc_values::Memory;
@@ -162,7 +162,7 @@ impl Log {
     }
 
     /// Gives each text to the line at its place. It takes no memory.
-    pub fn exchange(&mut self, fresh: Vec<Fresh>)
+    pub fn exchange(&mut self, fresh: Vec<RedecodedLine>)
         requires { All (λ text. text.place < length self.old) fresh.items }
         ensures lines { map bytes_of self.new ≡ map bytes_of self.old }
         ensures decoded { (bus : Bus) → Completes bus self.old fresh.items → All (IsDecoded bus) self.new }

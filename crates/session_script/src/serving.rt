@@ -10,7 +10,7 @@ use byte_devices::{Out, Sink, Source, WriteFault};
 use can_session::Session;
 use dbc_values::Memory;
 use line_stream::{Handler, Stop, StreamFault, stream_lines};
-use ready_texts::Draft;
+use ready_texts::TextBuffer;
 use std::alloc::Global;
 
 // The most bytes of a line of a script.
@@ -38,7 +38,7 @@ impl Handler for Script {
     fn handle<W: Sink>(
         &self,
         session: &mut Session,
-        _room: &mut Draft,
+        _room: &mut TextBuffer,
         out: &mut Out<'_, W>,
         line: &[u8],
     ) -> Result<(), Stop> {

@@ -4,7 +4,7 @@ ghost use Rattle.std.specs.Prelude.{ℕ, List, ◌++◌};
 use byte_devices::limp::Limp;
 use dbc_values::Memory;
 use line_stream::{LineText, StreamFault, stream_texts};
-use ready_texts::{Draft, push_bytes};
+use ready_texts::{TextBuffer, push_bytes};
 use std::marker::Model;
 use std::test::Fail;
 
@@ -30,7 +30,7 @@ impl<'t> LineText for Marked<'t> {
 
     ghost next = { λ mark line. mark };
 
-    fn renew(&mut self, text: &mut Draft, line: &[u8]) -> Result<(), Memory> {
+    fn renew(&mut self, text: &mut TextBuffer, line: &[u8]) -> Result<(), Memory> {
         self.lines = self.lines.saturating_add(1);
         text.clear();
         push_bytes(text, self.mark)?;

@@ -20,7 +20,7 @@ use Rattle.dbc_reader.specs.Spelling.{form, signal_form, form_alone, Attribute, 
 use Rattle.dbc_reader.specs.Reading.Readers.{and_then, ◌>>=◌, value, starts, end_at}
 use Rattle.dbc_reader.specs.Reading.Parts.{begins_receiver}
 use Rattle.dbc_reader.specs.Reading.Attributes.{message_target_at}
-use Rattle.dbc_reader.specs.Reading.Databases.{message_attribute_at, one_of_six_at, statement_at}
+use Rattle.dbc_reader.specs.Reading.Databases.{message_attribute_at, standalone_statement_at, statement_at}
 use Rattle.dbc_reader.proofs.Sound.Notes.{attribute_form}
 use Rattle.dbc_reader.proofs.Sound.Messages.{signal_form_is}
 use Rattle.dbc_read.proofs.Takes.{Takes, Anything, Opens, Stops, takes_value, takes_next, takes_last, takes_as, takes_where}
@@ -65,8 +65,8 @@ signal_begins : (other : List ℕ) (signal : Signal) {passes : Bool} → bytes_e
     → Opens (has_word other) passes (signal_form signal)
 signal_begins other signal {passes} e = opens_as (signal_form_is signal) (opens_word (codes "SG_") other e)
 
-statement_takes : (statement : Statement) → IsStatement statement → Takes one_of_six_at statement (form_alone statement) Closed
-unfolding one_of_six_at head_layout table_layout table_key values_layout values_key mux_layout mux_key attribute_layout
+statement_takes : (statement : Statement) → IsStatement statement → Takes standalone_statement_at statement (form_alone statement) Closed
+unfolding standalone_statement_at head_layout table_layout table_key values_layout values_key mux_layout mux_key attribute_layout
     attribute_key word_layout items_of
 statement_takes (statements.Head head) is =
     takes_first _ (opens_word (codes "BO_") (codes "BO_") refl) (takes_where (takes_last _ (head_takes 0 head refl is) takes_value)

@@ -7,7 +7,7 @@ use Rattle.dbc_reader.specs.Classes.{has_word}
 use Rattle.dbc_reader.specs.Pattern.{is_of_class, BeginsMessage, Seen, Done, first_fault, nothing_seen}
 use Rattle.dbc_reader.specs.Grammar as grammar
 use Rattle.dbc_reader.specs.Reading.Tables.{values_at}
-use Rattle.dbc_reader.specs.Reading.Databases.{message_attribute_at, one_of_six_at, statement_at}
+use Rattle.dbc_reader.specs.Reading.Databases.{message_attribute_at, standalone_statement_at, statement_at}
 use Rattle.dbc_reader.proofs.Agrees.{Judges}
 use Rattle.dbc_reader.proofs.Agrees.{Agrees, Same, Any, Begins, agree_bind, agree_then, agree_value, agree_choose, begins_one}
 use Rattle.dbc_reader.proofs.Agrees.Kinds.{begins_word, word_agrees, mark_agrees, name_agrees, text_agrees, id_agrees}
@@ -45,8 +45,8 @@ message_attribute_agrees seen =
 
 -- ---- one statement
 
-one_of_six_agrees : Agrees nothing_seen one_of_six_at grammar.one_statement Any
-unfolding one_of_six_at
+one_of_six_agrees : Agrees nothing_seen standalone_statement_at grammar.one_statement Any
+unfolding standalone_statement_at
 one_of_six_agrees =
     agree_choose (has_word (codes "BO_")) begins_a_head (agree_bind (head_agrees nothing_seen 0 refl) λ head s began.
     agree_value tt)
@@ -62,5 +62,5 @@ one_of_six_agrees =
 
 pub statement_judges : (cut : Cut) → Judges (statement_at cut) (first_fault grammar.one_statement nothing_seen cut)
 unfolding statement_at
-statement_judges cut = bind_judges Any _ (first_fault Done) (one_of_six_at cut) _ (one_of_six_agrees.follows Done cut)
+statement_judges cut = bind_judges Any _ (first_fault Done) (standalone_statement_at cut) _ (one_of_six_agrees.follows Done cut)
     (λ statement seen rest now. end_judges statement seen rest)

@@ -28,7 +28,7 @@ use Rattle.dbc_reader.specs.Reading.Databases.{symbols_into, nodes_into, begins_
 use Rattle.dbc_reader.specs.Reading.Databases.{object_into, value_row_into, attribute_row_into, object_words}
 use Rattle.dbc_reader.specs.Reading.Databases.{value_words, attribute_words, has_object_word, has_value_word, has_attribute_word}
 use Rattle.dbc_reader.specs.Reading.Databases.{begins_statement, statement_into, table_alone_at, values_alone_at, mux_alone_at}
-use Rattle.dbc_reader.specs.Reading.Databases.{one_of_six_at}
+use Rattle.dbc_reader.specs.Reading.Databases.{standalone_statement_at}
 use Rattle.dbc_reader.proofs.Facts.KeptBeginnings.{kept_by_tokens}
 
 -- ---- what is read
@@ -328,27 +328,27 @@ no_statement_begins (t ▸ cut) e = keyword_there t ∙ rw e refl
 -- ---- statements that stand alone
 
 of_word : (R : Reader Statement) (word : List ℕ) → ((u : Token) (cut : Cut)
-    → one_of_six_at (worded u word ▸ cut) ≡ R (worded u word ▸ cut)) → (cut : Cut) → starts (has_word word) cut
-    ≡ true → one_of_six_at cut ≡ R cut
+    → standalone_statement_at (worded u word ▸ cut) ≡ R (worded u word ▸ cut)) → (cut : Cut) → starts (has_word word) cut
+    ≡ true → standalone_statement_at cut ≡ R cut
 unfolding starts has_word
 of_word R word h (End line) e = absurd cc
 of_word R word h (Fault line) e = absurd cc
-of_word R word h (t ▸ cut) e = subst (λ bytes. one_of_six_at (worded t bytes ▸ cut)
+of_word R word h (t ▸ cut) e = subst (λ bytes. standalone_statement_at (worded t bytes ▸ cut)
     ≡ R (worded t bytes ▸ cut)) (sym ((bytes_eq-Decides t.bytes word).0 e)) (h t cut)
 
 pub table_alone : (cut : Cut) → starts (has_word (codes "VAL_TABLE_")) cut ≡ true
-    → one_of_six_at cut ≡ table_alone_at (with_word (codes "VAL_TABLE_") (behind cut))
-unfolding one_of_six_at starts has_word table_at word_at token_at
+    → standalone_statement_at cut ≡ table_alone_at (with_word (codes "VAL_TABLE_") (behind cut))
+unfolding standalone_statement_at starts has_word table_at word_at token_at
 table_alone = of_word (λ cut. table_alone_at (with_word (codes "VAL_TABLE_") (behind cut))) (codes "VAL_TABLE_")
     (λ u cut. refl)
 
 pub values_alone : (cut : Cut) → starts (has_word (codes "VAL_")) cut ≡ true
-    → one_of_six_at cut ≡ values_alone_at (with_word (codes "VAL_") (behind cut))
-unfolding one_of_six_at starts has_word values_at word_at token_at
+    → standalone_statement_at cut ≡ values_alone_at (with_word (codes "VAL_") (behind cut))
+unfolding standalone_statement_at starts has_word values_at word_at token_at
 values_alone = of_word (λ cut. values_alone_at (with_word (codes "VAL_") (behind cut))) (codes "VAL_") (λ u cut. refl)
 
 pub mux_alone : (cut : Cut) → starts (has_word (codes "SG_MUL_VAL_")) cut ≡ true
-    → one_of_six_at cut ≡ mux_alone_at (with_word (codes "SG_MUL_VAL_") (behind cut))
-unfolding one_of_six_at starts has_word mux_at word_at token_at
+    → standalone_statement_at cut ≡ mux_alone_at (with_word (codes "SG_MUL_VAL_") (behind cut))
+unfolding standalone_statement_at starts has_word mux_at word_at token_at
 mux_alone = of_word (λ cut. mux_alone_at (with_word (codes "SG_MUL_VAL_") (behind cut))) (codes "SG_MUL_VAL_")
     (λ u cut. refl)

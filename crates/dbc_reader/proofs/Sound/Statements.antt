@@ -8,7 +8,7 @@ use Rattle.dbc_tokens.specs.Tokens.{Token, Cut, End}
 use Rattle.dbc_reader.specs.Forms.{Spelled, of_layout, ◌▸▸◌}
 use Rattle.dbc_reader.specs.Reading.Readers.{value, end_at}
 use Rattle.dbc_reader.specs.Reading.Attributes.{message_target_at}
-use Rattle.dbc_reader.specs.Reading.Databases.{message_attribute_at, one_of_six_at, statement_at}
+use Rattle.dbc_reader.specs.Reading.Databases.{message_attribute_at, standalone_statement_at, statement_at}
 use Rattle.dbc_reader.specs.Spelling.{form, Attribute, form_alone, IsStatement, SpellsStatement}
 use Rattle.dbc_reader.proofs.Turns.{and_then_ok}
 use Rattle.dbc_reader.proofs.Sound.Kinds.{word_sound, mark_sound, text_sound, id_sound}
@@ -34,8 +34,8 @@ message_attribute_sound =
 
 -- ---- any statement
 
-one_of_six_sound : Sound one_of_six_at form_alone
-unfolding one_of_six_at
+one_of_six_sound : Sound standalone_statement_at form_alone
+unfolding standalone_statement_at
 one_of_six_sound =
     sound_choose _ (sound_start (sound_then (head_sound 0) λ head. sound_value refl))
     (sound_choose _ (sound_start (sound_then (signal_sound []) λ signal. sound_value refl))
@@ -51,7 +51,7 @@ pub statement_sound : (cut : Cut) (s : Statement) (rest : Cut) → statement_at 
     → (tokens : List Token) × (line : ℕ) × (cut ≡ (tokens ▸▸ End line)) × SpellsStatement tokens s
 unfolding statement_at
 statement_sound cut s rest e proper =
-    let a = and_then_ok (one_of_six_at cut) _ (s, rest) e in
+    let a = and_then_ok (standalone_statement_at cut) _ (s, rest) e in
     let b = and_then_ok (end_at a.0.1) _ (s, rest) a.2 in
     let end = ends_there a.0.1 b.0 b.1 in
     let spelt = one_of_six_sound.spelt cut a.0 a.1 in (

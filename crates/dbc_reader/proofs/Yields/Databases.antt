@@ -23,7 +23,7 @@ use Rattle.dbc_reader.specs.Reading.Parts.{word_at, mark_at}
 use Rattle.dbc_reader.specs.Reading.Databases.{symbols_into, nodes_into, begins_kept}
 use Rattle.dbc_reader.specs.Reading.Databases.{object_into, value_row_into, attribute_row_into, statement_into}
 use Rattle.dbc_reader.specs.Reading.Databases.{statements_into, version_at, timing_numbers_at, timing_at, timed_into}
-use Rattle.dbc_reader.specs.Reading.Databases.{empty_database, database_at, one_of_six_at, statement_at}
+use Rattle.dbc_reader.specs.Reading.Databases.{empty_database, database_at, standalone_statement_at, statement_at}
 use Rattle.dbc_reader.proofs.Yields.{Yields, YieldsWhere, yields_then, yields_after, yields_value, yields_choose, yields_choose_by}
 use Rattle.dbc_reader.proofs.Yields.{yields_then_where, yields_repeated}
 use Rattle.dbc_reader.proofs.Yields.Kinds.{text_proper, unsigned_proper, names_proper, symbols_proper}
@@ -252,8 +252,8 @@ database_is_proper cut d rest e = all_proper.holds cut (d, rest) e
 
 -- ---- one statement
 
-one_of_six_proper : Yields one_of_six_at IsStatement
-unfolding one_of_six_at
+one_of_six_proper : Yields standalone_statement_at IsStatement
+unfolding standalone_statement_at
 one_of_six_proper =
     yields_choose _ (yields_then (head_proper 0) λ head is. yields_value is.proper)
     (yields_choose _ (yields_then (signal_proper []) λ signal is. yields_value is.proper)

@@ -217,8 +217,8 @@ attribute_alone_at = do
   value (statements.Attribute row)
 
 -- the statements that an edit may name
-unfoldable pub one_of_six_at : Reader Statement
-one_of_six_at =
+unfoldable pub standalone_statement_at : Reader Statement
+standalone_statement_at =
     choose (has_word (codes "BO_")) head_alone_at
     (choose (has_word (codes "SG_")) signal_alone_at
     (choose (has_word (codes "VAL_TABLE_")) table_alone_at
@@ -228,6 +228,6 @@ one_of_six_at =
 -- a text that is one statement
 unfoldable pub statement_at : Reader Statement
 statement_at = do
-  statement ← one_of_six_at
+  statement ← standalone_statement_at
   _ ← end_at
   value statement

@@ -34,6 +34,6 @@ returns c =
     let same = both c.args.numbers.items c.sort_unstable.new.self.items c.sort_unstable.ensures.permutation
     c.sort_unstable.ensures.sorted in
     let here = c.as_slice.ensures.value in (
-      λ yes. same.0 (subst IsStrictlyIncreasing here (c.rise.ensures.0 yes)),
-      λ differ. c.rise.ensures.1 (subst IsStrictlyIncreasing (sym here) (same.1 differ)),
+      λ yes. same.0 (subst IsStrictlyIncreasing here (c.is_strictly_increasing.ensures.0 yes)),
+      λ differ. c.is_strictly_increasing.ensures.1 (subst IsStrictlyIncreasing (sym here) (same.1 differ)),
     )

@@ -3,7 +3,7 @@ use Rattle.std.specs.Option.{option_map}
 use Rattle.can_mux.specs.Links.{Link}
 use Rattle.can_layout.specs.Plans.{chain_of, is_met, are_met}
 use Rattle.can_mux.specs.Walks.{above_or_missing, above_at}
-use Rattle.can_mux.specs.declared.above.Above.TheVariants.{Switch}
+use Rattle.can_mux.specs.declared.mux_parent.MuxParent.TheVariants.{Switch}
 use Rattle.can_layout.proofs.Chains.{asks_met, at_met}
 use Rattle.can_layout.proofs.plan.are_met.Goals as goal
 

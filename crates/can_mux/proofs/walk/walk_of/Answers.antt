@@ -2,7 +2,7 @@ use Rattle.std.proofs.Common.{◌≡◌, ◌+◌, ◌-◌, length, sym, ap, ◌�
 use Rattle.std.specs.Option.{option_map}
 use Rattle.can_mux.specs.Links.{Link}
 use Rattle.can_mux.specs.Walks.{above_or_missing, above_at}
-use Rattle.can_mux.specs.declared.above.Above.TheVariants.{Nothing, Missing, Switch}
+use Rattle.can_mux.specs.declared.mux_parent.MuxParent.TheVariants.{Nothing, Missing, Switch}
 use Rattle.can_mux.proofs.WalkSteps.{at_top, at_missing, at_switch, at_end}
 use Rattle.can_mux.proofs.walk.walk_of.Goals as goal
 

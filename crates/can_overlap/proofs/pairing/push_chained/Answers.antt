@@ -6,7 +6,7 @@ use Rattle.can_overlap.proofs.pairing.push_chained.Goals as goal
 pub returns-then-next_from-count : goal.returns-then-next_from-count
 returns-then-next_from-count c =
     let from : ℕ = c.args.first + 1 in
-    let later : List Walk = drop from c.args.ways.now.walks in
-    let left : length later ≡ length c.args.ways.now.walks - from = length-drop from c.args.ways.now.walks in
+    let later : List Walk = drop from c.args.paths.now.walks in
+    let left : length later ≡ length c.args.paths.now.walks - from = length-drop from c.args.paths.now.walks in
     none_behind c.args.first c.args.links.now c.args.met.now.words from later c.args.found.now.items c.next_from.result
     (omega (arith, left, c.count.ensures, c.if-next_from-count.true, c.requires.place)) c.next_from.ensures.none_between

@@ -7,7 +7,7 @@ use Rattle.can_overlap.specs.Overlaps.{pair_where}
 use Rattle.can_overlap.specs.declared.pair.Pair.{Pair}
 use Rattle.can_overlap.specs.Occupancy.{met_pair}
 use Rattle.can_overlap.specs.Places.{has}
-use Rattle.can_overlap.specs.Ways.{goes_at}
+use Rattle.can_overlap.specs.MuxPaths.{goes_at}
 use Rattle.can_overlap.proofs.Gone.{goes_behind}
 use Rattle.can_overlap.proofs.Meeting.{none_met, next_met, all_met}
 use Rattle.can_overlap.proofs.pairing.push_met.Goals as goal
@@ -19,7 +19,7 @@ loop-next-init c =
       forward = c.next_from-next.ensures.forward;
       met = c.next_from-next.ensures.found;
       noted = c.requires.noted;
-      done = none_met c.args.first c.args.beside.now.links c.args.met.now.words from (drop from c.args.beside.now.walks)
+      done = none_met c.args.first c.args.indexed.now.links c.args.met.now.words from (drop from c.args.indexed.now.walks)
           c.args.found.now.items (c.next_from-next.result - from) (0, Loop)
           (λ k low high. c.next_from-next.ensures.none_between (from + k) (omega arith) (omega arith));
     }
@@ -27,8 +27,8 @@ loop-next-init c =
 pub loop-next-preserved : goal.loop-next-preserved
 loop-next-preserved c =
     let from : ℕ = c.args.first + 1 in
-    let links : List Link = c.args.beside.now.links in
-    let walks : List Walk = c.args.beside.now.walks in
+    let links : List Link = c.args.indexed.now.links in
+    let walks : List Walk = c.args.indexed.now.walks in
     let words : List ℕ = c.args.met.now.words in
     let forward = c.loop-next.invariant.forward in
     let onward = c.next_from-next-in-loop-next.ensures.forward in
@@ -61,9 +61,9 @@ loop-next-preserved c =
 pub returns : goal.returns
 returns c =
     let from : ℕ = c.args.first + 1 in
-    let later : List Walk = drop from c.args.beside.now.walks in
-    let left : length later ≡ length c.args.beside.now.walks - from = length-drop from c.args.beside.now.walks in
+    let later : List Walk = drop from c.args.indexed.now.walks in
+    let left : length later ≡ length c.args.indexed.now.walks - from = length-drop from c.args.indexed.now.walks in
     c.loop-next.invariant.done
-    ∙ ap (λ ys. c.args.found.now.items ++ flat_map (met_pair c.args.first c.args.beside.now.links c.args.met.now.words) ys)
-    (all_met c.args.first c.args.beside.now.links c.args.met.now.words from later (c.loop-next.next - from)
+    ∙ ap (λ ys. c.args.found.now.items ++ flat_map (met_pair c.args.first c.args.indexed.now.links c.args.met.now.words) ys)
+    (all_met c.args.first c.args.indexed.now.links c.args.met.now.words from later (c.loop-next.next - from)
     (omega (arith, left, c.count-end.ensures, c.loop-next-test.false, c.loop-next.invariant.forward)))

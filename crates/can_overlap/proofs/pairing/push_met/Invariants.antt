@@ -2,7 +2,7 @@ use Rattle.std.proofs.Common.{◌≡◌, ◌+◌, ◌-◌, ◌<◌, ◌≤◌, �
 use Rattle.std.specs.List.{flat_map, enumerate_from}
 use Rattle.can_overlap.specs.Places.{has}
 use Rattle.can_overlap.specs.Occupancy.{met_pair}
-use Rattle.can_overlap.specs.Ways.{AreNoted}
+use Rattle.can_overlap.specs.MuxPaths.{AreNoted}
 use Rattle.can_overlap.proofs.pairing.push_met.Given as goal
 
 -- the later signals before `next` are done, and `next` is met
@@ -10,9 +10,9 @@ abbrev pub invariant-loop-next : goal.invariant-loop-next
 invariant-loop-next l = record {
   forward : l.first + 1 ≤ l.next;
   met : l.next < 1024 → has l.met.words l.next ≡ true;
-  noted : AreNoted l.beside l.noted;
-  done : l.found.items ≡ l.fn.found.items ++ flat_map (met_pair l.first l.beside.links l.met.words)
-      (take (l.next - (l.first + 1)) (enumerate_from (l.first + 1) (drop (l.first + 1) l.beside.walks)));
+  noted : AreNoted l.indexed l.noted;
+  done : l.found.items ≡ l.fn.found.items ++ flat_map (met_pair l.first l.indexed.links l.met.words)
+      (take (l.next - (l.first + 1)) (enumerate_from (l.first + 1) (drop (l.first + 1) l.indexed.walks)));
 }
 
 abbrev pub decreases-loop-next : goal.decreases-loop-next

@@ -17,7 +17,7 @@ returns-in_ok-push_chained-in-Some c =
     let field : Field = record { start = 0; length = 0; intel = false } in
     let walk : Walk = Loop in
     let fields : List Field = c.args.fields.now in
-    let walks : List Walk = c.args.ways.now.walks in
+    let walks : List Walk = c.args.paths.now.walks in
     let first : ℕ = c.args.first in
     let inside : first < length walks = omega (arith, c.requires.place, c.requires.lengths) in
     let is : get_or walks first walk ≡ Chain c.in-Some.links.now = chain_there walks first walk c.in-Some.links.now inside
@@ -43,7 +43,7 @@ returns-in-None c =
     let field : Field = record { start = 0; length = 0; intel = false } in
     let walk : Walk = Loop in
     let fields : List Field = c.args.fields.now in
-    let walks : List Walk = c.args.ways.now.walks in
+    let walks : List Walk = c.args.paths.now.walks in
     let first : ℕ = c.args.first in
     let inside : first < length walks = omega (arith, c.requires.place, c.requires.lengths) in
     let never : (other : Walk) → together (get_or walks first walk) other ≡ false = λ other. never_there walks first walk other

@@ -1,7 +1,7 @@
 use Rattle.std.proofs.Common.{◌≡◌, ◌<◌, length}
 use Rattle.std.specs.Prelude.{map, All}
 use Rattle.can_decode.specs.DecodedLines.{Bus}
-use Rattle.session_log.specs.declared.line.Fresh.{Fresh}
+use Rattle.session_log.specs.declared.line.RedecodedLine.{RedecodedLine}
 use Rattle.session_log.specs.Logs.{bytes_of, IsNumbered, Completes}
 use Rattle.session_log.proofs.line.exchange.Given as goal
 
@@ -10,7 +10,7 @@ abbrev pub invariant-loop-place : goal.invariant-loop-place
 invariant-loop-place l = record {
   bytes : map bytes_of l.lines.items ≡ map bytes_of l.initial.lines.items;
   numbered : All IsNumbered l.initial.lines.items → All IsNumbered l.lines.items;
-  within : All {X = Fresh} (λ text. text.place < length l.lines.items) l.fresh.items;
+  within : All {X = RedecodedLine} (λ text. text.place < length l.lines.items) l.fresh.items;
   completes : (bus : Bus) → Completes bus l.initial.lines.items l.initial.fresh.items → Completes bus l.lines.items l.fresh.items;
 }
 

@@ -1,11 +1,11 @@
 use Rattle.std.proofs.Common.{ap, ◌∙◌, bytes_eq}
 use Rattle.std.specs.Prelude.{nat_le, count_by}
-use Rattle.can_keys.proofs.MixedKeys.{count_alike, names_alike}
+use Rattle.can_keys.proofs.HashedKeys.{count_alike, names_alike}
 use Rattle.can_keys.proofs.names.Names.is_shared.Goals as goal
 
 pub returns : goal.returns
 returns c =
     c.is_shared.ensures
-    ∙ ap (nat_le 2) (count_alike _ _ (bytes_eq c.args.name.now) (λ mixed. mixed.key.now)
-    (λ x is. names_alike _ _ _ x.key.now x.mix c.mixed.ensures.mix c.mixed.ensures.key is) c.self.inside.keys c.self.invariant
+    ∙ ap (nat_le 2) (count_alike _ _ (bytes_eq c.args.name.now) (λ hashed. hashed.key.now)
+    (λ x is. names_alike _ _ _ x.key.now x.hash c.hashed.ensures.hash c.hashed.ensures.key is) c.self.inside.keys c.self.invariant
     ∙ ap (count_by (bytes_eq c.args.name.now)) c.self.view_is)

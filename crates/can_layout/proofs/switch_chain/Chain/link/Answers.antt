@@ -2,14 +2,14 @@ use Rattle.std.proofs.Common.{◌≡◌, ℕ, suc, ◌+◌, List, slice_get, sym
 use Rattle.std.specs.Option.{option_map}
 use Rattle.can_mux.specs.Links.{Link}
 use Rattle.can_mux.specs.Walks.{walk_of, above_at, links_in}
-use Rattle.can_mux.specs.declared.above.Above.{Above}
-use Rattle.can_mux.specs.declared.above.Above.TheVariants.{Switch}
+use Rattle.can_mux.specs.declared.mux_parent.MuxParent.{MuxParent}
+use Rattle.can_mux.specs.declared.mux_parent.MuxParent.TheVariants.{Switch}
 use Rattle.can_layout.proofs.Chains.{first_link, next_chain, next_links, above_of_link}
 use Rattle.can_layout.proofs.switch_chain.Chain.link.Goals as goal
 
 pub loop-passed-preserved : goal.loop-passed-preserved
 loop-passed-preserved c =
-    let aboves : List Above = c.as_slice-aboves.result.now in
+    let aboves : List MuxParent = c.as_slice-aboves.result.now in
     let link : Link = c.in-Some.link.now in
     let is : above_at aboves c.loop-passed.current ≡ Switch link =
     above_of_link (above_at aboves c.loop-passed.current) link (sym c.link_at.ensures
@@ -27,7 +27,7 @@ loop-passed-preserved c =
 
 pub returns : goal.returns
 returns c =
-    let aboves : List Above = c.as_slice-aboves.result.now in
+    let aboves : List MuxParent = c.as_slice-aboves.result.now in
     let here : c.loop-passed._passed + 0 ≡ c.args.up = omega (arith, c.loop-passed-test.false, c.loop-passed.auto) in
     c.link_at-2.ensures
     ∙ first_link aboves c.loop-passed.current (links_in (walk_of aboves c.loop-passed.current)) c.loop-passed.invariant.chain

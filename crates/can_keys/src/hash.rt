@@ -1,0 +1,57 @@
+//! Numbers of keys, by which most keys differ.
+ghost use Rattle.std.specs.Prelude.{◌≡◌};
+ghost use Rattle.can_keys.specs.Hashes.{hashed_bytes, target_hash, entry_hash};
+ghost use Rattle.dbc_records.specs.EntryKeys.{target_of, entry_key};
+
+use dbc_records::{EntryKeyRef, TargetRef};
+
+/// What each step of a number multiplies by.
+pub(crate) const FACTOR: u64 = 0x9E37_79B9_7F4A_7C15;
+
+/// A key behind a number that is made of it. Equal keys have equal numbers, and most others have others, so most keys are told
+/// apart, and put in order, by one look.
+#[derive(Clone, Copy, PartialEq, Eq, PartialOrd, Ord)]
+pub(crate) struct Hashed<K> {
+    /// The number.
+    pub hash: u64,
+    /// The key.
+    pub key: K,
+}
+
+/// The number after more bytes.
+#[tactic(auto, unfolding(crate::specs::Hashes::hashed_bytes, crate::specs::Hashes::hashed_byte))]
+pub(crate) fn hashed_bytes(hash: u64, bytes: &[u8]) -> u64
+    ensures { result ≡ hashed_bytes hash bytes.now }
+{
+    let mut hashed = hash;
+    for byte in bytes {
+        hashed = hashed.wrapping_mul(FACTOR).wrapping_add(u64::from(*byte));
+    }
+    hashed
+}
+
+fn target_hash(target: &TargetRef<'_>) -> u64
+    ensures { result ≡ target_hash (target_of target.now) }
+{
+    match target {
+        TargetRef::Whole => 0,
+        TargetRef::Node(name) => hashed_bytes(0, name),
+        TargetRef::Message(number) => u64::from(*number),
+        TargetRef::Signal(number, name) => hashed_bytes(u64::from(*number), name),
+    }
+}
+
+/// A number that is made of the key of an entry: equal keys have equal numbers, and most others have others.
+pub fn entry_hash(key: &EntryKeyRef<'_>) -> u64
+    ensures { result ≡ entry_hash (entry_key key.now) }
+{
+    match key {
+        EntryKeyRef::Table(name) | EntryKeyRef::Definition(_, name) | EntryKeyRef::Default(name) =>
+            hashed_bytes(0, name),
+        EntryKeyRef::Comment(target) => target_hash(target),
+        EntryKeyRef::Attribute(name, target) => hashed_bytes(target_hash(target), name),
+        EntryKeyRef::Values(number, signal)
+        | EntryKeyRef::Float(number, signal)
+        | EntryKeyRef::Mux(number, signal) => hashed_bytes(u64::from(*number), signal),
+    }
+}

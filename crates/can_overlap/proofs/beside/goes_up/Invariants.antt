@@ -1,7 +1,0 @@
-use Rattle.std.proofs.Common.{◌≡◌}
-use Rattle.can_overlap.specs.Ways.{goes_at}
-use Rattle.can_overlap.proofs.beside.goes_up.Given as goal
-
--- what is found from here on decides it
-abbrev pub invariant-loop-passed : goal.invariant-loop-passed
-invariant-loop-passed l = goes_at l.beside.links l.beside.walks l.place ≡ goes_at l.beside.links l.beside.walks l.current

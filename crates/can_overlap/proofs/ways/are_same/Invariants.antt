@@ -1,6 +1,0 @@
-use Rattle.std.proofs.Common.{◌≡◌, take}
-use Rattle.can_overlap.proofs.ways.are_same.Given as goal
-
--- the links before this place are the same
-abbrev pub invariant-loop-place : goal.invariant-loop-place
-invariant-loop-place l = take l.place l.these ≡ take l.place l.those

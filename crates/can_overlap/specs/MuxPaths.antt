@@ -1,0 +1,85 @@
+-- Ways up, each by its first link and the way of that one's switch.
+use Rattle.std.specs.Prelude.{◌≡◌, ℕ, Bool, true, false, List, ◌∷◌, Option, Some, None, length, slice_get}
+use Rattle.std.specs.Option.{option_and_then}
+use Rattle.can_mux.specs.Links.{Link}
+use Rattle.can_mux.specs.declared.walk.Walk.{Walk}
+use Rattle.can_mux.specs.declared.walk.Walk.TheVariants.{Chain, Absent, Loop}
+use Rattle.can_overlap.specs.Overlaps.{agree, agrees_with, together}
+
+-- the way at a place begins with the link and goes on as that of the link's switch
+pub record IsStep (walks : List Walk) (place : ℕ) (link : Link) : Type 0 where
+  pub above : List Link
+  pub here : slice_get walks place ≡ Some (Chain (link ∷ above))
+  pub there : slice_get walks link.switch ≡ Some (Chain above)
+
+-- the link that is kept at a place
+abbrev pub own_if : Option (Option Link) → Option Link
+own_if None = None
+own_if (Some own) = own
+
+abbrev pub own_at : List (Option Link) → ℕ → Option Link
+own_at own place = own_if (slice_get own place)
+
+-- what is kept is the first link of a way that goes on as its switch's
+abbrev pub AreOwn : List Walk → List (Option Link) → Type 0
+AreOwn walks own = (place : ℕ) (link : Link) → own_at own place ≡ Some link → IsStep walks place link
+
+pub record MuxPaths : Type 0 where
+  pub walks : List Walk
+  pub own : List (Option Link)
+
+-- the links of a way that is a chain
+abbrev pub chain_if : Option Walk → Option (List Link)
+chain_if None = None
+chain_if (Some (Chain links)) = Some links
+chain_if (Some (Absent own)) = None
+chain_if (Some Loop) = None
+
+-- ---- one chain beside all ways
+
+abbrev pub goes_if : List Link → Option Walk → Bool
+goes_if links None = false
+goes_if links (Some walk) = together (Chain links) walk
+
+-- whether signals with this chain and with the way at a place can be there together
+abbrev pub goes_at : List Link → List Walk → ℕ → Bool
+goes_at links walks place = goes_if links (slice_get walks place)
+
+-- how many links the way at a place has
+abbrev pub height_if : Option Walk → ℕ
+height_if None = 0
+height_if (Some (Chain links)) = length links
+height_if (Some (Absent own)) = 0
+height_if (Some Loop) = 0
+
+abbrev pub height_at : List Walk → ℕ → ℕ
+height_at walks place = height_if (slice_get walks place)
+
+-- ---- the links of a chain by their switches
+
+abbrev pub agrees_if_there : Option Link → Link → Bool
+agrees_if_there None link = true
+agrees_if_there (Some there) link = agree there link
+
+-- the link of a switch, by the places of the signals whose own links they are
+abbrev pub of_switch : List (Option Link) → List ℕ → ℕ → Option Link
+of_switch own owners switch = option_and_then (λ owner. own_at own owner) (slice_get owners switch)
+
+-- a link agrees with a chain where it agrees with the one of its switch
+abbrev pub AreEntered : List (Option Link) → List ℕ → List Link → Type 0
+AreEntered own owners links = (link : Link) → agrees_if_there (of_switch own owners link.switch) link ≡ agrees_with links link
+
+-- a chain beside the ways of its message
+pub record ChainIndex : Type 0 where
+  pub links : List Link
+  pub walks : List Walk
+
+-- what is noted of a place
+abbrev pub noted_if : Option (Option Bool) → Option Bool
+noted_if None = None
+noted_if (Some noted) = noted
+
+-- what is noted is so
+abbrev pub AreNoted : ChainIndex → List (Option Bool) → Type 0
+AreNoted indexed noted = (place : ℕ) (goes : Bool) → noted_if (slice_get noted place) ≡ Some goes
+    → goes_at indexed.links indexed.walks place ≡ goes

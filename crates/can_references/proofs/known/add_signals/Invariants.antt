@@ -1,8 +1,0 @@
-use Rattle.std.proofs.Common.{◌≡◌, ◌++◌, map, take}
-use Rattle.can_keys.specs.SignalNames.{named_signal}
-use Rattle.can_references.proofs.known.add_signals.Given as goal
-
--- the signals so far
-abbrev pub invariant-loop-signal : goal.invariant-loop-signal
-invariant-loop-signal l = map named_signal l.names.items ≡ map named_signal l.initial.names.items
-    ++ map (λ signal. (l.number, signal.name)) (take l.signal-index l.signals)
