@@ -18,7 +18,7 @@ mod walk_rules;
 
 pub use all::{all_faults, all_faults_with, message_faults, report_all, report_message};
 pub use can_diagnostics::{
-    Code, Diagnostic, Subject, hold_diagnostic, hold_lines, write_diagnostic, write_lines,
+    Code, Diagnostic, Subject, send_diagnostic, send_lines, write_diagnostic, write_lines,
 };
 pub use can_overlap::Occupancy;
 pub use own::push_own_faults;

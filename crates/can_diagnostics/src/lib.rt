@@ -14,4 +14,4 @@ mod writing;
 pub use code::Code;
 pub use diagnostic::Diagnostic;
 pub use subject::Subject;
-pub use writing::{hold_diagnostic, hold_lines, write_diagnostic, write_lines};
+pub use writing::{send_diagnostic, send_lines, write_diagnostic, write_lines};

@@ -12,42 +12,42 @@ fn shown_byte(b: u8) -> u8
     if b == b'\r' || b == b'\n' { b' ' } else { b }
 }
 
-fn hold_shown_byte<W: Sink>(out: &mut Out<'_, W>, b: u8) -> Result<(), WriteFault>
+fn send_shown_byte<W: Sink>(out: &mut Out<'_, W>, b: u8) -> Result<(), WriteFault>
     ensures { Sends W.written out.old out.new result (shown_byte b ∷ []) }
 {
     out.send(&[shown_byte(b)])
 }
 
-fn hold_bytes<W: Sink>(out: &mut Out<'_, W>, text: &[u8]) -> Result<(), WriteFault>
+fn send_bytes<W: Sink>(out: &mut Out<'_, W>, text: &[u8]) -> Result<(), WriteFault>
     ensures { Sends W.written out.old out.new result (flat_map (λ b. shown_byte b ∷ []) text.now) }
 {
     for b in text {
-        hold_shown_byte(out, *b)?;
+        send_shown_byte(out, *b)?;
     }
     Ok(())
 }
 
 // Holds the text with a blank for each CR and each LF.
 #[tactic(auto, using(std::proofs::lemmas::List::Concat::flat_map_single), unfolding(crate::specs::Lines::blanked))]
-fn hold_blanked<W: Sink>(out: &mut Out<'_, W>, text: &[u8]) -> Result<(), WriteFault>
+fn send_blanked<W: Sink>(out: &mut Out<'_, W>, text: &[u8]) -> Result<(), WriteFault>
     ensures { Sends W.written out.old out.new result (blanked text.now) }
 {
-    hold_bytes(out, text)
+    send_bytes(out, text)
 }
 
-fn hold_each<W: Sink>(out: &mut Out<'_, W>, pieces: &[&[u8]]) -> Result<(), WriteFault>
+fn send_each<W: Sink>(out: &mut Out<'_, W>, pieces: &[&[u8]]) -> Result<(), WriteFault>
     ensures { Sends W.written out.old out.new result (flat_map (λ piece. blanked piece.now) pieces.now) }
 {
     for piece in pieces {
-        hold_blanked(out, piece)?;
+        send_blanked(out, piece)?;
     }
     Ok(())
 }
 
 /// Holds the pieces, one after another, with a blank for each CR and each LF.
 #[tactic(auto, using(crate::proofs::Shown::blanked_pieces))]
-pub fn hold_shown<W: Sink>(out: &mut Out<'_, W>, pieces: &[&[u8]]) -> Result<(), WriteFault>
+pub fn send_shown<W: Sink>(out: &mut Out<'_, W>, pieces: &[&[u8]]) -> Result<(), WriteFault>
     ensures { Sends W.written out.old out.new result (blanked (flat_map (λ piece. piece.now) pieces.now)) }
 {
-    hold_each(out, pieces)
+    send_each(out, pieces)
 }

@@ -7,13 +7,13 @@ ghost use Rattle.can_diagnostics.specs.Lines.{subject_text, code_text, line_text
 
 use crate::code::Code;
 use crate::diagnostic::Diagnostic;
-use crate::row_line::hold_row;
+use crate::row_line::send_row;
 use crate::subject::Subject;
 use byte_devices::{Out, Sink, WriteFault};
 use itoa::Buffer;
 
 #[tactic(auto, unfolding(crate::specs::Lines::code_text))]
-fn hold_code<W: Sink>(out: &mut Out<'_, W>, code: Code) -> Result<(), WriteFault>
+fn send_code<W: Sink>(out: &mut Out<'_, W>, code: Code) -> Result<(), WriteFault>
     ensures { Sends W.written out.old out.new result (code_text code) }
 {
     let mut number = Buffer::new();
@@ -28,7 +28,7 @@ fn hold_code<W: Sink>(out: &mut Out<'_, W>, code: Code) -> Result<(), WriteFault
 
 // The number of a message, and pieces behind it.
 #[tactic(auto, using(byte_devices::proofs::Outs::sends))]
-fn hold_behind<W: Sink>(
+fn send_behind<W: Sink>(
     out: &mut Out<'_, W>,
     number: u32,
     pieces: &[&[u8]],
@@ -41,53 +41,53 @@ fn hold_behind<W: Sink>(
 }
 
 #[tactic(auto, unfolding(crate::specs::Lines::subject_text))]
-fn hold_subject<W: Sink>(out: &mut Out<'_, W>, subject: &Subject) -> Result<(), WriteFault>
+fn send_subject<W: Sink>(out: &mut Out<'_, W>, subject: &Subject) -> Result<(), WriteFault>
     ensures { Sends W.written out.old out.new result (subject_text subject.now) }
 {
     let (blank, point) = (b" ".as_slice(), b".".as_slice());
     let mut decimal = Buffer::new();
     match subject {
         Subject::Message(number, message) => {
-            hold_behind(out, *number, &[blank, message.as_bytes()])
+            send_behind(out, *number, &[blank, message.as_bytes()])
         }
         Subject::Sender(number, message, node) => {
             let pieces = [blank, message.as_bytes(), blank, node.as_bytes()];
-            hold_behind(out, *number, &pieces)
+            send_behind(out, *number, &pieces)
         }
         Subject::Signal(number, message, signal) => {
             let pieces = [blank, message.as_bytes(), point, signal.as_bytes()];
-            hold_behind(out, *number, &pieces)
+            send_behind(out, *number, &pieces)
         }
         Subject::Pair(number, message, first, second) => {
             let name = message.as_bytes();
             let (first, second) = (first.as_bytes(), second.as_bytes());
             let pieces = [blank, name, point, first, blank, name, point, second];
-            hold_behind(out, *number, &pieces)
+            send_behind(out, *number, &pieces)
         }
         Subject::Receiver(number, message, signal, node) => {
             let (name, signal) = (message.as_bytes(), signal.as_bytes());
             let pieces = [blank, name, point, signal, blank, node.as_bytes()];
-            hold_behind(out, *number, &pieces)
+            send_behind(out, *number, &pieces)
         }
         Subject::Value(number, message, signal, value) => {
             let (name, signal) = (message.as_bytes(), signal.as_bytes());
             let value = decimal.format(*value).as_bytes();
-            hold_behind(out, *number, &[blank, name, point, signal, blank, value])
+            send_behind(out, *number, &[blank, name, point, signal, blank, value])
         }
-        Subject::Row(key) => hold_row(out, key),
+        Subject::Row(key) => send_row(out, key),
     }
 }
 
 /// Holds its line, without a line end, for a sink.
 #[tactic(auto, using(byte_devices::proofs::Outs::sends), unfolding(crate::specs::Lines::line_text))]
-pub fn hold_diagnostic<W: Sink>(
+pub fn send_diagnostic<W: Sink>(
     out: &mut Out<'_, W>,
     diagnostic: &Diagnostic,
 ) -> Result<(), WriteFault>
     ensures { Sends W.written out.old out.new result (line_text diagnostic.now) }
 {
-    hold_code(out, diagnostic.code)?;
-    hold_subject(out, &diagnostic.subject)
+    send_code(out, diagnostic.code)?;
+    send_subject(out, &diagnostic.subject)
 }
 
 /// Writes its line, without a line end: `6 Overlap 256 Motor.Speed Motor.Torque`. It takes no memory. Where the sink fails a
@@ -97,24 +97,24 @@ pub fn write_diagnostic<W: Sink>(diagnostic: &Diagnostic, sink: &mut W) -> Resul
     ensures { Prints (W.written sink.old) (W.written sink.new) result (line_text diagnostic.now) }
 {
     let mut out = Out::new(sink);
-    hold_diagnostic(&mut out, diagnostic)?;
+    send_diagnostic(&mut out, diagnostic)?;
     out.flush()
 }
 
 #[tactic(auto, using(byte_devices::proofs::Outs::sends))]
-fn hold_line<W: Sink>(out: &mut Out<'_, W>, diagnostic: &Diagnostic) -> Result<(), WriteFault>
+fn send_line<W: Sink>(out: &mut Out<'_, W>, diagnostic: &Diagnostic) -> Result<(), WriteFault>
     ensures { Sends W.written out.old out.new result (line_text diagnostic.now ++ codes "\n") }
 {
-    hold_diagnostic(out, diagnostic)?;
+    send_diagnostic(out, diagnostic)?;
     out.send(b"\n")
 }
 
 /// Holds the line of each and an LF, for a sink.
-pub fn hold_lines<W: Sink>(out: &mut Out<'_, W>, found: &[Diagnostic]) -> Result<(), WriteFault>
+pub fn send_lines<W: Sink>(out: &mut Out<'_, W>, found: &[Diagnostic]) -> Result<(), WriteFault>
     ensures { Sends W.written out.old out.new result (flat_map (λ diagnostic. line_text diagnostic ++ codes "\n") found.now) }
 {
     for diagnostic in found {
-        hold_line(out, diagnostic)?;
+        send_line(out, diagnostic)?;
     }
     Ok(())
 }
@@ -127,6 +127,6 @@ pub fn write_lines<W: Sink>(found: &[Diagnostic], sink: &mut W) -> Result<(), Wr
         found.now) }
 {
     let mut out = Out::new(sink);
-    hold_lines(&mut out, found)?;
+    send_lines(&mut out, found)?;
     out.flush()
 }

@@ -8,7 +8,7 @@ ghost use Rattle.can_findings.specs.Remedies.{explained_text, remedy_line};
 use crate::finding::{Finding, write_location};
 use crate::remedies::remedy;
 use byte_devices::{Out, Sink, WriteFault};
-use can_diagnostics::{Code, hold_diagnostic};
+use can_diagnostics::{Code, send_diagnostic};
 
 // Ends a diagnostic's line, and writes that of its remedy.
 #[tactic(auto, unfolding(crate::specs::Remedies::remedy_line))]
@@ -25,7 +25,7 @@ fn write_one<W: Sink>(out: &mut Out<'_, W>, finding: &Finding) -> Result<(), Wri
     ensures { Sends W.written out.old out.new result (explained_text finding.now) }
 {
     write_location(out, finding.location)?;
-    hold_diagnostic(out, &finding.diagnostic)?;
+    send_diagnostic(out, &finding.diagnostic)?;
     write_remedy(out, finding.diagnostic.code)
 }
 

@@ -6,7 +6,7 @@ ghost use Rattle.byte_devices.specs.Outs.{SameSink};
 
 use crate::fault::RunFault;
 use byte_devices::Out;
-use can_check::{Diagnostic, Report, Stop, hold_lines, report_all};
+use can_check::{Diagnostic, Report, Stop, report_all, send_lines};
 use dbc_model::{Sink, WriteFault};
 use dbc_reader::read;
 use dbc_records::Database;
@@ -59,7 +59,7 @@ impl<'w, W: Sink> Report for Lines<'w, W> {
 
     fn take(&mut self, found: Vec<Diagnostic>) -> Result<(), Stop> {
         self.verdict = verdict_then(self.verdict, verdict_of(found.as_slice()));
-        match hold_lines(&mut self.out, found.as_slice()) {
+        match send_lines(&mut self.out, found.as_slice()) {
             Ok(()) => Ok(()),
             Err(WriteFault) => Err(Stop::Write),
         }

@@ -102,18 +102,18 @@ pub(crate) fn show_layout<W: Sink>(
     }
 }
 
-fn hold_line<W: Sink>(out: &mut Out<'_, W>, text: &[u8]) -> Result<(), WriteFault>
+fn send_line<W: Sink>(out: &mut Out<'_, W>, text: &[u8]) -> Result<(), WriteFault>
     ensures { Sends W.written out.old out.new result (text.now ++ codes "\n") }
 {
     let pieces: [&[u8]; 2] = [text, b"\n"];
     out.send_pieces(&pieces)
 }
 
-fn hold_lines<W: Sink>(out: &mut Out<'_, W>, session: &Session) -> Result<(), WriteFault>
+fn send_lines<W: Sink>(out: &mut Out<'_, W>, session: &Session) -> Result<(), WriteFault>
     ensures { Sends W.written out.old out.new result (flat_map (λ text. text ++ codes "\n") (decoded_texts session.now.state)) }
 {
     for n in 0..session.line_count() {
-        hold_line(out, session.decoded(n))?;
+        send_line(out, session.decoded(n))?;
     }
     Ok(())
 }
@@ -124,7 +124,7 @@ fn put_lines<W: Sink>(sink: &mut W, session: &Session) -> Result<(), WriteFault>
         (decoded_texts session.now.state)) }
 {
     let mut out = Out::new(sink);
-    hold_lines(&mut out, session)?;
+    send_lines(&mut out, session)?;
     out.flush()
 }
 

@@ -7,9 +7,9 @@ ghost use Rattle.dbc_records.specs.CanonicalText.{texts_layout, form_layout, def
 ghost use Rattle.dbc_records.specs.CanonicalText.{attribute_key};
 
 use crate::printing::parts::{
-    hold_spaced_number, hold_spaced_text, hold_spaced_word, hold_statement_end, hold_word,
+    send_spaced_number, send_spaced_text, send_spaced_word, send_statement_end, send_word,
 };
-use crate::printing::style::{Style, hold_separated};
+use crate::printing::style::{Style, send_separated};
 use byte_devices::{Out, Sink, WriteFault};
 use dbc_records::{
     AttrDef, AttrDefault, AttrRow, AttrValue, Comment, Form, Limits, Object, Target,
@@ -18,7 +18,7 @@ use dbc_values::Text;
 use itoa::Buffer;
 
 #[tactic(auto, unfolding(dbc_records::specs::Layout::layout_text, dbc_records::specs::CanonicalText::target_layout))]
-fn hold_target<W: Sink>(out: &mut Out<'_, W>, target: &Target) -> Result<(), WriteFault>
+fn send_target<W: Sink>(out: &mut Out<'_, W>, target: &Target) -> Result<(), WriteFault>
     ensures { Sends W.written out.old out.new result (layout_text (target_layout target.now)) }
 {
     let mut buffer = Buffer::new();
@@ -42,11 +42,11 @@ fn hold_target<W: Sink>(out: &mut Out<'_, W>, target: &Target) -> Result<(), Wri
 }
 
 #[tactic(auto, using(crate::proofs::Layouts::layouts), unfolding(dbc_records::specs::CanonicalText::comment_key))]
-fn hold_comment_key<W: Sink>(out: &mut Out<'_, W>, comment: &Comment) -> Result<(), WriteFault>
+fn send_comment_key<W: Sink>(out: &mut Out<'_, W>, comment: &Comment) -> Result<(), WriteFault>
     ensures { Sends W.written out.old out.new result (layout_text (comment_key comment.now)) }
 {
-    hold_word(out, b"CM_")?;
-    hold_target(out, &comment.target)
+    send_word(out, b"CM_")?;
+    send_target(out, &comment.target)
 }
 
 /// A comment's line.
@@ -58,10 +58,10 @@ impl Style<Comment> for CommentLine {
     ghost layout = { comment_layout };
 
     #[tactic(auto, using(crate::proofs::Layouts::layouts), unfolding(dbc_records::specs::CanonicalText::comment_layout))]
-    fn hold_item<W: Sink>(out: &mut Out<'_, W>, comment: &Comment) -> Result<(), WriteFault> {
-        hold_comment_key(out, comment)?;
-        hold_spaced_text(out, &comment.text)?;
-        hold_statement_end(out)
+    fn send_item<W: Sink>(out: &mut Out<'_, W>, comment: &Comment) -> Result<(), WriteFault> {
+        send_comment_key(out, comment)?;
+        send_spaced_text(out, &comment.text)?;
+        send_statement_end(out)
     }
 }
 
@@ -77,23 +77,23 @@ fn word_of(object: Object) -> &'static [u8]
 }
 
 #[tactic(auto, using(crate::proofs::Layouts::layouts), unfolding(dbc_records::specs::CanonicalText::object_layout))]
-fn hold_object<W: Sink>(out: &mut Out<'_, W>, object: Option<Object>) -> Result<(), WriteFault>
+fn send_object<W: Sink>(out: &mut Out<'_, W>, object: Option<Object>) -> Result<(), WriteFault>
     ensures { Sends W.written out.old out.new result (layout_text (object_layout object)) }
 {
     match object {
-        Some(object) => hold_spaced_word(out, word_of(object)),
+        Some(object) => send_spaced_word(out, word_of(object)),
         None => Ok(()),
     }
 }
 
 #[tactic(auto, using(crate::proofs::Layouts::layouts), unfolding(dbc_records::specs::CanonicalText::number_limits_layout))]
-fn hold_limits<W: Sink>(out: &mut Out<'_, W>, limits: &Option<Limits>) -> Result<(), WriteFault>
+fn send_limits<W: Sink>(out: &mut Out<'_, W>, limits: &Option<Limits>) -> Result<(), WriteFault>
     ensures { Sends W.written out.old out.new result (layout_text (number_limits_layout limits.now)) }
 {
     match limits {
         Some(limits) => {
-            hold_spaced_number(out, limits.minimum)?;
-            hold_spaced_number(out, limits.maximum)
+            send_spaced_number(out, limits.minimum)?;
+            send_spaced_number(out, limits.maximum)
         }
         None => Ok(()),
     }
@@ -108,8 +108,8 @@ impl Style<Text> for SpacedText {
     ghost layout = { spaced_text };
 
     #[tactic(auto, unfolding(dbc_records::specs::Layout::layout_text, dbc_records::specs::CanonicalText::spaced_text))]
-    fn hold_item<W: Sink>(out: &mut Out<'_, W>, text: &Text) -> Result<(), WriteFault> {
-        hold_spaced_text(out, text)
+    fn send_item<W: Sink>(out: &mut Out<'_, W>, text: &Text) -> Result<(), WriteFault> {
+        send_spaced_text(out, text)
     }
 }
 
@@ -122,53 +122,53 @@ impl Style<Text> for FurtherText {
     ghost layout = { further_text };
 
     #[tactic(auto, unfolding(dbc_records::specs::Layout::layout_text, dbc_records::specs::CanonicalText::further_text))]
-    fn hold_item<W: Sink>(out: &mut Out<'_, W>, text: &Text) -> Result<(), WriteFault> {
+    fn send_item<W: Sink>(out: &mut Out<'_, W>, text: &Text) -> Result<(), WriteFault> {
         out.send_pieces(&[b",\"".as_slice(), text.as_bytes(), b"\""])
     }
 }
 
 #[tactic(auto, using(crate::proofs::Layouts::layouts), unfolding(dbc_records::specs::CanonicalText::texts_layout))]
-fn hold_texts<W: Sink>(out: &mut Out<'_, W>, texts: &[Text]) -> Result<(), WriteFault>
+fn send_texts<W: Sink>(out: &mut Out<'_, W>, texts: &[Text]) -> Result<(), WriteFault>
     ensures { Sends W.written out.old out.new result (layout_text (texts_layout texts.now)) }
 {
-    hold_separated::<SpacedText, FurtherText, Text, W>(out, texts)
+    send_separated::<SpacedText, FurtherText, Text, W>(out, texts)
 }
 
 #[tactic(auto, using(crate::proofs::Layouts::layouts), unfolding(dbc_records::specs::CanonicalText::form_layout))]
-fn hold_form<W: Sink>(out: &mut Out<'_, W>, form: &Form) -> Result<(), WriteFault>
+fn send_form<W: Sink>(out: &mut Out<'_, W>, form: &Form) -> Result<(), WriteFault>
     ensures { Sends W.written out.old out.new result (layout_text (form_layout form.now)) }
 {
     match form {
         Form::Int(limits) => {
-            hold_spaced_word(out, b"INT")?;
-            hold_limits(out, limits)
+            send_spaced_word(out, b"INT")?;
+            send_limits(out, limits)
         }
         Form::Hex(limits) => {
-            hold_spaced_word(out, b"HEX")?;
-            hold_limits(out, limits)
+            send_spaced_word(out, b"HEX")?;
+            send_limits(out, limits)
         }
         Form::Float(limits) => {
-            hold_spaced_word(out, b"FLOAT")?;
-            hold_limits(out, limits)
+            send_spaced_word(out, b"FLOAT")?;
+            send_limits(out, limits)
         }
-        Form::Str => hold_spaced_word(out, b"STRING"),
+        Form::Str => send_spaced_word(out, b"STRING"),
         Form::Enumeration(texts) => {
-            hold_spaced_word(out, b"ENUM")?;
-            hold_texts(out, texts.as_slice())
+            send_spaced_word(out, b"ENUM")?;
+            send_texts(out, texts.as_slice())
         }
     }
 }
 
 #[tactic(auto, using(crate::proofs::Layouts::layouts), unfolding(dbc_records::specs::CanonicalText::definition_key))]
-fn hold_definition_key<W: Sink>(
+fn send_definition_key<W: Sink>(
     out: &mut Out<'_, W>,
     definition: &AttrDef,
 ) -> Result<(), WriteFault>
     ensures { Sends W.written out.old out.new result (layout_text (definition_key definition.now)) }
 {
-    hold_word(out, b"BA_DEF_")?;
-    hold_object(out, definition.object)?;
-    hold_spaced_text(out, &definition.name)
+    send_word(out, b"BA_DEF_")?;
+    send_object(out, definition.object)?;
+    send_spaced_text(out, &definition.name)
 }
 
 /// The line of an attribute's definition.
@@ -180,29 +180,29 @@ impl Style<AttrDef> for DefinitionLine {
     ghost layout = { definition_layout };
 
     #[tactic(auto, using(crate::proofs::Layouts::layouts), unfolding(dbc_records::specs::CanonicalText::definition_layout))]
-    fn hold_item<W: Sink>(out: &mut Out<'_, W>, definition: &AttrDef) -> Result<(), WriteFault> {
-        hold_definition_key(out, definition)?;
-        hold_form(out, &definition.form)?;
-        hold_statement_end(out)
+    fn send_item<W: Sink>(out: &mut Out<'_, W>, definition: &AttrDef) -> Result<(), WriteFault> {
+        send_definition_key(out, definition)?;
+        send_form(out, &definition.form)?;
+        send_statement_end(out)
     }
 }
 
 #[tactic(auto, using(crate::proofs::Layouts::layouts), unfolding(dbc_records::specs::CanonicalText::value_layout))]
-fn hold_value<W: Sink>(out: &mut Out<'_, W>, value: &AttrValue) -> Result<(), WriteFault>
+fn send_value<W: Sink>(out: &mut Out<'_, W>, value: &AttrValue) -> Result<(), WriteFault>
     ensures { Sends W.written out.old out.new result (layout_text (value_layout value.now)) }
 {
     match value {
-        AttrValue::Text(text) => hold_spaced_text(out, text),
-        AttrValue::Decimal(number) => hold_spaced_number(out, *number),
+        AttrValue::Text(text) => send_spaced_text(out, text),
+        AttrValue::Decimal(number) => send_spaced_number(out, *number),
     }
 }
 
 #[tactic(auto, using(crate::proofs::Layouts::layouts), unfolding(dbc_records::specs::CanonicalText::default_key))]
-fn hold_default_key<W: Sink>(out: &mut Out<'_, W>, row: &AttrDefault) -> Result<(), WriteFault>
+fn send_default_key<W: Sink>(out: &mut Out<'_, W>, row: &AttrDefault) -> Result<(), WriteFault>
     ensures { Sends W.written out.old out.new result (layout_text (default_key row.now)) }
 {
-    hold_word(out, b"BA_DEF_DEF_")?;
-    hold_spaced_text(out, &row.name)
+    send_word(out, b"BA_DEF_DEF_")?;
+    send_spaced_text(out, &row.name)
 }
 
 /// The line of an attribute's default.
@@ -214,20 +214,20 @@ impl Style<AttrDefault> for DefaultLine {
     ghost layout = { default_layout };
 
     #[tactic(auto, using(crate::proofs::Layouts::layouts), unfolding(dbc_records::specs::CanonicalText::default_layout))]
-    fn hold_item<W: Sink>(out: &mut Out<'_, W>, row: &AttrDefault) -> Result<(), WriteFault> {
-        hold_default_key(out, row)?;
-        hold_value(out, &row.value)?;
-        hold_statement_end(out)
+    fn send_item<W: Sink>(out: &mut Out<'_, W>, row: &AttrDefault) -> Result<(), WriteFault> {
+        send_default_key(out, row)?;
+        send_value(out, &row.value)?;
+        send_statement_end(out)
     }
 }
 
 #[tactic(auto, using(crate::proofs::Layouts::layouts), unfolding(dbc_records::specs::CanonicalText::attribute_key))]
-fn hold_attribute_key<W: Sink>(out: &mut Out<'_, W>, row: &AttrRow) -> Result<(), WriteFault>
+fn send_attribute_key<W: Sink>(out: &mut Out<'_, W>, row: &AttrRow) -> Result<(), WriteFault>
     ensures { Sends W.written out.old out.new result (layout_text (attribute_key row.now)) }
 {
-    hold_word(out, b"BA_")?;
-    hold_spaced_text(out, &row.name)?;
-    hold_target(out, &row.target)
+    send_word(out, b"BA_")?;
+    send_spaced_text(out, &row.name)?;
+    send_target(out, &row.target)
 }
 
 /// The line of an attribute.
@@ -239,9 +239,9 @@ impl Style<AttrRow> for AttributeLine {
     ghost layout = { attribute_layout };
 
     #[tactic(auto, using(crate::proofs::Layouts::layouts), unfolding(dbc_records::specs::CanonicalText::attribute_layout))]
-    fn hold_item<W: Sink>(out: &mut Out<'_, W>, row: &AttrRow) -> Result<(), WriteFault> {
-        hold_attribute_key(out, row)?;
-        hold_value(out, &row.value)?;
-        hold_statement_end(out)
+    fn send_item<W: Sink>(out: &mut Out<'_, W>, row: &AttrRow) -> Result<(), WriteFault> {
+        send_attribute_key(out, row)?;
+        send_value(out, &row.value)?;
+        send_statement_end(out)
     }
 }

@@ -5,15 +5,15 @@ ghost use Rattle.dbc_records.specs.Layout.{Order, item_text, layout_text};
 ghost use Rattle.dbc_records.specs.CanonicalText.{sign_mark, head_layout, signal_name_layout, tag_layout, place_layout};
 ghost use Rattle.dbc_records.specs.CanonicalText.{scale_layout, limits_layout, receivers_layout};
 
-use crate::printing::parts::{SpacedName, hold_line_end, hold_pair, hold_spaced_text};
-use crate::printing::style::{Style, hold_list, hold_separated};
+use crate::printing::parts::{SpacedName, send_line_end, send_pair, send_spaced_text};
+use crate::printing::style::{Style, send_list, send_separated};
 use byte_devices::{Out, Sink, WriteFault};
 use dbc_records::{Head, Message, Signal, Tag};
 use dbc_values::Name;
 use itoa::Buffer;
 
 #[tactic(auto, unfolding(dbc_records::specs::Layout::layout_text, dbc_records::specs::CanonicalText::head_layout))]
-fn hold_head<W: Sink>(out: &mut Out<'_, W>, head: &Head) -> Result<(), WriteFault>
+fn send_head<W: Sink>(out: &mut Out<'_, W>, head: &Head) -> Result<(), WriteFault>
     ensures { Sends W.written out.old out.new result (layout_text (head_layout head.now)) }
 {
     let mut number = Buffer::new();
@@ -33,14 +33,14 @@ fn hold_head<W: Sink>(out: &mut Out<'_, W>, head: &Head) -> Result<(), WriteFaul
 }
 
 #[tactic(auto, unfolding(dbc_records::specs::Layout::layout_text, dbc_records::specs::CanonicalText::signal_name_layout))]
-fn hold_signal_name<W: Sink>(out: &mut Out<'_, W>, signal: &Signal) -> Result<(), WriteFault>
+fn send_signal_name<W: Sink>(out: &mut Out<'_, W>, signal: &Signal) -> Result<(), WriteFault>
     ensures { Sends W.written out.old out.new result (layout_text (signal_name_layout signal.now)) }
 {
     out.send_pieces(&[b" SG_ ".as_slice(), signal.name.as_bytes()])
 }
 
 #[tactic(auto, unfolding(dbc_records::specs::Layout::layout_text, dbc_records::specs::CanonicalText::tag_layout))]
-fn hold_tag<W: Sink>(out: &mut Out<'_, W>, tag: Tag) -> Result<(), WriteFault>
+fn send_tag<W: Sink>(out: &mut Out<'_, W>, tag: Tag) -> Result<(), WriteFault>
     ensures { Sends W.written out.old out.new result (layout_text (tag_layout tag)) }
 {
     let mut number = Buffer::new();
@@ -71,7 +71,7 @@ fn sign_of(signed: bool) -> &'static [u8]
 }
 
 #[tactic(auto, unfolding(dbc_records::specs::Layout::layout_text, dbc_records::specs::CanonicalText::place_layout))]
-fn hold_place<W: Sink>(out: &mut Out<'_, W>, signal: &Signal) -> Result<(), WriteFault>
+fn send_place<W: Sink>(out: &mut Out<'_, W>, signal: &Signal) -> Result<(), WriteFault>
     ensures { Sends W.written out.old out.new result (layout_text (place_layout signal.now)) }
 {
     let mut start = Buffer::new();
@@ -89,17 +89,17 @@ fn hold_place<W: Sink>(out: &mut Out<'_, W>, signal: &Signal) -> Result<(), Writ
 }
 
 #[tactic(auto, using(crate::proofs::Layouts::layouts), unfolding(dbc_records::specs::CanonicalText::scale_layout))]
-fn hold_scale<W: Sink>(out: &mut Out<'_, W>, signal: &Signal) -> Result<(), WriteFault>
+fn send_scale<W: Sink>(out: &mut Out<'_, W>, signal: &Signal) -> Result<(), WriteFault>
     ensures { Sends W.written out.old out.new result (layout_text (scale_layout signal.now)) }
 {
-    hold_pair(out, b'(', signal.factor, b',', signal.offset, b')')
+    send_pair(out, b'(', signal.factor, b',', signal.offset, b')')
 }
 
 #[tactic(auto, using(crate::proofs::Layouts::layouts), unfolding(dbc_records::specs::CanonicalText::limits_layout))]
-fn hold_limits<W: Sink>(out: &mut Out<'_, W>, signal: &Signal) -> Result<(), WriteFault>
+fn send_limits<W: Sink>(out: &mut Out<'_, W>, signal: &Signal) -> Result<(), WriteFault>
     ensures { Sends W.written out.old out.new result (layout_text (limits_layout signal.now)) }
 {
-    hold_pair(out, b'[', signal.minimum, b'|', signal.maximum, b']')
+    send_pair(out, b'[', signal.minimum, b'|', signal.maximum, b']')
 }
 
 // A name behind a comma.
@@ -111,16 +111,16 @@ impl Style<Name> for FurtherReceiver {
     ghost layout = { further_receiver };
 
     #[tactic(auto, unfolding(dbc_records::specs::Layout::layout_text, dbc_records::specs::CanonicalText::further_receiver))]
-    fn hold_item<W: Sink>(out: &mut Out<'_, W>, name: &Name) -> Result<(), WriteFault> {
+    fn send_item<W: Sink>(out: &mut Out<'_, W>, name: &Name) -> Result<(), WriteFault> {
         out.send_pieces(&[b",".as_slice(), name.as_bytes()])
     }
 }
 
 #[tactic(auto, using(crate::proofs::Layouts::layouts), unfolding(dbc_records::specs::CanonicalText::receivers_layout))]
-fn hold_receivers<W: Sink>(out: &mut Out<'_, W>, names: &[Name]) -> Result<(), WriteFault>
+fn send_receivers<W: Sink>(out: &mut Out<'_, W>, names: &[Name]) -> Result<(), WriteFault>
     ensures { Sends W.written out.old out.new result (layout_text (receivers_layout names.now)) }
 {
-    hold_separated::<SpacedName, FurtherReceiver, Name, W>(out, names)
+    send_separated::<SpacedName, FurtherReceiver, Name, W>(out, names)
 }
 
 // A signal's line.
@@ -132,15 +132,15 @@ impl Style<Signal> for SignalLine {
     ghost layout = { signal_layout };
 
     #[tactic(auto, using(crate::proofs::Layouts::layouts), unfolding(dbc_records::specs::CanonicalText::signal_layout))]
-    fn hold_item<W: Sink>(out: &mut Out<'_, W>, signal: &Signal) -> Result<(), WriteFault> {
-        hold_signal_name(out, signal)?;
-        hold_tag(out, signal.tag)?;
-        hold_place(out, signal)?;
-        hold_scale(out, signal)?;
-        hold_limits(out, signal)?;
-        hold_spaced_text(out, &signal.unit)?;
-        hold_receivers(out, signal.receivers.as_slice())?;
-        hold_line_end(out)
+    fn send_item<W: Sink>(out: &mut Out<'_, W>, signal: &Signal) -> Result<(), WriteFault> {
+        send_signal_name(out, signal)?;
+        send_tag(out, signal.tag)?;
+        send_place(out, signal)?;
+        send_scale(out, signal)?;
+        send_limits(out, signal)?;
+        send_spaced_text(out, &signal.unit)?;
+        send_receivers(out, signal.receivers.as_slice())?;
+        send_line_end(out)
     }
 }
 
@@ -153,8 +153,8 @@ impl Style<Message> for MessageLines {
     ghost layout = { message_layout };
 
     #[tactic(auto, using(crate::proofs::Layouts::layouts), unfolding(dbc_records::specs::CanonicalText::message_layout))]
-    fn hold_item<W: Sink>(out: &mut Out<'_, W>, message: &Message) -> Result<(), WriteFault> {
-        hold_head(out, &message.head)?;
-        hold_list::<SignalLine, Signal, W>(out, &message.signals)
+    fn send_item<W: Sink>(out: &mut Out<'_, W>, message: &Message) -> Result<(), WriteFault> {
+        send_head(out, &message.head)?;
+        send_list::<SignalLine, Signal, W>(out, &message.signals)
     }
 }

@@ -13,7 +13,7 @@ const PLAIN_DIGITS: usize = 20;
 const ZEROS: [u8; PLAIN_DIGITS] = [b'0'; PLAIN_DIGITS];
 
 // Holds the digits with a point before the last of them, and zeros in front where there are too few.
-fn hold_fraction<W: Sink>(
+fn send_fraction<W: Sink>(
     out: &mut Out<'_, W>,
     digits: &[u8],
     behind: usize,
@@ -33,7 +33,7 @@ fn hold_fraction<W: Sink>(
 
 // Holds `digits · 10^exponent`.
 #[tactic(auto, unfolding(dbc_records::specs::Layout::magnitude_text))]
-fn hold_magnitude<W: Sink>(
+fn send_magnitude<W: Sink>(
     out: &mut Out<'_, W>,
     digits: &[u8],
     exponent: i16,
@@ -47,7 +47,7 @@ fn hold_magnitude<W: Sink>(
         return out.send_pieces(&[digits, zeros]);
     }
     if exponent < 0 && count <= PLAIN_DIGITS && digits.len() <= PLAIN_DIGITS + count {
-        return hold_fraction(out, digits, count);
+        return send_fraction(out, digits, count);
     }
     let mut buffer = Buffer::new();
     out.send_pieces(&[digits, b"E", buffer.format(exponent).as_bytes()])
@@ -55,14 +55,14 @@ fn hold_magnitude<W: Sink>(
 
 // Holds a minus where the number is negative.
 #[tactic(auto, unfolding(dbc_records::specs::Layout::sign_text))]
-fn hold_sign<W: Sink>(out: &mut Out<'_, W>, negative: bool) -> Result<(), WriteFault>
+fn send_sign<W: Sink>(out: &mut Out<'_, W>, negative: bool) -> Result<(), WriteFault>
     ensures { Sends W.written out.old out.new result (sign_text negative) }
 {
     if negative { out.send(b"-") } else { Ok(()) }
 }
 
 // Holds `mantissa · 10^exponent`.
-fn hold_unsigned<W: Sink>(
+fn send_unsigned<W: Sink>(
     out: &mut Out<'_, W>,
     mantissa: u128,
     exponent: i16,
@@ -71,14 +71,14 @@ fn hold_unsigned<W: Sink>(
 {
     let mut buffer = Buffer::new();
     let digits = buffer.format(mantissa).as_bytes();
-    hold_magnitude(out, digits, exponent)
+    send_magnitude(out, digits, exponent)
 }
 
 /// Holds the decimal: digits with a point where at most 20 stand on each side of it, else as `1E-31`.
 #[tactic(auto, using(byte_devices::proofs::Outs::sends), unfolding(dbc_records::specs::Layout::decimal_text))]
-pub fn hold_decimal<W: Sink>(out: &mut Out<'_, W>, decimal: Decimal) -> Result<(), WriteFault>
+pub fn send_decimal<W: Sink>(out: &mut Out<'_, W>, decimal: Decimal) -> Result<(), WriteFault>
     ensures { Sends W.written out.old out.new result (decimal_text decimal) }
 {
-    hold_sign(out, decimal.negative)?;
-    hold_unsigned(out, decimal.mantissa, decimal.exponent)
+    send_sign(out, decimal.negative)?;
+    send_unsigned(out, decimal.mantissa, decimal.exponent)
 }

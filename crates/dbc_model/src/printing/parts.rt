@@ -5,7 +5,7 @@ ghost use Rattle.dbc_records.specs.CanonicalText.{blank, mark_layout, spaced_mar
 ghost use Rattle.dbc_records.specs.CanonicalText.{spaced_name, spaced_word, word_layout, signal_key, line_end, statement_end};
 ghost use Rattle.dbc_records.specs.CanonicalText.{spaced_end, pair_layout};
 
-use crate::printing::numbers::hold_decimal;
+use crate::printing::numbers::send_decimal;
 use crate::printing::style::Style;
 use byte_devices::{Out, Sink, WriteFault};
 use dbc_values::{Decimal, Name, Text};
@@ -13,7 +13,7 @@ use itoa::Buffer;
 
 /// Holds the mark.
 #[tactic(auto, unfolding(dbc_records::specs::Layout::layout_text, dbc_records::specs::CanonicalText::mark_layout))]
-pub fn hold_mark<W: Sink>(out: &mut Out<'_, W>, mark: u8) -> Result<(), WriteFault>
+pub fn send_mark<W: Sink>(out: &mut Out<'_, W>, mark: u8) -> Result<(), WriteFault>
     ensures { Sends W.written out.old out.new result (layout_text (mark_layout mark)) }
 {
     out.send(&[mark])
@@ -21,7 +21,7 @@ pub fn hold_mark<W: Sink>(out: &mut Out<'_, W>, mark: u8) -> Result<(), WriteFau
 
 /// Holds a blank and the mark.
 #[tactic(auto, unfolding(dbc_records::specs::Layout::layout_text, dbc_records::specs::CanonicalText::spaced_mark))]
-pub fn hold_spaced_mark<W: Sink>(out: &mut Out<'_, W>, mark: u8) -> Result<(), WriteFault>
+pub fn send_spaced_mark<W: Sink>(out: &mut Out<'_, W>, mark: u8) -> Result<(), WriteFault>
     ensures { Sends W.written out.old out.new result (layout_text (spaced_mark mark)) }
 {
     out.send(&[b' ', mark])
@@ -29,15 +29,15 @@ pub fn hold_spaced_mark<W: Sink>(out: &mut Out<'_, W>, mark: u8) -> Result<(), W
 
 /// Holds the number.
 #[tactic(auto, unfolding(dbc_records::specs::Layout::layout_text, dbc_records::specs::CanonicalText::number_layout))]
-pub fn hold_number<W: Sink>(out: &mut Out<'_, W>, number: Decimal) -> Result<(), WriteFault>
+pub fn send_number<W: Sink>(out: &mut Out<'_, W>, number: Decimal) -> Result<(), WriteFault>
     ensures { Sends W.written out.old out.new result (layout_text (number_layout number)) }
 {
-    hold_decimal(out, number)
+    send_decimal(out, number)
 }
 
 /// Holds a blank.
 #[tactic(auto, unfolding(dbc_records::specs::Layout::layout_text, dbc_records::specs::CanonicalText::blank))]
-fn hold_blank<W: Sink>(out: &mut Out<'_, W>) -> Result<(), WriteFault>
+fn send_blank<W: Sink>(out: &mut Out<'_, W>) -> Result<(), WriteFault>
     ensures { Sends W.written out.old out.new result (layout_text blank) }
 {
     out.send(b" ")
@@ -45,16 +45,16 @@ fn hold_blank<W: Sink>(out: &mut Out<'_, W>) -> Result<(), WriteFault>
 
 /// Holds a blank and the number.
 #[tactic(auto, using(crate::proofs::Layouts::layouts), unfolding(dbc_records::specs::CanonicalText::spaced_number))]
-pub fn hold_spaced_number<W: Sink>(out: &mut Out<'_, W>, number: Decimal) -> Result<(), WriteFault>
+pub fn send_spaced_number<W: Sink>(out: &mut Out<'_, W>, number: Decimal) -> Result<(), WriteFault>
     ensures { Sends W.written out.old out.new result (layout_text (spaced_number number)) }
 {
-    hold_blank(out)?;
-    hold_number(out, number)
+    send_blank(out)?;
+    send_number(out, number)
 }
 
 /// Holds a blank and the text between quotes.
 #[tactic(auto, unfolding(dbc_records::specs::Layout::layout_text, dbc_records::specs::CanonicalText::spaced_text))]
-pub fn hold_spaced_text<W: Sink>(out: &mut Out<'_, W>, text: &Text) -> Result<(), WriteFault>
+pub fn send_spaced_text<W: Sink>(out: &mut Out<'_, W>, text: &Text) -> Result<(), WriteFault>
     ensures { Sends W.written out.old out.new result (layout_text (spaced_text text.now)) }
 {
     out.send_pieces(&[b" \"".as_slice(), text.as_bytes(), b"\""])
@@ -62,7 +62,7 @@ pub fn hold_spaced_text<W: Sink>(out: &mut Out<'_, W>, text: &Text) -> Result<()
 
 /// Holds a blank and the word.
 #[tactic(auto, unfolding(dbc_records::specs::Layout::layout_text, dbc_records::specs::CanonicalText::spaced_word))]
-pub fn hold_spaced_word<W: Sink>(out: &mut Out<'_, W>, word: &[u8]) -> Result<(), WriteFault>
+pub fn send_spaced_word<W: Sink>(out: &mut Out<'_, W>, word: &[u8]) -> Result<(), WriteFault>
     ensures { Sends W.written out.old out.new result (layout_text (spaced_word word.now)) }
 {
     out.send_pieces(&[b" ".as_slice(), word])
@@ -70,7 +70,7 @@ pub fn hold_spaced_word<W: Sink>(out: &mut Out<'_, W>, word: &[u8]) -> Result<()
 
 /// Holds the word.
 #[tactic(auto, unfolding(dbc_records::specs::Layout::layout_text, dbc_records::specs::CanonicalText::word_layout))]
-pub fn hold_word<W: Sink>(out: &mut Out<'_, W>, word: &[u8]) -> Result<(), WriteFault>
+pub fn send_word<W: Sink>(out: &mut Out<'_, W>, word: &[u8]) -> Result<(), WriteFault>
     ensures { Sends W.written out.old out.new result (layout_text (word_layout word.now)) }
 {
     out.send(word)
@@ -78,7 +78,7 @@ pub fn hold_word<W: Sink>(out: &mut Out<'_, W>, word: &[u8]) -> Result<(), Write
 
 /// Holds the number of a message and the name of a signal, each behind a blank.
 #[tactic(auto, unfolding(dbc_records::specs::Layout::layout_text, dbc_records::specs::CanonicalText::signal_key))]
-pub fn hold_signal_key<W: Sink>(
+pub fn send_signal_key<W: Sink>(
     out: &mut Out<'_, W>,
     number: u32,
     name: &Name,
@@ -97,7 +97,7 @@ pub fn hold_signal_key<W: Sink>(
 
 /// Ends the line.
 #[tactic(auto, unfolding(dbc_records::specs::Layout::layout_text, dbc_records::specs::CanonicalText::line_end))]
-pub fn hold_line_end<W: Sink>(out: &mut Out<'_, W>) -> Result<(), WriteFault>
+pub fn send_line_end<W: Sink>(out: &mut Out<'_, W>) -> Result<(), WriteFault>
     ensures { Sends W.written out.old out.new result (layout_text (line_end)) }
 {
     out.send(b"\n")
@@ -105,7 +105,7 @@ pub fn hold_line_end<W: Sink>(out: &mut Out<'_, W>) -> Result<(), WriteFault>
 
 /// Ends the statement.
 #[tactic(auto, unfolding(dbc_records::specs::Layout::layout_text, dbc_records::specs::CanonicalText::statement_end))]
-pub fn hold_statement_end<W: Sink>(out: &mut Out<'_, W>) -> Result<(), WriteFault>
+pub fn send_statement_end<W: Sink>(out: &mut Out<'_, W>) -> Result<(), WriteFault>
     ensures { Sends W.written out.old out.new result (layout_text (statement_end)) }
 {
     out.send(b";\n")
@@ -113,7 +113,7 @@ pub fn hold_statement_end<W: Sink>(out: &mut Out<'_, W>) -> Result<(), WriteFaul
 
 /// Ends a statement behind entries.
 #[tactic(auto, unfolding(dbc_records::specs::Layout::layout_text, dbc_records::specs::CanonicalText::spaced_end))]
-pub fn hold_spaced_end<W: Sink>(out: &mut Out<'_, W>) -> Result<(), WriteFault>
+pub fn send_spaced_end<W: Sink>(out: &mut Out<'_, W>) -> Result<(), WriteFault>
     ensures { Sends W.written out.old out.new result (layout_text (spaced_end)) }
 {
     out.send(b" ;\n")
@@ -121,7 +121,7 @@ pub fn hold_spaced_end<W: Sink>(out: &mut Out<'_, W>) -> Result<(), WriteFault>
 
 /// Holds two numbers with marks before, between and behind them: ` (a,b)`.
 #[tactic(auto, using(crate::proofs::Layouts::layouts), unfolding(dbc_records::specs::CanonicalText::pair_layout))]
-pub fn hold_pair<W: Sink>(
+pub fn send_pair<W: Sink>(
     out: &mut Out<'_, W>,
     opening: u8,
     first: Decimal,
@@ -131,11 +131,11 @@ pub fn hold_pair<W: Sink>(
 ) -> Result<(), WriteFault>
     ensures { Sends W.written out.old out.new result (layout_text (pair_layout opening first between second closing)) }
 {
-    hold_spaced_mark(out, opening)?;
-    hold_number(out, first)?;
-    hold_mark(out, between)?;
-    hold_number(out, second)?;
-    hold_mark(out, closing)
+    send_spaced_mark(out, opening)?;
+    send_number(out, first)?;
+    send_mark(out, between)?;
+    send_number(out, second)?;
+    send_mark(out, closing)
 }
 
 /// A name behind a blank.
@@ -147,7 +147,7 @@ impl Style<Name> for SpacedName {
     ghost layout = { spaced_name };
 
     #[tactic(auto, unfolding(dbc_records::specs::Layout::layout_text, dbc_records::specs::CanonicalText::spaced_name))]
-    fn hold_item<W: Sink>(out: &mut Out<'_, W>, name: &Name) -> Result<(), WriteFault> {
+    fn send_item<W: Sink>(out: &mut Out<'_, W>, name: &Name) -> Result<(), WriteFault> {
         out.send_pieces(&[b" ".as_slice(), name.as_bytes()])
     }
 }

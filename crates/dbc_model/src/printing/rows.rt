@@ -6,9 +6,9 @@ ghost use Rattle.dbc_records.specs.CanonicalText.{table_key, values_key, float_k
 ghost use Rattle.dbc_records.specs.CanonicalText.{piece_layout};
 
 use crate::printing::parts::{
-    SpacedName, hold_signal_key, hold_spaced_end, hold_statement_end, hold_word,
+    SpacedName, send_signal_key, send_spaced_end, send_statement_end, send_word,
 };
-use crate::printing::style::{Style, hold_items, hold_list, hold_separated};
+use crate::printing::style::{Style, send_items, send_list, send_separated};
 use byte_devices::{Out, Sink, WriteFault};
 use dbc_records::{Entry, FloatRow, Kept, MuxRow, Range, TableRow, ValueRow};
 use dbc_values::Pieces;
@@ -23,7 +23,7 @@ impl Style<Entry> for EntryStyle {
     ghost layout = { entry_layout };
 
     #[tactic(auto, unfolding(dbc_records::specs::Layout::layout_text, dbc_records::specs::CanonicalText::entry_layout))]
-    fn hold_item<W: Sink>(out: &mut Out<'_, W>, entry: &Entry) -> Result<(), WriteFault> {
+    fn send_item<W: Sink>(out: &mut Out<'_, W>, entry: &Entry) -> Result<(), WriteFault> {
         let mut number = Buffer::new();
         let pieces: [&[u8]; 5] = [
             b" ",
@@ -37,11 +37,11 @@ impl Style<Entry> for EntryStyle {
 }
 
 #[tactic(auto, using(crate::proofs::Layouts::layouts), unfolding(dbc_records::specs::CanonicalText::table_key))]
-fn hold_table_key<W: Sink>(out: &mut Out<'_, W>, row: &TableRow) -> Result<(), WriteFault>
+fn send_table_key<W: Sink>(out: &mut Out<'_, W>, row: &TableRow) -> Result<(), WriteFault>
     ensures { Sends W.written out.old out.new result (layout_text (table_key row.now)) }
 {
-    hold_word(out, b"VAL_TABLE_")?;
-    SpacedName::hold_item(out, &row.name)
+    send_word(out, b"VAL_TABLE_")?;
+    SpacedName::send_item(out, &row.name)
 }
 
 /// A table's line.
@@ -53,19 +53,19 @@ impl Style<TableRow> for TableLine {
     ghost layout = { table_layout };
 
     #[tactic(auto, using(crate::proofs::Layouts::layouts), unfolding(dbc_records::specs::CanonicalText::table_layout))]
-    fn hold_item<W: Sink>(out: &mut Out<'_, W>, row: &TableRow) -> Result<(), WriteFault> {
-        hold_table_key(out, row)?;
-        hold_list::<EntryStyle, Entry, W>(out, &row.entries)?;
-        hold_spaced_end(out)
+    fn send_item<W: Sink>(out: &mut Out<'_, W>, row: &TableRow) -> Result<(), WriteFault> {
+        send_table_key(out, row)?;
+        send_list::<EntryStyle, Entry, W>(out, &row.entries)?;
+        send_spaced_end(out)
     }
 }
 
 #[tactic(auto, using(crate::proofs::Layouts::layouts), unfolding(dbc_records::specs::CanonicalText::values_key))]
-fn hold_values_key<W: Sink>(out: &mut Out<'_, W>, row: &ValueRow) -> Result<(), WriteFault>
+fn send_values_key<W: Sink>(out: &mut Out<'_, W>, row: &ValueRow) -> Result<(), WriteFault>
     ensures { Sends W.written out.old out.new result (layout_text (values_key row.now)) }
 {
-    hold_word(out, b"VAL_")?;
-    hold_signal_key(out, row.number, &row.signal)
+    send_word(out, b"VAL_")?;
+    send_signal_key(out, row.number, &row.signal)
 }
 
 /// The line of a signal's named values.
@@ -77,23 +77,23 @@ impl Style<ValueRow> for ValuesLine {
     ghost layout = { values_layout };
 
     #[tactic(auto, using(crate::proofs::Layouts::layouts), unfolding(dbc_records::specs::CanonicalText::values_layout))]
-    fn hold_item<W: Sink>(out: &mut Out<'_, W>, row: &ValueRow) -> Result<(), WriteFault> {
-        hold_values_key(out, row)?;
-        hold_items::<EntryStyle, Entry, W>(out, row.entries.as_slice())?;
-        hold_spaced_end(out)
+    fn send_item<W: Sink>(out: &mut Out<'_, W>, row: &ValueRow) -> Result<(), WriteFault> {
+        send_values_key(out, row)?;
+        send_items::<EntryStyle, Entry, W>(out, row.entries.as_slice())?;
+        send_spaced_end(out)
     }
 }
 
 #[tactic(auto, using(crate::proofs::Layouts::layouts), unfolding(dbc_records::specs::CanonicalText::float_key))]
-fn hold_float_key<W: Sink>(out: &mut Out<'_, W>, row: &FloatRow) -> Result<(), WriteFault>
+fn send_float_key<W: Sink>(out: &mut Out<'_, W>, row: &FloatRow) -> Result<(), WriteFault>
     ensures { Sends W.written out.old out.new result (layout_text (float_key row.now)) }
 {
-    hold_word(out, b"SIG_VALTYPE_")?;
-    hold_signal_key(out, row.number, &row.signal)
+    send_word(out, b"SIG_VALTYPE_")?;
+    send_signal_key(out, row.number, &row.signal)
 }
 
 #[tactic(auto, unfolding(dbc_records::specs::Layout::layout_text, dbc_records::specs::CanonicalText::float_kind))]
-fn hold_float_kind<W: Sink>(out: &mut Out<'_, W>, row: &FloatRow) -> Result<(), WriteFault>
+fn send_float_kind<W: Sink>(out: &mut Out<'_, W>, row: &FloatRow) -> Result<(), WriteFault>
     ensures { Sends W.written out.old out.new result (layout_text (float_kind row.now)) }
 {
     let mut kind = Buffer::new();
@@ -110,10 +110,10 @@ impl Style<FloatRow> for FloatLine {
     ghost layout = { float_layout };
 
     #[tactic(auto, using(crate::proofs::Layouts::layouts), unfolding(dbc_records::specs::CanonicalText::float_layout))]
-    fn hold_item<W: Sink>(out: &mut Out<'_, W>, row: &FloatRow) -> Result<(), WriteFault> {
-        hold_float_key(out, row)?;
-        hold_float_kind(out, row)?;
-        hold_statement_end(out)
+    fn send_item<W: Sink>(out: &mut Out<'_, W>, row: &FloatRow) -> Result<(), WriteFault> {
+        send_float_key(out, row)?;
+        send_float_kind(out, row)?;
+        send_statement_end(out)
     }
 }
 
@@ -126,7 +126,7 @@ impl Style<Range> for FirstRange {
     ghost layout = { range_layout };
 
     #[tactic(auto, unfolding(dbc_records::specs::Layout::layout_text, dbc_records::specs::CanonicalText::range_layout))]
-    fn hold_item<W: Sink>(out: &mut Out<'_, W>, range: &Range) -> Result<(), WriteFault> {
+    fn send_item<W: Sink>(out: &mut Out<'_, W>, range: &Range) -> Result<(), WriteFault> {
         let mut first = Buffer::new();
         let mut last = Buffer::new();
         let pieces: [&[u8]; 4] = [
@@ -148,7 +148,7 @@ impl Style<Range> for FurtherRange {
     ghost layout = { further_range };
 
     #[tactic(auto, unfolding(dbc_records::specs::Layout::layout_text, dbc_records::specs::CanonicalText::further_range))]
-    fn hold_item<W: Sink>(out: &mut Out<'_, W>, range: &Range) -> Result<(), WriteFault> {
+    fn send_item<W: Sink>(out: &mut Out<'_, W>, range: &Range) -> Result<(), WriteFault> {
         let mut first = Buffer::new();
         let mut last = Buffer::new();
         let pieces: [&[u8]; 4] = [
@@ -162,18 +162,18 @@ impl Style<Range> for FurtherRange {
 }
 
 #[tactic(auto, using(crate::proofs::Layouts::layouts), unfolding(dbc_records::specs::CanonicalText::ranges_layout))]
-fn hold_ranges<W: Sink>(out: &mut Out<'_, W>, ranges: &[Range]) -> Result<(), WriteFault>
+fn send_ranges<W: Sink>(out: &mut Out<'_, W>, ranges: &[Range]) -> Result<(), WriteFault>
     ensures { Sends W.written out.old out.new result (layout_text (ranges_layout ranges.now)) }
 {
-    hold_separated::<FirstRange, FurtherRange, Range, W>(out, ranges)
+    send_separated::<FirstRange, FurtherRange, Range, W>(out, ranges)
 }
 
 #[tactic(auto, using(crate::proofs::Layouts::layouts), unfolding(dbc_records::specs::CanonicalText::mux_key))]
-fn hold_mux_key<W: Sink>(out: &mut Out<'_, W>, row: &MuxRow) -> Result<(), WriteFault>
+fn send_mux_key<W: Sink>(out: &mut Out<'_, W>, row: &MuxRow) -> Result<(), WriteFault>
     ensures { Sends W.written out.old out.new result (layout_text (mux_key row.now)) }
 {
-    hold_word(out, b"SG_MUL_VAL_")?;
-    hold_signal_key(out, row.number, &row.signal)
+    send_word(out, b"SG_MUL_VAL_")?;
+    send_signal_key(out, row.number, &row.signal)
 }
 
 /// The line of a signal's multiplexing.
@@ -185,39 +185,39 @@ impl Style<MuxRow> for MuxLine {
     ghost layout = { mux_layout };
 
     #[tactic(auto, using(crate::proofs::Layouts::layouts), unfolding(dbc_records::specs::CanonicalText::mux_layout))]
-    fn hold_item<W: Sink>(out: &mut Out<'_, W>, row: &MuxRow) -> Result<(), WriteFault> {
-        hold_mux_key(out, row)?;
-        SpacedName::hold_item(out, &row.switch)?;
-        hold_ranges(out, row.ranges.as_slice())?;
-        hold_statement_end(out)
+    fn send_item<W: Sink>(out: &mut Out<'_, W>, row: &MuxRow) -> Result<(), WriteFault> {
+        send_mux_key(out, row)?;
+        SpacedName::send_item(out, &row.switch)?;
+        send_ranges(out, row.ranges.as_slice())?;
+        send_statement_end(out)
     }
 }
 
 // A token and a blank.
 #[tactic(auto, unfolding(dbc_records::specs::Layout::layout_text, dbc_records::specs::CanonicalText::piece_layout))]
-fn hold_piece<W: Sink>(out: &mut Out<'_, W>, piece: &[u8]) -> Result<(), WriteFault>
+fn send_piece<W: Sink>(out: &mut Out<'_, W>, piece: &[u8]) -> Result<(), WriteFault>
     ensures { Sends W.written out.old out.new result (layout_text (piece_layout piece.now)) }
 {
     out.send_pieces(&[piece, b" "])
 }
 
 // The tokens, one after another, each with a blank.
-fn hold_tokens<W: Sink>(out: &mut Out<'_, W>, tokens: &Pieces) -> Result<(), WriteFault>
+fn send_tokens<W: Sink>(out: &mut Out<'_, W>, tokens: &Pieces) -> Result<(), WriteFault>
     ensures { Sends W.written out.old out.new result (flat_map (λ piece. layout_text (piece_layout piece)) tokens.now) }
 {
     for place in 0..tokens.len() {
         if let Some(piece) = tokens.get(place) {
-            hold_piece(out, piece)?;
+            send_piece(out, piece)?;
         }
     }
     Ok(())
 }
 
 #[tactic(auto, using(crate::proofs::Layouts::text_of_items))]
-fn hold_pieces<W: Sink>(out: &mut Out<'_, W>, tokens: &Pieces) -> Result<(), WriteFault>
+fn send_kept<W: Sink>(out: &mut Out<'_, W>, tokens: &Pieces) -> Result<(), WriteFault>
     ensures { Sends W.written out.old out.new result (layout_text (flat_map piece_layout tokens.now)) }
 {
-    hold_tokens(out, tokens)
+    send_tokens(out, tokens)
 }
 
 /// The line of a kept statement.
@@ -229,8 +229,8 @@ impl Style<Kept> for KeptLine {
     ghost layout = { kept_layout };
 
     #[tactic(auto, using(crate::proofs::Layouts::layouts), unfolding(dbc_records::specs::CanonicalText::kept_layout))]
-    fn hold_item<W: Sink>(out: &mut Out<'_, W>, statement: &Kept) -> Result<(), WriteFault> {
-        hold_pieces(out, &statement.tokens)?;
-        hold_statement_end(out)
+    fn send_item<W: Sink>(out: &mut Out<'_, W>, statement: &Kept) -> Result<(), WriteFault> {
+        send_kept(out, &statement.tokens)?;
+        send_statement_end(out)
     }
 }

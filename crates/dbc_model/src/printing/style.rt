@@ -14,46 +14,46 @@ pub trait Style<T: Checked> {
     ghost layout: { T → Layout };
 
     /// Holds the item's text.
-    fn hold_item<W: Sink>(out: &mut Out<'_, W>, item: &T) -> Result<(), WriteFault>
+    fn send_item<W: Sink>(out: &mut Out<'_, W>, item: &T) -> Result<(), WriteFault>
         ensures { Sends W.written out.old out.new result (layout_text (layout item.now)) };
 }
 
 // Holds the texts of the items, one after another.
-fn hold_texts<S: Style<T>, T: Checked, W: Sink>(
+fn send_texts<S: Style<T>, T: Checked, W: Sink>(
     out: &mut Out<'_, W>,
     items: &[T],
 ) -> Result<(), WriteFault>
     ensures { Sends W.written out.old out.new result (flat_map (λ item. layout_text (S.layout item)) items.now) }
 {
     for item in items {
-        S::hold_item(out, item)?;
+        S::send_item(out, item)?;
     }
     Ok(())
 }
 
 /// Holds the items, one after another.
 #[tactic(auto, using(crate::proofs::Layouts::text_of_items))]
-pub fn hold_items<S: Style<T>, T: Checked, W: Sink>(
+pub fn send_items<S: Style<T>, T: Checked, W: Sink>(
     out: &mut Out<'_, W>,
     items: &[T],
 ) -> Result<(), WriteFault>
     ensures { Sends W.written out.old out.new result (layout_text (flat_map S.layout items.now)) }
 {
-    hold_texts::<S, T, W>(out, items)
+    send_texts::<S, T, W>(out, items)
 }
 
 /// Holds the items of a list, one after another.
-pub fn hold_list<S: Style<T>, T: Checked, W: Sink>(
+pub fn send_list<S: Style<T>, T: Checked, W: Sink>(
     out: &mut Out<'_, W>,
     items: &List<T>,
 ) -> Result<(), WriteFault>
     ensures { Sends W.written out.old out.new result (layout_text (flat_map S.layout items.now)) }
 {
-    hold_items::<S, T, W>(out, items.as_slice())
+    send_items::<S, T, W>(out, items.as_slice())
 }
 
 /// Holds the items, the first in one style and those behind it in another.
-pub fn hold_separated<F: Style<T>, S: Style<T>, T: Checked, W: Sink>(
+pub fn send_separated<F: Style<T>, S: Style<T>, T: Checked, W: Sink>(
     out: &mut Out<'_, W>,
     items: &[T],
 ) -> Result<(), WriteFault>
@@ -62,8 +62,8 @@ pub fn hold_separated<F: Style<T>, S: Style<T>, T: Checked, W: Sink>(
     match items {
         [] => Ok(()),
         [first, further @ ..] => {
-            F::hold_item(out, first)?;
-            hold_items::<S, T, W>(out, further)
+            F::send_item(out, first)?;
+            send_items::<S, T, W>(out, further)
         }
     }
 }

@@ -2,7 +2,7 @@ use Rattle.std.proofs.Common.{◌++◌, codes, take}
 use Rattle.std.specs.List.{flat_map}
 use Rattle.byte_devices.specs.Outs.{Took}
 use Rattle.can_diagnostics.specs.Lines.{line_text}
-use Rattle.can_diagnostics.proofs.writing.hold_lines.Given as goal
+use Rattle.can_diagnostics.proofs.writing.send_lines.Given as goal
 
 abbrev pub invariant-loop-diagnostic : goal.invariant-loop-diagnostic
 invariant-loop-diagnostic g l =

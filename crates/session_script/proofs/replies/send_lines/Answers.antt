@@ -5,10 +5,10 @@ use Rattle.byte_devices.proofs.Outs.{Took-item, Lost-item}
 use Rattle.can_decode.specs.DecodedLines.{decoded_line}
 use Rattle.session_script.specs.Replies.{decoded_texts}
 use Rattle.session_script.proofs.Layouts.{at_place}
-use Rattle.session_script.proofs.replies.hold_lines.Goals as goal
+use Rattle.session_script.proofs.replies.send_lines.Goals as goal
 
-pub returns-in_err-hold_line : goal.returns-in_err-hold_line
-returns-in_err-hold_line g c =
+pub returns-in_err-send_line : goal.returns-in_err-send_line
+returns-in_err-send_line g c =
     let state = c.args.session.now.state in
     let n : ℕ = c.loop-n.n in
     let within : n < length (decoded_texts state) = omega (
@@ -20,7 +20,7 @@ returns-in_err-hold_line g c =
     MatchResult-from_err c.from_residual.result _ _ c.from_residual.ensures.0
     (λ _. Lost-item g.W.Sink.written (λ text. text ++ codes "\n") (decoded_texts state) n c.decoded.result.now [] _ _ _ within
     (at_place (decoded_line state.options.short state.database) state.lines n c.decoded.result.now [] c.decoded.ensures)
-    c.loop-n.invariant c.in_err-hold_line.ensures)
+    c.loop-n.invariant c.in_err-send_line.ensures)
 
 pub loop-n-preserved : goal.loop-n-preserved
 loop-n-preserved g c =
@@ -34,4 +34,4 @@ loop-n-preserved g c =
     ) in
     Took-item g.W.Sink.written (λ text. text ++ codes "\n") (decoded_texts state) n c.decoded.result.now [] _ _ _ within
     (at_place (decoded_line state.options.short state.database) state.lines n c.decoded.result.now [] c.decoded.ensures)
-    c.loop-n.invariant c.in_ok-hold_line.ensures
+    c.loop-n.invariant c.in_ok-send_line.ensures

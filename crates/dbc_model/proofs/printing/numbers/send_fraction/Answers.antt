@@ -3,7 +3,7 @@ use Rattle.std.proofs.lemmas.List.{take-replicate}
 use Rattle.dbc_records.specs.Layout.{zeros}
 use Rattle.byte_devices.proofs.Outs.{Sends-as}
 use Rattle.dbc_model.proofs.Magnitudes.{fraction_filled}
-use Rattle.dbc_model.proofs.printing.numbers.hold_fraction.Goals as goal
+use Rattle.dbc_model.proofs.printing.numbers.send_fraction.Goals as goal
 
 pub returns-else-digits-behind : goal.returns-else-digits-behind
 returns-else-digits-behind g c =

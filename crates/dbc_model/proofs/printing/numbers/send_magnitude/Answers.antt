@@ -4,7 +4,7 @@ use Rattle.std.proofs.lemmas.List.{take-replicate}
 use Rattle.dbc_records.specs.Layout.{zeros}
 use Rattle.byte_devices.proofs.Outs.{Sends-as}
 use Rattle.dbc_model.proofs.Magnitudes.{magnitude_whole}
-use Rattle.dbc_model.proofs.printing.numbers.hold_magnitude.Goals as goal
+use Rattle.dbc_model.proofs.printing.numbers.send_magnitude.Goals as goal
 
 pub returns-then-digits-count-le-PLAIN_DIGITS : goal.returns-then-digits-count-le-PLAIN_DIGITS
 returns-then-digits-count-le-PLAIN_DIGITS g c =

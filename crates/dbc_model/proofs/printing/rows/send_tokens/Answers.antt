@@ -5,21 +5,21 @@ use Rattle.std.proofs.lemmas.Result.{MatchResult-from_err}
 use Rattle.dbc_records.specs.Layout.{layout_text}
 use Rattle.dbc_records.specs.CanonicalText.{piece_layout}
 use Rattle.byte_devices.proofs.Outs.{Lost-item, Took-item}
-use Rattle.dbc_model.proofs.printing.rows.hold_tokens.Goals as goal
-use Rattle.dbc_model.proofs.printing.rows.hold_tokens.Goals.{in-Some+in_ok-hold_piece, in_default}
+use Rattle.dbc_model.proofs.printing.rows.send_tokens.Goals as goal
+use Rattle.dbc_model.proofs.printing.rows.send_tokens.Goals.{in-Some+in_ok-send_piece, in_default}
 
 text : List ℕ → List ℕ
 text piece = layout_text (piece_layout piece)
 
-pub returns-in_err-hold_piece : goal.returns-in_err-hold_piece
+pub returns-in_err-send_piece : goal.returns-in_err-send_piece
 unfolding text
-returns-in_err-hold_piece g c =
+returns-in_err-send_piece g c =
     let tokens = c.args.tokens.now in
     let place = c.loop-place.place in
     let is : slice_get tokens place ≡ Some c.in-Some.piece.now = sym c.in-Some.ensures.value in
     MatchResult-from_err c.from_residual.result _ _ c.from_residual.ensures.0
     (λ _. Lost-item g.W.Sink.written text tokens place c.in-Some.piece.now [] _ _ _ (omega (arith, c.loop-place-test.true))
-    (sym (get_or_from_slice_get tokens place c.in-Some.piece.now [] is)) c.loop-place.invariant c.in_err-hold_piece.ensures)
+    (sym (get_or_from_slice_get tokens place c.in-Some.piece.now [] is)) c.loop-place.invariant c.in_err-send_piece.ensures)
 
 pub loop-place-preserved : goal.loop-place-preserved
 unfolding text
@@ -27,11 +27,11 @@ loop-place-preserved g c =
     let tokens = c.args.tokens.now in
     let place = c.loop-place.place in
     elim c.match-get.branch [
-      | in-Some+in_ok-hold_piece w ↦
+      | in-Some+in_ok-send_piece w ↦
           let is : slice_get tokens place ≡ Some w.in-Some.piece.now = sym w.in-Some.ensures.value in
           rw (w.out-is) (Took-item g.W.Sink.written text tokens place w.in-Some.piece.now [] _ _ _
           (omega (arith, c.loop-place-test.true)) (sym (get_or_from_slice_get tokens place w.in-Some.piece.now [] is))
-          c.loop-place.invariant w.in_ok-hold_piece.ensures)
+          c.loop-place.invariant w.in_ok-send_piece.ensures)
       | in_default w ↦
           let none : None ≡ slice_get tokens place = rw w.in_default.is at c.get.ensures.value in
           let some = slice_get-get_or tokens place [] (omega (arith, c.loop-place-test.true)) in

@@ -3,7 +3,7 @@ use Rattle.std.specs.List.{flat_map}
 use Rattle.byte_devices.specs.Outs.{Took}
 use Rattle.dbc_records.specs.Layout.{layout_text}
 use Rattle.dbc_records.specs.CanonicalText.{piece_layout}
-use Rattle.dbc_model.proofs.printing.rows.hold_tokens.Given as goal
+use Rattle.dbc_model.proofs.printing.rows.send_tokens.Given as goal
 
 abbrev pub invariant-loop-place : goal.invariant-loop-place
 invariant-loop-place g l =

@@ -2,7 +2,7 @@ use Rattle.std.proofs.Common.{take}
 use Rattle.std.specs.List.{flat_map}
 use Rattle.byte_devices.specs.Outs.{Took}
 use Rattle.dbc_records.specs.Layout.{layout_text}
-use Rattle.dbc_model.proofs.printing.style.hold_texts.Given as goal
+use Rattle.dbc_model.proofs.printing.style.send_texts.Given as goal
 
 abbrev pub invariant-loop-item : goal.invariant-loop-item
 invariant-loop-item g l =
