@@ -23,7 +23,7 @@ Took-then written a b c xs ys p q = record {
       p.passes q.passes;
 }
 
--- of a text behind another a beginning
+-- of a text after another a beginning
 pub Lost-behind : {W : Type 0} (written : W → Written) (a b c : Out W) (xs ys : List ℕ) → Took written a b xs → Lost written b c ys
     → Lost written a c (xs ++ ys)
 Lost-behind written a b c xs ys p q = record {
@@ -43,7 +43,7 @@ Lost-more written a b xs ys p = record {
 
 -- ---- one part of a text after another
 
--- what is sent behind what was sent
+-- what is sent after what was sent
 pub Sends-after : {W X E : Type 0} (written : W → Written) (a b c : Out W) (r : Result X E) (xs ys : List ℕ) → Took written a b xs
     → Sends written b c r ys → Sends written a c r (xs ++ ys)
 Sends-after written a b c (Ok x) xs ys p q = Took-then written a b c xs ys p q
@@ -69,7 +69,7 @@ flat_map-next : {X : Type 0} (f : X → List ℕ) (xs : List X) (i : ℕ) (d : X
 flat_map-next f xs i d lt = rw (take_more xs i d lt, flat_map-append) (ap (λ (t : List ℕ). flat_map f (take i xs) ++ t)
     (append-nil (f (get_or xs i d))))
 
--- the text of a list is that of the items before, of this one and of those behind
+-- the text of a list is that of the items before, of this one and of those after
 flat_map-parts : {X : Type 0} (f : X → List ℕ) (xs : List X) (i : ℕ) (d : X) → i < length xs
     → flat_map f xs ≡ flat_map f (take i xs) ++ (f (get_or xs i d) ++ flat_map f (drop (i + 1) xs))
 flat_map-parts f xs i d lt =
@@ -99,7 +99,7 @@ Lost-item written f xs i x d a b c lt is p q =
 
 -- ---- the end of a text
 
--- what waits goes out, behind what was sent when nothing waited
+-- what waits goes out, after what was sent when nothing waited
 pub Prints-flush : {W X E : Type 0} (written : W → Written) (a b : Out W) (c : Written) (r : Result X E) (text : List ℕ)
     → a.held.items ≡ []
     → Took written a b text → Prints (written b.sink.now) c r b.held.items → Prints (written a.sink.now) c r text

@@ -39,7 +39,7 @@ Broke-more a b xs ys p = record {
   failures = p.failures;
 }
 
--- a text, then a failure, and what is behind the text
+-- a text, then a failure, and what is after the text
 pub Broke-between : (a b c : Written) (xs ys : List ℕ) → Broke b c [] → Wrote a b xs → Broke a c (xs ++ ys)
 Broke-between a b c xs ys q p = Broke-more a c xs ys (subst (Broke a c) (append-nil xs) (Broke-then a b c xs [] p q))
 

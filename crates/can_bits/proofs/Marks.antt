@@ -67,19 +67,19 @@ shown_places [] = refl
 shown_places (place ∷ []) = refl
 shown_places (place ∷ further ∷ others) = refl
 
-both_behind : (x y s t : List ℕ) → x ≡ y → s ≡ t → x ++ s ≡ y ++ t
-both_behind x y s t same rest = ap (λ (k : List ℕ). k ++ s) same ∙ ap (λ (k : List ℕ). y ++ k) rest
+both_after : (x y s t : List ℕ) → x ≡ y → s ≡ t → x ++ s ≡ y ++ t
+both_after x y s t same rest = ap (λ (k : List ℕ). k ++ s) same ∙ ap (λ (k : List ℕ). y ++ k) rest
 
 each_bit : (f g : ℕ → List ℕ) → ((bit : ℕ) → bit < 8 → f bit ≡ g bit) → flat_map f bits_down ≡ flat_map g bits_down
 each_bit f g same =
-    both_behind (f 7) (g 7) _ _ (same 7 (omega arith))
-    (both_behind (f 6) (g 6) _ _ (same 6 (omega arith))
-    (both_behind (f 5) (g 5) _ _ (same 5 (omega arith))
-    (both_behind (f 4) (g 4) _ _ (same 4 (omega arith))
-    (both_behind (f 3) (g 3) _ _ (same 3 (omega arith))
-    (both_behind (f 2) (g 2) _ _ (same 2 (omega arith))
-    (both_behind (f 1) (g 1) _ _ (same 1 (omega arith))
-    (both_behind (f 0) (g 0) _ _ (same 0 (omega arith)) refl)))))))
+    both_after (f 7) (g 7) _ _ (same 7 (omega arith))
+    (both_after (f 6) (g 6) _ _ (same 6 (omega arith))
+    (both_after (f 5) (g 5) _ _ (same 5 (omega arith))
+    (both_after (f 4) (g 4) _ _ (same 4 (omega arith))
+    (both_after (f 3) (g 3) _ _ (same 3 (omega arith))
+    (both_after (f 2) (g 2) _ _ (same 2 (omega arith))
+    (both_after (f 1) (g 1) _ _ (same 1 (omega arith))
+    (both_after (f 0) (g 0) _ _ (same 0 (omega arith)) refl)))))))
 
 pub same_line : (size : ℕ) (fields : List Field) (cells : List Cell) (byte : ℕ) → IsTable size (enumerate_from 0 fields) cells
     → byte < size → cells_line cells byte ≡ byte_line fields byte
@@ -92,7 +92,7 @@ same_line size fields cells byte is within =
     ∙ shown_places (places_among (enumerate_from 0 fields) (8 * byte + bit)))) in
     ap (λ (text : List ℕ). right (decimal byte) ++ (codes ":" ++ (text ++ codes "\n"))) bits
 
--- one more item's text behind those of the items so far
+-- one more item's text after those of the items so far
 pub one_more_text : {X : Type 0} (f : X → List ℕ) (old mid new : List ℕ) (xs : List X) (i : ℕ) (d : X) → i < length xs
     → mid ≡ old ++ flat_map f (take i xs) → new ≡ mid ++ f (get_or xs i d) → new ≡ old ++ flat_map f (take (i + 1) xs)
 one_more_text f old mid new xs i d within so_far pushed =

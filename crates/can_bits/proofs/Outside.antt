@@ -45,22 +45,22 @@ passed_next field place =
     elim field.intel as (λ intel. (if intel then field.start + (place + 1) else mirrored field.start + (place + 1))
     ≡ (if intel then field.start + place else mirrored field.start + place) + 1) [ true ↦ omega arith | false ↦ omega arith ]
 
--- a bit is behind the data exactly where its byte is
-behind_bytes : (size : ℕ) (field : Field) (place : ℕ) → nat_le (8 * size) (position_of field place)
+-- a bit is after the data exactly where its byte is
+after_bytes : (size : ℕ) (field : Field) (place : ℕ) → nat_le (8 * size) (position_of field place)
     ≡ nat_le size (passed_at field place / 8)
-behind_bytes size field place =
+after_bytes size field place =
     let byte : position_of field place / 8 ≡ passed_at field place / 8 = position_byte field place in
     same_order (8 * size) (position_of field place) size (passed_at field place / 8) (λ h. omega (arith, byte, h))
     (λ h. omega (arith, byte, h))
 
 byte_grows : (size : ℕ) (field : Field) (place : ℕ) → nat_le (8 * size) (position_of field place) ≡ true
     → nat_le (8 * size) (position_of field (place + 1)) ≡ true
-byte_grows size field place behind =
+byte_grows size field place after =
     let next : passed_at field (place + 1) ≡ passed_at field place + 1 = passed_next field place in
-    let here : size ≤ passed_at field place / 8 = leb-true size (passed_at field place / 8) (sym (behind_bytes size field place)
-    ∙ behind) in
+    let here : size ≤ passed_at field place / 8 = leb-true size (passed_at field place / 8) (sym (after_bytes size field place)
+    ∙ after) in
     let there : size ≤ passed_at field (place + 1) / 8 = omega (arith, next, here) in
-    behind_bytes size field (place + 1) ∙ le-leb size (passed_at field (place + 1) / 8) there
+    after_bytes size field (place + 1) ∙ le-leb size (passed_at field (place + 1) / 8) there
 
 pub last_outside : (size : ℕ) (field : Field) → 0 < field.length → nat_le size (passed_at field (field.length - 1) / 8)
     ≡ is_outside size field
@@ -71,7 +71,7 @@ last_outside size field some =
     sym (ap (λ (n : ℕ). list_any (λ place. nat_le (8 * size) (position_of field place)) (range_with_len 0 n)) more
     ∙ any_growing (λ place. nat_le (8 * size) (position_of field place)) 0 (field.length - 1) (byte_grows size field)
     ∙ ap (λ (n : ℕ). nat_le (8 * size) (position_of field n)) last
-    ∙ behind_bytes size field (field.length - 1))
+    ∙ after_bytes size field (field.length - 1))
 
 pub none_outside : (size : ℕ) (field : Field) → field.length ≡ 0 → is_outside size field ≡ false
 unfolding is_outside

@@ -114,7 +114,7 @@ runs_join count at place (suc m) n =
       runs_join count at (place + 1) m n,
     ) (omega arith)
 
--- the raw value of the first places and of a run behind them
+-- the raw value of the first places and of a run after them
 pub more_bits : (bytes : List ℕ) (field : Field) (place n : ℕ)
     → unsigned_raw bytes (bits_from field 0 (place + n)) ≡ unsigned_raw bytes (bits_from field 0 place) + unsigned_raw bytes
     (bits_from field place n)

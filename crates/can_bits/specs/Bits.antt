@@ -13,7 +13,7 @@ field_of signal = record { start = signal.start; length = signal.length; intel =
 -- ---- positions
 
 -- the bit of data at a position, which is bit `position mod 8` of byte `position div 8`, bit 0 being the least
--- significant; behind the data it is 0
+-- significant; after the data it is 0
 abbrev pub bit_of : List ℕ → ℕ → ℕ
 bit_of bytes position = slice_index bytes (position / 8) / 2 ^ (position % 8) % 2
 
@@ -23,7 +23,7 @@ mirrored position = position + 7 - 2 * (position % 8)
 
 -- The position of a field's bit, by its place in the field. In Intel order place 0 is the least significant bit, at the
 -- start, and the next bit up is the next position. In Motorola order place 0 is the most significant bit, at the start;
--- the next bit down is the next lower one of its byte, and behind bit 0 the bit 7 of the next byte.
+-- the next bit down is the next lower one of its byte, and after bit 0 the bit 7 of the next byte.
 abbrev pub position_of : Field → ℕ → ℕ
 position_of field place = if field.intel then field.start + place else mirrored (mirrored field.start + place)
 

@@ -11,7 +11,7 @@ next_bit position = if position % 8 == 0 then position + 15 else position - 1
 abbrev pub next_position : Bool → ℕ → ℕ
 next_position intel position = if intel then position + 1 else next_bit position
 
--- the position so many steps behind the start
+-- the position so many steps after the start
 abbrev pub position_after : Bool → ℕ → ℕ → ℕ
 position_after intel start zero = start
 position_after intel start (suc steps) = next_position intel (position_after intel start steps)

@@ -43,7 +43,7 @@ pub struct Step {
     pub shift: Shift,
 }
 
-// The byte at an index; behind the data it is 0.
+// The byte at an index; after the data it is 0.
 fn byte_at(bytes: &[u8], index: usize) -> u8
     ensures { result ≡ slice_index bytes.now index }
 {

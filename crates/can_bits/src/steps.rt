@@ -41,12 +41,12 @@ fn run_at(field: Field, place: u16) -> (Step, u16)
     let left = (field.length - place) as u8;
     let passed = field.passed(place);
     let byte = (passed / 8) as u16;
-    let behind = (passed % 8) as u8;
-    let run = left.min(8 - behind);
+    let after = (passed % 8) as u8;
+    let run = left.min(8 - after);
     if field.intel {
-        (Step::of_run(byte, behind, run, place as u8), u16::from(run))
+        (Step::of_run(byte, after, run, place as u8), u16::from(run))
     } else {
-        let low = 8 - behind - run;
+        let low = 8 - after - run;
         (Step::of_run(byte, low, run, left - run), u16::from(run))
     }
 }
@@ -77,7 +77,7 @@ impl Steps {
         self.steps.as_slice()
     }
 
-    /// The raw value in data, read without sign. Bits behind the end of the data are read as 0.
+    /// The raw value in data, read without sign. Bits after the end of the data are read as 0.
     pub fn raw(&self, bytes: &[u8]) -> u64
         ensures { result ≡ unsigned_raw bytes.now self.now }
     {

@@ -54,7 +54,7 @@ impl Table {
         Ok(table)
     }
 
-    /// The cell at a position; behind the message every cell is free.
+    /// The cell at a position; after the message every cell is free.
     pub(crate) fn at(&self, position: usize) -> Cell
         ensures { result ≡ cell_at self.now.cells.items position }
     {

@@ -14,5 +14,5 @@ Takes took stopped old new result found = MatchResult result (λ _. took old new
 pub behind_none : {X : Type 0} (xs : List X) → xs ≡ xs ++ []
 behind_none xs = sym (append-nil xs)
 
-pub behind_both : {X : Type 0} (old mid new xs ys : List X) → mid ≡ old ++ xs → new ≡ mid ++ ys → new ≡ old ++ (xs ++ ys)
-behind_both {X = X} old mid new xs ys p q = q ∙ ap (λ (t : List X). t ++ ys) p ∙ append_assoc old xs ys
+pub after_both : {X : Type 0} (old mid new xs ys : List X) → mid ≡ old ++ xs → new ≡ mid ++ ys → new ≡ old ++ (xs ++ ys)
+after_both {X = X} old mid new xs ys p q = q ∙ ap (λ (t : List X). t ++ ys) p ∙ append_assoc old xs ys

@@ -51,7 +51,7 @@ pub trait Report: Drop {
     ghost took_then: { (old mid new : Self) (xs ys : List Found) → Took old mid xs → Took mid new ys → Took old new (xs ++ ys) };
 
     // It stops at a part after another.
-    ghost stopped_behind: { (old mid new : Self) (why : Why) (xs ys : List Found) → Took old mid xs → Stopped mid new why ys
+    ghost stopped_after: { (old mid new : Self) (why : Why) (xs ys : List Found) → Took old mid xs → Stopped mid new why ys
         → Stopped old new why (xs ++ ys) };
 
     // It stops before what else was to be taken.
@@ -64,7 +64,7 @@ pub trait Report: Drop {
 
 impl Report for Vec<Diagnostic> {
     ghost use Rattle.std.specs.Prelude.{◌++◌, ⊤};
-    ghost use Rattle.can_check.specs.Reports.{behind_none, behind_both};
+    ghost use Rattle.can_check.specs.Reports.{behind_none, after_both};
 
     ghost Took = { λ old new found. new.items ≡ old.items ++ found };
 
@@ -80,9 +80,9 @@ impl Report for Vec<Diagnostic> {
 
     ghost took_none = { λ here. behind_none here.items };
 
-    ghost took_then = { λ old mid new xs ys p q. behind_both old.items mid.items new.items xs ys p q };
+    ghost took_then = { λ old mid new xs ys p q. after_both old.items mid.items new.items xs ys p q };
 
-    ghost stopped_behind = { λ old mid new why xs ys p q. tt };
+    ghost stopped_after = { λ old mid new why xs ys p q. tt };
 
     ghost stopped_before = { λ old new why xs ys p. tt };
 

@@ -17,7 +17,7 @@ use Rattle.can_choice.specs.Remembering.{AreChoices}
 use Rattle.can_choice.specs.declared.choosing.Choice.{Choice}
 use Rattle.std.proofs.lemmas.List.Sums.{prefix_len-le-length}
 
--- the place of the first of `length` items that passes, or of one more behind them
+-- the place of the first of `length` items that passes, or of one more after them
 abbrev first_place : ℕ → ℕ → Option ℕ
 first_place place count = cond (nat_lt place count) (Some place) None
 

@@ -39,20 +39,20 @@ has_last x (y ∷ ys) = let h = has_last y ys in record { front = x ∷ h.front;
 
 -- ---- values
 
--- digits behind a number
-pub value_behind : (m : ℕ) (ds : List ℕ) → digits_value_after 10 m ds ≡ m * 10 ^ length ds + digits_value 10 ds
-value_behind m [] = omega arith
-value_behind m (d ∷ ds) =
+-- digits after a number
+pub value_after : (m : ℕ) (ds : List ℕ) → digits_value_after 10 m ds ≡ m * 10 ^ length ds + digits_value 10 ds
+value_after m [] = omega arith
+value_after m (d ∷ ds) =
     let n : ℕ = length ds in
     let more : m * 10 ^ n * 10 ≡ m * 10 ^ suc n = tens_more m n ∙ ap (λ (k : ℕ). m * 10 ^ k) (add-one n) in
     let here : digits_value_after 10 (m * 10 + digit_value d) ds ≡ (m * 10 + digit_value d) * 10 ^ n + digits_value 10 ds =
-    value_behind (m * 10 + digit_value d) ds in
+    value_after (m * 10 + digit_value d) ds in
     let alone : digits_value_after 10 (0 * 10 + digit_value d) ds ≡ (0 * 10 + digit_value d) * 10 ^ n + digits_value 10 ds =
-    value_behind (0 * 10 + digit_value d) ds in
+    value_after (0 * 10 + digit_value d) ds in
     here ∙ omega (arith, more, alone)
 
 pub value_of_both : (xs ys : List ℕ) → digits_value 10 (xs ++ ys) ≡ digits_value 10 xs * 10 ^ length ys + digits_value 10 ys
-value_of_both xs ys = value_append 0 xs ys ∙ value_behind (digits_value 10 xs) ys
+value_of_both xs ys = value_append 0 xs ys ∙ value_after (digits_value 10 xs) ys
 
 pub record SameParts (a b r s : ℕ) : Type 0 where
   pub above : a ≡ b
@@ -81,9 +81,9 @@ same_digits (x ∷ xs) [] a b many same = absurd (omega arith)
 same_digits (x ∷ xs) (y ∷ ys) a b many same =
     let fewer : length xs ≡ length ys = omega arith in
     let p : digits_value 10 (x ∷ xs) ≡ (0 * 10 + digit_value x) * 10 ^ length xs + digits_value 10 xs =
-    value_behind (0 * 10 + digit_value x) xs in
+    value_after (0 * 10 + digit_value x) xs in
     let q : digits_value 10 (y ∷ ys) ≡ (0 * 10 + digit_value y) * 10 ^ length xs + digits_value 10 ys =
-    value_behind (0 * 10 + digit_value y) ys ∙ ap (λ (k : ℕ). (0 * 10 + digit_value y) * 10 ^ k + digits_value 10 ys) (sym fewer) in
+    value_after (0 * 10 + digit_value y) ys ∙ ap (λ (k : ℕ). (0 * 10 + digit_value y) * 10 ^ k + digits_value 10 ys) (sym fewer) in
     let y-small : digits_value 10 ys < 10 ^ length xs = subst (λ (k : ℕ). digits_value 10 ys < 10 ^ k) (sym fewer)
     (digits_value-lt 10 ys b.1) in
     let parts = same_parts (0 * 10 + digit_value x) (0 * 10 + digit_value y) (digits_value 10 xs) (digits_value 10 ys)
@@ -115,7 +115,7 @@ large_by_count (c ∷ d ∷ ds) all first many =
     let none : d ∷ ds ≡ [] = first (d ∷ ds) (ap (λ (k : ℕ). k ∷ (d ∷ ds)) at_zero) in
     absurd (omega (arith, ap (λ (xs : List ℕ). length xs) none)) in
     let value : digits_value 10 (c ∷ d ∷ ds) ≡ (0 * 10 + digit_value c) * 10 ^ length (d ∷ ds) + digits_value 10 (d ∷ ds) =
-    value_behind (0 * 10 + digit_value c) (d ∷ ds) in
+    value_after (0 * 10 + digit_value c) (d ∷ ds) in
     let least : 1 * 10 ^ length (d ∷ ds) ≤ (0 * 10 + digit_value c) * 10 ^ length (d ∷ ds) =
     mul-le-mul_right (10 ^ length (d ∷ ds)) (omega (arith, digit_above_zero c all.0 some)) in
     let count : 10 ^ (length (c ∷ d ∷ ds) - 1) ≡ 10 ^ length (d ∷ ds) = ap (λ (k : ℕ). 10 ^ k) (omega arith) in

@@ -1,4 +1,4 @@
--- A label, and behind it the rest of a signal's text.
+-- A label, and after it the rest of a signal's text.
 use Rattle.std.proofs.Common.{◌≡◌, ℕ, Bool, true, false, List, ◌++◌, codes, if◌then◌else◌, ap, ◌∙◌, append_assoc}
 use Rattle.can_layout.specs.Plans.{label_of}
 use Rattle.can_layout.specs.declared.row.Row.{Row}

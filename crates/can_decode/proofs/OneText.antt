@@ -21,7 +21,7 @@ module _ {value : ℤ} {places : ℕ} where
   cross p q = crossed (all_digits p.plain) (all_digits q.plain) (unsigned_abs value) places (length p.plain.fraction)
       (length q.plain.fraction) p.reads.number q.reads.number
 
-  -- neither has more digits behind its point
+  -- neither has more digits after its point
   not_more : {a b : List ℕ} (p : IsScaledText value places a) (q : IsScaledText value places b)
       → length q.plain.fraction < length p.plain.fraction → ⊥
   not_more p q fewer =

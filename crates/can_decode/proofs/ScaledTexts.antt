@@ -15,7 +15,7 @@ use Rattle.dbc_values.specs.Scales.{Scale, IsScale}
 use Rattle.dbc_values.proofs.DigitTexts.{value_append}
 use Rattle.dbc_values.proofs.Powers.{tens_more}
 use Rattle.dbc_values.proofs.Scaling.{product_below}
-use Rattle.can_decode.specs.ScaledTexts.{behind_point, IsScaledText}
+use Rattle.can_decode.specs.ScaledTexts.{after_point, IsScaledText}
 use Rattle.can_decode.specs.Values.{Fixed, fewest_places, fixed_text, sign_of, scaled_text, scaled}
 use Rattle.can_decode.proofs.DigitTexts.{all_append, all_front, all_behind, NoZeroFirst}
 
@@ -81,7 +81,7 @@ zeros_value (suc count) = zeros_value count
 record IsSplit (digits places : ℕ) (text : List ℕ) : Type 0 where
   whole : List ℕ
   fraction : List ℕ
-  is : text ≡ whole ++ behind_point fraction
+  is : text ≡ whole ++ after_point fraction
   numeral : IsNumeral 10 whole
   all : AllDigits 10 fraction
   value : digits_value 10 (whole ++ fraction) ≡ digits
@@ -102,7 +102,7 @@ no_point digits small =
       first = no_zero_first digits small;
     }
 
-with_point : (front fraction : List ℕ) → 0 < length fraction → front ++ (46 ∷ fraction) ≡ front ++ behind_point fraction
+with_point : (front fraction : List ℕ) → 0 < length fraction → front ++ (46 ∷ fraction) ≡ front ++ after_point fraction
 with_point front [] some = absurd (omega arith)
 with_point front (d ∷ ds) some = refl
 
@@ -154,7 +154,7 @@ split fixed small = elim (cases_eq fixed.places 0) [
   | inr some ↦ rw (ne_eqb fixed.places 0 some) (at_point fixed.digits fixed.places small (omega (arith, some)))
 ]
 
--- a zero at the end behind the point would be one at the end of the digits
+-- a zero at the end after the point would be one at the end of the digits
 ends_so : (digits places : ℕ) (whole fraction front : List ℕ) → digits_value 10 (whole ++ fraction) ≡ digits
     → length fraction ≡ places
     → (places ≢ 0 → digits % 10 ≢ 0) → fraction ≡ front ++ (48 ∷ []) → ⊥

@@ -11,7 +11,7 @@ use Rattle.dbc_records.specs.Layout.{zeros, sign_text}
 use Rattle.dbc_values.proofs.DigitTexts.{value_append}
 use Rattle.std.proofs.lemmas.Nat.{pow-add}
 use Rattle.ready_texts.specs.EightDigits.{eight_digits, StartsWithZeros, EndsInZeros}
-use Rattle.can_decode.specs.ScaledTexts.{behind_point, IsScaledText}
+use Rattle.can_decode.specs.ScaledTexts.{after_point, IsScaledText}
 use Rattle.can_decode.specs.Values.{fewest_places, fixed_text, sign_of, scaled_text}
 use Rattle.can_decode.proofs.DigitTexts.{all_front, all_behind, value_of_both}
 use Rattle.can_decode.proofs.OneText.{one_text}
@@ -80,9 +80,9 @@ fraction : List ℕ → ℕ → ℕ → List ℕ
 fraction digits places last = take (places - last) (drop (7 - places + 1) digits)
 
 module _ {digits : List ℕ} {places first last : ℕ} (cut : IsCut digits places first last) where
-  behind : drop (7 - places + 1) digits ≡ fraction digits places last ++ zeros last
+  after : drop (7 - places + 1) digits ≡ fraction digits places last ++ zeros last
   unfolding fraction
-  behind =
+  after =
       let place : 7 - places + 1 + (places - last) ≡ 8 - last = omega (arith, cut.few, cut.back) in
       let rest : drop (places - last) (drop (7 - places + 1) digits) ≡ zeros last =
       drop-drop (places - last) (7 - places + 1) digits ∙ ap (λ (k : ℕ). drop k digits) (omega (arith, place)) ∙ cut.zeros_last in
@@ -94,7 +94,7 @@ module _ {digits : List ℕ} {places first last : ℕ} (cut : IsCut digits place
   parts =
       let place : first + (8 - places - first) ≡ 7 - places + 1 = omega (arith, cut.few, cut.front) in
       let rest : drop (8 - places - first) (drop first digits) ≡ fraction digits places last ++ zeros last =
-      drop-drop (8 - places - first) first digits ∙ ap (λ (k : ℕ). drop k digits) (omega (arith, place)) ∙ behind in
+      drop-drop (8 - places - first) first digits ∙ ap (λ (k : ℕ). drop k digits) (omega (arith, place)) ∙ after in
       sym (take-append-drop first digits)
       ∙ ap (λ (ds : List ℕ). ds ++ drop first digits) cut.zeros_first
       ∙ ap (λ (ds : List ℕ). zeros first ++ ds) (sym (take-append-drop (8 - places - first) (drop first digits))
@@ -173,8 +173,8 @@ module _ {digits : List ℕ} {places first last : ℕ} (cut : IsCut digits place
 
 -- ---- the text
 
-text_is : (front behind : List ℕ) (count : ℕ) → length behind ≡ count
-    → front ++ (if count == 0 then [] else 46 ∷ behind) ≡ front ++ behind_point behind
+text_is : (front after : List ℕ) (count : ℕ) → length after ≡ count
+    → front ++ (if count == 0 then [] else 46 ∷ after) ≡ front ++ after_point after
 text_is front [] count long = rw (eq-eqb count 0 (sym long)) refl
 text_is front (d ∷ ds) count long = rw (ne_eqb count 0 (λ none. absurd (omega (arith, long, none)))) refl
 
@@ -244,13 +244,13 @@ short_text n places f z small few starts ends =
     ∙ ap (λ (sign : List ℕ). sign ++ fixed_text (fewest_places n places)) no_sign
 
 -- the parts, pushed one after the other
-pub pushed_short : (old mid new digits : List ℕ) (n places f z behind first last : ℕ) → new ≡ mid ++ (if behind - last == 0 then []
-    else 46 ∷ take (behind - last) (drop (7 - behind + 1) digits)) → mid ≡ old ++ take (8 - behind - first) (drop first digits)
-    → first ≡ min f (7 - behind) → last ≡ min z behind → behind ≡ places → digits ≡ eight_digits n → n < 10 ^ 8 → places < 8
+pub pushed_short : (old mid new digits : List ℕ) (n places f z after first last : ℕ) → new ≡ mid ++ (if after - last == 0 then []
+    else 46 ∷ take (after - last) (drop (7 - after + 1) digits)) → mid ≡ old ++ take (8 - after - first) (drop first digits)
+    → first ≡ min f (7 - after) → last ≡ min z after → after ≡ places → digits ≡ eight_digits n → n < 10 ^ 8 → places < 8
     → StartsWithZeros digits f → EndsInZeros digits z → new ≡ old ++ fixed_text (fewest_places n places)
-pushed_short old mid new digits n places f z behind first last q p first_is last_is behind_is digits_are small few starts ends =
-    let text : take (8 - behind - first) (drop first digits) ++ (if behind - last == 0 then [] else 46 ∷ take (behind - last)
-    (drop (7 - behind + 1) digits)) ≡ fixed_text (fewest_places n places) =
-    rw (first_is, last_is, behind_is, digits_are) (short_text n places f z small few (subst (λ (ds : List ℕ). StartsWithZeros ds f)
+pushed_short old mid new digits n places f z after first last q p first_is last_is after_is digits_are small few starts ends =
+    let text : take (8 - after - first) (drop first digits) ++ (if after - last == 0 then [] else 46 ∷ take (after - last)
+    (drop (7 - after + 1) digits)) ≡ fixed_text (fewest_places n places) =
+    rw (first_is, last_is, after_is, digits_are) (short_text n places f z small few (subst (λ (ds : List ℕ). StartsWithZeros ds f)
     digits_are starts) (subst (λ (ds : List ℕ). EndsInZeros ds z) digits_are ends)) in
     pushed_then old mid new _ _ q p ∙ ap (λ (t : List ℕ). old ++ t) text

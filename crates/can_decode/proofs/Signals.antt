@@ -11,7 +11,7 @@ use Rattle.std.proofs.lemmas.List.Elements.{filter-append}
 use Rattle.can_layout.specs.declared.row.Row.{Row}
 use Rattle.can_decode.specs.DecodedLines.{listed}
 
--- one signal behind others
+-- one signal after others
 listed-push : (first further : Row → List ℕ) (rows : List Row) (row : Row) → listed first further (rows ++ row ∷ [])
     ≡ listed first further rows ++ (if not (length rows == 0) then further row else first row)
 listed-push first further [] row = append-nil (first row)

@@ -7,7 +7,7 @@ use Rattle.std.specs.Str.Parse.{AllDigits, IsNumeral}
 use Rattle.std.proofs.lemmas.Int.{ints}
 use Rattle.dbc_records.specs.Layout.{sign_text}
 use Rattle.dbc_values.proofs.Powers.{same_tens}
-use Rattle.can_decode.specs.ScaledTexts.{Plain, behind_point, HasParts, ReadsAs, IsScaledText}
+use Rattle.can_decode.specs.ScaledTexts.{Plain, after_point, HasParts, ReadsAs, IsScaledText}
 
 no_digit : (mark c : ℕ) → digit_value c < 10 → mark ≡ c → 10 ≤ digit_value mark → ⊥
 no_digit mark c small same large = absurd (omega (arith, subst (λ (k : ℕ). digit_value k < 10) (sym same) small, large))
@@ -25,36 +25,36 @@ record SameBody (w v f g : List ℕ) : Type 0 where
   whole : w ≡ v
   fraction : f ≡ g
 
-same_behind : (f g : List ℕ) → behind_point f ≡ behind_point g → f ≡ g
+same_behind : (f g : List ℕ) → after_point f ≡ after_point g → f ≡ g
 same_behind [] [] same = refl
 same_behind [] (y ∷ g) same = absurd (not_empty 46 (y ∷ g) same)
 same_behind (x ∷ f) [] same = absurd (not_empty 46 (x ∷ f) (sym same))
 same_behind (x ∷ f) (y ∷ g) same = same_rest 46 46 (x ∷ f) (y ∷ g) same
 
-no_more : (y : ℕ) (v f g : List ℕ) → digit_value y < 10 → behind_point f ≡ y ∷ (v ++ behind_point g) → ⊥
-no_more y v [] g small same = not_empty y (v ++ behind_point g) same
-no_more y v (d ∷ f) g small same = no_digit 46 y small (same_first 46 y (d ∷ f) (v ++ behind_point g) same) (omega arith)
+no_more : (y : ℕ) (v f g : List ℕ) → digit_value y < 10 → after_point f ≡ y ∷ (v ++ after_point g) → ⊥
+no_more y v [] g small same = not_empty y (v ++ after_point g) same
+no_more y v (d ∷ f) g small same = no_digit 46 y small (same_first 46 y (d ∷ f) (v ++ after_point g) same) (omega arith)
 
-same_body : (w v f g : List ℕ) → AllDigits 10 w → AllDigits 10 v → w ++ behind_point f ≡ v ++ behind_point g → SameBody w v f g
+same_body : (w v f g : List ℕ) → AllDigits 10 w → AllDigits 10 v → w ++ after_point f ≡ v ++ after_point g → SameBody w v f g
 same_body [] [] f g a b same = record { whole = refl; fraction = same_behind f g same }
 same_body [] (y ∷ v) f g a b same = absurd (no_more y v f g b.0 same)
 same_body (x ∷ w) [] f g a b same = absurd (no_more x w g f a.0 (sym same))
 same_body (x ∷ w) (y ∷ v) f g a b same =
-    let first : x ≡ y = same_first x y (w ++ behind_point f) (v ++ behind_point g) same in
-    let r : SameBody w v f g = same_body w v f g a.1 b.1 (same_rest x y (w ++ behind_point f) (v ++ behind_point g) same) in
+    let first : x ≡ y = same_first x y (w ++ after_point f) (v ++ after_point g) same in
+    let r : SameBody w v f g = same_body w v f g a.1 b.1 (same_rest x y (w ++ after_point f) (v ++ after_point g) same) in
     record { whole = λ i. first i ∷ r.whole i; fraction = r.fraction }
 
 no_sign : (w rest tail : List ℕ) → IsNumeral 10 w → 45 ∷ rest ≡ w ++ tail → ⊥
 no_sign [] rest tail a same = absurd (omega (arith, a.0))
 no_sign (x ∷ w) rest tail a same = no_digit 45 x a.1.0 (same_first 45 x rest (w ++ tail) same) (omega arith)
 
-same_signed : (m n : Bool) (w v f g : List ℕ) → IsNumeral 10 w → IsNumeral 10 v → sign_text m ++ (w ++ behind_point f) ≡ sign_text n
-    ++ (v ++ behind_point g)
-    → (m ≡ n) × (w ++ behind_point f ≡ v ++ behind_point g)
+same_signed : (m n : Bool) (w v f g : List ℕ) → IsNumeral 10 w → IsNumeral 10 v → sign_text m ++ (w ++ after_point f) ≡ sign_text n
+    ++ (v ++ after_point g)
+    → (m ≡ n) × (w ++ after_point f ≡ v ++ after_point g)
 unfolding sign_text
-same_signed true true w v f g a b same = (refl, same_rest 45 45 (w ++ behind_point f) (v ++ behind_point g) same)
-same_signed true false w v f g a b same = absurd (no_sign v (w ++ behind_point f) (behind_point g) b same)
-same_signed false true w v f g a b same = absurd (no_sign w (v ++ behind_point g) (behind_point f) a (sym same))
+same_signed true true w v f g a b same = (refl, same_rest 45 45 (w ++ after_point f) (v ++ after_point g) same)
+same_signed true false w v f g a b same = absurd (no_sign v (w ++ after_point f) (after_point g) b same)
+same_signed false true w v f g a b same = absurd (no_sign w (v ++ after_point g) (after_point f) a (sym same))
 same_signed false false w v f g a b same = (refl, same)
 
 one_plain : (text : List ℕ) (p q : Plain) → HasParts text p → HasParts text q → p ≡ q

@@ -12,6 +12,6 @@ refused_count (Err faults.Read) = 0
 refused_count (Err faults.Write) = 0
 refused_count (Err faults.Memory) = 1
 
--- the meter behind the lines whose texts were made, and the one that memory was wanting for
+-- the meter after the lines whose texts were made, and the one that memory was wanting for
 abbrev pub counted : Result ℕ StreamFault → List (List ℕ) → Meter → Meter
 counted result lines meter = repeated (refused_count result) with_line (repeated (length lines) with_line meter)

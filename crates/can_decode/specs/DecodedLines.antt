@@ -138,7 +138,7 @@ abbrev pub body_and_frame : Short → Database → List ℕ → Option Frame →
 body_and_frame short database body None = body
 body_and_frame short database body (Some frame) = body ++ (codes " :: " ++ frame_text short database frame)
 
--- the line without a final CR, and behind it what its frame says
+-- the line without a final CR, and after it what its frame says
 unfoldable pub decoded_line : Short → Database → List ℕ → List ℕ
 decoded_line short database line = body_and_frame short database (body_of line) (frame_of (body_of line))
 

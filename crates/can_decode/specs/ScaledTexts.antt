@@ -10,21 +10,21 @@ use Rattle.dbc_records.specs.Layout.{sign_text}
 
 -- ---- plain decimals
 
--- perhaps a sign, the digits before the point, and those behind it
+-- perhaps a sign, the digits before the point, and those after it
 pub record Plain : Type 0 where
   pub negative : Bool
   pub whole : List ℕ
   pub fraction : List ℕ
 
--- there is a point where digits stand behind it
-abbrev pub behind_point : List ℕ → List ℕ
-behind_point [] = []
-behind_point (digit ∷ digits) = point ∷ (digit ∷ digits)
+-- there is a point where digits stand after it
+abbrev pub after_point : List ℕ → List ℕ
+after_point [] = []
+after_point (digit ∷ digits) = point ∷ (digit ∷ digits)
 
 abbrev pub plain_text : Plain → List ℕ
-plain_text plain = sign_text plain.negative ++ (plain.whole ++ behind_point plain.fraction)
+plain_text plain = sign_text plain.negative ++ (plain.whole ++ after_point plain.fraction)
 
--- the text has these parts: at least one digit before the point, and digits alone before and behind it
+-- the text has these parts: at least one digit before the point, and digits alone before and after it
 pub record HasParts (text : List ℕ) (plain : Plain) : Type 0 where
   pub is : text ≡ plain_text plain
   pub whole : IsNumeral 10 plain.whole
@@ -36,7 +36,7 @@ pub record HasParts (text : List ℕ) (plain : Plain) : Type 0 where
 abbrev pub all_digits : Plain → ℕ
 all_digits plain = digits_value 10 (plain.whole ++ plain.fraction)
 
--- All digits over ten to the count of those behind the point are the value over ten to the number of places: the two fractions
+-- All digits over ten to the count of those after the point are the value over ten to the number of places: the two fractions
 -- are equal, each side being multiplied by both powers of ten. A sign stands exactly where the value is below 0.
 pub record ReadsAs (plain : Plain) (value : ℤ) (places : ℕ) : Type 0 where
   pub sign : plain.negative ≡ int_lt value (pos 0)
@@ -44,7 +44,7 @@ pub record ReadsAs (plain : Plain) (value : ℤ) (places : ℕ) : Type 0 where
 
 -- ---- the one text
 
--- no zero stands first, except alone before the point, and none stands last behind the point
+-- no zero stands first, except alone before the point, and none stands last after the point
 pub record IsShortest (plain : Plain) : Type 0 where
   pub first : (rest : List ℕ) → plain.whole ≡ digit_zero ∷ rest → rest ≡ []
   pub last : (front : List ℕ) → plain.fraction ≡ front ++ (digit_zero ∷ []) → ⊥

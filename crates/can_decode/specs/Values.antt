@@ -21,7 +21,7 @@ pub record Fixed : Type 0 where
   pub digits : ℕ
   pub places : ℕ
 
--- the same number with the fewest places: no zero stands last behind the point
+-- the same number with the fewest places: no zero stands last after the point
 abbrev pub fewest_places : ℕ → ℕ → Fixed
 fewest_places digits zero = record { digits = digits; places = 0 }
 fewest_places digits (suc places) = if digits % 10 == 0 then fewest_places (digits / 10) places else record {

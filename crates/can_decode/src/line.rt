@@ -137,7 +137,7 @@ fn chosen_of<'a>(
     Some((place, known_plan(plans, place)))
 }
 
-/// The decoded line: the line without a final CR, and behind it what its frame says. `plans` are those of the messages
+/// The decoded line: the line without a final CR, and after it what its frame says. `plans` are those of the messages
 /// in order, and `short` tells what is said of frames that are shorter than their message. The meter counts it, also where memory
 /// is refused.
 pub fn decode_line(

@@ -27,7 +27,7 @@ pub fn push_number(text: &mut TextBuffer, number: u64) -> Result<(), Memory>
     digits.push_first(text, digits.len())
 }
 
-// What stands before the value of a signal, behind others where `some` says so.
+// What stands before the value of a signal, after others where `some` says so.
 #[inline(always)]
 fn push_label(text: &mut TextBuffer, some: bool, label: &ReadyText, row: &Row) -> Result<(), Memory>
     requires { label.now ≡ label_of row.now }
@@ -36,11 +36,11 @@ fn push_label(text: &mut TextBuffer, some: bool, label: &ReadyText, row: &Row) -
     if some {
         label.push_to(text)
     } else {
-        label.push_behind_two(text)
+        label.push_after_two(text)
     }
 }
 
-// A signal, behind others where `some` says so.
+// A signal, after others where `some` says so.
 #[inline(always)]
 fn push_next(
     text: &mut TextBuffer,

@@ -8,18 +8,18 @@ use dbc_values::Memory;
 use itoa::Buffer;
 use ready_texts::{Digits, EightDigits, TextBuffer, push_bytes, push_shown, push_small_number};
 
-// The same number with the fewest places behind its point, where it is one of a word, as most are.
+// The same number with the fewest places after its point, where it is one of a word, as most are.
 fn fewest_places_of_word(digits: u64, places: u8) -> (u64, u8)
     ensures digits { result.0 ≡ (fewest_places digits places).digits }
     ensures places { result.1 ≡ (fewest_places digits places).places }
 {
     let mut number = digits;
-    let mut behind = places;
-    while behind > 0 && number % 10 == 0 {
+    let mut after = places;
+    while after > 0 && number % 10 == 0 {
         number /= 10;
-        behind -= 1;
+        after -= 1;
     }
-    (number, behind)
+    (number, after)
 }
 
 // The same of any number.
@@ -28,12 +28,12 @@ fn fewest_places_of_any(digits: u128, places: u8) -> (u128, u8)
     ensures places { result.1 ≡ (fewest_places digits places).places }
 {
     let mut number = digits;
-    let mut behind = places;
-    while behind > 0 && number % 10 == 0 {
+    let mut after = places;
+    while after > 0 && number % 10 == 0 {
         number /= 10;
-        behind -= 1;
+        after -= 1;
     }
-    (number, behind)
+    (number, after)
 }
 
 fn push_zeros(text: &mut TextBuffer, count: usize) -> Result<(), Memory>
@@ -51,10 +51,10 @@ fn push_pointed(text: &mut TextBuffer, digits: &[u8], places: usize) -> Result<(
     ensures { OnOk result (text.new.items ≡ text.old.items ++ point_before_last places (filled places digits.now)) }
 {
     if digits.len() > places {
-        let (whole, behind) = digits.split_at(digits.len() - places);
+        let (whole, after) = digits.split_at(digits.len() - places);
         push_bytes(text, whole)?;
         text.push_piece(b".")?;
-        push_bytes(text, behind)
+        push_bytes(text, after)
     } else {
         text.push_piece(b"0.")?;
         push_zeros(text, places - digits.len())?;
@@ -71,7 +71,7 @@ fn push_parted(text: &mut TextBuffer, digits: &Digits, places: usize) -> Result<
     let whole = digits.len() - places;
     digits.push_first(text, whole)?;
     text.push_piece(b".")?;
-    digits.push_behind(text, whole)
+    digits.push_after(text, whole)
 }
 
 // A whole number of one word with the point that many places from the right.
@@ -81,13 +81,13 @@ fn push_fixed_word(text: &mut TextBuffer, number: u64, places: u8) -> Result<(),
 {
     let mut digits = Digits::none();
     digits.write(number);
-    let behind = places as usize;
+    let after = places as usize;
     if places == 0 {
         digits.push_first(text, digits.len())
-    } else if digits.len() > behind {
-        push_parted(text, &digits, behind)
+    } else if digits.len() > after {
+        push_parted(text, &digits, after)
     } else {
-        push_pointed(text, digits.as_slice(), behind)
+        push_pointed(text, digits.as_slice(), after)
     }
 }
 
@@ -138,8 +138,8 @@ fn push_shortest_word(text: &mut TextBuffer, number: u64, places: u8) -> Result<
     if places < 8 && number < 100_000_000 {
         return push_short(text, number as u32, places);
     }
-    let (digits, behind) = fewest_places_of_word(number, places);
-    push_fixed_word(text, digits, behind)
+    let (digits, after) = fewest_places_of_word(number, places);
+    push_fixed_word(text, digits, after)
 }
 
 // A number over ten to the number of places.
@@ -151,8 +151,8 @@ fn push_shortest(text: &mut TextBuffer, number: u128, places: u8) -> Result<(), 
     match u64::try_from(number) {
         Ok(word) => push_shortest_word(text, word, places),
         Err(_) => {
-            let (digits, behind) = fewest_places_of_any(number, places);
-            push_fixed_any(text, digits, behind)
+            let (digits, after) = fewest_places_of_any(number, places);
+            push_fixed_any(text, digits, after)
         }
     }
 }

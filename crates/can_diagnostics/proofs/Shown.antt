@@ -31,7 +31,7 @@ shown-nil : shown [] ≡ []
 unfolding shown layout_text blanked
 shown-nil = refl
 
--- a layout goes out behind one that was sent
+-- a layout goes out after one that was sent
 pub Shown-then : {W X E : Type 0} (written : W → Written) (a b c : Out W) (r : Result X E) (xs ys : Layout)
     → Took written a b (shown xs)
     → Sends written b c r (shown ys) → Sends written a c r (shown (xs ++ ys))

@@ -26,9 +26,9 @@ fn send_code<W: Sink>(out: &mut Out<'_, W>, code: Code) -> Result<(), WriteFault
     out.send_pieces(&pieces)
 }
 
-// The number of a message, and pieces behind it.
+// The number of a message, and pieces after it.
 #[tactic(auto, using(byte_devices::proofs::Outs::sends))]
-fn send_behind<W: Sink>(
+fn send_after<W: Sink>(
     out: &mut Out<'_, W>,
     number: u32,
     pieces: &[&[u8]],
@@ -48,31 +48,31 @@ fn send_subject<W: Sink>(out: &mut Out<'_, W>, subject: &Subject) -> Result<(), 
     let mut decimal = Buffer::new();
     match subject {
         Subject::Message(number, message) => {
-            send_behind(out, *number, &[blank, message.as_bytes()])
+            send_after(out, *number, &[blank, message.as_bytes()])
         }
         Subject::Sender(number, message, node) => {
             let pieces = [blank, message.as_bytes(), blank, node.as_bytes()];
-            send_behind(out, *number, &pieces)
+            send_after(out, *number, &pieces)
         }
         Subject::Signal(number, message, signal) => {
             let pieces = [blank, message.as_bytes(), point, signal.as_bytes()];
-            send_behind(out, *number, &pieces)
+            send_after(out, *number, &pieces)
         }
         Subject::Pair(number, message, first, second) => {
             let name = message.as_bytes();
             let (first, second) = (first.as_bytes(), second.as_bytes());
             let pieces = [blank, name, point, first, blank, name, point, second];
-            send_behind(out, *number, &pieces)
+            send_after(out, *number, &pieces)
         }
         Subject::Receiver(number, message, signal, node) => {
             let (name, signal) = (message.as_bytes(), signal.as_bytes());
             let pieces = [blank, name, point, signal, blank, node.as_bytes()];
-            send_behind(out, *number, &pieces)
+            send_after(out, *number, &pieces)
         }
         Subject::Value(number, message, signal, value) => {
             let (name, signal) = (message.as_bytes(), signal.as_bytes());
             let value = decimal.format(*value).as_bytes();
-            send_behind(out, *number, &[blank, name, point, signal, blank, value])
+            send_after(out, *number, &[blank, name, point, signal, blank, value])
         }
         Subject::Row(key) => send_row(out, key),
     }

@@ -35,7 +35,7 @@ unfoldable pub remedy_line : Code → List ℕ
 remedy_line code = join (codes "\n  remedy: " ∷ remedy code ∷ codes "\n" ∷ [])
 
 unfoldable pub number_text : List ℕ → ℕ → List ℕ → List ℕ
-number_text before number behind = join (before ∷ decimal number ∷ behind ∷ [])
+number_text before number after = join (before ∷ decimal number ∷ after ∷ [])
 
 -- the line, or the two lines, in which what it speaks of begins
 unfoldable pub location_text : Location → List ℕ

@@ -31,12 +31,12 @@ fn write_number<W: Sink>(
     out: &mut Out<'_, W>,
     before: &[u8],
     number: u64,
-    behind: &[u8],
+    after: &[u8],
 ) -> Result<(), WriteFault>
-    ensures { Sends W.written out.old out.new result (number_text before.now number behind.now) }
+    ensures { Sends W.written out.old out.new result (number_text before.now number after.now) }
 {
     let mut buffer = Buffer::new();
-    let pieces: [&[u8]; 3] = [before, buffer.format(number).as_bytes(), behind];
+    let pieces: [&[u8]; 3] = [before, buffer.format(number).as_bytes(), after];
     out.send_pieces(&pieces)
 }
 

@@ -202,7 +202,7 @@ pub(crate) fn push_messages<'a, L: Lookup>(
     let (mut left, mut heads) = (messages, starts.messages.as_slice());
     let mut further = starts.signals.as_slice();
     'messages: while let [message, others @ ..] = left {
-        let (signals, behind) = parted(further, message.signals.len());
+        let (signals, after) = parted(further, message.signals.len());
         let start = first_start(heads);
         let here = LocatedMessage {
             message,
@@ -210,7 +210,7 @@ pub(crate) fn push_messages<'a, L: Lookup>(
             signals,
         };
         occupancy = push_message(findings, known, occupancy, &here, rows)?;
-        (left, heads, further) = (others, after_first(heads), behind);
+        (left, heads, further) = (others, after_first(heads), after);
     }
     Ok(())
 }

@@ -1,4 +1,4 @@
--- Keys behind their numbers are told apart as the keys are.
+-- Keys after their numbers are told apart as the keys are.
 use Rattle.std.proofs.Common.{◌≡◌, ℕ, ◌+◌, ◌==◌, Bool, true, false, cond, ◌&&◌, ◌||◌, List, [], ◌∷◌, map, All}
 use Rattle.std.proofs.Common.{refl, sym, ap, ◌∙◌, arith}
 use Rattle.std.specs.Prelude.{count_by}
@@ -42,7 +42,7 @@ beside : (e : Bool) (n m : ℕ) → (e ≡ true → n ≡ m) → ((n == m) && e)
 beside false n m same = grind (arith, common_steps)
 beside true n m same = let h : n ≡ m = same refl in grind (arith, common_steps)
 
--- what is asked for is n and c, which are a behind its number
+-- what is asked for is n and c, which are a after its number
 pub names_alike : (n : ℕ) (c a b : List ℕ) (m : ℕ) → n ≡ hashed_bytes 0 a → c ≡ a → m ≡ hashed_bytes 0 b
     → ((n == m) && bytes_eq c b) ≡ bytes_eq a b
 names_alike n c a b m asked name is =

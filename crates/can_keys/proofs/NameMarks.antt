@@ -27,9 +27,9 @@ words_more hash (a ∷ (b ∷ (c ∷ (d ∷ (e ∷ (f ∷ [])))))) long = absurd
 words_more hash (a ∷ (b ∷ (c ∷ (d ∷ (e ∷ (f ∷ (g ∷ []))))))) long = absurd (omega arith)
 words_more hash (a ∷ (b ∷ (c ∷ (d ∷ (e ∷ (f ∷ (g ∷ (h ∷ rest)))))))) long = refl
 
-pub words_on : (hash next : ℕ) (bytes word behind : List ℕ) → word ≡ take 8 bytes → behind ≡ drop 8 bytes
-    → length behind + 8 ≡ length bytes → next ≡ mixed_word hash word → hashed_words next behind ≡ hashed_words hash bytes
-words_on hash next bytes word behind front rest long is =
+pub words_on : (hash next : ℕ) (bytes word after : List ℕ) → word ≡ take 8 bytes → after ≡ drop 8 bytes
+    → length after + 8 ≡ length bytes → next ≡ mixed_word hash word → hashed_words next after ≡ hashed_words hash bytes
+words_on hash next bytes word after front rest long is =
     ap (hashed_words next) rest ∙ ap (λ n. hashed_words n (drop 8 bytes)) (is ∙ ap (mixed_word hash) front)
     ∙ words_more hash bytes (omega (arith, long))
 
@@ -48,8 +48,8 @@ words_end hash (a ∷ (b ∷ (c ∷ (d ∷ (e ∷ (f ∷ (g ∷ (h ∷ rest)))))
 pub of_long : (name front last : List ℕ) (words : ℕ) → length front + 8 ≡ length name → last ≡ drop (length name - 8) name
     → words ≡ hashed_words 0 name → mixed_word words last ≡ hashed_name name
 unfolding hashed_name
-of_long name front last words long behind is =
-    rw (le-leb 8 (length name) (omega (arith, long))) (ap (mixed_word words) behind
+of_long name front last words long after is =
+    rw (le-leb 8 (length name) (omega (arith, long))) (ap (mixed_word words) after
     ∙ ap (λ n. mixed_word n (drop (length name - 8) name)) is)
 
 pub of_short : (name : List ℕ) (hash : ℕ) → length name < 8 → hash ≡ hashed_bytes 0 name
@@ -86,7 +86,7 @@ mark_next signals so_far index mark d within there is made =
     ∙ map_over_more marked signals so_far index (get_or so_far index d) within is
     (get_or_default so_far index d (get_or so_far index d) there)
 
--- the room behind the signals stays as it is
+-- the room after the signals stays as it is
 pub written : (items now new : List Numbered) (len : ℕ) → new ≡ map marked now → now ≡ items → length now ≡ len
     → map marked items ≡ take len (new ++ drop (length new) items)
 written items now new len is same long =

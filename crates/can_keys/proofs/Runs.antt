@@ -19,7 +19,7 @@ failed e b fails = grind (arith, common_steps)
 passed : (e b : Bool) → e ≡ true → true ≡ (e || b)
 passed e b passes = grind (arith, common_steps)
 
--- all that pass are behind the first ones, of which none does
+-- all that pass are after the first ones, of which none does
 pub any_from : {X : Type 0} (p : X → Bool) (first : ℕ) (xs : List X) → first ≤ length xs
     → AllWithin (λ x. p x ≡ false) xs 0 first → list_any p (drop first xs) ≡ list_any p xs
 any_from p zero xs within none = refl

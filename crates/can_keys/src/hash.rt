@@ -8,7 +8,7 @@ use dbc_records::{EntryKeyRef, TargetRef};
 /// What each step of a number multiplies by.
 pub(crate) const FACTOR: u64 = 0x9E37_79B9_7F4A_7C15;
 
-/// A key behind a number that is made of it. Equal keys have equal numbers, and most others have others, so most keys are told
+/// A key after a number that is made of it. Equal keys have equal numbers, and most others have others, so most keys are told
 /// apart, and put in order, by one look.
 #[derive(Clone, Copy, PartialEq, Eq, PartialOrd, Ord)]
 pub(crate) struct Hashed<K> {

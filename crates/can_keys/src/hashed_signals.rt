@@ -29,7 +29,7 @@ impl<'a> Model for HashedSignals<'a> {
     ghost invariant = { λ names. All (λ hashed. hashed.hash ≡ hashed_bytes hashed.key.0 hashed.key.1.now) names.keys };
 }
 
-// The signal behind its number.
+// The signal after its number.
 fn hashed<'a>(key: (u32, &'a [u8])) -> Hashed<(u32, &'a [u8])>
     ensures number { result.key.0 ≡ key.entry.0 }
     ensures name { result.key.1.now ≡ key.entry.1.now }
@@ -41,7 +41,7 @@ fn hashed<'a>(key: (u32, &'a [u8])) -> Hashed<(u32, &'a [u8])>
     }
 }
 
-// The signals behind their numbers.
+// The signals after their numbers.
 fn hashed_all<'a>(
     alloc: Global,
     signals: &[(u32, &'a [u8])],

@@ -9,7 +9,7 @@ use dbc_values::Memory;
 use std::alloc::Global;
 use std::marker::Model;
 
-/// Whole numbers that were added, in order. The first few are looked through, and take no memory of their own; those behind
+/// Whole numbers that were added, in order. The first few are looked through, and take no memory of their own; those after
 /// them are in a set.
 #[derive(Drop)]
 pub struct Integers {

@@ -21,9 +21,9 @@ fn hashed_words(bytes: &[u8]) -> u64
 {
     let mut hash = 0;
     let mut rest = bytes;
-    'words: while let Some((word, behind)) = rest.split_first_chunk::<8>() {
+    'words: while let Some((word, after)) = rest.split_first_chunk::<8>() {
         hash = mixed_word(hash, word);
-        rest = behind;
+        rest = after;
     }
     hash
 }

@@ -28,7 +28,7 @@ impl<'a> Model for Names<'a> {
     ghost invariant = { λ names. All (λ hashed. hashed.hash ≡ hashed_bytes 0 hashed.key.now) names.keys };
 }
 
-// The name behind its number.
+// The name after its number.
 fn hashed(name: &[u8]) -> Hashed<&[u8]>
     ensures key { result.key.now ≡ name.now }
     ensures hash { result.hash ≡ hashed_bytes 0 name.now }
@@ -39,7 +39,7 @@ fn hashed(name: &[u8]) -> Hashed<&[u8]>
     }
 }
 
-// The names behind their numbers.
+// The names after their numbers.
 fn hashed_all<'a>(alloc: Global, names: &[&'a [u8]]) -> Result<Vec<Hashed<&'a [u8]>>, Memory>
     ensures keys { IfOk result (λ keys. map (λ hashed. hashed.key.now) keys.items ≡ map (λ name. name.now) names.now) }
     ensures hashes { IfOk result (λ keys. All (λ hashed. hashed.hash ≡ hashed_bytes 0 hashed.key.now) keys.items) }

@@ -67,7 +67,7 @@ fn in_order<'a>(alloc: Global, signals: &[(u32, &'a [u8])]) -> Result<Vec<Number
     Ok(ordered)
 }
 
-// Whether the number of each signal is another one than that of the signal so far behind it.
+// Whether the number of each signal is another one than that of the signal so far after it.
 fn differ_after(signals: &[Numbered<'_>], distance: usize) -> bool
     ensures { IsTrue result ↔ DifferAfter distance signals.now }
 {

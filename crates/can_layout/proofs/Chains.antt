@@ -22,7 +22,7 @@ use Rattle.can_mux.specs.declared.walk.Walk.TheVariants.{Chain, Absent, Loop}
 use Rattle.can_mux.proofs.WalkSteps.{walk_step}
 use Rattle.can_mux.proofs.WalkLaws.{further}
 
--- a question to ways up: only a chain passes, and one that begins with a link where the link does and the way behind it
+-- a question to ways up: only a chain passes, and one that begins with a link where the link does and the way after it
 pub record IsAsked (asked : Walk → Bool) (met : Link → Bool) : Type 0 where
   pub top : asked (Chain []) ≡ true
   pub missing : asked (Absent true) ≡ false

@@ -36,7 +36,7 @@ module _ (order : EntryOrder) (entries : List Entry) (raw : ℤ) (are : are_in_o
       ⊎_elim
       (λ before. precedes-trans order (get_or entries i d).number (get_or entries j d).number raw
       (earlier_precedes order entries i j d are before below) less)
-      (λ behind. let same : i ≡ j = omega arith in ap (λ k. precedes order (get_or entries k d).number raw) same ∙ less)
+      (λ after. let same : i ≡ j = omega arith in ap (λ k. precedes order (get_or entries k d).number raw) same ∙ less)
       (cases_lt i j)
 
   -- all entries up to a place precede the raw value
@@ -55,20 +55,20 @@ module _ (order : EntryOrder) (entries : List Entry) (raw : ℤ) (are : are_in_o
     module _ (d : Entry) (below : place < length entries) (least : precedes order (get_or entries place d).number raw ≡ false)
         (other : int_eq (get_or entries place d).number raw ≡ false) where
       later : (k : ℕ) (e : Entry) → place < k → k < length entries → int_eq (get_or entries k e).number raw ≡ false
-      later k e behind within =
+      later k e after within =
           let first : get_or entries place e ≡ get_or entries place d = get_or_default entries place e d below in
           let above : precedes order raw (get_or entries place d).number ≡ true =
           precedes_back order (get_or entries place d).number raw least other in
           precedes-differs_back order raw (get_or entries k e).number
           (precedes-trans order raw (get_or entries place e).number (get_or entries k e).number
           (ap (λ (entry : Entry). precedes order raw entry.number) first ∙ above)
-          (earlier_precedes order entries place k e are behind within))
+          (earlier_precedes order entries place k e are after within))
 
       pub none_there : first_entry raw entries ≡ None
       none_there =
           find_none (λ entry. int_eq entry.number raw) entries (λ k e within. ⊎_elim
           (λ before. others k e (omega arith) before)
-          (λ behind. ⊎_elim
+          (λ after. ⊎_elim
           (λ same. ap (λ i. int_eq (get_or entries i e).number raw) same
           ∙ ap (λ (entry : Entry). int_eq entry.number raw) (get_or_default entries place e d below) ∙ other)
           (λ differ. later k e (omega arith) within) (cases_eq k place)) (cases_lt k place))

@@ -39,7 +39,7 @@ pub longest_of_other : {X Y : Type 0} (told : ℕ → X) (other : ℕ → Y) (fr
 longest_of_other told other from back agree again count place end longest = record {
   run = record {
     some = longest.run.some;
-    same = λ k behind before. agree k ∙ ap from (longest.run.same k behind before) ∙ sym (agree place);
+    same = λ k after before. agree k ∙ ap from (longest.run.same k after before) ∙ sym (agree place);
   };
   within = longest.within;
   last = λ less is. longest.last less (again end ∙ ap back is ∙ sym (again place));
@@ -123,7 +123,7 @@ pub longest_later : {X : Type 0} (told : ℕ → X) (count first end place : ℕ
 longest_later told count first end place longest from below = record {
   run = record {
     some = below;
-    same = λ k behind before. longest.run.same k (omega (arith, from, behind)) before ∙ sym (longest.run.same place from below);
+    same = λ k after before. longest.run.same k (omega (arith, from, after)) before ∙ sym (longest.run.same place from below);
   };
   within = longest.within;
   last = λ less is. longest.last less (is ∙ longest.run.same place from below);

@@ -93,7 +93,7 @@ impl Decoder {
         }
     }
 
-    /// What is written behind a number: a blank and the unit, where there is one.
+    /// What is written after a number: a blank and the unit, where there is one.
     pub fn unit_text(&self) -> &ReadyText
         ensures { result.now ≡ unit_text self.now.unit }
     {
@@ -120,7 +120,7 @@ impl Decoder {
         }
     }
 
-    /// The raw value in data: in two's complement where the signal is signed. Bits behind the end of the data are 0.
+    /// The raw value in data: in two's complement where the signal is signed. Bits after the end of the data are 0.
     pub fn raw_value(&self, bytes: &[u8]) -> i128
         ensures value { result ≡ raw_value bytes.now self.now.signed self.now.bits }
         ensures in_range { unsigned_abs result ≤ 2 ^ self.now.scale.length }

@@ -612,7 +612,7 @@ impl Plan {
         }
     }
 
-    /// The raw bits of the signal at a place, without sign, and 0 where it is refused. Bits behind the end of the data
+    /// The raw bits of the signal at a place, without sign, and 0 where it is refused. Bits after the end of the data
     /// are 0.
     pub fn raw(&self, signal: usize, bytes: &[u8]) -> u64
         requires { signal < length self.now.rows }
@@ -625,7 +625,7 @@ impl Plan {
     }
 
     /// The raw value of the signal at a place: in two's complement where it is signed, and 0 where it is refused. Bits
-    /// behind the end of the data are 0.
+    /// after the end of the data are 0.
     pub fn raw_value(&self, signal: usize, bytes: &[u8]) -> i128
         requires { signal < length self.now.rows }
         ensures { result ≡ raw_value_at bytes.now (slice_get self.now.rows signal) }

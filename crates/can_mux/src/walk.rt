@@ -31,7 +31,7 @@ pub fn above_at<'a>(aboves: &'a [MuxParent], place: usize) -> Option<&'a MuxPare
     aboves.get(place)
 }
 
-// The way behind these links comes to a signal whose switch is not there.
+// The way after these links comes to a signal whose switch is not there.
 fn absent(links: &List<Link>) -> Walk
     ensures { result ≡ Absent (length links.now == 0) }
 {

@@ -1,4 +1,4 @@
--- Fields that lie one behind the other share no position, so signals that lie there don't overlap.
+-- Fields that lie one after the other share no position, so signals that lie there don't overlap.
 use Rattle.std.proofs.Common.{◌≡◌, ℕ, zero, suc, ◌+◌, ◌<◌, ◌≤◌, Bool, true, false, ◌&&◌, ◌||◌, eqb, List, [], ◌∷◌, ◌++◌, length}
 use Rattle.std.proofs.Common.{arith, refl, ap, subst, ◌∙◌, sym, ⊎_elim, if◌then◌else◌, leb}
 use Rattle.std.specs.Bool.{beq}

@@ -11,8 +11,8 @@ use Rattle.can_bits.specs.Bits.{has_position}
 use Rattle.can_overlap.specs.Occupancy.{is_marked, IsOccupancy}
 use Rattle.can_overlap.specs.declared.places.Places.{Places}
 
-is_behind : (n m : ℕ) → m ≤ n → ltb n m ≡ false
-is_behind n m h = grind (arith, common_steps)
+is_after : (n m : ℕ) → m ≤ n → ltb n m ≡ false
+is_after n m h = grind (arith, common_steps)
 
 -- a row is marked only by a field that has the position, and those rows are emptied
 pub none_left : (fields : List Field) (rows : List Places) (d : Field) → IsOccupancy fields rows → (position other : ℕ)
@@ -29,5 +29,5 @@ none_left fields rows d marked position other =
           is ∙ and-false (ltb other (length fields)))
     ] refl)
     (λ (h : length fields ≤ other). ap (λ b. b && not (list_any has fields)) (marked position other d
-    ∙ ap (λ b. b && has (get_or fields other d)) (is_behind other (length fields) h)))
+    ∙ ap (λ b. b && has (get_or fields other d)) (is_after other (length fields) h)))
     (cases_lt other (length fields))

@@ -9,10 +9,10 @@ use Rattle.can_mux.specs.declared.walk.Walk.TheVariants.{Chain, Absent, Loop}
 use Rattle.can_overlap.specs.Overlaps.{together}
 use Rattle.can_overlap.specs.MuxPaths.{chain_if, goes_if, goes_at}
 
--- the way a places behind the first of some
-pub goes_behind : (links : List Link) (walks : List Walk) (from a : ℕ) (d : Walk) → from + a < length walks
+-- the way a places after the first of some
+pub goes_after : (links : List Link) (walks : List Walk) (from a : ℕ) (d : Walk) → from + a < length walks
     → goes_at links walks (from + a) ≡ together (Chain links) (get_or (drop from walks) a d)
-goes_behind links walks from a d h =
+goes_after links walks from a d h =
     ap (goes_if links) (slice_get-get_or walks (from + a) d h) ∙ ap (together (Chain links)) (sym (get_or-drop from walks a d))
 
 abbrev links_if : List Link → Option (List Link) → List Link

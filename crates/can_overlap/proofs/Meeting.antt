@@ -64,11 +64,11 @@ module _ (first : ℕ) (chain : List Link) (words : List ℕ) (from : ℕ) (late
   all_met n h = let e : length (enumerate_from from later) ≡ length later = length-enumerate_from from later in
       take_all n (enumerate_from from later) (omega arith)
 
-  -- no place of the set is behind
+  -- no place of the set is after
   pub none_behind : (found : List Pair) (next : ℕ) → from + length later ≤ next → ((place : ℕ) → from ≤ place → place < next
       → has words place ≡ false)
       → found ≡ found ++ met_pairs first chain words from later
-  none_behind found next behind nothing =
+  none_behind found next after nothing =
       none_met found (length later) (0, Loop) (λ k low high. nothing (from + k) (omega arith) (omega arith))
       ∙ ap (λ ys. found ++ flat_map (met_pair first chain words) ys) (all_met (length later) (omega arith))
 

@@ -25,8 +25,8 @@ before x y h = lt-leb (max x.first y.first) (min x.last y.last) (min_below x.fir
 min_below_first : (a b c d : ℕ) → d < a → min c d < max a b
 min_below_first a b c d h = grind (arith, common_steps)
 
-behind : (x y : Range) → y.last < x.first → have_common x y ≡ false
-behind x y h = lt-leb (max x.first y.first) (min x.last y.last) (min_below_first x.first y.first x.last y.last h)
+after : (x y : Range) → y.last < x.first → have_common x y ≡ false
+after x y h = lt-leb (max x.first y.first) (min x.last y.last) (min_below_first x.first y.first x.last y.last h)
 
 min_empty : (a b c d : ℕ) → c < a → min c d < max a b
 min_empty a b c d h = grind (arith, common_steps)
@@ -63,7 +63,7 @@ without_second : (xs : List Range) (y : Range) (ys : List Range) → All (λ x. 
     ≡ ranges_meet xs ys
 without_second [] y ys all = refl
 without_second (x ∷ xs) y ys all =
-    rw (behind x y (All-head (λ x. y.last < x.first) x xs all), without_second xs y ys (All-tail (λ x. y.last < x.first) x xs all))
+    rw (after x y (All-head (λ x. y.last < x.first) x xs all), without_second xs y ys (All-tail (λ x. y.last < x.first) x xs all))
     refl
 
 pub second_aside : (x : Range) (xs : List Range) (y : Range) (ys : List Range) → IsOrdered (x ∷ xs) → y.last < x.first

@@ -1,11 +1,11 @@
--- Fields that lie one behind the other, as their beginnings and ends tell.
+-- Fields that lie one after the other, as their beginnings and ends tell.
 use Rattle.std.specs.Prelude.{ℕ, ◌&&◌, ◌||◌, nat_le, Bool, true, List, [], ◌∷◌, length}
 use Rattle.std.specs.Bool.{beq}
 use Rattle.std.specs.List.{list_all}
 use Rattle.can_bits.specs.declared.field.Field.{Field}
 use Rattle.can_bits.specs.Steps.{passed_at}
 
--- in the order of both, no bit of the one stands behind the first of the other
+-- in the order of both, no bit of the one stands after the first of the other
 abbrev pub ends_before : Field → Field → Bool
 ends_before a b = nat_le (passed_at a a.length) (passed_at b 0)
 

@@ -54,7 +54,7 @@ fn all_apart(fields: &[Field]) -> bool
     true
 }
 
-/// Whether the fields of a message lie one behind the other, as most do: no signals overlap then, whatever stands above them. They
+/// Whether the fields of a message lie one after the other, as most do: no signals overlap then, whatever stands above them. They
 /// are compared each with each, and so no more than 64 are: of more it says that they don't.
 pub fn are_disjoint_in_sequence(fields: &[Field]) -> bool
     ensures exact { result ≡ seen_apart fields.now }

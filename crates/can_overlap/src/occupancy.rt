@@ -70,7 +70,7 @@ impl<'a> Model for Marked<'a> {
 }
 
 impl<'a> Marked<'a> {
-    /// Adds the signal at a place with each later one that has a bit in common with it, in the message or behind its end, and can
+    /// Adds the signal at a place with each later one that has a bit in common with it, in the message or after its end, and can
     /// be there together with it.
     pub fn push_pairs(&self, found: &mut Vec<Pair>, first: usize) -> Result<(), Memory>
         requires { first < length self.now.fields }

@@ -1,4 +1,4 @@
-//! Two signals behind the end of a message of one byte, and multiplexed signals, by hand.
+//! Two signals after the end of a message of one byte, and multiplexed signals, by hand.
 ghost use Rattle.std.specs.Prelude.{◌≡◌, ◌≤◌, length};
 
 use crate::agreeing::together;
@@ -57,7 +57,7 @@ fn has_both(rows: &[Places], position: usize) -> bool {
 }
 
 #[test]
-fn table_behind_the_end(rt: HostRuntime) -> Result<(), Fail> {
+fn table_after_the_end(rt: HostRuntime) -> Result<(), Fail> {
     let rows = rows_of(rt.alloc(), &[intel(8, 8), intel(12, 8)])?;
     for position in 0..rows.len() {
         let inside = 12 <= position && position < 16;
@@ -81,7 +81,7 @@ fn pairs_of(alloc: Global, fields: &[Field], walks: &[Walk]) -> Result<Vec<Pair>
 }
 
 #[test]
-fn behind_the_end(rt: HostRuntime) -> Result<(), Fail> {
+fn after_the_end(rt: HostRuntime) -> Result<(), Fail> {
     let fields = [intel(8, 8), intel(12, 8)];
     let walks = [there(rt.alloc()), there(rt.alloc())];
     let found = pairs_of(rt.alloc(), &fields, &walks)?;
@@ -179,9 +179,9 @@ fn ranges_in_any_order(rt: HostRuntime) -> Result<(), Fail> {
     Ok(())
 }
 
-// Four signals of 16 bits, one behind the other in either order of bytes, and one that shares a bit with the first.
+// Four signals of 16 bits, one after the other in either order of bytes, and one that shares a bit with the first.
 #[test]
-fn signals_behind_each_other(rt: HostRuntime) -> Result<(), Fail> {
+fn signals_after_each_other(rt: HostRuntime) -> Result<(), Fail> {
     let motorola = |start| Field {
         start,
         length: 16,

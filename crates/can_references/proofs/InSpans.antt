@@ -54,9 +54,9 @@ none_outside signal halves entries are has = none_out signal (span_of halves) en
 pub of_halves : (span : Span) (first second : Spans) (entries front back : List Entry) → entries ≡ front ++ back
     → AreSpans first front → AreSpans second back → ((number : ℤ) → Holds (span_of first) number → Holds span number)
     → ((number : ℤ) → Holds (span_of second) number → Holds span number) → All (IsWithin span) entries
-of_halves span first second entries front back is ahead behind holds_first holds_second =
+of_halves span first second entries front back is ahead after holds_first holds_second =
     All-same (IsWithin span) entries (front ++ back) is (All-append (IsWithin span) front back
     (All-weaker (IsWithin (span_of first)) (IsWithin span) (λ (entry : Entry) within. holds_first entry.number within) front
     (all_within first front ahead))
     (All-weaker (IsWithin (span_of second)) (IsWithin span) (λ (entry : Entry) within. holds_second entry.number within) back
-    (all_within second back behind)))
+    (all_within second back after)))

@@ -151,7 +151,7 @@ kept_same test rows i row by_key within is are drops number name =
     ∙ ap (find (is_of number name)) (sym (kept_one test rows i row false within is drops
     ∙ append-nil (filter (is_kept test) (take i rows))))
 
--- ---- a row behind its key
+-- ---- a row after its key
 
 abbrev pub key_is : ℕ → List ℕ → ℕ × Bor (List ℕ) → Bool
 key_is number name key = is_eq (key_order (key.0, key.1.now) (number, name))

@@ -1,4 +1,4 @@
--- One list of diagnostics pushed behind another.
+-- One list of diagnostics pushed after another.
 use Rattle.std.proofs.Common.{◌≡◌, List, ◌++◌, ap, ◌∙◌, append_assoc}
 use Rattle.can_diagnostics.specs.declared.diagnostic.Diagnostic.{Diagnostic}
 

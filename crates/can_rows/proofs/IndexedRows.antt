@@ -87,7 +87,7 @@ nothing_before (byte ∷ name) = refl
 below_mix : (key : ℕ × List ℕ) (mix : ℕ) → is_lt (key_order key (mix, [])) ≡ nat_lt key.0 mix
 below_mix key mix = grind (arith, nothing_before key.1)
 
--- no number that is lower comes behind one that is not
+-- no number that is lower comes after one that is not
 pub parted_by_mix : {R : Type 0} (signal_of : R → List ℕ) (mix : ℕ) (entries : List (Entry R)) → AreInOrder signal_of entries
     → IsPartitionedBy (λ entry. nat_lt entry.mix mix) entries
 parted_by_mix signal_of mix entries ordered i j d le below less =

@@ -100,12 +100,12 @@ less_before Greater Less rises e = absurd (omega arith)
 less_before Greater Equal rises e = e
 less_before Greater Greater rises e = e
 
-other_behind : (r s : Ordering) → ordering_index r ≤ ordering_index s → is_lt r ≡ false → is_eq r ≡ false → is_eq s ≡ false
-other_behind Less s rises least other = absurd (true≢false least)
-other_behind Equal s rises least other = absurd (true≢false other)
-other_behind Greater Less rises least other = refl
-other_behind Greater Equal rises least other = absurd (omega arith)
-other_behind Greater Greater rises least other = refl
+other_after : (r s : Ordering) → ordering_index r ≤ ordering_index s → is_lt r ≡ false → is_eq r ≡ false → is_eq s ≡ false
+other_after Less s rises least other = absurd (true≢false least)
+other_after Equal s rises least other = absurd (true≢false other)
+other_after Greater Less rises least other = refl
+other_after Greater Equal rises least other = absurd (omega arith)
+other_after Greater Greater rises least other = refl
 
 module _ {X K : Type 0} {R : K → K → Ordering} (o : IsTotalOrder R) (key : X → K) where
   pub tied : (t : K) (x : X) → is_eq (R (key x) t) ≡ true → (y : X)
@@ -142,6 +142,6 @@ module _ {X K : Type 0} {R : K → K → Ordering} (o : IsTotalOrder R) (key : X
       none_there d below least other =
           find_none (λ y. is_eq (R (key y) t)) xs (λ k e within. ⊎_elim
           (λ less. before k e (omega arith) less)
-          (λ behind. let same : get_or xs i e ≡ get_or xs i d = get_or_default xs i e d below in
-          other_behind (R (key (get_or xs i e)) t) (R (key (get_or xs k e)) t) (rises i k e behind within)
+          (λ after. let same : get_or xs i e ≡ get_or xs i d = get_or_default xs i e d below in
+          other_after (R (key (get_or xs i e)) t) (R (key (get_or xs k e)) t) (rises i k e after within)
           (ap (λ y. is_lt (R (key y) t)) same ∙ least) (ap (λ y. is_eq (R (key y) t)) same ∙ other)) (cases_lt k i))

@@ -87,7 +87,7 @@ value_or_default (Some row) default = Some row.value
 value_or_default None (Some default) = Some default.value
 value_or_default None None = None
 
--- the whole number that a decimal is; its normal form has digits behind the point, or is negative, where it is none
+-- the whole number that a decimal is; its normal form has digits after the point, or is negative, where it is none
 abbrev pub index_at : ℕ → ℤ → Option ℕ
 index_at mantissa (pos zeros) = Some (mantissa * 10 ^ zeros)
 index_at mantissa (negsuc places) = None

@@ -16,7 +16,7 @@ use Rattle.can_rows.specs.Mixes.{key_mix}
 use Rattle.can_rows.specs.Groups.{gives_format, format_default, format_definition}
 use denote.Ref.{Bor}
 
--- a key behind its number, as an entry has it
+-- a key after its number, as an entry has it
 abbrev pub key_of : {R : Type 0} → (R → List ℕ) → Entry R → ℕ × List ℕ
 key_of signal_of entry = (entry.mix, signal_of entry.row.now)
 

@@ -29,7 +29,7 @@ pub fn first_format_row(rows: &[AttrRow], number: u32) -> Option<&AttrRow>
     None
 }
 
-/// The number and that many zeros behind it, where a list may have that place.
+/// The number and that many zeros after it, where a list may have that place.
 fn place(number: u128, zeros: u32) -> Option<usize>
     ensures { MatchOption result (2 ^ 64 ≤ number * 10 ^ zeros) (λ place. place ≡ number * 10 ^ zeros) }
 {
@@ -40,7 +40,7 @@ fn place(number: u128, zeros: u32) -> Option<usize>
     usize::try_from(product).ok()
 }
 
-/// The text at the place that a number and that many zeros behind it are.
+/// The text at the place that a number and that many zeros after it are.
 fn text_at(texts: &[Text], number: u128, zeros: u32) -> Option<&[u8]>
     ensures { option_map (λ text. text.now) result ≡ slice_get texts.now (number * 10 ^ zeros) }
 {

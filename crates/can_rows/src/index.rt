@@ -19,7 +19,7 @@ const FACTOR: u32 = 0x9E37_79B1;
 
 const ABOVE_NAMES: u64 = 0x1_0000_0000;
 
-/// A row behind a number that is made of its key. Most keys are put in order by their numbers alone.
+/// A row after a number that is made of its key. Most keys are put in order by their numbers alone.
 #[derive(Drop)]
 struct Entry<'a, R: Keyed> {
     mix: u64,

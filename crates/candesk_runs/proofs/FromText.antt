@@ -91,12 +91,12 @@ module _ (text lines : List ℕ) (database : Database) (starts : Starts) (read :
   locations_broke broke = (database, starts, read, subst (Broke old new) is broke)
 
 -- entries after the names of the columns
-pub behind_header : (bus : Bus) (before after : Unread) (old begun new : Written) (result : Result ℕ RunFault)
+pub after_header : (bus : Bus) (before after : Unread) (old begun new : Written) (result : Result ℕ RunFault)
     → Wrote old begun header_text → WritesRows bus before after begun new result → WritesCsv bus before after old new result
-behind_header bus before after old begun new (Ok count) wrote rows = (begun, wrote, rows)
-behind_header bus before after old begun new (Err (run.Stream fault)) wrote rows = inr (begun, wrote, rows)
-behind_header bus before after old begun new (Err (run.Read fault)) wrote rows = rows
-behind_header bus before after old begun new (Err run.Memory) wrote rows = absurd rows
+after_header bus before after old begun new (Ok count) wrote rows = (begun, wrote, rows)
+after_header bus before after old begun new (Err (run.Stream fault)) wrote rows = inr (begun, wrote, rows)
+after_header bus before after old begun new (Err (run.Read fault)) wrote rows = rows
+after_header bus before after old begun new (Err run.Memory) wrote rows = absurd rows
 
 -- a refusal for another cause than want of memory is for the first fault
 pub first_fault_of : (text : List ℕ) (fault : ReadFault) → IsRead text (Err fault) → (fault.cause ≡ causes.Memory → ⊥)

@@ -38,11 +38,11 @@ module _ {W : Type 0} (written : W → Written) where
     q.1 ∙ ap (λ x. verdict_then x (verdict_of ys)) p.1 ∙ both_verdicts v xs ys,
   )
 
-  pub stopped_behind : (a b c : Out W) (v w : Verdict) (why : Stop) (xs ys : List Diagnostic) → TookLines written a b v w xs
+  pub stopped_after : (a b c : Out W) (v w : Verdict) (why : Stop) (xs ys : List Diagnostic) → TookLines written a b v w xs
       → StoppedLines written b c why ys → StoppedLines written a c why (xs ++ ys)
-  stopped_behind a b c v w stops.Write xs ys p q = subst (Lost written a c) (sym (both_texts xs ys))
+  stopped_after a b c v w stops.Write xs ys p q = subst (Lost written a c) (sym (both_texts xs ys))
       (Lost-behind written a b c (found_text xs) (found_text ys) p.0 q)
-  stopped_behind a b c v w stops.Memory xs ys p (first, later, is, took) = (
+  stopped_after a b c v w stops.Memory xs ys p (first, later, is, took) = (
     xs ++ first,
     later,
     ap (λ (t : List Diagnostic). xs ++ t) is ∙ sym (append_assoc xs first later),

@@ -51,7 +51,7 @@ fn verdict_then(first: Verdict, later: Verdict) -> Verdict
 
 impl<'w, W: Sink> Report for Lines<'w, W> {
     ghost use Rattle.candesk_runs.specs.Checking.{TookLines, StoppedLines};
-    ghost use Rattle.candesk_runs.specs.SentLines.{took_none, took_then, stopped_behind, stopped_before, refused};
+    ghost use Rattle.candesk_runs.specs.SentLines.{took_none, took_then, stopped_after, stopped_before, refused};
 
     ghost Took = { λ old new found. TookLines W.written old.out new.out old.verdict new.verdict found };
 
@@ -70,7 +70,7 @@ impl<'w, W: Sink> Report for Lines<'w, W> {
     ghost took_then = { λ old mid new xs ys p q. took_then W.written old.out mid.out new.out old.verdict mid.verdict new.verdict
         xs ys p q };
 
-    ghost stopped_behind = { λ old mid new why xs ys p q. stopped_behind W.written old.out mid.out new.out old.verdict mid.verdict
+    ghost stopped_after = { λ old mid new why xs ys p q. stopped_after W.written old.out mid.out new.out old.verdict mid.verdict
         why xs ys p q };
 
     ghost stopped_before = { λ old new why xs ys p. stopped_before W.written old.out new.out why xs ys p };

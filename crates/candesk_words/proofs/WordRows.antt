@@ -60,9 +60,9 @@ version : fault_of command_line (codes "-V" ∷ []) ≡ DisplayVersion ∷ []
 unfolding clap_on_literals words_on_literals
 version = refl
 
-no-version-behind : fault_of command_line (codes "decode" ∷ codes "-V" ∷ codes "a" ∷ []) ≡ UnknownArgument ∷ []
+no-version-after : fault_of command_line (codes "decode" ∷ codes "-V" ∷ codes "a" ∷ []) ≡ UnknownArgument ∷ []
 unfolding clap_on_literals words_on_literals
-no-version-behind = refl
+no-version-after = refl
 
 no-file : fault_of command_line (codes "print" ∷ []) ≡ MissingRequiredArgument ∷ []
 unfolding clap_on_literals words_on_literals

@@ -11,7 +11,7 @@ use Rattle.std.proofs.lemmas.Fmt.{decimal_is_IsNumeral}
 use Rattle.csv.specs.Writing.{needs_byte, needs_quotes, field_text, default_writer}
 use Rattle.dbc_records.specs.Layout.{sign_text}
 use Rattle.can_decode.specs.Values.{scaled_text}
-use Rattle.can_decode.specs.ScaledTexts.{behind_point, IsScaledText}
+use Rattle.can_decode.specs.ScaledTexts.{after_point, IsScaledText}
 use Rattle.can_decode.proofs.ScaledTexts.{scaled_text_is}
 use Rattle.csv_lines.specs.Prepared.{further_field}
 use Rattle.csv_lines.proofs.Fields.{as_it_is}
@@ -48,15 +48,15 @@ unfolding sign_text
 plain_sign true = refl
 plain_sign false = refl
 
-plain_fraction : (digits : List ℕ) → AllDigits 10 digits → needs_quotes default_writer (behind_point digits) ≡ false
+plain_fraction : (digits : List ℕ) → AllDigits 10 digits → needs_quotes default_writer (after_point digits) ≡ false
 plain_fraction [] all = refl
 plain_fraction (d ∷ digits) all = plain_digits (d ∷ digits) all
 
 plain_scaled : (value : ℤ) (places : ℕ) (text : List ℕ) → IsScaledText value places text → needs_quotes default_writer text ≡ false
 plain_scaled value places text is =
     subst (λ (text : List ℕ). needs_quotes default_writer text ≡ false) (sym is.parts.is)
-    (plain_both (sign_text is.plain.negative) (is.plain.whole ++ behind_point is.plain.fraction) (plain_sign is.plain.negative)
-    (plain_both is.plain.whole (behind_point is.plain.fraction) (plain_digits is.plain.whole is.parts.whole.1)
+    (plain_both (sign_text is.plain.negative) (is.plain.whole ++ after_point is.plain.fraction) (plain_sign is.plain.negative)
+    (plain_both is.plain.whole (after_point is.plain.fraction) (plain_digits is.plain.whole is.parts.whole.1)
     (plain_fraction is.plain.fraction is.parts.fraction)))
 
 pub decimal_field : (old mid new : List ℕ) (n : ℕ) → n < 2 ^ 64 → new ≡ mid ++ decimal n → mid ≡ old ++ codes ","

@@ -16,7 +16,7 @@ use Rattle.json_lines.specs.Signals.{value_text}
 use Rattle.json_lines.specs.Lines.{time_of, interface_of}
 use Rattle.csv_lines.specs.Rows.{told_fields, reading_fields, said_fields, came_fields, signal_fields, signal_rows, message_rows}
 use Rattle.csv_lines.specs.Rows.{rows_text}
-use Rattle.csv_lines.specs.Prepared.{further_field, body_text, rest_text, said_text, value_label, row_label, behind_label}
+use Rattle.csv_lines.specs.Prepared.{further_field, body_text, rest_text, said_text, value_label, row_label, after_label}
 use Rattle.csv_lines.proofs.Fields.{one_field}
 use Rattle.csv_lines.proofs.Pushing.{pushed_then}
 
@@ -35,7 +35,7 @@ came_pushed old first second new time interface number last middle begun =
 
 -- the label of a signal, and what follows it
 label_then : (name bytes : List ℕ) (reading : Reading)
-    → (further_field name ++ value_label reading) ++ behind_label bytes reading ≡ rest_text (name ∷ reading_fields bytes reading)
+    → (further_field name ++ value_label reading) ++ after_label bytes reading ≡ rest_text (name ∷ reading_fields bytes reading)
 unfolding fields_text
 label_then name bytes (Refused cause) =
     append-nil (further_field name ++ value_label (Refused cause))
@@ -50,26 +50,26 @@ label_then name bytes (Read decoder) =
     ∙ ap (λ (text : List ℕ). 44 ∷ (field ++ (44 ∷ text))) (sym (append_assoc value told (codes "\n")))
     ∙ ap (λ (text : List ℕ). 44 ∷ text) (sym (append_assoc field (44 ∷ (value ++ told)) (codes "\n")))
 
-label_text : (message bytes : List ℕ) (row : Row) → row_label message row ++ behind_label bytes row.reading
+label_text : (message bytes : List ℕ) (row : Row) → row_label message row ++ after_label bytes row.reading
     ≡ said_text message bytes row
 unfolding fields_text
 label_text message bytes row =
     let field = field_text default_writer message in
     let rest = fields_text default_writer (row.name ∷ reading_fields bytes row.reading) in
-    append_assoc (44 ∷ field) (further_field row.name ++ value_label row.reading) (behind_label bytes row.reading)
+    append_assoc (44 ∷ field) (further_field row.name ++ value_label row.reading) (after_label bytes row.reading)
     ∙ ap (λ (text : List ℕ). 44 ∷ (field ++ text)) (label_then row.name bytes row.reading)
     ∙ ap (λ (text : List ℕ). 44 ∷ text) (sym (append_assoc field rest (codes "\n")))
 
-row_pushed : (old first second new came message bytes : List ℕ) (row : Row) → new ≡ second ++ behind_label bytes row.reading
+row_pushed : (old first second new came message bytes : List ℕ) (row : Row) → new ≡ second ++ after_label bytes row.reading
     → second ≡ first ++ row_label message row → first ≡ old ++ came → new ≡ old ++ (came ++ said_text message bytes row)
 row_pushed old first second new came message bytes row last middle begun =
-    pushed_then old first new came (row_label message row ++ behind_label bytes row.reading)
-    (pushed_then first second new (row_label message row) (behind_label bytes row.reading) last middle) begun
+    pushed_then old first new came (row_label message row ++ after_label bytes row.reading)
+    (pushed_then first second new (row_label message row) (after_label bytes row.reading) last middle) begun
     ∙ ap (λ (text : List ℕ). old ++ (came ++ text)) (label_text message bytes row)
 
 -- whether or not it is the first
 pub signal_pushed : (some : Bool) (old first second new came message bytes : List ℕ) (row : Row)
-    → new ≡ second ++ behind_label bytes row.reading → second ≡ first ++ row_label message row → first ≡ old ++ came
+    → new ≡ second ++ after_label bytes row.reading → second ≡ first ++ row_label message row → first ≡ old ++ came
     → new ≡ old ++ (if some then came ++ said_text message bytes row else came ++ said_text message bytes row)
 signal_pushed true old first second new came message bytes row last middle begun =
     row_pushed old first second new came message bytes row last middle begun

@@ -52,9 +52,9 @@ row_tail (Refused cause) = []
 row_tail (Read decoder) = rest_text (text_of decoder.unit ∷ [] ∷ [])
 
 -- what stands between the label of a signal and the next row
-abbrev pub behind_label : List ℕ → Reading → List ℕ
-behind_label bytes (Refused cause) = []
-behind_label bytes (Read decoder) =
+abbrev pub after_label : List ℕ → Reading → List ℕ
+after_label bytes (Refused cause) = []
+after_label bytes (Read decoder) =
     let raw = raw_value bytes decoder.signed decoder.bits in
     field_text default_writer (value_text decoder raw) ++ rest_text (told_fields decoder (first_entry raw decoder.entries))
 

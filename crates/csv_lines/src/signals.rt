@@ -8,7 +8,7 @@ ghost use Rattle.can_decode.specs.DecodedLines.{shown_rows};
 ghost use Rattle.json_texts.specs.Texts.{text_of};
 ghost use Rattle.json_lines.specs.Signals.{value_text};
 ghost use Rattle.csv_lines.specs.Rows.{told_fields};
-ghost use Rattle.csv_lines.specs.Prepared.{rest_text, row_tail, behind_label, said_text};
+ghost use Rattle.csv_lines.specs.Prepared.{rest_text, row_tail, after_label, said_text};
 
 use crate::field::{push_decimal, push_further_text};
 use crate::plan_texts::{Columns, RowTexts};
@@ -90,14 +90,14 @@ fn push_value(
 
 // What follows the label of a signal: nothing if it can't be decoded.
 #[inline(always)]
-fn push_behind_label(
+fn push_after_label(
     text: &mut TextBuffer,
     texts: &RowTexts,
     reading: &Reading,
     bytes: &[u8],
 ) -> Result<(), Memory>
     requires { texts.now.tail ≡ row_tail reading.now }
-    ensures { OnOk result (text.new.items ≡ text.old.items ++ behind_label bytes.now reading.now) }
+    ensures { OnOk result (text.new.items ≡ text.old.items ++ after_label bytes.now reading.now) }
 {
     match reading {
         Reading::Refused(_) => Ok(()),
@@ -133,7 +133,7 @@ impl<'a, 'c> SignalText for CsvSignals<'a, 'c> {
         let texts = target.signal(place);
         push_bytes(text, self.came)?;
         texts.label.push_to(text)?;
-        push_behind_label(text, texts, &row.reading, bytes)?;
+        push_after_label(text, texts, &row.reading, bytes)?;
         Ok(())
     }
 }

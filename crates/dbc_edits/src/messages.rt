@@ -160,8 +160,8 @@ fn another_has_number(messages: &[Message], place: usize, number: u32) -> bool
     ensures { result ≡ has_number number (remove messages.now place) }
 {
     let (before, _) = messages.split_at(place);
-    let (_, behind) = messages.split_at(place + 1);
-    has_number(before, number) || has_number(behind, number)
+    let (_, after) = messages.split_at(place + 1);
+    has_number(before, number) || has_number(after, number)
 }
 
 // The message with another number.

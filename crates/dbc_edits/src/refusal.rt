@@ -10,7 +10,7 @@ use dbc_values::Memory;
 pub enum Refusal {
     /// No message stands at the place, or has the number.
     NoMessage,
-    /// The place is behind the end.
+    /// The place is after the end.
     BadPlace,
     /// The message, or no message of the number, has the signal.
     NoSignal,

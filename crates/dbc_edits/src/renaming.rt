@@ -28,8 +28,8 @@ fn another_has_signal(messages: &[Message], place: usize, number: u32, name: &[u
     ensures { result ≡ has_signal number name.now (remove messages.now place) }
 {
     let (before, _) = messages.split_at(place);
-    let (_, behind) = messages.split_at(place + 1);
-    has_signal(before, number, name) || has_signal(behind, number, name)
+    let (_, after) = messages.split_at(place + 1);
+    has_signal(before, number, name) || has_signal(after, number, name)
 }
 
 // The message with the new name of the signal of the old name.

@@ -39,7 +39,7 @@ separated-some first further (y ∷ xs) x d many is =
     let rest : take (length (y ∷ xs) - 1) xs ≡ xs = ap (λ n. take n xs) (omega arith) ∙ take-length xs in
     ap (λ z. first z ++ flat_map further (take (length (y ∷ xs) - 1) xs)) is ∙ ap (λ zs. first y ++ flat_map further zs) rest
 
--- a layout goes out behind one that was sent
+-- a layout goes out after one that was sent
 pub Sends-then : {W X E : Type 0} (written : W → Written) (a b c : Out W) (r : Result X E) (xs ys : Layout)
     → Took written a b (layout_text xs)
     → Sends written b c r (layout_text ys) → Sends written a c r (layout_text (xs ++ ys))

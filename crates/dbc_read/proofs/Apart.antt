@@ -1,4 +1,4 @@
--- The layout of each statement: what its items are, and that each stands apart from what stands behind it.
+-- The layout of each statement: what its items are, and that each stands apart from what stands after it.
 pub mod Statements
 use Rattle.std.proofs.Common.{◌≡◌, ℕ, Bool, true, false, ◌||◌, ◌&&◌, List, [], ◌∷◌, ◌++◌, append_assoc, refl, sym, subst}
 use Rattle.std.specs.Prelude.{All}
@@ -27,18 +27,18 @@ items_both (Is item ∷ xs) ys h k = (h.0, items_both xs ys h.1 k)
 
 -- ---- parts of lines
 
--- begins a line, and something that ends a word or a number has to stand behind it
+-- begins a line, and something that ends a word or a number has to stand after it
 pub record Start (layout : Layout) : Type 0 where
   pub items : AreItems layout
   pub apart : (rest : Layout) → ends_item rest ≡ true → stand_apart rest ≡ true → stand_apart (layout ++ rest) ≡ true
 
--- ends a word or a number before it, and something that does so has to stand behind it
+-- ends a word or a number before it, and something that does so has to stand after it
 pub record Middle (layout : Layout) : Type 0 where
   pub items : AreItems layout
   pub begins : (rest : Layout) → ends_item rest ≡ true → ends_item (layout ++ rest) ≡ true
   pub apart : (rest : Layout) → ends_item rest ≡ true → stand_apart rest ≡ true → stand_apart (layout ++ rest) ≡ true
 
--- ends a word or a number before it, and anything may stand behind it
+-- ends a word or a number before it, and anything may stand after it
 pub record Close (layout : Layout) : Type 0 where
   pub items : AreItems layout
   pub begins : (rest : Layout) → ends_item (layout ++ rest) ≡ true

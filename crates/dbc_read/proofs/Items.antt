@@ -92,7 +92,7 @@ ArePrinted (Tab ∷ layout) = ArePrinted layout
 ArePrinted (LineEnd ∷ layout) = ArePrinted layout
 ArePrinted (Is item ∷ layout) = Printed item × ArePrinted layout
 
--- a mark or a text ends where it ends, whatever stands behind it
+-- a mark or a text ends where it ends, whatever stands after it
 abbrev pub is_closed : Item → Bool
 is_closed (Mark mark) = true
 is_closed (Text text) = true
@@ -104,7 +104,7 @@ ends_item [] = true
 ends_item (Is item ∷ layout) = is_closed item
 ends_item (blank ∷ layout) = true
 
--- each item stands apart from what stands behind it
+-- each item stands apart from what stands after it
 abbrev pub stand_apart : Layout → Bool
 stand_apart [] = true
 stand_apart (Is item ∷ layout) = (is_closed item || ends_item layout) && stand_apart layout

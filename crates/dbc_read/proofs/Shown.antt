@@ -14,7 +14,7 @@ use Rattle.dbc_reader.proofs.Sound.{spelled_both}
 use Rattle.dbc_read.proofs.Items.{Lexeme, lexemes, HaveLexemes, Printed, IsItem, all_lexemes, Shows}
 use Rattle.dbc_read.proofs.Apart.{AreItems}
 
--- ---- tokens of some lexemes and of others behind them
+-- ---- tokens of some lexemes and of others after them
 
 pub record Apart (xs ys : List Lexeme) (tokens : List Token) : Type 0 where
   pub front : List Token
@@ -41,7 +41,7 @@ unfolding items_of
 lexemes_both xs ys = ap (flat_map lexemes) (flat_map-append item_of xs ys) ∙ flat_map-append lexemes (flat_map item_of xs)
     (flat_map item_of ys)
 
--- ---- layouts, one behind the other
+-- ---- layouts, one after the other
 
 pub shows_both : {xs ys : Layout} {ps qs : List Part} → Shows xs ps → Shows ys qs → Shows (xs ++ ys) (ps ++ qs)
 shows_both {xs} {ys} {ps} {qs} h k = record {

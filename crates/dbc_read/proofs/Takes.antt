@@ -23,7 +23,7 @@ use Rattle.dbc_reader.specs.Reading.Readers.{Reader, and_then, ◌>>=◌, value,
 use Rattle.dbc_reader.proofs.Sound.{all_then_twice}
 use Rattle.dbc_reader.proofs.Turns.{Shrinks, goes_on, ends}
 
--- ---- parts, one list of them behind the other
+-- ---- parts, one list of them after the other
 
 pub record Halves (xs ys : List Part) (tokens : List Token) : Type 0 where
   pub front : List Token
@@ -46,15 +46,15 @@ halves (x ∷ xs) ys tokens (front, rest, parts, says, others) =
 
 -- ---- readers
 
--- nothing is asked of what stands behind
+-- nothing is asked of what stands after
 abbrev pub Anything : Cut → Type 0
 Anything cut = Unit {0}
 
--- where tokens that spell these parts stand, and behind them what may stand there, this is read and those are left
+-- where tokens that spell these parts stand, and after them what may stand there, this is read and those are left
 pub record Takes {A : Type 0} (r : Reader A) (a : A) (parts : List Part) (May : Cut → Type 0) : Type 0 where
   pub takes : (tokens : List Token) (cut : Cut) → Spelled parts tokens → May cut → r (tokens ▸▸ cut) ≡ Ok (a, cut)
 
--- tokens that spell these parts may stand before what may stand behind them
+-- tokens that spell these parts may stand before what may stand after them
 pub record Allows (parts : List Part) (May Before : Cut → Type 0) : Type 0 where
   pub allows : (tokens : List Token) (cut : Cut) → Spelled parts tokens → May cut → Before (tokens ▸▸ cut)
 
@@ -78,12 +78,12 @@ takes_then {A} {B} {r} {a} {b} {xs} {ys} {May} {Before} f h allow k = record {
 pub allows_anything : {parts : List Part} {May : Cut → Type 0} → Allows parts May Anything
 allows_anything {parts} {May} = record { allows = λ tokens cut spelled may. tt }
 
--- where anything may stand behind the first
+-- where anything may stand after the first
 pub takes_next : {A B : Type 0} {r : Reader A} {a : A} {b : B} {xs ys : List Part} {May : Cut → Type 0} (f : A → Reader B)
     → Takes r a xs Anything → Takes (f a) b ys May → Takes (r >>= f) b (xs ++ ys) May
 takes_next {A} {B} {r} {a} {b} {xs} {ys} {May} f h k = takes_then f h allows_anything k
 
--- where nothing is spelled behind the first
+-- where nothing is spelled after the first
 pub takes_last : {A B : Type 0} {r : Reader A} {a : A} {b : B} {parts : List Part} {May : Cut → Type 0} (f : A → Reader B)
     → Takes r a parts May → Takes (f a) b [] Anything → Takes (r >>= f) b parts May
 takes_last {A} {B} {r} {a} {b} {parts} {May} f h k = record {
@@ -100,7 +100,7 @@ takes_as {A} {r} {a} {xs} {ys} {May} same h =
           may;
     }
 
--- where less may stand behind
+-- where less may stand after
 pub takes_where : {A : Type 0} {r : Reader A} {a : A} {parts : List Part} {May Before : Cut → Type 0} → Takes r a parts Before
     → ((cut : Cut) → May cut → Before cut) → Takes r a parts May
 takes_where {A} {r} {a} {parts} {May} {Before} h weaker =
@@ -131,7 +131,7 @@ module _ {A : Type 0} (judge : Token → Result A Cause) (a : A) (P : List ℕ �
 pub record Opens (test : Token → Bool) (passes : Bool) (parts : List Part) : Type 0 where
   pub opens : (tokens : List Token) (cut : Cut) → Spelled parts tokens → starts test (tokens ▸▸ cut) ≡ passes
 
--- the same of what stands behind
+-- the same of what stands after
 abbrev pub Stops : (Token → Bool) → Cut → Type 0
 Stops test cut = starts test cut ≡ false
 
@@ -195,7 +195,7 @@ takes_second {A} {test} {s} {a} {parts} {May} r opens h = record {
       (opens.opens tokens cut spelled) (h.takes tokens cut spelled may);
 }
 
--- where nothing is spelled, by what stands behind
+-- where nothing is spelled, by what stands after
 pub takes_none : {A : Type 0} {s : Reader A} {a : A} {May : Cut → Type 0} (test : Token → Bool) (r : Reader A)
     → ((cut : Cut) → May cut → Stops test cut) → Takes s a [] May → Takes (choose test r s) a [] May
 takes_none {A} {s} {a} {May} test r stops h = record {
@@ -205,12 +205,12 @@ takes_none {A} {s} {a} {May} test r stops h = record {
 
 -- ---- repetition
 
--- all items put behind what there is, one after another
+-- all items put after what there is, one after another
 abbrev pub all_put : {A S : Type 0} → (S → A → S) → S → List A → S
 all_put put s [] = s
 all_put put s (a ∷ more) = all_put put (put s a) more
 
--- one turn reads one item, spelled so, and puts it behind those before; behind each item may stand the next, or the end
+-- one turn reads one item, spelled so, and puts it after those before; after each item may stand the next, or the end
 module _ {A S : Type 0} (test : Token → Bool) (r : S → Reader S) (shrinks : (s : S) → Shrinks (r s)) (part : A → List Part) (put : S
     → A → S) (Fits : S → List A → Type 0) (May Last : Cut → Type 0)
     (turn : (s : S) (a : A) (more : List A) → Fits s (a ∷ more) → Takes (r s) (put s a) (part a) May)

@@ -21,7 +21,7 @@ PrintedUniquely {A} IsSuch layout form =
 abbrev pub IsTiming : Option (Decimal × Decimal × Decimal) → Type 0
 IsTiming numbers = IfSome (timing_of (numbers ∷ [])) IsBitTiming × IsTrue (timing_fits (timing_of (numbers ∷ [])))
 
--- a text that ends in a line feed, and another behind it, have the tokens of both
+-- a text that ends in a line feed, and another after it, have the tokens of both
 abbrev pub LinesJoin : Type 0
 LinesJoin =
     (line at after : ℕ) (text more : List ℕ) (tokens : List Token) (cut : Cut)

@@ -88,7 +88,7 @@ pub fn kept_line()
     ensures { PrintedUniquely IsKept kept_layout (λ statement. form (OfKept statement)) }
 {}
 
-/// A text that ends in a line feed, and another behind it, have the tokens of both.
+/// A text that ends in a line feed, and another after it, have the tokens of both.
 pub fn lines_join()
     ensures { LinesJoin }
 {}

@@ -43,7 +43,7 @@ guarded : (m e : Bool) (x y : Left) (q : Pattern) → cond m (first_of (left_the
 guarded true e x y q = refl
 guarded false e x y q = refl
 
--- what a token leaves of two patterns, one behind the other
+-- what a token leaves of two patterns, one after the other
 pub after_then : (p q : Pattern) (t : Token) (seen : Seen) → after (p then q) t seen ≡ first_of (left_then (after p t seen) q)
     (cond (may_end p) (after q t seen) None)
 after_then Done q t seen = refl
@@ -86,7 +86,7 @@ abbrev pub Follows : {A : Type 0} → (A → Seen → Type 0) → Result (A × C
 Follows post (Ok x) go total = (seen : Seen) × post x.0 seen × (total ≡ go seen x.1)
 Follows post (Err e) go total = total ≡ Some e
 
--- the reader and the pattern agree, where this is seen before; what is read and what is seen behind it are so
+-- the reader and the pattern agree, where this is seen before; what is read and what is seen after it are so
 pub record Agrees {A : Type 0} (seen : Seen) (r : Reader A) (p : Pattern) (post : A → Seen → Type 0) : Type 0 where
   pub follows : (q : Pattern) (cut : Cut) → Follows post (r cut) (first_fault q) (first_fault (p then q) seen cut)
 
@@ -229,13 +229,13 @@ begins_then {test} {a} b h = record {
   some = may_end-then a b ∙ rw h.some refl;
 }
 
--- a pattern behind one that may be missing
+-- a pattern after one that may be missing
 pub begins_perhaps : {test test' : Token → Bool} {a p : Pattern} → Begins test a → Begins test' p
     → Begins (λ t. test t || test' t) (Either a Done p)
 begins_perhaps {test} {test'} {a} {p} h k = record {
-  begins = λ t seen e. rw h.some (begins_behind (test t) (test' t) (after a t seen) (after p t seen) p (h.begins t seen)
+  begins = λ t seen e. rw h.some (begins_after (test t) (test' t) (after a t seen) (after p t seen) p (h.begins t seen)
       (h.stops t seen) (k.begins t seen) e);
-  stops = λ t seen e. rw h.some (stops_behind (test t) (test' t) (after a t seen) (after p t seen) p (h.stops t seen)
+  stops = λ t seen e. rw h.some (stops_after (test t) (test' t) (after a t seen) (after p t seen) p (h.stops t seen)
       (k.stops t seen) e);
   some = rw k.some (no_end (may_end a || true));
 }
@@ -244,16 +244,16 @@ begins_perhaps {test} {test'} {a} {p} h k = record {
     no_end true = refl
     no_end false = refl
 
-    begins_behind : (x y : Bool) (a b : Left) (q : Pattern) → (x ≡ true → (z : Class × Pattern) × (a ≡ Some z))
+    begins_after : (x y : Bool) (a b : Left) (q : Pattern) → (x ≡ true → (z : Class × Pattern) × (a ≡ Some z))
         → (x ≡ false → a ≡ None) → (y ≡ true → (z : Class × Pattern) × (b ≡ Some z))
         → (x || y) ≡ true → (z : Class × Pattern) × (first_of (left_then a q) b ≡ Some z)
-    begins_behind true y a b q f g h e = let z = f refl in rw z.1 ((z.0.0, z.0.1 then q), refl)
-    begins_behind false y a b q f g h e = let z = h e in rw (g refl, z.1) (z.0, refl)
+    begins_after true y a b q f g h e = let z = f refl in rw z.1 ((z.0.0, z.0.1 then q), refl)
+    begins_after false y a b q f g h e = let z = h e in rw (g refl, z.1) (z.0, refl)
 
-    stops_behind : (x y : Bool) (a b : Left) (q : Pattern) → (x ≡ false → a ≡ None) → (y ≡ false → b ≡ None) → (x || y) ≡ false
+    stops_after : (x y : Bool) (a b : Left) (q : Pattern) → (x ≡ false → a ≡ None) → (y ≡ false → b ≡ None) → (x || y) ≡ false
         → first_of (left_then a q) b ≡ None
-    stops_behind true y a b q g h e = absurd cc
-    stops_behind false y a b q g h e = rw (g refl, h e) refl
+    stops_after true y a b q g h e = absurd cc
+    stops_after false y a b q g h e = rw (g refl, h e) refl
 
 -- the same test by other words
 pub begins_as : {test test' : Token → Bool} {p : Pattern} → ((t : Token) → test t ≡ test' t) → Begins test p → Begins test' p
@@ -402,7 +402,7 @@ choose_stop : {A : Type 0} (test : Token → Bool) (r s : Reader A) (t : Token) 
 unfolding starts
 choose_stop test r s t cut e = rw e refl
 
--- the first of two readers, or the second, and what is read behind either
+-- the first of two readers, or the second, and what is read after either
 pub agree_choose_then : {A B : Type 0} {seen : Seen} (r s : Reader A) (f : A → Reader B) {a b q : Pattern} {post : B → Seen
     → Type 0} (test : Token → Bool)
     → Begins test a → Agrees seen (r >>= f) (a then q) post → Agrees seen (s >>= f) (b then q) post

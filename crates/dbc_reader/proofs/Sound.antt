@@ -50,7 +50,7 @@ spelt_none cut = record { front = []; stands = refl; spelled = refl }
 pub record Sound {A : Type 0} (r : Reader A) (form : A → List Part) : Type 0 where
   pub spelt : (cut : Cut) (x : A × Cut) → r cut ≡ Ok x → Spelt (form x.0) cut x.1
 
--- behind these parts what is read completes the form
+-- after these parts what is read completes the form
 pub record SoundAt {B : Type 0} (before : List Part) (r : Reader B) (form : B → List Part) : Type 0 where
   pub spelt : (cut : Cut) (x : B × Cut) → r cut ≡ Ok x → (parts : List Part) × (form x.0 ≡ before ++ parts) × Spelt parts cut x.1
 
@@ -113,7 +113,7 @@ sound_choose {A} test {r} {s} {form} h k = record { spelt = λ cut x e. chosen_s
 
 -- ---- lists that grow
 
--- what is read behind these is put behind them
+-- what is read after these is put after them
 pub record Grows {A : Type 0} (r : List A → Reader (List A)) (part : A → List Part) : Type 0 where
   pub spelt : (before : List A) (cut : Cut) (x : List A × Cut) → r before cut ≡ Ok x → (more : List A) × (x.0 ≡ before ++ more)
       × Spelt (flat_map part more) cut x.1
@@ -207,12 +207,12 @@ module _ {A : Type 0} (judge : Token → Result A Cause) (P : A → List Token �
   pub reads_one : Reads (one judge) P
   reads_one = record { reads = one_reads }
 
--- one reader behind another
-pub reads_behind : {A B : Type 0} {r : Reader A} {r' : Reader B} {P : A → List Token → Type 0} {Q : B → List Token → Type 0} (S : A
+-- one reader after another
+pub reads_after : {A B : Type 0} {r : Reader A} {r' : Reader B} {P : A → List Token → Type 0} {Q : B → List Token → Type 0} (S : A
     → B → List Token → Type 0)
     → Reads r P → Reads r' Q → ((a : A) (b : B) (tokens u v : List Token) → tokens ≡ u ++ v → P a u → Q b v → S a b tokens)
     → Reads (r >>= λ a. r') (λ b tokens. (a : A) × S a b tokens)
-reads_behind {A} {B} {r} {r'} {P} {Q} S h k join = record {
+reads_after {A} {B} {r} {r'} {P} {Q} S h k join = record {
   reads = λ cut y e. (
       let x = and_then_ok (r cut) _ y e in
       let one = h.reads cut x.0 x.1 in
@@ -269,10 +269,10 @@ pub sound_end : {B : Type 0} {before : List Part} {r : Reader B} {parts form : B
     → ((b : B) → form b ≡ before ++ parts b) → SoundAt before r form
 sound_end {B} {before} {r} {parts} {form} h same = record { spelt = λ cut x e. (parts x.0, same x.0, h.spelt cut x e) }
 
--- one item more, behind something
-pub grows_behind : {A M : Type 0} (m : Reader M) (one_at : Reader A) {part : A → List Part} → Sound (m >>= λ _. one_at) part
+-- one item more, after something
+pub grows_after : {A M : Type 0} (m : Reader M) (one_at : Reader A) {part : A → List Part} → Sound (m >>= λ _. one_at) part
     → Grows (λ before. m >>= λ _. (one_at >>= λ a. value (before ++ a ∷ []))) part
-grows_behind {A} {M} m one_at {part} h = record {
+grows_after {A} {M} m one_at {part} h = record {
   spelt = λ before cut y e. (
       let x = and_then_ok (m cut) _ y e in
       let z = and_then_ok (one_at x.0.1) _ y x.2 in

@@ -14,7 +14,7 @@ use Rattle.dbc_reader.proofs.Turns.{and_then_ok, ok_is, repeated_holds}
 pub record Yields {A : Type 0} (r : Reader A) (P : A → Type 0) : Type 0 where
   pub holds : (cut : Cut) (x : A × Cut) → r cut ≡ Ok x → P x.0
 
--- ---- one behind another
+-- ---- one after another
 
 pub yields_then : {A B : Type 0} {r : Reader A} {f : A → Reader B} {P : A → Type 0} {Q : B → Type 0} → Yields r P
     → ((a : A) → P a → Yields (f a) Q) → Yields (r >>= f) Q

@@ -118,7 +118,7 @@ counted tag digits = tagged tag (whole_of 0 (2 ^ 64 - 1) digits)
 abbrev pub front : List ℕ → List ℕ
 front bytes = take (length bytes - 1) bytes
 
--- behind an `m`: digits, or digits and an `M`
+-- after an `m`: digits, or digits and an `M`
 unfoldable pub muxed_of : List ℕ → Result Tag Cause
 muxed_of bytes =
     if is_digits bytes then counted tags.Muxed bytes

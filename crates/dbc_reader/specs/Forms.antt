@@ -36,7 +36,7 @@ SpellsNumber bytes n = IsTrue (is_number bytes) × IsWholeNumber (mantissa_of by
 abbrev pub signed : Bool → ℕ → ℤ
 signed negative n = if negative then neg_ℤ (pos n) else pos n
 
--- digits behind an `m`, and this behind them
+-- digits after an `m`, and this after them
 abbrev pub SpellsTag : List ℕ → ℕ → List ℕ → Type 0
 SpellsTag bytes n behind = (digits : List ℕ) × (bytes ≡ codes "m" ++ (digits ++ behind)) × IsTrue (is_digits digits)
     × (digits_value 10 digits ≡ n)
@@ -82,7 +82,7 @@ of_layout layout = map Is (items_of layout)
 
 -- ---- tokens before others
 
--- these tokens, and behind them those
+-- these tokens, and after them those
 infixr 20 ◌▸▸◌
 abbrev pub ◌▸▸◌ : List Token → Cut → Cut
 [] ▸▸ cut = cut

@@ -13,7 +13,7 @@ use Rattle.dbc_reader.specs.Pattern.{BeginsSignal, SignalName, Pattern, Done, �
 abbrev pub perhaps : Pattern → Pattern
 perhaps p = Either p Done Done
 
--- a decimal behind an optional sign
+-- a decimal after an optional sign
 abbrev pub decimal : Pattern
 decimal = Either (Mark minus ⇒ Number true ⇒ Done) (Either (Mark plus ⇒ Number false ⇒ Done) (Number false ⇒ Done) Done) Done
 

@@ -1,5 +1,5 @@
 -- The first fault of a text: a pattern over classes of tokens, what each token leaves of it, and the rules that a token
--- of a class may break. No text behind the token is looked at.
+-- of a class may break. No text after the token is looked at.
 use Rattle.std.specs.Prelude.{ℕ, ◌+◌, Bool, true, false, ◌||◌, ◌&&◌, nat_le, if◌then◌else◌, List, [], ◌∷◌, ◌++◌, length, codes}
 use Rattle.std.specs.Prelude.{Option, Some, None, Result, Ok, Err}
 use Rattle.std.specs.List.{list_any}

@@ -112,7 +112,7 @@ abbrev pub FollowOn : AnyStatement → List AnyStatement → Type 0
 FollowOn (Symbols symbols) statements = EndsSymbols statements
 FollowOn statement statements = Unit {0}
 
--- each statement may stand before those behind it
+-- each statement may stand before those after it
 abbrev pub ArePlaced : List AnyStatement → Type 0
 ArePlaced [] = Unit {0}
 ArePlaced (statement ∷ statements) = FollowOn statement statements × ArePlaced statements

@@ -66,7 +66,7 @@ fn target(alloc: Global, at: &mut Cursor<'_>) -> Result<Target, Stopped>
     Ok(Target::Whole)
 }
 
-/// Takes a comment, behind `CM_`.
+/// Takes a comment, after `CM_`.
 #[tactic(auto, unfolding(crate::specs::Reading::Attributes::comment_at, crate::specs::Reading::Parts::word_at, crate::specs::Reading::Readers::token_at, crate::specs::Classes::has_word))]
 pub fn comment(alloc: Global, at: &mut Cursor<'_>) -> Result<Comment, Stopped>
     ensures { GivesTo result (left_at at.new) (comment_at (with_word (codes "CM_") (left_at at.old))) }
@@ -161,7 +161,7 @@ fn form(alloc: Global, at: &mut Cursor<'_>) -> Result<Form, Stopped>
     enumeration(alloc, at)
 }
 
-/// Takes the definition of an attribute, behind `BA_DEF_`.
+/// Takes the definition of an attribute, after `BA_DEF_`.
 #[tactic(auto, unfolding(crate::specs::Reading::Attributes::definition_at, crate::specs::Reading::Parts::word_at, crate::specs::Reading::Readers::token_at, crate::specs::Classes::has_word))]
 pub fn definition(alloc: Global, at: &mut Cursor<'_>) -> Result<AttrDef, Stopped>
     ensures { GivesTo result (left_at at.new) (definition_at (with_word (codes "BA_DEF_") (left_at at.old))) }
@@ -189,7 +189,7 @@ pub fn value(alloc: Global, at: &mut Cursor<'_>) -> Result<AttrValue, Stopped>
     Ok(AttrValue::Decimal(number))
 }
 
-/// Takes the default of an attribute, behind `BA_DEF_DEF_`.
+/// Takes the default of an attribute, after `BA_DEF_DEF_`.
 #[tactic(auto, unfolding(crate::specs::Reading::Attributes::default_at, crate::specs::Reading::Parts::word_at, crate::specs::Reading::Readers::token_at, crate::specs::Classes::has_word))]
 pub fn default(alloc: Global, at: &mut Cursor<'_>) -> Result<AttrDefault, Stopped>
     ensures { GivesTo result (left_at at.new) (default_at (with_word (codes "BA_DEF_DEF_") (left_at at.old))) }
@@ -200,7 +200,7 @@ pub fn default(alloc: Global, at: &mut Cursor<'_>) -> Result<AttrDefault, Stoppe
     Ok(AttrDefault { name: title, value })
 }
 
-/// Takes the value of an attribute of one object, behind `BA_` and the title, which stands at another place.
+/// Takes the value of an attribute of one object, after `BA_` and the title, which stands at another place.
 #[tactic(auto, unfolding(crate::specs::Reading::Attributes::attribute_at, crate::specs::Reading::Parts::word_at, crate::specs::Reading::Readers::token_at, crate::specs::Classes::has_word))]
 pub fn attribute(alloc: Global, title: Cursor<'_>, at: &mut Cursor<'_>) -> Result<AttrRow, Stopped>
     requires { left_at at.old ≡ behind (left_at title) }

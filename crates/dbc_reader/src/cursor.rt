@@ -1,4 +1,4 @@
-//! A place in a text: the token that stands there, and the tokens behind it.
+//! A place in a text: the token that stands there, and the tokens after it.
 ghost use Rattle.std.specs.Prelude.{◌≡◌, false};
 ghost use Rattle.dbc_tokens.specs.Reading.Scanner.{cut_of};
 ghost use Rattle.dbc_tokens.specs.Views.{left};
@@ -92,7 +92,7 @@ impl<'t> Cursor<'t> {
         self.next = self.after.take_next();
     }
 
-    /// The place behind the token that stands here; this place where none does.
+    /// The place after the token that stands here; this place where none does.
     #[tactic(auto, unfolding(crate::specs::Reading::Cursors::left_at))]
     #[inline(always)]
     pub fn behind(self) -> Cursor<'t>

@@ -110,7 +110,7 @@ pub fn order(at: &mut Cursor<'_>) -> Result<bool, Stopped>
     }
 }
 
-/// Takes two decimals, with a mark before, between and behind them.
+/// Takes two decimals, with a mark before, between and after them.
 #[tactic(auto, unfolding(crate::specs::Reading::Parts::pair_at))]
 pub fn pair(
     at: &mut Cursor<'_>,

@@ -123,7 +123,7 @@ pub fn text(alloc: Global, at: &mut Cursor<'_>) -> Result<Text, Stopped>
     Ok(text)
 }
 
-/// Takes the names that stand here, and puts them behind the others.
+/// Takes the names that stand here, and puts them after the others.
 #[tactic(auto, using(crate::proofs::Turns::Lists::names_on, crate::proofs::Turns::Lists::names_fail, crate::proofs::Turns::Lists::names_end, crate::proofs::Turns::Lists::names_less))]
 pub fn names(alloc: Global, at: &mut Cursor<'_>, names: &mut List<Name>) -> Result<(), Stopped>
     ensures { MakesTo result names.new (left_at at.new) (names_from names.old (left_at at.old)) }
@@ -134,7 +134,7 @@ pub fn names(alloc: Global, at: &mut Cursor<'_>, names: &mut List<Name>) -> Resu
     Ok(())
 }
 
-/// Takes the words of the list of symbols that stand here, and puts them behind the others.
+/// Takes the words of the list of symbols that stand here, and puts them after the others.
 #[tactic(auto, using(crate::proofs::Turns::Lists::symbols_on, crate::proofs::Turns::Lists::symbols_fail, crate::proofs::Turns::Lists::symbols_end, crate::proofs::Turns::Lists::symbols_less))]
 pub fn symbols(
     alloc: Global,
@@ -187,7 +187,7 @@ fn starts_receiver(at: Cursor<'_>) -> bool
 
 // The first receiver and all further ones, with memory for so many to begin with.
 #[tactic(auto, using(crate::proofs::Turns::Lists::receivers_on, crate::proofs::Turns::Lists::receivers_fail_first, crate::proofs::Turns::Lists::receivers_fail, crate::proofs::Turns::Lists::receivers_end, crate::proofs::Turns::Lists::receivers_less))]
-fn receivers_behind(
+fn receivers_after(
     alloc: Global,
     at: &mut Cursor<'_>,
     first: Name,
@@ -213,12 +213,12 @@ pub fn receivers(alloc: Global, at: &mut Cursor<'_>) -> Result<List<Name>, Stopp
 {
     let list = *at;
     match name_if_any(alloc, at)? {
-        Some(first) => receivers_behind(alloc, at, first, list.items_ahead()),
+        Some(first) => receivers_after(alloc, at, first, list.items_ahead()),
         None => Ok(List::new(alloc)),
     }
 }
 
-/// The first text and all further ones, which stand here behind commas.
+/// The first text and all further ones, which stand here after commas.
 #[tactic(auto, using(crate::proofs::Turns::Lists::texts_on, crate::proofs::Turns::Lists::texts_fail_first, crate::proofs::Turns::Lists::texts_fail, crate::proofs::Turns::Lists::texts_end, crate::proofs::Turns::Lists::texts_less))]
 pub fn texts(alloc: Global, at: &mut Cursor<'_>, first: Text) -> Result<List<Text>, Stopped>
     ensures { GivesTo result (left_at at.new) (texts_from (first ∷ []) (left_at at.old)) }

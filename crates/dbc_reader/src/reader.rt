@@ -106,7 +106,7 @@ pub(crate) fn empty_database(alloc: Global, version: Text) -> Database
     }
 }
 
-// Takes the bit timing and what stands behind it, if there is one.
+// Takes the bit timing and what stands after it, if there is one.
 #[tactic(auto, unfolding(crate::specs::Reading::Databases::timed_into))]
 fn add_timed(alloc: Global, at: &mut Cursor<'_>, database: &mut Database) -> Result<(), Stopped>
     ensures { MakesTo result database.new (left_at at.new) (timed_into database.old (left_at at.old)) }
@@ -209,7 +209,7 @@ fn statement(alloc: Global, at: &mut Cursor<'_>) -> Result<Statement, Stopped>
 }
 
 /// The one statement that a text is: a `BO_` without signals, a `SG_`, a `VAL_TABLE_`, a `VAL_` of a signal, a
-/// `SG_MUL_VAL_` or a `BA_` of a message. Blanks and comments may stand before it and behind it. Any other text has a
+/// `SG_MUL_VAL_` or a `BA_` of a message. Blanks and comments may stand before it and after it. Any other text has a
 /// fault, as for [`read`].
 #[tactic(auto, using(crate::proofs::Texts::Readings::statement_read))]
 pub fn read_one(alloc: Global, text: &[u8]) -> Result<Statement, ReadFault>

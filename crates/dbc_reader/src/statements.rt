@@ -200,7 +200,7 @@ pub(crate) fn add_statement(
     }
 }
 
-/// Takes the statements that stand here, and puts their values behind those of their kinds.
+/// Takes the statements that stand here, and puts their values after those of their kinds.
 #[tactic(auto, using(crate::proofs::Facts::Keywords::statement_begins, crate::proofs::Turns::Statements::statements_on, crate::proofs::Turns::Statements::statements_over, crate::proofs::Turns::Statements::statements_less))]
 pub fn add_statements(
     alloc: Global,

@@ -14,7 +14,7 @@ use dbc_records::{Entries, FloatRow, MuxRow, Numbers, Range, TableRow, ValueRow}
 use dbc_values::List;
 use std::alloc::Global;
 
-/// Takes a table of its own name, behind `VAL_TABLE_`.
+/// Takes a table of its own name, after `VAL_TABLE_`.
 #[tactic(auto, unfolding(crate::specs::Reading::Tables::table_at, crate::specs::Reading::Parts::word_at, crate::specs::Reading::Readers::token_at, crate::specs::Classes::has_word))]
 pub fn table(alloc: Global, at: &mut Cursor<'_>) -> Result<TableRow, Stopped>
     ensures { GivesTo result (left_at at.new) (table_at (with_word (codes "VAL_TABLE_") (left_at at.old))) }
@@ -28,7 +28,7 @@ pub fn table(alloc: Global, at: &mut Cursor<'_>) -> Result<TableRow, Stopped>
     })
 }
 
-/// Takes the named values of a signal, behind `VAL_`.
+/// Takes the named values of a signal, after `VAL_`.
 #[tactic(auto, unfolding(crate::specs::Reading::Tables::values_at, crate::specs::Reading::Parts::word_at, crate::specs::Reading::Readers::token_at, crate::specs::Classes::has_word))]
 pub fn values(alloc: Global, at: &mut Cursor<'_>) -> Result<ValueRow, Stopped>
     ensures { GivesTo result (left_at at.new) (values_at (with_word (codes "VAL_") (left_at at.old))) }
@@ -56,7 +56,7 @@ fn colon(at: &mut Cursor<'_>) -> Result<(), Stopped>
     Ok(())
 }
 
-/// Takes the float type of a signal, behind `SIG_VALTYPE_`.
+/// Takes the float type of a signal, after `SIG_VALTYPE_`.
 #[tactic(auto, unfolding(crate::specs::Reading::Tables::float_at, crate::specs::Reading::Parts::word_at, crate::specs::Reading::Readers::token_at, crate::specs::Classes::has_word))]
 pub fn float(alloc: Global, at: &mut Cursor<'_>) -> Result<FloatRow, Stopped>
     ensures { GivesTo result (left_at at.new) (float_at (with_word (codes "SIG_VALTYPE_") (left_at at.old))) }
@@ -83,9 +83,9 @@ fn range(at: &mut Cursor<'_>) -> Result<Range, Stopped>
     Ok(Range { first, last })
 }
 
-// The first range and all further ones, which stand here behind commas, with memory for so many to begin with.
+// The first range and all further ones, which stand here after commas, with memory for so many to begin with.
 #[tactic(auto, using(crate::proofs::Turns::Lists::ranges_on, crate::proofs::Turns::Lists::ranges_fail_first, crate::proofs::Turns::Lists::ranges_fail, crate::proofs::Turns::Lists::ranges_end, crate::proofs::Turns::Lists::ranges_less))]
-fn ranges_behind(
+fn ranges_after(
     alloc: Global,
     at: &mut Cursor<'_>,
     first: Range,
@@ -112,10 +112,10 @@ fn ranges(alloc: Global, at: &mut Cursor<'_>) -> Result<List<Range>, Stopped>
 {
     let list = *at;
     let first = range(at)?;
-    ranges_behind(alloc, at, first, list.items_ahead())
+    ranges_after(alloc, at, first, list.items_ahead())
 }
 
-/// Takes a row of extended multiplexing, behind `SG_MUL_VAL_`.
+/// Takes a row of extended multiplexing, after `SG_MUL_VAL_`.
 #[tactic(auto, unfolding(crate::specs::Reading::Tables::mux_at, crate::specs::Reading::Parts::word_at, crate::specs::Reading::Readers::token_at, crate::specs::Classes::has_word))]
 pub fn mux(alloc: Global, at: &mut Cursor<'_>) -> Result<MuxRow, Stopped>
     ensures { GivesTo result (left_at at.new) (mux_at (with_word (codes "SG_MUL_VAL_") (left_at at.old))) }

@@ -45,7 +45,7 @@ fn before_switch(bytes: &[u8]) -> Option<&[u8]>
     }
 }
 
-// What stands behind an `m`.
+// What stands after an `m`.
 #[tactic(auto, unfolding(crate::specs::Classes::muxed_of))]
 fn muxed(bytes: &[u8]) -> Result<Tag, Cause>
     ensures { result ≡ muxed_of bytes.now }

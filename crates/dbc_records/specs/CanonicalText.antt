@@ -1,6 +1,6 @@
 -- The canonical text of a database: the layout of each kind of statement, and the order of the kinds.
 -- Source: the DBC file format, the section of each statement. Where it leaves blanks free they are those that are usual in
--- files: one space between parts, none before a statement's last semicolon but behind entries and kept tokens.
+-- files: one space between parts, none before a statement's last semicolon but after entries and kept tokens.
 use Rattle.std.specs.Prelude.{ℕ, Bool, List, [], ◌∷◌, ◌++◌, Option, Some, None, codes, if◌then◌else◌}
 use Rattle.std.specs.List.{flat_map}
 use Rattle.dbc_values.specs.Lexical.{opening_parenthesis, closing_parenthesis, plus, comma, minus, colon, semicolon, at_sign}
@@ -66,7 +66,7 @@ line_end = LineEnd ∷ []
 unfoldable pub statement_end : Layout
 statement_end = Is (Mark semicolon) ∷ LineEnd ∷ []
 
--- the end of a statement behind entries
+-- the end of a statement after entries
 unfoldable pub spaced_end : Layout
 spaced_end = Space ∷ Is (Mark semicolon) ∷ LineEnd ∷ []
 
@@ -145,7 +145,7 @@ head_layout head =
 unfoldable pub signal_name_layout : Signal → Layout
 signal_name_layout signal = Space ∷ Is (Word (codes "SG_")) ∷ Space ∷ Is (Name signal.name) ∷ []
 
--- the tag between blanks, where there is one; the blank behind it is that before the colon
+-- the tag between blanks, where there is one; the blank after it is that before the colon
 unfoldable pub tag_layout : Tag → Layout
 tag_layout tags.Plain = []
 tag_layout tags.Switch = Space ∷ Is Switch ∷ []
@@ -162,7 +162,7 @@ place_layout signal =
     Space ∷ Is (Mark colon) ∷ Space ∷ Is (Whole signal.start) ∷ Is (Mark bar) ∷ Is (Whole signal.length) ∷ Is (Mark at_sign)
     ∷ Is (Order signal.intel) ∷ Is (Mark (sign_mark signal.signed)) ∷ []
 
--- two numbers, with a mark before, between and behind them
+-- two numbers, with a mark before, between and after them
 unfoldable pub pair_layout : ℕ → Decimal → ℕ → Decimal → ℕ → Layout
 pair_layout opening first between second closing =
     spaced_mark opening ++ (number_layout first ++ (mark_layout between ++ (number_layout second ++ mark_layout closing)))

@@ -32,7 +32,7 @@ pub data Item : Type 0 where
 
 -- ---- decimals
 
--- the greatest number of digits that are written before or behind a point
+-- the greatest number of digits that are written before or after a point
 abbrev pub plain_digits : ℕ
 plain_digits = 20
 
@@ -45,12 +45,12 @@ with_exponent digits exponent = digits ++ (codes "E" ++ signed_decimal exponent)
 
 -- zeros in front, so that at least one digit stands before the point
 abbrev pub filled : ℕ → List ℕ → List ℕ
-filled behind digits = zeros (behind + 1 - length digits) ++ digits
+filled after digits = zeros (after + 1 - length digits) ++ digits
 
 abbrev pub point_before_last : ℕ → List ℕ → List ℕ
 point_before_last count digits = take (length digits - count) digits ++ (point ∷ drop (length digits - count) digits)
 
--- `digits · 10^exponent`, without an exponent where at most 20 digits stand before the point and at most 20 behind it
+-- `digits · 10^exponent`, without an exponent where at most 20 digits stand before the point and at most 20 after it
 unfoldable pub magnitude_text : List ℕ → ℤ → List ℕ
 magnitude_text digits (pos count) = if nat_le (length digits + count) plain_digits then digits ++ zeros count else with_exponent
     digits (pos count)
@@ -100,7 +100,7 @@ Layout = List Element
 unfoldable pub layout_text : Layout → List ℕ
 layout_text layout = flat_map element_text layout
 
--- the items in order, the first laid out in one way and those behind it in another; nothing where there is none
+-- the items in order, the first laid out in one way and those after it in another; nothing where there is none
 abbrev pub separated : {X : Type 0} → (X → Layout) → (X → Layout) → List X → Layout
 separated first further [] = []
 separated first further (x ∷ xs) = first x ++ flat_map further xs

@@ -83,8 +83,8 @@ fn cuts_texts(rt: HostRuntime) {
             line,
             cause: Cause::Token,
         }));
-        assert_eq!(rt; given.next(), last, "behind {text:?}");
-        assert_eq!(rt; given.next(), None, "behind the end of {text:?}");
+        assert_eq!(rt; given.next(), last, "after {text:?}");
+        assert_eq!(rt; given.next(), None, "after the end of {text:?}");
     }
 }
 

@@ -1,4 +1,4 @@
--- From the first byte of each token on, a text has that token and those behind it.
+-- From the first byte of each token on, a text has that token and those after it.
 use Rattle.std.proofs.Common.{◌≡◌, ℕ, ◌+◌, ◌-◌, List, [], ◌∷◌, ◌++◌, length, drop, refl, sym, ap, subst, ◌∙◌, append_assoc, arith}
 use Rattle.std.proofs.lemmas.List.{drop_at, length-append}
 use Rattle.dbc_tokens.specs.Tokens.{Cut, End, Fault, ◌▸◌, line_feeds, HasTokens}

@@ -57,7 +57,7 @@ split_of : (p : ℕ → Bool) (s : List ℕ) → Split p s
 split_of p [] = inl refl
 split_of p (b ∷ s) = elim (cases_Bool (p b)) [ inl e ↦ inr ([], b, s, refl, e, refl) | inr e ↦ split_more p b s e (split_of p s) ]
 
--- what stands before and behind that byte
+-- what stands before and after that byte
 pub record Halves (p : ℕ → Bool) (s u v : List ℕ) (some : Bool) : Type 0 where
   pub before : before_first p s ≡ u
   pub after : after_first p s ≡ v

@@ -167,11 +167,11 @@ feeds_split (suc n) m (b ∷ text) le =
     let rest = feeds_split n m text (omega arith) in
     rw both (omega (arith, first, second, rest))
 
--- the tokens are the same from behind the blanks at the front
-pub cut_behind : (line : ℕ) (text : List ℕ) (n feeds : ℕ) (rest : List ℕ) → n ≤ length text
+-- the tokens are the same from after the blanks at the front
+pub cut_after : (line : ℕ) (text : List ℕ) (n feeds : ℕ) (rest : List ℕ) → n ≤ length text
     → n ≡ prefix_len is_blank text → feeds ≡ line_feeds (take n text) → rest ≡ drop n text
     → cut_of (line + feeds) rest ≡ cut_of line text
-cut_behind line text n feeds rest within n_is feeds_is rest_is =
+cut_after line text n feeds rest within n_is feeds_is rest_is =
     let more : ℕ = gap_len false rest in
     let gap : gap_len false text ≡ n + more = gap_len-blanks text ∙ ap (λ k. k + gap_len false (drop k text)) (sym n_is)
     ∙ ap (λ l. n + gap_len false l) (sym rest_is) in
@@ -188,7 +188,7 @@ cut_behind line text n feeds rest within n_is feeds_is rest_is =
     cut_of-step (line + feeds) rest ∙ ap (λ at. rest_then cut_of at (drop more rest)) lines
     ∙ ap (rest_then cut_of (line + line_feeds (take (gap_len false text) text))) left ∙ sym (cut_of-step line text)
 
--- no blank is behind the blanks at the front
+-- no blank is after the blanks at the front
 pub none_ahead : (text : List ℕ) → prefix_len is_blank (drop (prefix_len is_blank text) text) ≡ 0
 none_ahead [] = refl
 none_ahead (b ∷ text) =

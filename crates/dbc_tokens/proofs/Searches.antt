@@ -69,7 +69,7 @@ no_byte b s h k l e = h k (omega arith) l (eq-eqb _ _ e)
 
 -- ---- the search for the closing quote
 
--- whether a quote at this place behind the opening one closes
+-- whether a quote at this place after the opening one closes
 abbrev pub closes : List ℕ → ℕ → Bool
 closes s place = eqb place 0 || not (eqb (get_or s (place - 1) 0) backslash)
 

@@ -1,4 +1,4 @@
--- What stands behind the gap at the front of a text.
+-- What stands after the gap at the front of a text.
 use Rattle.std.proofs.Common.{◌≡◌, ℕ, ◌+◌, false, List, [], ◌++◌, length, take, drop, refl, sym, ap, subst, ◌∙◌, arith}
 use Rattle.std.proofs.lemmas.List.{take-append-drop}
 use Rattle.dbc_tokens.specs.Tokens.{IsGap, IsLongest, BeginsNoGap, Token, Cut, ◌▸◌, line_feeds, HasTokens}
@@ -6,16 +6,16 @@ use Rattle.dbc_tokens.specs.Reading.Scanner.{gap_len, rest_then, cut_of}
 use Rattle.dbc_tokens.proofs.Gaps.{gap_front, gap_none}
 use Rattle.dbc_tokens.proofs.CutLaws.{at_gap, cut_is, cut_unique}
 
--- behind this gap the text goes on here, with the same tokens
+-- after this gap the text goes on here, with the same tokens
 pub record IsBehind (line : ℕ) (text gap here : List ℕ) : Type 0 where
   pub parts : text ≡ gap ++ here
   pub is_gap : IsGap gap here
   pub no_gap : BeginsNoGap here
   pub same : cut_of line text ≡ cut_of (line + line_feeds gap) here
 
-pub behind_gap : (line : ℕ) (text gap here : List ℕ) → gap ≡ take (gap_len false text) text → here ≡ drop (gap_len false text) text
+pub after_gap : (line : ℕ) (text gap here : List ℕ) → gap ≡ take (gap_len false text) text → here ≡ drop (gap_len false text) text
     → IsBehind line text gap here
-behind_gap line text gap here gap_is here_is =
+after_gap line text gap here gap_is here_is =
     let n = gap_len false text in
     let front = gap_front false text in
     let is : IsGap gap here = rw (gap_is, here_is) front.0 in

@@ -1,4 +1,4 @@
--- The quote that closes a string: a text and a quote behind it are what the scanner finds, and it finds nothing else.
+-- The quote that closes a string: a text and a quote after it are what the scanner finds, and it finds nothing else.
 use Rattle.std.proofs.Common.{◌≡◌, ℕ, ◌+◌, Bool, true, false, not, cond, eqb, ◌&&◌, List, [], ◌∷◌, ◌++◌, length, Option, Some, None}
 use Rattle.std.proofs.Common.{refl, ap, subst, arith, inl, inr}
 use Rattle.std.specs.Option.{option_map}
@@ -31,7 +31,7 @@ text_found after (b ∷ text) rest h =
     let both = and_parts (cond (eqb b quote) after true) (is_text_after (eqb b backslash) text) h in
     rw (stays_open b after both.0, text_found (eqb b backslash) text rest both.1) (ap {B = Option ℕ} Some (omega arith))
 
--- a text of n bytes, and a quote behind it
+-- a text of n bytes, and a quote after it
 pub record Closes (after : Bool) (s : List ℕ) (n : ℕ) : Type 0 where
   pub text : List ℕ
   pub rest : List ℕ

@@ -9,7 +9,7 @@ tokens_of (End at) = []
 tokens_of (Fault at) = []
 tokens_of (t ▸ cut) = t ∷ tokens_of cut
 
--- The bytes of each token are a part of the text that lies behind the token before it, its line is told by the line feeds
+-- The bytes of each token are a part of the text that lies after the token before it, its line is told by the line feeds
 -- that stand before it, and it tells how many bytes are left from its first byte on.
 abbrev pub StandInOrder : ℕ → List ℕ → List Token → Type 0
 StandInOrder line text [] = Unit {0}
@@ -21,7 +21,7 @@ StandInOrder line text (t ∷ tokens) =
 abbrev pub TokensInOrder : Type 0
 TokensInOrder = (line : ℕ) (text : List ℕ) (cut : Cut) → HasTokens line 0 text cut → StandInOrder line text (tokens_of cut)
 
--- from the first byte of each token on, the text has that token and those behind it
+-- from the first byte of each token on, the text has that token and those after it
 abbrev pub TokensFromEach : List ℕ → Cut → Type 0
 TokensFromEach text (End at) = Unit {0}
 TokensFromEach text (Fault at) = Unit {0}

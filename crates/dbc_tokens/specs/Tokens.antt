@@ -28,7 +28,7 @@ BeginsNoToken bytes = (k : Kind) (front others : List ℕ) → front ++ others �
 
 -- ---- gaps
 
--- a part of a gap: a blank, or a comment with these bytes behind its `//`
+-- a part of a gap: a blank, or a comment with these bytes after its `//`
 pub data Part : Type 0 where
   Blank : ℕ → Part
   Comment : List ℕ → Part
@@ -50,7 +50,7 @@ AreParts (Blank b ∷ parts) rest = IsTrue (is_blank b) × AreParts parts rest
 AreParts (Comment body ∷ parts) rest = IsTrue (list_all (λ b. not (is_line_feed b)) body)
     × EndsLine (flat_map part_bytes parts ++ rest) × AreParts parts rest
 
--- blanks and comments, possibly none, where rest stands behind them
+-- blanks and comments, possibly none, where rest stands after them
 abbrev pub IsGap : List ℕ → List ℕ → Type 0
 IsGap gap rest = (parts : List Part) × (gap ≡ flat_map part_bytes parts) × AreParts parts rest
 

@@ -37,7 +37,7 @@ cut_from (nexts.Token t) cut = token_of t ▸ cut
 cut_from (nexts.End line) cut = End line
 cut_from (nexts.Fault line) cut = Fault line
 
--- behind the end, and behind a fault, only the end in that line is left
+-- after the end, and after a fault, only the end in that line is left
 abbrev pub NothingAfter : Next → Cut → Type 0
 NothingAfter (nexts.Token t) cut = Unit {0}
 NothingAfter (nexts.End line) cut = cut ≡ End line

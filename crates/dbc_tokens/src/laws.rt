@@ -15,7 +15,7 @@ pub fn tokens_in_order()
     ensures { TokensInOrder }
 {}
 
-/// From the first byte of each token on, a text has that token and those behind it.
+/// From the first byte of each token on, a text has that token and those after it.
 pub fn tokens_from_each()
     ensures { (line : ℕ) (text : List ℕ) (cut : Cut) → HasTokens line 0 text cut → TokensFromEach text cut }
 {}

@@ -86,7 +86,7 @@ fn plain_number_len(bytes: &[u8]) -> usize
     }
 }
 
-// Whether a quote at this place behind the opening one closes: no backslash stands directly before it.
+// Whether a quote at this place after the opening one closes: no backslash stands directly before it.
 fn closes(bytes: &[u8], end: usize) -> bool
     requires { end ≤ length bytes.now }
     ensures { result ≡ (end == 0 || not (slice_index bytes.now (end - 1) == backslash)) }

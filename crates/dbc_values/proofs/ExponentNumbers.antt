@@ -10,7 +10,7 @@ use Rattle.std.proofs.lemmas.List.{get_or_default}
 use Rattle.std.proofs.lemmas.List.Folds.{list_any-from_Any}
 use Rattle.std.proofs.lemmas.List.Sums.{passes_at_first}
 use Rattle.dbc_values.specs.Lexical.{is_point, is_exponent_mark, is_mantissa, is_signed_digits, is_number}
-use Rattle.dbc_values.specs.Numbers.{mantissa_of, exponent_of, written_exponent, digits_behind_point, IsReduced}
+use Rattle.dbc_values.specs.Numbers.{mantissa_of, exponent_of, written_exponent, digits_after_point, IsReduced}
 use Rattle.dbc_values.specs.declared.number.Reduced.{Reduced}
 use Rattle.dbc_values.proofs.PlainDigits.{all_before, none_after}
 
@@ -56,48 +56,48 @@ same_mantissa number =
     ap (λ (t : List ℕ). digits_value 10 (before_first is_point t ++ after_first is_point t)) (alone number)
 
 -- how many digits are after the point
-behind_point : (number : List ℕ) (behind : ℕ) → exponent_of (before_first is_exponent_mark number) ≡ pos 0 -ℤ pos behind
-    → length (digits_behind_point number) ≡ behind
+after_point : (number : List ℕ) (after : ℕ) → exponent_of (before_first is_exponent_mark number) ≡ pos 0 -ℤ pos after
+    → length (digits_after_point number) ≡ after
 unfolding exponent_of
-behind_point number behind power =
+after_point number after power =
     let t = before_first is_exponent_mark number in
     let none : after_first is_exponent_mark t ≡ [] = none_after is_exponent_mark t (none_before is_exponent_mark number) in
-    let here : pos 0 -ℤ pos (length (after_first is_point t)) ≡ pos 0 -ℤ pos behind
+    let here : pos 0 -ℤ pos (length (after_first is_point t)) ≡ pos 0 -ℤ pos after
     = sym (ap (λ (x : List ℕ). signed_digits_value 10 x -ℤ pos (length (after_first is_point t))) none)
     ∙ sym (ap (λ (x : List ℕ). written_exponent t -ℤ pos (length (after_first is_point x))) (alone number)) ∙ power in
     omega (arith, ints, here)
 
-pub whole_power : (number : List ℕ) (behind : ℕ) → exponent_of (before_first is_exponent_mark number) ≡ pos 0 -ℤ pos behind
-    → signed_digits_value 10 (after_first is_exponent_mark number) -ℤ pos behind ≡ exponent_of number
+pub whole_power : (number : List ℕ) (after : ℕ) → exponent_of (before_first is_exponent_mark number) ≡ pos 0 -ℤ pos after
+    → signed_digits_value 10 (after_first is_exponent_mark number) -ℤ pos after ≡ exponent_of number
 unfolding exponent_of
-whole_power number behind power = ap (λ (n : ℕ). written_exponent number -ℤ pos n) (sym (behind_point number behind power))
+whole_power number after power = ap (λ (n : ℕ). written_exponent number -ℤ pos n) (sym (after_point number after power))
 
-pub whole_reduced : (number m : List ℕ) (value behind : ℕ) (e : ℤ) (digits : Option ℕ) (x : ℤ)
-    → m ≡ before_first is_exponent_mark number → mantissa_of m ≡ value → exponent_of m ≡ pos 0 -ℤ pos behind
+pub whole_reduced : (number m : List ℕ) (value after : ℕ) (e : ℤ) (digits : Option ℕ) (x : ℤ)
+    → m ≡ before_first is_exponent_mark number → mantissa_of m ≡ value → exponent_of m ≡ pos 0 -ℤ pos after
     → e ≡ signed_digits_value 10 (after_first is_exponent_mark number)
-    → IsReduced value (e -ℤ pos behind) digits x → IsReduced (mantissa_of number) (exponent_of number) digits x
-whole_reduced number m value behind e digits x m-is value-is power e-is has =
+    → IsReduced value (e -ℤ pos after) digits x → IsReduced (mantissa_of number) (exponent_of number) digits x
+whole_reduced number m value after e digits x m-is value-is power e-is has =
     let mantissa : value ≡ mantissa_of number = sym value-is ∙ ap mantissa_of m-is ∙ same_mantissa number in
-    let exponent : e -ℤ pos behind ≡ exponent_of number
-    = ap (λ (k : ℤ). k -ℤ pos behind) e-is ∙ whole_power number behind (sym (ap exponent_of m-is) ∙ power) in
+    let exponent : e -ℤ pos after ≡ exponent_of number
+    = ap (λ (k : ℤ). k -ℤ pos after) e-is ∙ whole_power number after (sym (ap exponent_of m-is) ∙ power) in
     subst (λ (k : ℤ). IsReduced (mantissa_of number) k digits x) exponent
-    (subst (λ (n : ℕ). IsReduced n (e -ℤ pos behind) digits x) mantissa has)
+    (subst (λ (n : ℕ). IsReduced n (e -ℤ pos after) digits x) mantissa has)
 
 -- the parts as code splits them off: `m` is before the exponent, which begins at i, and `x` is after its mark
-pub whole_result : (number m x : List ℕ) (i value behind : ℕ) (result : Option Reduced)
+pub whole_result : (number m x : List ℕ) (i value after : ℕ) (result : Option Reduced)
     → i ≡ position_or_len is_exponent_mark number → m ≡ take i number → x ≡ drop (i + 1) number → i < length number
-    → IsTrue (is_number m) → mantissa_of m ≡ value → exponent_of m ≡ pos 0 -ℤ pos behind
+    → IsTrue (is_number m) → mantissa_of m ≡ value → exponent_of m ≡ pos 0 -ℤ pos after
     → MatchOption result (is_signed_digits x ≡ false) (λ r. IsTrue (is_signed_digits x)
-    × IsReduced value (signed_digits_value 10 x -ℤ pos behind) r.digits r.exponent)
+    × IsReduced value (signed_digits_value 10 x -ℤ pos after) r.digits r.exponent)
     → MatchOption result (is_number number ≡ false) (λ r. IsTrue (is_number number)
     × IsReduced (mantissa_of number) (exponent_of number) r.digits r.exponent)
-whole_result number m x i value behind None i-is m-is x-is less form value-is power unsigned =
+whole_result number m x i value after None i-is m-is x-is less form value-is power unsigned =
     let x-at : x ≡ after_first is_exponent_mark number = x-is ∙ ap (λ (n : ℕ). drop (n + 1) number) i-is in
     no_form number (omega (arith, i-is, less)) (sym (ap is_signed_digits x-at) ∙ unsigned)
-whole_result number m x i value behind (Some r) i-is m-is x-is less form value-is power (signed, has) =
+whole_result number m x i value after (Some r) i-is m-is x-is less form value-is power (signed, has) =
     let x-at : x ≡ after_first is_exponent_mark number = x-is ∙ ap (λ (n : ℕ). drop (n + 1) number) i-is in
     let m-at : m ≡ before_first is_exponent_mark number = m-is ∙ ap (λ (n : ℕ). take n number) i-is in (
       whole_form number (omega (arith, i-is, less)) (subst (λ (t : List ℕ). IsTrue (is_number t)) m-at form)
           (sym (ap is_signed_digits x-at) ∙ signed),
-      whole_reduced number m value behind _ r.digits r.exponent m-at value-is power (ap (signed_digits_value 10) x-at) has,
+      whole_reduced number m value after _ r.digits r.exponent m-at value-is power (ap (signed_digits_value 10) x-at) has,
     )

@@ -3,8 +3,8 @@ use Rattle.std.proofs.Common.{◌≡◌, ℕ, ℤ, pos, ◌^◌, ◌<◌, ◌≤
 use Rattle.std.proofs.lemmas.Int.{ints}
 use Rattle.dbc_values.specs.Numbers.{StandsFor}
 
-pub moved : (e w x : ℤ) (behind zeros : ℕ) → behind < 2 ^ 64 → zeros ≤ 2 ^ 66 → x ≡ ((w -ℤ pos behind) +ℤ pos zeros)
-    → StandsFor (10 ^ 30) e w → StandsFor 1000 ((e -ℤ pos behind) +ℤ pos zeros) x
-moved e w x behind count b z is (inl same) = inl (omega (arith, ints))
-moved e w x behind count b z is (inr (inl above)) = inr (inl (omega (arith, ints, above.0), omega (arith, ints, above.1)))
-moved e w x behind count b z is (inr (inr below)) = inr (inr (omega (arith, ints, below.0), omega (arith, ints, below.1)))
+pub moved : (e w x : ℤ) (after zeros : ℕ) → after < 2 ^ 64 → zeros ≤ 2 ^ 66 → x ≡ ((w -ℤ pos after) +ℤ pos zeros)
+    → StandsFor (10 ^ 30) e w → StandsFor 1000 ((e -ℤ pos after) +ℤ pos zeros) x
+moved e w x after count b z is (inl same) = inl (omega (arith, ints))
+moved e w x after count b z is (inr (inl above)) = inr (inl (omega (arith, ints, above.0), omega (arith, ints, above.1)))
+moved e w x after count b z is (inr (inr below)) = inr (inr (omega (arith, ints, below.0), omega (arith, ints, below.1)))

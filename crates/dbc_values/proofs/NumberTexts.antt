@@ -10,7 +10,7 @@ use Rattle.std.proofs.lemmas.List.Folds.{list_any-from_Any}
 use Rattle.std.proofs.lemmas.List.Sums.{passes_at_first}
 use Rattle.std.proofs.Math.ListN.{drop_of_length-le}
 use Rattle.dbc_values.specs.Lexical.{is_digit, is_point, is_exponent_mark, is_signed_digits, is_number}
-use Rattle.dbc_values.specs.Numbers.{digits_before_point, digits_behind_point, written_exponent, mantissa_of, exponent_of}
+use Rattle.dbc_values.specs.Numbers.{digits_before_point, digits_after_point, written_exponent, mantissa_of, exponent_of}
 use Rattle.dbc_values.specs.Numbers.{HasDigits, StandsFor, IsReduced}
 use Rattle.dbc_values.proofs.DigitTexts.{value_append}
 
@@ -18,9 +18,9 @@ pub digits_before : (number : List ℕ) → IsTrue (is_number number) → IsTrue
 unfolding is_number
 digits_before number h = (and_parts _ _ (and_parts _ _ (and_parts _ _ h).0).0).0
 
-pub digits_behind : (number : List ℕ) → IsTrue (is_number number) → IsTrue (list_all is_digit (digits_behind_point number))
+pub digits_after : (number : List ℕ) → IsTrue (is_number number) → IsTrue (list_all is_digit (digits_after_point number))
 unfolding is_number
-digits_behind number h = (and_parts _ _ (and_parts _ _ (and_parts _ _ h).0).0).1
+digits_after number h = (and_parts _ _ (and_parts _ _ (and_parts _ _ h).0).0).1
 
 pub behind_sign : (text : List ℕ) → is_signed_digits text ≡ true → IsTrue (list_all is_digit (without_leading_sign text))
 behind_sign [] h = refl
@@ -60,9 +60,9 @@ before_is number m part i j i-is m-is j-is part-is =
     let m-at : m ≡ before_first is_exponent_mark number = m-is ∙ ap (λ (n : ℕ). take n number) i-is in
     part-is ∙ ap (λ (n : ℕ). take n m) j-is ∙ ap (λ (t : List ℕ). before_first is_point t) m-at
 
-pub behind_is : (number m part : List ℕ) (i j : ℕ) → i ≡ position_or_len is_exponent_mark number → m ≡ take i number
-    → j ≡ position_or_len is_point m → part ≡ drop (j + 1) m → part ≡ digits_behind_point number
-behind_is number m part i j i-is m-is j-is part-is =
+pub after_is : (number m part : List ℕ) (i j : ℕ) → i ≡ position_or_len is_exponent_mark number → m ≡ take i number
+    → j ≡ position_or_len is_point m → part ≡ drop (j + 1) m → part ≡ digits_after_point number
+after_is number m part i j i-is m-is j-is part-is =
     let m-at : m ≡ before_first is_exponent_mark number = m-is ∙ ap (λ (n : ℕ). take n number) i-is in
     part-is ∙ ap (λ (n : ℕ). drop (n + 1) m) j-is ∙ ap (λ (t : List ℕ). after_first is_point t) m-at
 
@@ -71,21 +71,21 @@ pub exponent_is : (number part : List ℕ) (i : ℕ) → i ≡ position_or_len i
 exponent_is number part i i-is part-is = part-is ∙ ap (λ (n : ℕ). drop (n + 1) number) i-is
 
 -- the parts' values are what the number spells
-pub reduced : (number before behind : List ℕ) (digits : Option ℕ) (zeros : ℕ) (x : ℤ) → before ≡ digits_before_point number
-    → behind ≡ digits_behind_point number
-    → HasDigits (digits_value_after 10 (digits_value_after 10 0 before) behind) digits zeros
-    → StandsFor 1000 ((written_exponent number -ℤ pos (length behind)) +ℤ pos zeros) x
+pub reduced : (number before after : List ℕ) (digits : Option ℕ) (zeros : ℕ) (x : ℤ) → before ≡ digits_before_point number
+    → after ≡ digits_after_point number
+    → HasDigits (digits_value_after 10 (digits_value_after 10 0 before) after) digits zeros
+    → StandsFor 1000 ((written_exponent number -ℤ pos (length after)) +ℤ pos zeros) x
     → IsReduced (mantissa_of number) (exponent_of number) digits x
 unfolding mantissa_of exponent_of
-reduced number before behind digits zeros x before-is behind-is has stands = record {
+reduced number before after digits zeros x before-is after-is has stands = record {
   zeros = zeros;
   front =
-      let e : digits_value_after 10 (digits_value_after 10 0 before) behind ≡ digits_value 10 (digits_before_point number
-      ++ digits_behind_point number) =
-      sym (value_append 0 before behind) ∙ ap (λ (t : List ℕ). digits_value 10 (t ++ behind)) before-is
-      ∙ ap (λ (t : List ℕ). digits_value 10 (digits_before_point number ++ t)) behind-is in
+      let e : digits_value_after 10 (digits_value_after 10 0 before) after ≡ digits_value 10 (digits_before_point number
+      ++ digits_after_point number) =
+      sym (value_append 0 before after) ∙ ap (λ (t : List ℕ). digits_value 10 (t ++ after)) before-is
+      ∙ ap (λ (t : List ℕ). digits_value 10 (digits_before_point number ++ t)) after-is in
       rw e at has;
-  power = rw behind-is at stands;
+  power = rw after-is at stands;
 }
 
 -- nothing read yet

@@ -1,4 +1,4 @@
--- Parts of bytes, one behind the other: their number, each by its place, and one more.
+-- Parts of bytes, one after the other: their number, each by its place, and one more.
 use Rattle.std.proofs.Common.{◌≡◌, ℕ, ◌+◌, ◌<◌, ◌≤◌, List, [], ◌∷◌, ◌++◌, length, get_or, ap, arith, suc, zero, refl, length-append}
 use Rattle.std.proofs.lemmas.Grind.{common_steps}
 use Rattle.std.specs.Prelude.{Some, None, slice_get}
@@ -11,12 +11,12 @@ pub parts_count : (start : ℕ) (ends bytes : List ℕ) → length (parts_from s
 parts_count start [] bytes = refl
 parts_count start (end ∷ ends) bytes = ap suc (parts_count end ends bytes)
 
--- no place is behind the last
+-- no place is after the last
 pub starts_within : (start : ℕ) (ends : List ℕ) (total : ℕ) → ArePlaces start ends total → start ≤ total
 starts_within start [] total are = omega (arith, are)
 starts_within start (end ∷ ends) total are = omega (arith, are.0, starts_within end ends total are.1)
 
--- a part ends behind its beginning
+-- a part ends after its beginning
 pub part_rises : (start : ℕ) (ends : List ℕ) (total place : ℕ) → ArePlaces start ends total → place < length ends
     → get_or (start ∷ ends) place 0 ≤ get_or ends place 0
 part_rises start [] total place are few = absurd (omega (arith, few))
@@ -62,7 +62,7 @@ pub one_more_place : (start : ℕ) (ends : List ℕ) (total more : ℕ) → AreP
 one_more_place start [] total more are = (omega (arith, are), refl)
 one_more_place start (end ∷ ends) total more are = (are.0, one_more_place end ends total more are.1)
 
--- one more token behind those that are held
+-- one more token after those that are held
 pub one_more_held : (ends bytes piece more_ends more_bytes : List ℕ) → HoldPieces ends bytes → IsPiece piece
     → more_bytes ≡ bytes ++ piece → more_ends ≡ ends ++ length more_bytes ∷ [] → HoldPieces more_ends more_bytes
 one_more_held ends bytes piece more_ends more_bytes held is e k = rw (k, e, length-append bytes piece) (record {

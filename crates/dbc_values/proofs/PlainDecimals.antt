@@ -24,12 +24,12 @@ one_more start bytes value digit new others before is new-is fits = record {
   parts = before.parts ∙ sym (append_assoc before.front (digit ∷ []) others);
   digits = list_all-append is_digit before.front (digit ∷ []) ∙ rw (before.digits, is) refl;
   value_of =
-      let behind : digits_value_after 10 start (before.front ++ digit ∷ [])
+      let after : digits_value_after 10 start (before.front ++ digit ∷ [])
       ≡ digits_value_after 10 (digits_value_after 10 start before.front) (digit ∷ []) =
       value_append start before.front (digit ∷ []) in
       let value-is : value ≡ digits_value_after 10 start before.front = before.value_of in
       new-is ∙ ap (λ (n : ℕ). value * 10 + n) (sym (digit_is digit is))
-      ∙ ap (λ (n : ℕ). digits_value_after 10 n (digit ∷ [])) value-is ∙ sym behind;
+      ∙ ap (λ (n : ℕ). digits_value_after 10 n (digit ∷ [])) value-is ∙ sym after;
   fits = fits;
 }
 
@@ -43,9 +43,9 @@ one_read start bytes value new n (digit ∷ others) before some n-is is new-is f
 
 no_mark_in : (front fraction : List ℕ) → IsTrue (list_all is_digit front) → IsTrue (list_all is_digit fraction)
     → list_any is_exponent_mark (front ++ point ∷ fraction) ≡ false
-no_mark_in front fraction before behind =
+no_mark_in front fraction before after =
     list_any-append is_exponent_mark front (point ∷ fraction)
-    ∙ rw (none_among is_exponent_mark front no_mark before, none_among is_exponent_mark fraction no_mark behind) refl
+    ∙ rw (none_among is_exponent_mark front no_mark before, none_among is_exponent_mark fraction no_mark after) refl
 
 first_point : (front fraction : List ℕ) → list_any is_point front ≡ false
     → position_or_len is_point (front ++ point ∷ fraction) ≡ length front
@@ -61,45 +61,45 @@ record Pointed (number front fraction : List ℕ) : Type 0 where
   nothing : after_first is_exponent_mark number ≡ []
   no_exponent : list_any is_exponent_mark number ≡ false
   before : before_first is_point number ≡ front
-  behind : after_first is_point number ≡ fraction
+  after : after_first is_point number ≡ fraction
 
 pointed : (front fraction : List ℕ) → IsTrue (list_all is_digit front) → IsTrue (list_all is_digit fraction)
     → Pointed (front ++ point ∷ fraction) front fraction
-pointed front fraction before behind =
-    let mark = no_mark_in front fraction before behind in
+pointed front fraction before after =
+    let mark = no_mark_in front fraction before after in
     let place = first_point front fraction (none_among is_point front no_point before) in
     record {
       mantissa = all_before is_exponent_mark (front ++ point ∷ fraction) mark;
       nothing = none_after is_exponent_mark (front ++ point ∷ fraction) mark;
       no_exponent = mark;
       before = ap (λ (n : ℕ). take n (front ++ point ∷ fraction)) place ∙ take-append_seam front (point ∷ fraction);
-      behind = ap (λ (n : ℕ). drop (n + 1) (front ++ point ∷ fraction)) place ∙ drop-append-add front (point ∷ fraction) 1;
+      after = ap (λ (n : ℕ). drop (n + 1) (front ++ point ∷ fraction)) place ∙ drop-append-add front (point ∷ fraction) 1;
     }
 
 any_digit : (front fraction : List ℕ) → IsTrue (list_all is_digit front) → IsTrue (list_all is_digit fraction)
     → 1 < length (front ++ point ∷ fraction) → list_any is_digit (front ++ point ∷ fraction) ≡ true
-any_digit [] fraction before behind some = some_digit fraction (omega arith) behind
-any_digit (b ∷ front) fraction before behind some =
+any_digit [] fraction before after some = some_digit fraction (omega arith) after
+any_digit (b ∷ front) fraction before after some =
     let first : is_digit b ≡ true = (and_parts _ _ before).0 in
     rw first refl
 
 -- what digits with at most one point among them spell: so many are after it
-pub record Plain (number : List ℕ) (value behind : ℕ) : Type 0 where
+pub record Plain (number : List ℕ) (value after : ℕ) : Type 0 where
   pub form : IsTrue (is_number number)
   pub digits : mantissa_of number ≡ value
-  pub power : exponent_of number ≡ pos 0 -ℤ pos behind
+  pub power : exponent_of number ≡ pos 0 -ℤ pos after
 
 plain_parts : (front fraction : List ℕ) (value : ℕ) → IsTrue (list_all is_digit front) → IsTrue (list_all is_digit fraction)
     → value ≡ digits_value_after 10 (digits_value_after 10 0 front) fraction → 1 < length (front ++ point ∷ fraction)
     → Plain (front ++ point ∷ fraction) value (length fraction)
 unfolding is_number mantissa_of exponent_of
-plain_parts front fraction value before behind value-is some =
-    let p = pointed front fraction before behind in
-    let digit = any_digit front fraction before behind some in
+plain_parts front fraction value before after value-is some =
+    let p = pointed front fraction before after in
+    let digit = any_digit front fraction before after some in
     record {
-      form = rw (p.mantissa, p.no_exponent, p.before, p.behind, before, behind, digit) refl;
-      digits = rw (p.mantissa, p.before, p.behind) (value_append 0 front fraction ∙ sym value-is);
-      power = rw (p.nothing, p.mantissa, p.behind) refl;
+      form = rw (p.mantissa, p.no_exponent, p.before, p.after, before, after, digit) refl;
+      digits = rw (p.mantissa, p.before, p.after) (value_append 0 front fraction ∙ sym value-is);
+      power = rw (p.nothing, p.mantissa, p.after) refl;
     }
 
 pub plain_point : (number rest end : List ℕ) (whole value n : ℕ) → IsDigitsThen 0 number whole rest → 1 ≤ length rest
@@ -111,11 +111,11 @@ plain_point number (b ∷ fraction) [] whole value n first some dot n-is second 
     let all : take n fraction ≡ fraction = take_all n fraction (omega arith) in
     let parts : number ≡ first.front ++ point ∷ fraction =
     first.parts ∙ ap (λ (x : ℕ). first.front ++ x ∷ fraction) dot in
-    let behind : fraction ≡ second.front = sym all ∙ second.parts ∙ append-nil second.front in
+    let after : fraction ≡ second.front = sym all ∙ second.parts ∙ append-nil second.front in
     let value-is : value ≡ digits_value_after 10 (digits_value_after 10 0 first.front) fraction =
     second.value_of ∙ ap (λ (m : ℕ). digits_value_after 10 m second.front) first.value_of
-    ∙ ap (λ (ds : List ℕ). digits_value_after 10 (digits_value_after 10 0 first.front) ds) (sym behind) in
-    let fraction-digits : IsTrue (list_all is_digit fraction) = rw behind second.digits in
+    ∙ ap (λ (ds : List ℕ). digits_value_after 10 (digits_value_after 10 0 first.front) ds) (sym after) in
+    let fraction-digits : IsTrue (list_all is_digit fraction) = rw after second.digits in
     let length-is : 1 < length (first.front ++ point ∷ fraction) = rw parts at long in
     rw (all, parts) (plain_parts first.front fraction value first.digits fraction-digits value-is length-is)
 

@@ -1,4 +1,4 @@
--- Numbers with zeros behind them: products with powers of ten.
+-- Numbers with zeros after them: products with powers of ten.
 use Rattle.std.proofs.Common.{◌≡◌, ◌≢◌, ℕ, ◌+◌, ◌-◌, ◌*◌, ◌^◌, ◌%◌, ◌<◌, ◌≤◌, sym, ap, ◌∙◌, add-one, arith}
 use Rattle.std.proofs.Math.Nat.{one-le-pow, pow-suc, pow-le-pow_right, le_of_mul-le-mul_right, le-mul_of_pos_right, mul_assoc}
 use Rattle.std.proofs.Math.Nat.{mul-mod_left}
@@ -26,7 +26,7 @@ tens_apart n a b = ap (λ (p : ℕ). n * p) (pow-add 10 a b) ∙ sym (mul_assoc 
 pub tens_none : (n : ℕ) → n * 10 ^ 0 ≡ n
 tens_none n = omega arith
 
--- a number with fewer zeros written behind it, and the same value, ends in a zero itself
+-- a number with fewer zeros written after it, and the same value, ends in a zero itself
 pub ends_in_zero : (n m z k : ℕ) → n * 10 ^ z ≡ m * 10 ^ k → z < k → n % 10 ≡ 0
 ends_in_zero n m z k e less =
     let j : ℕ = k - z - 1 in
@@ -36,7 +36,7 @@ ends_in_zero n m z k e less =
     let last : n ≡ m * 10 ^ j * 10 = n-is ∙ sym (tens_more m j) in
     ap (λ (i : ℕ). i % 10) last ∙ mul-mod_left (m * 10 ^ j) 10
 
--- a number is written in one way as one that ends in no zero, with zeros behind it
+-- a number is written in one way as one that ends in no zero, with zeros after it
 pub record SameTens (n m z k : ℕ) : Type 0 where
   pub number : n ≡ m
   pub zeros : z ≡ k

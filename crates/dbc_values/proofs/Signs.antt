@@ -1,4 +1,4 @@
--- A number behind a minus.
+-- A number after a minus.
 use Rattle.std.proofs.Common.{MatchOption, Option, ◌≡◌, ℕ, ◌-◌, Bool, true, List, length, take, drop, refl, sym, subst, ◌∙◌}
 use Rattle.std.specs.Str.Parse.{starts_with_minus, without_leading_sign}
 use Rattle.std.proofs.lemmas.List.{length-drop}

@@ -83,8 +83,8 @@ exact_whole m n e w = elim (cases_lt n (2 ^ 64)) [
   | inr more ↦ rw (le-ltb n (2 ^ 64) more) (n, more, w)
 ]
 
-pub with_zeros_behind : (m d : ℕ) (e : ℤ) (y : ℕ) (r : IsReduced m e (Some d) (pos y)) → d ≢ 0 → IsWhole m e (as_whole (d * 10 ^ y))
-with_zeros_behind m d e y r some =
+pub with_zeros_after : (m d : ℕ) (e : ℤ) (y : ℕ) (r : IsReduced m e (Some d) (pos y)) → d ≢ 0 → IsWhole m e (as_whole (d * 10 ^ y))
+with_zeros_after m d e y r some =
     let front : d ≡ r.front.front = kept_is d r.front.front r.front.kept in
     elim r.power [
       | inl same ↦
@@ -104,7 +104,7 @@ with_zeros_behind m d e y r some =
 
 -- the same for an exponent that is cast to a count of zeros
 at_sign : (m d : ℕ) (e x : ℤ) (r : IsReduced m e (Some d) x) → d ≢ 0 → pos 0 ≤ℤ x → IsWhole m e (as_whole (d * 10 ^ unsigned_abs x))
-at_sign m d e (pos y) r some more = with_zeros_behind m d e y r some
+at_sign m d e (pos y) r some more = with_zeros_after m d e y r some
 at_sign m d e (negsuc k) r some more = absurd (omega (arith, ints))
 
 pub with_zeros_at : (m d : ℕ) (e x z : ℤ) → z ≡ x → (r : IsReduced m e (Some d) x) → d ≢ 0 → pos 0 ≤ℤ x

@@ -188,7 +188,7 @@ quoted text = quote ∷ (text ++ quote ∷ [])
 
 -- ---- numbers
 
--- digits, perhaps with one point among, before or behind them, and at least one digit
+-- digits, perhaps with one point among, before or after them, and at least one digit
 abbrev pub is_mantissa : List ℕ → Bool
 is_mantissa bytes = list_all is_digit (before_first is_point bytes) && list_all is_digit (after_first is_point bytes) && list_any
     is_digit bytes

@@ -1,5 +1,5 @@
 -- What a number of a database text spells: `m · 10^e`, where `m` is the value of all its digits read as one whole
--- number, and `e` its exponent less the count of the digits behind its point.
+-- number, and `e` its exponent less the count of the digits after its point.
 -- Source: the DBC file format, "General Definitions" (unsigned_integer, double).
 use Rattle.std.specs.Prelude.{◌≡◌, ℕ, ℤ, pos, negsuc, ◌+◌, ◌*◌, ◌+ℤ◌, ◌-ℤ◌, ◌≤ℤ◌, ◌⊎◌, ◌^◌, ◌/◌, ◌%◌, ◌==◌, ◌<◌, ◌≤◌, nat_lt, List}
 use Rattle.std.specs.Prelude.{◌++◌, length, Option, Some, None, IsTrue, if◌then◌else◌}
@@ -16,19 +16,19 @@ mantissa_text number = before_first is_exponent_mark number
 abbrev pub digits_before_point : List ℕ → List ℕ
 digits_before_point number = before_first is_point (mantissa_text number)
 
-abbrev pub digits_behind_point : List ℕ → List ℕ
-digits_behind_point number = after_first is_point (mantissa_text number)
+abbrev pub digits_after_point : List ℕ → List ℕ
+digits_after_point number = after_first is_point (mantissa_text number)
 
 -- all the digits before the exponent, read as one whole number
 unfoldable pub mantissa_of : List ℕ → ℕ
-mantissa_of number = digits_value 10 (digits_before_point number ++ digits_behind_point number)
+mantissa_of number = digits_value 10 (digits_before_point number ++ digits_after_point number)
 
--- the number behind `E`, or 0 where there is none
+-- the number after `E`, or 0 where there is none
 abbrev pub written_exponent : List ℕ → ℤ
 written_exponent number = signed_digits_value 10 (after_first is_exponent_mark number)
 
 unfoldable pub exponent_of : List ℕ → ℤ
-exponent_of number = written_exponent number -ℤ pos (length (digits_behind_point number))
+exponent_of number = written_exponent number -ℤ pos (length (digits_after_point number))
 
 -- the most digits of a decimal
 abbrev pub most_digits : ℕ
@@ -69,7 +69,7 @@ pub record SpellsWhole (number : List ℕ) (whole : Whole) : Type 0 where
 abbrev pub at_most_36_digits : ℕ → Option ℕ
 at_most_36_digits n = if nat_lt n (10 ^ most_digits) then Some n else None
 
--- m is a number with some zeros behind it, of which the last digit is not zero unless it is 0 as a whole
+-- m is a number with some zeros after it, of which the last digit is not zero unless it is 0 as a whole
 pub record HasDigits (m : ℕ) (digits : Option ℕ) (zeros : ℕ) : Type 0 where
   pub front : ℕ
   pub value : m ≡ front * 10 ^ zeros

@@ -1,4 +1,4 @@
--- Lists of bytes that stand one behind the other, told by where each ends.
+-- Lists of bytes that stand one after the other, told by where each ends.
 use Rattle.std.specs.Prelude.{ℕ, ◌≡◌, ◌≤◌, List, [], ◌∷◌, length, All}
 use Rattle.std.specs.List.{slice_range}
 use Rattle.dbc_values.specs.Pieces.{IsPiece}

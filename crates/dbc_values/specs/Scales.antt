@@ -13,10 +13,10 @@ pub record Scale : Type 0 where
   pub places : ℕ
   pub length : ℕ
 
--- how many digits a decimal with this exponent has behind its point
-abbrev pub digits_behind : ℤ → ℕ
-digits_behind (pos e) = 0
-digits_behind (negsuc n) = suc n
+-- how many digits a decimal with this exponent has after its point
+abbrev pub digits_after : ℤ → ℕ
+digits_after (pos e) = 0
+digits_after (negsuc n) = suc n
 
 -- the power of ten that a mantissa takes, once the point is moved that many places
 abbrev pub moved_exponent : ℕ → ℤ → ℕ
@@ -35,7 +35,7 @@ whole_at places decimal = signed decimal.negative (magnitude_at places decimal)
 
 -- the fewest places at which both factor and offset are whole
 abbrev pub places_of : Decimal → Decimal → ℕ
-places_of factor offset = max (digits_behind factor.exponent) (digits_behind offset.exponent)
+places_of factor offset = max (digits_after factor.exponent) (digits_after offset.exponent)
 
 -- whether every value of a raw number up to `2^length`, either way, has at most 38 digits
 abbrev pub reach_fits : ℕ → ℕ → ℕ → Bool

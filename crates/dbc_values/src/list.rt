@@ -100,7 +100,7 @@ impl<T: Checked> List<T> {
         self.items.is_empty()
     }
 
-    /// Puts an item behind the others. An `Err` changes nothing.
+    /// Puts an item after the others. An `Err` changes nothing.
     pub fn push(&mut self, item: T) -> Result<(), Memory>
         requires { T.IsValid item }
         ensures ok { OnOk result (self.new ≡ self.old ++ item ∷ []) }
@@ -111,7 +111,7 @@ impl<T: Checked> List<T> {
         Ok(())
     }
 
-    /// Puts an item before that at the place, or behind all others. An `Err` changes nothing.
+    /// Puts an item before that at the place, or after all others. An `Err` changes nothing.
     pub fn insert(&mut self, place: usize, item: T) -> Result<(), Memory>
         requires place { place ≤ length self.old }
         requires item { T.IsValid item }

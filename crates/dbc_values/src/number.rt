@@ -101,7 +101,7 @@ fn point_place(bytes: &[u8]) -> usize
     bytes.iter().take_while(|b| **b != b'.').count()
 }
 
-/// What stands before the byte at the place, and what stands behind it.
+/// What stands before the byte at the place, and what stands after it.
 fn split_around(bytes: &[u8], place: usize) -> (&[u8], &[u8])
     requires { place ≤ length bytes.now }
     ensures front { result.0.now ≡ take place bytes.now }
@@ -117,8 +117,8 @@ fn split_around(bytes: &[u8], place: usize) -> (&[u8], &[u8])
 fn is_mantissa(bytes: &[u8]) -> bool
     ensures { result ≡ is_mantissa bytes.now }
 {
-    let (before_point, behind_point) = split_around(bytes, point_place(bytes));
-    are_digits(before_point) && are_digits(behind_point) && has_digit(bytes)
+    let (before_point, after_point) = split_around(bytes, point_place(bytes));
+    are_digits(before_point) && are_digits(after_point) && has_digit(bytes)
 }
 
 fn is_signed_digits(bytes: &[u8]) -> bool
@@ -140,7 +140,7 @@ pub fn is_number(bytes: &[u8]) -> bool
     is_mantissa(mantissa) && (!has_exponent_mark(bytes) || is_signed_digits(exponent))
 }
 
-/// The number and that many zeros behind it, where that has at most 38 digits.
+/// The number and that many zeros after it, where that has at most 38 digits.
 pub fn with_zeros(number: u128, zeros: u128) -> Option<u128>
     ensures { result ≡ (if nat_lt (number * 10 ^ zeros) (10 ^ 38) then Some (number * 10 ^ zeros) else None) }
 {
@@ -157,7 +157,7 @@ pub fn with_zeros(number: u128, zeros: u128) -> Option<u128>
     if product < LIMIT { Some(product) } else { None }
 }
 
-/// The number and that many zeros behind it, as far as it can be told.
+/// The number and that many zeros after it, as far as it can be told.
 fn whole_with_zeros(number: u128, zeros: u128) -> Whole
     ensures { result ≡ (if nat_lt (number * 10 ^ zeros) (2 ^ 64) then Whole.Value (number * 10 ^ zeros) else Whole.TooLarge) }
 {
@@ -185,7 +185,7 @@ impl Digits {
         zeros: 0,
     };
 
-    /// With one more digit behind.
+    /// With one more digit after.
     fn then(self, digit: u8) -> Digits
         requires digit { digit < 10 }
         requires few { self.zeros < 2 ^ 100 }
@@ -206,7 +206,7 @@ impl Digits {
         Digits { front, zeros: 0 }
     }
 
-    /// With these digits behind.
+    /// With these digits after.
     fn then_all(self, digits: &[u8]) -> Digits
         requires digits { IsTrue (list_all is_digit digits.now) }
         requires few { self.zeros < 2 ^ 99 }
@@ -283,14 +283,14 @@ fn word_digits(value: u64) -> Digits
 }
 
 /// The digits around a point.
-fn mantissa_digits(before_point: &[u8], behind_point: &[u8]) -> Digits
+fn mantissa_digits(before_point: &[u8], after_point: &[u8]) -> Digits
     requires before { IsTrue (list_all is_digit before_point.now) }
-    requires behind { IsTrue (list_all is_digit behind_point.now) }
-    ensures value { HasDigits (digits_value_after 10 (digits_value_after 10 0 before_point.now) behind_point.now) result.front
+    requires after { IsTrue (list_all is_digit after_point.now) }
+    ensures value { HasDigits (digits_value_after 10 (digits_value_after 10 0 before_point.now) after_point.now) result.front
         result.zeros }
     ensures few { result.zeros ≤ 2 ^ 65 }
 {
-    Digits::NONE.then_all(before_point).then_all(behind_point)
+    Digits::NONE.then_all(before_point).then_all(after_point)
 }
 
 /// The value of the digits, or [`SATURATED`] where it is greater.
@@ -318,31 +318,31 @@ fn signed_up_to_far(text: &[u8]) -> i128
     }
 }
 
-/// The exponent of digits that have some behind the point, once the zeros at their end are taken off.
-fn reduced_exponent(written: i128, behind_point: usize, zeros: u128) -> i128
+/// The exponent of digits that have some after the point, once the zeros at their end are taken off.
+fn reduced_exponent(written: i128, after_point: usize, zeros: u128) -> i128
     requires written { unsigned_abs written ≤ 10 ^ 30 }
     requires zeros { zeros ≤ 2 ^ 66 }
-    ensures { (e : ℤ) → StandsFor (10 ^ 30) e written → StandsFor 1000 ((e -ℤ pos behind_point) +ℤ pos zeros) result }
+    ensures { (e : ℤ) → StandsFor (10 ^ 30) e written → StandsFor 1000 ((e -ℤ pos after_point) +ℤ pos zeros) result }
 {
-    written - behind_point as i128 + zeros as i128
+    written - after_point as i128 + zeros as i128
 }
 
 impl Reduced {
     /// A number of a word, of which so many digits are after the point.
-    fn of_word(value: u64, behind_point: usize) -> Reduced
-        ensures { IsReduced value (pos 0 -ℤ pos behind_point) result.digits result.exponent }
+    fn of_word(value: u64, after_point: usize) -> Reduced
+        ensures { IsReduced value (pos 0 -ℤ pos after_point) result.digits result.exponent }
     {
         let digits = word_digits(value);
         Reduced {
             digits: digits.front,
-            exponent: reduced_exponent(0, behind_point, digits.zeros),
+            exponent: reduced_exponent(0, after_point, digits.zeros),
         }
     }
 
     /// A number of a word, of which so many digits are after the point, with a written exponent; `None` if that is none.
-    fn of_word_and_exponent(value: u64, behind_point: usize, exponent: &[u8]) -> Option<Reduced>
+    fn of_word_and_exponent(value: u64, after_point: usize, exponent: &[u8]) -> Option<Reduced>
         ensures { MatchOption result (is_signed_digits exponent.now ≡ false) (λ r. IsTrue (is_signed_digits exponent.now)
-            × IsReduced value (signed_digits_value 10 exponent.now -ℤ pos behind_point) r.digits r.exponent) }
+            × IsReduced value (signed_digits_value 10 exponent.now -ℤ pos after_point) r.digits r.exponent) }
     {
         if !is_signed_digits(exponent) {
             return None;
@@ -351,7 +351,7 @@ impl Reduced {
         let written = signed_up_to_far(exponent);
         Some(Reduced {
             digits: digits.front,
-            exponent: reduced_exponent(written, behind_point, digits.zeros),
+            exponent: reduced_exponent(written, after_point, digits.zeros),
         })
     }
 
@@ -360,8 +360,8 @@ impl Reduced {
         ensures { MatchOption result (is_number number.now ≡ false) (λ r. IsTrue (is_number number.now)
             × IsReduced (mantissa_of number.now) (exponent_of number.now) r.digits r.exponent) }
     {
-        if let Some((value, behind_point)) = plain_decimal(number) {
-            return Some(Reduced::of_word(value, behind_point));
+        if let Some((value, after_point)) = plain_decimal(number) {
+            return Some(Reduced::of_word(value, after_point));
         }
         Reduced::read_any(number)
     }
@@ -375,19 +375,19 @@ impl Reduced {
         let place = exponent_place(number);
         let (mantissa, exponent) = split_around(number, place);
         if place < number.len() {
-            if let Some((value, behind_point)) = plain_decimal(mantissa) {
-                return Reduced::of_word_and_exponent(value, behind_point, exponent);
+            if let Some((value, after_point)) = plain_decimal(mantissa) {
+                return Reduced::of_word_and_exponent(value, after_point, exponent);
             }
         }
         if !is_number(number) {
             return None;
         }
-        let (before_point, behind_point) = split_around(mantissa, point_place(mantissa));
-        let digits = mantissa_digits(before_point, behind_point);
+        let (before_point, after_point) = split_around(mantissa, point_place(mantissa));
+        let digits = mantissa_digits(before_point, after_point);
         let written = signed_up_to_far(exponent);
         Some(Reduced {
             digits: digits.front,
-            exponent: reduced_exponent(written, behind_point.len(), digits.zeros),
+            exponent: reduced_exponent(written, after_point.len(), digits.zeros),
         })
     }
 

@@ -11,7 +11,7 @@ use crate::text::is_text;
 use std::alloc::Global;
 use std::marker::Model;
 
-/// Tokens, one behind the other: each is a string with its quotes, a word, a number without a sign, or a mark other than
+/// Tokens, one after the other: each is a string with its quotes, a word, a number without a sign, or a mark other than
 /// `;`. Contracts see the list of them.
 #[derive(Drop)]
 pub struct Pieces {
@@ -109,7 +109,7 @@ impl Pieces {
         part_at(self.bytes.as_slice(), self.ends.as_slice(), place)
     }
 
-    /// Puts a token behind the others. An `Err` changes nothing.
+    /// Puts a token after the others. An `Err` changes nothing.
     #[tactic(auto, using(crate::proofs::Parts::one_more_part, crate::proofs::Parts::one_more_held))]
     pub fn push(&mut self, piece: &[u8]) -> Result<(), Memory>
         requires { IsTrue (is_piece piece.now) }

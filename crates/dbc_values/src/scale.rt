@@ -1,6 +1,6 @@
 //! The scale of a signal, in whole numbers.
 ghost use Rattle.std.specs.Prelude.{◌≡◌, ℕ, ◌*◌, ◌+ℤ◌, ◌*ℤ◌, ◌^◌, ◌≤◌, nat_lt, Some, None, unsigned_abs, if◌then◌else◌};
-ghost use Rattle.dbc_values.specs.Scales.{digits_behind, places_of, magnitude_at, signed, whole_at, reach_fits, scale_fits};
+ghost use Rattle.dbc_values.specs.Scales.{digits_after, places_of, magnitude_at, signed, whole_at, reach_fits, scale_fits};
 ghost use Rattle.dbc_values.specs.Scales.{scale_of};
 
 use crate::decimal::Decimal;
@@ -30,8 +30,8 @@ impl Model for Scale {
     ghost inverse = { λ s. record { factor = s.factor; offset = s.offset; places = s.places; length = s.length } };
 }
 
-fn digits_behind(exponent: i16) -> u16
-    ensures { result ≡ digits_behind exponent }
+fn digits_after(exponent: i16) -> u16
+    ensures { result ≡ digits_after exponent }
 {
     if exponent < 0 {
         exponent.unsigned_abs()
@@ -44,7 +44,7 @@ fn digits_behind(exponent: i16) -> u16
 fn places_of(factor: &Decimal, offset: &Decimal) -> u16
     ensures { result ≡ places_of factor.now offset.now }
 {
-    digits_behind(factor.exponent).max(digits_behind(offset.exponent))
+    digits_after(factor.exponent).max(digits_after(offset.exponent))
 }
 
 fn signed(negative: bool, number: u128) -> i128
@@ -60,7 +60,7 @@ fn signed(negative: bool, number: u128) -> i128
 
 /// The decimal as a whole number once its point is moved that many places, where that has at most 38 digits.
 fn whole_at(places: u16, decimal: &Decimal) -> Option<i128>
-    requires { digits_behind decimal.now.exponent ≤ places }
+    requires { digits_after decimal.now.exponent ≤ places }
     ensures { result ≡ (if nat_lt (magnitude_at places decimal.now) (10 ^ 38) then Some (whole_at places decimal.now) else None) }
 {
     let zeros = i32::from(places) + i32::from(decimal.exponent);
@@ -86,11 +86,11 @@ impl Scale {
     /// The most raw bits of a signal that has a scale.
     pub const MAX_LENGTH: u16 = 64;
 
-    /// The most digits behind the point of a value.
+    /// The most digits after the point of a value.
     pub const MAX_PLACES: u16 = 36;
 
     /// The scale of a signal with this factor, offset and length in bits, or `None` where the length is over
-    /// [`Scale::MAX_LENGTH`], where factor or offset has more than [`Scale::MAX_PLACES`] digits behind its point, or
+    /// [`Scale::MAX_LENGTH`], where factor or offset has more than [`Scale::MAX_PLACES`] digits after its point, or
     /// where some value could have more than 38 digits.
     pub fn of(factor: &Decimal, offset: &Decimal, length: u16) -> Option<Scale>
         ensures { result ≡ (if scale_fits factor.now offset.now length then Some (scale_of factor.now offset.now length) else
@@ -125,7 +125,7 @@ impl Scale {
         self.factor * raw + self.offset
     }
 
-    /// How many digits of a value stand behind its point.
+    /// How many digits of a value stand after its point.
     pub fn places(self) -> u8
         ensures { result ≡ self.places }
     {

@@ -14,7 +14,7 @@ const ROOM: usize = 22;
 pub struct Inline {
     // How many of the bytes count.
     count: u8,
-    // The bytes, and zeros behind them.
+    // The bytes, and zeros after them.
     room: [u8; ROOM],
 }
 
@@ -66,7 +66,7 @@ impl Inline {
 pub enum Place {
     /// In the value itself.
     Here(Inline),
-    /// Behind it, shared by all copies.
+    /// After it, shared by all copies.
     Shared(Rc<Vec<u8>>),
 }
 

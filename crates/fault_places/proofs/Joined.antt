@@ -1,4 +1,4 @@
--- Patterns one behind the other: where they may end, and what they begin with.
+-- Patterns one after the other: where they may end, and what they begin with.
 use Rattle.std.proofs.Common.{◌≡◌, Bool, true, false, cond, ◌||◌, ◌&&◌, List, [], ◌∷◌, ◌++◌, refl, sym, ap, ◌∙◌}
 use Rattle.std.proofs.Common.{append_assoc, ◌-◌, ◌≤◌, length, take, drop, get_or, arith}
 use Rattle.std.proofs.Math.Seq.{take-length}
@@ -25,8 +25,8 @@ stacked_push xs x = ap (λ ps. joined (reverse ps)) (map-append (λ (b : Bor Pat
 pub stacked_one : (x : Bor PatternOfCode) → stacked (x ∷ []) ≡ pattern_of x.now
 stacked_one x = then_done (pattern_of x.now)
 
-pub ends_behind : (p q : Pattern) → may_end (p then q) ≡ (may_end p && may_end q)
-ends_behind p q = may_end-then p q
+pub ends_after : (p q : Pattern) → may_end (p then q) ≡ (may_end p && may_end q)
+ends_after p q = may_end-then p q
 
 perhaps_more : (m : Bool) (xs ys : List Class) → (e : Bool) → cond m (xs ++ cond e ys []) [] ≡ cond m xs [] ++ cond (m && e) ys []
 perhaps_more true xs ys e = refl
@@ -43,7 +43,7 @@ firsts_then (Either a b p) q =
 firsts_then (Repeat a p) q =
     ap (λ z. firsts a ++ z) (firsts_then p q) ∙ sym (append_assoc (firsts a) (firsts p) (cond (may_end p) (firsts q) []))
 
--- the patterns behind the front
+-- the patterns after the front
 abbrev pub others_of : List (Bor PatternOfCode) → Pattern
 others_of xs = stacked (take (length xs - 1) xs)
 
@@ -57,7 +57,7 @@ stacked_last xs x many is =
 
 pub ends_last : (xs : List (Bor PatternOfCode)) (x : Bor PatternOfCode) (m : Bool) → 1 ≤ length xs
     → x ≡ get_or xs (length xs - 1) x → may_end (pattern_of x.now) ≡ m → (m && may_end (others_of xs)) ≡ may_end (stacked xs)
-ends_last xs x m many is ends = sym (ap may_end (stacked_last xs x many is) ∙ ends_behind (pattern_of x.now) (others_of xs)
+ends_last xs x m many is ends = sym (ap may_end (stacked_last xs x many is) ∙ ends_after (pattern_of x.now) (others_of xs)
     ∙ ap (λ b. b && may_end (others_of xs)) ends)
 
 pub firsts_last : (xs : List (Bor PatternOfCode)) (x : Bor PatternOfCode) (m : Bool) → 1 ≤ length xs

@@ -9,7 +9,7 @@ use Rattle.dbc_tokens.specs.Tokens.{Token, Cut, End, Fault, ◌▸◌, IsGap, Is
 use Rattle.dbc_tokens.specs.Reading.Scanner.{gap_len, rest_then, cut_of}
 use Rattle.dbc_tokens.proofs.CutLaws.{at_gap, cut_is, cut_unique}
 use Rattle.dbc_tokens.proofs.Gaps.{none_gap}
-use Rattle.dbc_tokens.proofs.Spots.{IsBehind, behind_gap, IsFront, token_front}
+use Rattle.dbc_tokens.proofs.Spots.{IsBehind, after_gap, IsFront, token_front}
 use Rattle.dbc_reader.specs.Forms.{◌▸▸◌}
 use Rattle.dbc_reader.specs.Pattern.{Class, Seen, Pattern, Left, verdict, may_end, after, fault_in, ruled, judged, first_fault}
 use Rattle.dbc_reader.specs.Pattern.{nothing_seen}
@@ -44,11 +44,11 @@ left_stops : (left : Left) (t : Token) (seen : Seen) (fault : ReadFault) (go : G
 left_stops None t seen fault go e = e
 left_stops (Some x) t seen fault go e = seen_stops x.1 t.line (verdict x.0 t seen) fault go e
 
--- the first fault stands behind a token that may stand there
-first_behind : (state next : State) (t : Token) (cut : Cut) → step state t ≡ Ok next
+-- the first fault stands after a token that may stand there
+first_after : (state next : State) (t : Token) (cut : Cut) → step state t ≡ Ok next
     → first_fault state.0 state.1 (t ▸ cut) ≡ first_fault next.0 next.1 cut
 unfolding first_fault step
-first_behind state next t cut e = left_goes (after state.0 t state.1) t state.1 next (λ q seen. first_fault q seen cut) e
+first_after state next t cut e = left_goes (after state.0 t state.1) t state.1 next (λ q seen. first_fault q seen cut) e
 
 -- a fault that stands at the front is the first
 first_here : (state : State) (cut : Cut) (fault : ReadFault) → fault_here state cut ≡ Some fault
@@ -79,7 +79,7 @@ seen_ok p r now e = ap (seen_so p) e
 pub seen_err : (p : Pattern) (r : Result Seen Cause) (cause : Cause) → r ≡ Err cause → seen_so p r ≡ Err cause
 seen_err p r cause e = ap (seen_so p) e
 
--- ---- tokens, one behind the other
+-- ---- tokens, one after the other
 
 -- one token more
 leads_more : (tokens : List Token) (line : ℕ) (text : List ℕ) (state : State) (at : ℕ) (rest : List ℕ) (now : State)
@@ -114,7 +114,7 @@ leads_more (u ∷ tokens) line text state at rest now (g, b, n, whole, is, l, si
           takes,
     )
 
--- the text has these tokens, and those of the rest behind them
+-- the text has these tokens, and those of the rest after them
 leads_cut : (tokens : List Token) (line : ℕ) (text : List ℕ) (state : State) (at : ℕ) (rest : List ℕ) (now : State) (cut : Cut)
     → Leads tokens line text state at rest now → HasTokens at 0 rest cut → HasTokens line 0 text (tokens ▸▸ cut)
 leads_cut [] line text state at rest now cut (a, b, c) has = rw (← a, ← b) has
@@ -129,24 +129,24 @@ leads_cut (t ∷ tokens) line text state at rest now cut (gap, behind, next, who
   leads_cut tokens (t.line + line_feeds t.bytes) behind next at rest now cut others has,
 )
 
--- the first fault is the first behind them
+-- the first fault is the first after them
 leads_first : (tokens : List Token) (line : ℕ) (text : List ℕ) (state : State) (at : ℕ) (rest : List ℕ) (now : State) (cut : Cut)
     → Leads tokens line text state at rest now → first_fault state.0 state.1 (tokens ▸▸ cut) ≡ first_fault now.0 now.1 cut
 leads_first [] line text state at rest now cut (a, b, c) = ap (λ (s : State). first_fault s.0 s.1 cut) (sym c)
 leads_first (t ∷ tokens) line text state at rest now cut (gap, behind, next, whole, is, l, size, long, took, others) =
-    first_behind state next t (tokens ▸▸ cut) took
+    first_after state next t (tokens ▸▸ cut) took
     ∙ leads_first tokens (t.line + line_feeds t.bytes) behind next at rest now cut others
 
 -- ---- places
 
--- behind the gap at the front of what is left
-place_behind : (pattern : Pattern) (text : List ℕ) (state : State) (tokens : List Token) (line : ℕ) (rest : List ℕ) (cut : Cut)
+-- after the gap at the front of what is left
+place_after : (pattern : Pattern) (text : List ℕ) (state : State) (tokens : List Token) (line : ℕ) (rest : List ℕ) (cut : Cut)
     → Leads tokens 1 text (pattern, nothing_seen) line rest state → cut ≡ cut_of line rest
     → Stands pattern text (drop (gap_len false rest) rest) state cut
-place_behind pattern text state tokens line rest cut leads is =
+place_after pattern text state tokens line rest cut leads is =
     let gap = take (gap_len false rest) rest in
     let here = drop (gap_len false rest) rest in
-    let b = behind_gap line rest gap here refl refl in
+    let b = after_gap line rest gap here refl refl in
     record {
       tokens = tokens;
       line = line;
@@ -163,7 +163,7 @@ place_behind pattern text state tokens line rest cut leads is =
 pub first_place : (pattern : Pattern) (text here : List ℕ) (cut : Cut) → here ≡ drop (gap_len false text) text → cut ≡ cut_of 1 text
     → Stands pattern text here (pattern, nothing_seen) cut
 first_place pattern text here cut here_is is =
-    rw here_is (place_behind pattern text (pattern, nothing_seen) [] 1 text cut (refl, refl, refl) is)
+    rw here_is (place_after pattern text (pattern, nothing_seen) [] 1 text cut (refl, refl, refl) is)
 
 -- the token there stands at its front
 there : (pattern : Pattern) (text here : List ℕ) (state : State) (t : Token) (cut : Cut)
@@ -178,11 +178,11 @@ token_fits pattern text here state t cut at =
     let x = there pattern text here state t cut at in
     omega (arith, ap length x.1.parts, length-append t.bytes x.0)
 
--- the place behind a token that may stand there
+-- the place after a token that may stand there
 pub next_place : (pattern : Pattern) (text here : List ℕ) (state : State) (t : Token) (cut : Cut) (next : State)
     (rest behind : List ℕ) → Stands pattern text here state (t ▸ cut) → step state t ≡ Ok next → rest ≡ drop (length t.bytes) here
     → behind ≡ drop (gap_len false rest) rest → Stands pattern text behind next cut
-next_place pattern text here state t cut next rest behind at takes rest_is behind_is =
+next_place pattern text here state t cut next rest behind at takes rest_is after_is =
     let x = there pattern text here state t cut at in
     let same : rest ≡ x.0 = rest_is ∙ ap (drop (length t.bytes)) x.1.parts ∙ drop_at t.bytes x.0 (length t.bytes) refl in
     let parts : at.rest ≡ at.gap ++ (t.bytes ++ rest) =
@@ -193,9 +193,9 @@ next_place pattern text here state t cut next rest behind at takes rest_is behin
     (x.1.left ∙ ap (λ (b : List ℕ). length b) front) (subst (IsLongest t.kind t.bytes) (sym same) x.1.longest) takes in
     let is : cut ≡ cut_of (t.line + line_feeds t.bytes) rest = x.1.others
     ∙ ap (cut_of (t.line + line_feeds t.bytes)) (sym same) in
-    rw behind_is (place_behind pattern text next (at.tokens ++ t ∷ []) (t.line + line_feeds t.bytes) rest cut leads is)
+    rw after_is (place_after pattern text next (at.tokens ++ t ∷ []) (t.line + line_feeds t.bytes) rest cut leads is)
 
--- the tokens behind a gap are those of the gap and what stands behind it
+-- the tokens after a gap are those of the gap and what stands after it
 gap_before : (line : ℕ) (rest gap here : List ℕ) (cut : Cut) → rest ≡ gap ++ here → IsGap gap here → BeginsNoGap here
     → HasTokens (line + line_feeds gap) 0 here cut → HasTokens line 0 rest cut
 gap_before line rest gap here cut parts is none has =

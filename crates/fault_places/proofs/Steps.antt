@@ -1,4 +1,4 @@
--- What a token leaves of a pattern with others behind it, by the pattern's parts.
+-- What a token leaves of a pattern with others after it, by the pattern's parts.
 use Rattle.std.proofs.Common.{◌≡◌, Bool, true, false, cond, ◌||◌, Option, Some, None, Result, Ok, Err, refl, sym, ap, subst, ◌∙◌}
 use Rattle.dbc_tokens.specs.declared.fault.Cause.{Cause}
 use Rattle.dbc_tokens.specs.declared.fault.Cause.TheVariants as causes
@@ -108,7 +108,7 @@ pub by_repeat : (a p : Pattern) (state : State) (t : Token) → step_by (Repeat 
     ≡ or_else (step_by a (Repeat a p then state.0, state.1) t) (step_by p state t)
 by_repeat a p state t = left_or (after a t state.1) (after p t state.1) (Repeat a p) state.0 t state.1 (taken a t state.1)
 
--- the pattern at the front takes a token, or where it may end one behind it
+-- the pattern at the front takes a token, or where it may end one after it
 pub step_front : (p q : Pattern) (seen : Seen) (t : Token) → step (p then q, seen) t
     ≡ or_else (step_by p (q, seen) t) (cond (may_end p) (step (q, seen) t) (Err causes.Statement))
 unfolding step
@@ -177,12 +177,12 @@ either_first pattern a b p t refusal before now is fit steps =
     subst (λ j. Steps j refusal before now) (sym (ap (λ q. step_by q s t) is ∙ by_either a b p s t))
     (kept (by_then a p t s) (or_else (by_then b p t s) (by_last (may_end a || may_end b) p t s)) refusal before now fit steps)
 
--- the first does not take the token: what the second does, or what is behind them
-either_behind : (pattern a b p : Pattern) (t : Token) (why refusal : Option Cause) (before mid now : Walk)
+-- the first does not take the token: what the second does, or what is after them
+either_after : (pattern a b p : Pattern) (t : Token) (why refusal : Option Cause) (before mid now : Walk)
     → pattern ≡ Either a b p → is_unfit why ≡ true → Steps (by_then a p t (state_of before)) why before mid
     → Steps (or_else (by_then b p t (state_of mid)) (by_last (may_end a || may_end b) p t (state_of mid))) refusal mid now
     → Steps (step_by pattern (state_of before) t) refusal before now
-either_behind pattern a b p t why refusal before mid now is unfit first others =
+either_after pattern a b p t why refusal before mid now is unfit first others =
     let s = state_of before in
     subst (λ j. Steps j refusal before now) (sym (ap (λ q. step_by q s t) is ∙ by_either a b p s t))
     (passed_on (by_then a p t) (λ z. or_else (by_then b p t z) (by_last (may_end a || may_end b) p t z)) why refusal before mid now
@@ -194,7 +194,7 @@ pub either_second : (pattern a b p : Pattern) (t : Token) (why refusal : Option 
     → Steps (step_by b (p then (state_of mid).0, (state_of mid).1) t) refusal mid now
     → Steps (step_by pattern (state_of before) t) refusal before now
 either_second pattern a b p t why refusal before mid now is unfit first fit second =
-    either_behind pattern a b p t why refusal before mid now is unfit first
+    either_after pattern a b p t why refusal before mid now is unfit first
     (kept (by_then b p t (state_of mid)) (by_last (may_end a || may_end b) p t (state_of mid)) refusal mid now fit second)
 
 pub either_next : (pattern a b p : Pattern) (t : Token) (m : Bool) (why why' refusal : Option Cause) (before mid mid' now : Walk)
@@ -203,7 +203,7 @@ pub either_next : (pattern a b p : Pattern) (t : Token) (m : Bool) (why why' ref
     → Steps (step_by b (p then (state_of mid).0, (state_of mid).1) t) why' mid mid' → (may_end a || may_end b) ≡ m
     → Steps (by_last m p t (state_of mid')) refusal mid' now → Steps (step_by pattern (state_of before) t) refusal before now
 either_next pattern a b p t m why why' refusal before mid mid' now is unfit first unfit' second ends next =
-    either_behind pattern a b p t why refusal before mid now is unfit first
+    either_after pattern a b p t why refusal before mid now is unfit first
     (passed_on (by_then b p t) (by_last (may_end a || may_end b) p t) why' refusal mid mid' now unfit' second
     (subst (λ n. Steps (by_last n p t (state_of mid')) refusal mid' now) (sym ends) next))
 

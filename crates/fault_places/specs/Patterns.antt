@@ -63,7 +63,7 @@ pattern_of (patterns.Then' class p next) = class_of class ⇒ pattern_of next
 pattern_of (patterns.Either' p first q second r next) = Either (pattern_of first) (pattern_of second) (pattern_of next)
 pattern_of (patterns.Repeat' p each q next) = Repeat (pattern_of each) (pattern_of next)
 
--- patterns one behind the other
+-- patterns one after the other
 abbrev pub joined : List Pattern → Pattern
 joined [] = Done
 joined (p ∷ others) = p then joined others
@@ -72,7 +72,7 @@ joined (p ∷ others) = p then joined others
 abbrev pub patterns_of : List (Bor PatternOfCode) → List Pattern
 patterns_of left = map (λ pattern. pattern_of pattern.now) left
 
--- these patterns one behind the other, the last at the front
+-- these patterns one after the other, the last at the front
 abbrev pub stacked : List (Bor PatternOfCode) → Pattern
 stacked left = joined (reverse (patterns_of left))
 
@@ -101,7 +101,7 @@ firsts (c ⇒ p) = c ∷ []
 firsts (Either a b p) = firsts a ++ firsts b ++ (if may_end a || may_end b then firsts p else [])
 firsts (Repeat a p) = firsts a ++ firsts p
 
--- classes one behind the other, and then
+-- classes one after the other, and then
 abbrev pub chain : List Class → Pattern → Pattern
 chain [] next = next
 chain (c ∷ others) next = c ⇒ chain others next

@@ -24,7 +24,7 @@ left_so (Some x) t seen = seen_so x.1 (verdict x.0 t seen)
 unfoldable pub step : State → Token → Result State Cause
 step state t = left_so (after state.0 t state.1) t state.1
 
--- Tokens of a text, one behind the other, each where it may stand: they lead from a line, a text and a state to these behind them.
+-- Tokens of a text, one after the other, each where it may stand: they lead from a line, a text and a state to these after them.
 abbrev pub Leads : List Token → ℕ → List ℕ → State → ℕ → List ℕ → State → Type 0
 Leads [] line text state at rest now = (at ≡ line) × (rest ≡ text) × (now ≡ state)
 Leads (t ∷ tokens) line text state at rest now =
@@ -60,7 +60,7 @@ pub record Stands (pattern : Pattern) (text here : List ℕ) (state : State) (cu
   pub no_gap : BeginsNoGap here
   pub follow : HasTokens (line + line_feeds gap) 0 here cut
 
--- a fault, the bytes before its token, those of the token and those behind it, and the classes of which one might have stood there
+-- a fault, the bytes before its token, those of the token and those after it, and the classes of which one might have stood there
 pub record Found : Type 0 where
   pub fault : ReadFault
   pub before : List ℕ

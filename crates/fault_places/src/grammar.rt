@@ -1,6 +1,6 @@
 //! The grammar of texts, as patterns.
 //!
-//! Each function gives the pattern of its name with another behind it.
+//! Each function gives the pattern of its name with another after it.
 ghost use Rattle.std.specs.Prelude.{◌≡◌, [], ◌∷◌, map, IfOk, codes, ◌^◌, ◌-◌, slice_index};
 ghost use Rattle.dbc_records.specs.Records.{most_bytes, most_bits};
 ghost use Rattle.dbc_reader.specs.Grammar as grammar;
@@ -62,7 +62,7 @@ fn repeat(alloc: Global, each: Pattern, next: Pattern) -> Made
     Ok(Pattern::Repeat(each, Box::new(alloc, next)?))
 }
 
-// These classes one behind the other, and then.
+// These classes one after the other, and then.
 fn chain(alloc: Global, classes: &[Class], next: Pattern) -> Made
     ensures { IfOk result (λ p. pattern_of p ≡ chain (map class_of classes.now) (pattern_of next)) }
 {
@@ -83,7 +83,7 @@ fn perhaps(alloc: Global, part: Pattern, next: Pattern) -> Made
     either(alloc, part, Pattern::Done, next)
 }
 
-// A number behind a minus, behind a plus or without a sign, and then: behind a minus of the first class, else of the second.
+// A number after a minus, after a plus or without a sign, and then: after a minus of the first class, else of the second.
 fn signed(alloc: Global, negative: Class, positive: Class, next: Pattern) -> Made
     ensures { IfOk result (λ p. pattern_of p ≡ Either (Mark minus ⇒ class_of negative ⇒ Done)
         (Either (Mark plus ⇒ class_of positive ⇒ Done) (class_of positive ⇒ Done) Done) (pattern_of next)) }
@@ -350,7 +350,7 @@ fn target(alloc: Global, next: Pattern) -> Made
     either(alloc, node, others, next)
 }
 
-// Behind `EV_` what is kept as it stands, or else this.
+// After `EV_` what is kept as it stands, or else this.
 fn of_variable_or(alloc: Global, other: Pattern) -> Made
     ensures { IfOk result (λ p. pattern_of p ≡ Either (Word (codes "EV_") ⇒ grammar.kept_rest) (pattern_of other) Done) }
 {

@@ -35,7 +35,7 @@ impl Pattern {
         }
     }
 
-    /// Puts the classes that may stand at the front behind those that were found.
+    /// Puts the classes that may stand at the front after those that were found.
     pub fn add_firsts(&self, found: &mut Vec<Class>) -> Result<(), Memory>
         ensures { OnOk result (map class_of found.new.items ≡ map class_of found.old.items ++ firsts (pattern_of self.now)) }
     {
@@ -62,7 +62,7 @@ impl Pattern {
 }
 
 /// Whether the text may end where these patterns are left, the last at the front.
-#[tactic(auto, using(crate::proofs::Joined::ends_behind))]
+#[tactic(auto, using(crate::proofs::Joined::ends_after))]
 pub fn may_end(left: &[&Pattern]) -> bool
     ensures { result ≡ may_end (stacked left.now) }
 {
@@ -72,7 +72,7 @@ pub fn may_end(left: &[&Pattern]) -> bool
     }
 }
 
-// Puts the classes that may stand where these patterns are left behind those that were found.
+// Puts the classes that may stand where these patterns are left after those that were found.
 #[tactic(auto, using(crate::proofs::Joined::firsts_then))]
 fn add_firsts(left: &[&Pattern], found: &mut Vec<Class>) -> Result<(), Memory>
     ensures { OnOk result (map class_of found.new.items ≡ map class_of found.old.items ++ firsts (stacked left.now)) }

@@ -23,25 +23,25 @@ pub struct Place<'t> {
     pub before: &'t [u8],
     /// Those of the token that is at fault; none at the end of the text, and where no token begins.
     pub token: &'t [u8],
-    /// Those behind.
+    /// Those after.
     pub behind: &'t [u8],
     /// The classes of which a token might have stood there.
     pub expected: Vec<Class>,
 }
 
-// A place of a text, behind a gap.
+// A place of a text, after a gap.
 #[derive(Clone, Copy)]
 struct Spot<'t> {
     // What stands there.
     next: Next<'t>,
     // The bytes from there on.
     here: &'t [u8],
-    // The tokens behind it.
+    // The tokens after it.
     after: Tokens<'t>,
 }
 
 impl<'t> Spot<'t> {
-    // The place behind the gap at the front of these bytes, which have these tokens.
+    // The place after the gap at the front of these bytes, which have these tokens.
     fn of(bytes: &'t [u8], tokens: Tokens<'t>) -> Spot<'t>
         ensures here { result.here.now ≡ drop (gap_len false bytes.entry.now) bytes.entry.now }
         ensures cut { left_at result ≡ left tokens.entry }

@@ -15,7 +15,7 @@ use dbc_tokens::{Cause, Token};
 use dbc_values::Memory;
 use std::alloc::Global;
 
-/// What is left of a pattern behind some tokens, and what was seen of them.
+/// What is left of a pattern after some tokens, and what was seen of them.
 #[derive(Drop)]
 pub struct Walk<'p, 't> {
     left: Vec<&'p Pattern>,
@@ -43,7 +43,7 @@ impl<'p, 't> Walk<'p, 't> {
         })
     }
 
-    // Takes the token by this pattern, with all that is left behind it, or says why it can't.
+    // Takes the token by this pattern, with all that is left after it, or says why it can't.
     #[cycle(take)]
     fn take(&mut self, pattern: &'p Pattern, token: Token<'t>) -> Result<Option<Cause>, Memory>
         ensures { IfOk result (λ refusal. Steps (step_by (pattern_of pattern.now) (state_of self.old) (token_of token.entry))

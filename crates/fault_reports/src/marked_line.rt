@@ -73,16 +73,16 @@ pub fn push_marked_line(text: &mut Vec<u8>, place: &Place<'_>) -> Result<(), Mem
     let line = last_line(place.before);
     let before = last_of(line, BEFORE);
     let token = first_of(first_line(place.token), BEHIND);
-    let line_behind = first_line(place.behind);
+    let line_after = first_line(place.behind);
     let is_whole = token.len() == place.token.len();
     let behind = if is_whole {
-        first_of(line_behind, BEHIND.saturating_sub(token.len()))
+        first_of(line_after, BEHIND.saturating_sub(token.len()))
     } else {
         b"".as_slice()
     };
     let (left, right) = cuts(
         before.len() < line.len(),
-        !is_whole || behind.len() < line_behind.len(),
+        !is_whole || behind.len() < line_after.len(),
     );
     push_all(text, &[left])?;
     push_shown(text, before)?;

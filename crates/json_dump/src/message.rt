@@ -479,7 +479,7 @@ impl<'a, L: Lookup> Messages<'a, L> {
         Ok(())
     }
 
-    fn write_behind_head(&self, text: &mut JsonText, planned: &Planned<'_>) -> Result<(), Memory>
+    fn write_after_head(&self, text: &mut JsonText, planned: &Planned<'_>) -> Result<(), Memory>
         ensures { OnOk result (text.new ≡ text.old ++ tokens_of ((
           codes "pgn",
           group_json (group_of
@@ -502,7 +502,7 @@ impl<'a, L: Lookup> Messages<'a, L> {
         ensures { OnOk result (text.new ≡ text.old ++ tokens_of (planned_members self.now planned.now)) }
     {
         write_planned_head(text, planned)?;
-        self.write_behind_head(text, planned)?;
+        self.write_after_head(text, planned)?;
         Ok(())
     }
 

@@ -442,7 +442,7 @@ fn write_rest_of<L: Lookup>(
 }
 
 #[tactic(auto, using(json_records::proofs::Tokens::members_then))]
-fn write_behind_front<L: Lookup>(
+fn write_after_front<L: Lookup>(
     text: &mut JsonText,
     known: &CrossReferences<'_, L>,
 ) -> Result<(), Memory>
@@ -461,7 +461,7 @@ fn write_rest_members<L: Lookup>(
         ++ other_members known.now))) }
 {
     write_front(text, known.database())?;
-    write_behind_front(text, known)
+    write_after_front(text, known)
 }
 
 /// Writes the object of all that belongs to no message.

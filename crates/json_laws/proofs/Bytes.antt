@@ -14,7 +14,7 @@ use Rattle.json.proofs.Printed.Utf8.{are_ascii, IsUtf8-are_ascii}
 use Rattle.json_texts.specs.Texts.{characters, text_of}
 use Rattle.dbc_values.specs.Lexical.{carriage_return}
 use Rattle.json_laws.proofs.OneLine.{holds_below, held}
-use Rattle.log_frames.specs.LogLines.{is_log_blank, first_word, behind_first_word, body_of}
+use Rattle.log_frames.specs.LogLines.{is_log_blank, first_word, after_first_word, body_of}
 
 -- ---- bytes
 
@@ -45,8 +45,8 @@ body_bytes line are = body_by _ _ line are
 pub word_bytes : (bytes : List ℕ) → AreBytes bytes → AreBytes (first_word bytes)
 word_bytes bytes are = take_bytes (prefix_len (λ b. not (is_log_blank b)) bytes) bytes are
 
-pub behind_bytes : (bytes : List ℕ) → AreBytes bytes → AreBytes (behind_first_word bytes)
-behind_bytes bytes are =
+pub after_bytes : (bytes : List ℕ) → AreBytes bytes → AreBytes (after_first_word bytes)
+after_bytes bytes are =
     let rest : List ℕ = drop (prefix_len (λ b. not (is_log_blank b)) bytes) bytes in
     drop_bytes (prefix_len is_log_blank rest) rest (drop_bytes (prefix_len (λ b. not (is_log_blank b)) bytes) bytes are)
 

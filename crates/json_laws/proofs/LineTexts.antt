@@ -29,7 +29,7 @@ use Rattle.can_layout.specs.Decoders.{Decoder, first_entry}
 use Rattle.can_layout.specs.Pictures.{cause_word}
 use Rattle.can_layout.specs.Plans.{plan_in, plan_of, row_of}
 use Rattle.log_frames.specs.Frames.{Frame, is_data, body_of, frame_of}
-use Rattle.log_frames.specs.LogLines.{behind_first_word}
+use Rattle.log_frames.specs.LogLines.{after_first_word}
 use Rattle.log_frames.specs.declared.frame.Kind.{Kind}
 use Rattle.log_frames.specs.declared.frame.Kind.TheVariants.{Classic, Fd, Remote, Error}
 use Rattle.can_decode.specs.declared.short.Short.{Short}
@@ -41,7 +41,7 @@ use Rattle.json_lines.specs.Lines.{known_members, members_by, line_members, line
 use Rattle.json_laws.specs.OneLine.{HasTexts, MembersHaveTexts}
 use Rattle.json_laws.specs.Laws.{ShowsBytes, ObjectsAreLines}
 use Rattle.json_laws.proofs.OneLine.{printed_line}
-use Rattle.json_laws.proofs.Bytes.{AreBytes, are_bytes, body_bytes, word_bytes, behind_bytes, text_is_utf8, hex_utf8}
+use Rattle.json_laws.proofs.Bytes.{AreBytes, are_bytes, body_bytes, word_bytes, after_bytes, text_is_utf8, hex_utf8}
 use Rattle.json_records.proofs.Names.{name_utf8}
 use Rattle.json_laws.proofs.Stamps.{LinesAreTold}
 use Rattle.json_laws.proofs.Targets.{IsKnown, known, all_at}
@@ -238,12 +238,12 @@ rest_texts (b ∷ rest) are =
 
 interface_bytes : (body : List ℕ) → AreBytes body → AreBytes (interface_of body)
 unfolding interface_of
-interface_bytes body are = word_bytes (behind_first_word body) (behind_bytes body are)
+interface_bytes body are = word_bytes (after_first_word body) (after_bytes body are)
 
 rest_bytes : (body : List ℕ) → AreBytes body → AreBytes (rest_of body)
 unfolding rest_of
 rest_bytes body are =
-    behind_bytes (behind_first_word (behind_first_word body)) (behind_bytes (behind_first_word body) (behind_bytes body are))
+    after_bytes (after_first_word (after_first_word body)) (after_bytes (after_first_word body) (after_bytes body are))
 
 known_texts : (bus : Bus) (body : List ℕ) (frame : Frame) → IsDatabase bus.database → ShowsBytes bus.database → AreBytes body
     → AreTexts (known_members body frame (chosen_target bus.short bus.database frame))

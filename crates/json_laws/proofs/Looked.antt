@@ -12,12 +12,12 @@ use Rattle.json_laws.specs.Said.{value_at, text_in, bytes_by, bytes_at}
 use Rattle.json_laws.proofs.Among.{keys_of}
 
 -- other keys in front are passed over
-pub passed : (wanted : List ℕ) (front behind : List Member) → AllByRecursion (λ key. bytes_eq wanted key ≡ false) (keys_of front)
-    → value_at wanted (members_of (front ++ behind)) ≡ value_at wanted (members_of behind)
-passed wanted [] behind others = refl
-passed wanted (one ∷ front) behind others =
-    ap (λ (b : Bool). if b then Some one.1 else value_at wanted (members_of (front ++ behind))) others.0
-    ∙ passed wanted front behind others.1
+pub passed : (wanted : List ℕ) (front after : List Member) → AllByRecursion (λ key. bytes_eq wanted key ≡ false) (keys_of front)
+    → value_at wanted (members_of (front ++ after)) ≡ value_at wanted (members_of after)
+passed wanted [] after others = refl
+passed wanted (one ∷ front) after others =
+    ap (λ (b : Bool). if b then Some one.1 else value_at wanted (members_of (front ++ after))) others.0
+    ∙ passed wanted front after others.1
 
 pub absent : (wanted : List ℕ) (members : List Member) → AllByRecursion (λ key. bytes_eq wanted key ≡ false) (keys_of members)
     → value_at wanted (members_of members) ≡ None

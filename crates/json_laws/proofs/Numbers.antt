@@ -10,7 +10,7 @@ use Rattle.std.specs.Str.Parse.{AllDigits, IsNumeral}
 use Rattle.json.specs.Word.{head, after_digits, after_whole, after_fraction, after_exponent, after_number}
 use Rattle.json.specs.Print.{IsNumber}
 use Rattle.dbc_records.specs.Layout.{sign_text}
-use Rattle.can_decode.specs.ScaledTexts.{behind_point, IsScaledText}
+use Rattle.can_decode.specs.ScaledTexts.{after_point, IsScaledText}
 
 digit_range : (d : ℕ) → digit_value d < 10 → (48 ≤ d) × (d ≤ 57)
 digit_range d h = grind arith
@@ -43,8 +43,8 @@ whole_then (d ∷ ds) r h first none = (
   ne_eqb d 45 (λ e. omega (arith, digit_range d h.1.0)),
 )
 
-behind_then : (ds : List ℕ) → AllDigits 10 ds → (option_and_then after_exponent (after_fraction (behind_point ds)) ≡ Some [])
-    × (prefix_len is_ascii_digit (behind_point ds) ≡ 0)
+behind_then : (ds : List ℕ) → AllDigits 10 ds → (option_and_then after_exponent (after_fraction (after_point ds)) ≡ Some [])
+    × (prefix_len is_ascii_digit (after_point ds) ≡ 0)
 behind_then [] h = (refl, refl)
 behind_then (d ∷ ds) h = (
   ap (option_and_then after_exponent)
@@ -53,21 +53,21 @@ behind_then (d ∷ ds) h = (
 )
 
 unsigned_part : (w f : List ℕ) → IsNumeral 10 w → AllDigits 10 f → ((rest : List ℕ) → w ≡ 48 ∷ rest → rest ≡ [])
-    → (option_and_then after_exponent (option_and_then after_fraction (after_whole (w ++ behind_point f))) ≡ Some [])
-    × ((head (w ++ behind_point f) == 45) ≡ false)
+    → (option_and_then after_exponent (option_and_then after_fraction (after_whole (w ++ after_point f))) ≡ Some [])
+    × ((head (w ++ after_point f) == 45) ≡ false)
 unsigned_part w f whole fraction first =
-    let behind = behind_then f fraction in
-    let front = whole_then w (behind_point f) whole first behind.1 in
-    (ap (λ o. option_and_then after_exponent (option_and_then after_fraction o)) front.0 ∙ behind.0, front.1)
+    let after = behind_then f fraction in
+    let front = whole_then w (after_point f) whole first after.1 in
+    (ap (λ o. option_and_then after_exponent (option_and_then after_fraction o)) front.0 ∙ after.0, front.1)
 
 pub plain_number : (negative : Bool) (w f : List ℕ) → IsNumeral 10 w → AllDigits 10 f
-    → ((rest : List ℕ) → w ≡ 48 ∷ rest → rest ≡ []) → IsNumber (sign_text negative ++ (w ++ behind_point f))
+    → ((rest : List ℕ) → w ≡ 48 ∷ rest → rest ≡ []) → IsNumber (sign_text negative ++ (w ++ after_point f))
 unfolding after_number sign_text
 plain_number true w f whole fraction first = (unsigned_part w f whole fraction first).0
 plain_number false w f whole fraction first =
     let u = unsigned_part w f whole fraction first in
     ap (λ b. option_and_then after_exponent (option_and_then after_fraction
-    (after_whole (cond b (drop 1 (w ++ behind_point f)) (w ++ behind_point f))))) u.1 ∙ u.0
+    (after_whole (cond b (drop 1 (w ++ after_point f)) (w ++ after_point f))))) u.1 ∙ u.0
 
 pub scaled_number : (value : ℤ) (places : ℕ) (text : List ℕ) → IsScaledText value places text → IsNumber text
 scaled_number value places text is =

@@ -129,15 +129,15 @@ whole_plain text rest is plain = go (head text == 48) refl is
     go false nought is = digits_plain text rest is plain
 
 -- what a part leaves, and what the next part makes of it
-record Parted (part : List ℕ → Option (List ℕ)) (before : Option (List ℕ)) (behind : List ℕ) : Type 0 where
+record Parted (part : List ℕ → Option (List ℕ)) (before : Option (List ℕ)) (after : List ℕ) : Type 0 where
   middle : List ℕ
   first : before ≡ Some middle
-  then : part middle ≡ Some behind
+  then : part middle ≡ Some after
 
-parted : (part : List ℕ → Option (List ℕ)) (before : Option (List ℕ)) (behind : List ℕ)
-    → option_and_then part before ≡ Some behind → Parted part before behind
-parted part None behind is = absurd (let no : None ≡ Some behind = is in cc)
-parted part (Some middle) behind is = record { middle = middle; first = refl; then = is }
+parted : (part : List ℕ → Option (List ℕ)) (before : Option (List ℕ)) (after : List ℕ)
+    → option_and_then part before ≡ Some after → Parted part before after
+parted part None after is = absurd (let no : None ≡ Some after = is in cc)
+parted part (Some middle) after is = record { middle = middle; first = refl; then = is }
 
 number_plain : (text : List ℕ) → IsNumber text → ArePlain text
 unfolding after_number

@@ -71,9 +71,9 @@ at_frame : (key body : List ℕ) (frame : Frame) (said : List Member) → bytes_
     ≡ value_at key (members_of (frame_members frame ++ (said ++ rest_members (rest_of body))))
 at_frame key body frame said time interface =
     let came = text_members (codes "interface") (interface_of body) in
-    let behind = frame_members frame ++ (said ++ rest_members (rest_of body)) in
-    ap (λ (b : Bool). if b then Some (number (time_of body)) else value_at key (members_of (came ++ behind))) time
-    ∙ passed key came behind
+    let after = frame_members frame ++ (said ++ rest_members (rest_of body)) in
+    ap (λ (b : Bool). if b then Some (number (time_of body)) else value_at key (members_of (came ++ after))) time
+    ∙ passed key came after
     (none_among key (keys_of came) interface_keys (texts_among (codes "interface") (interface_of body)) interface)
 
 -- ---- numbers and data
@@ -87,11 +87,11 @@ identifier_said body frame said fits =
     ap (λ (value : Option Json). digits_value 10 (text_in value)) (at_frame (codes "id") body frame said refl refl)
     ∙ value_is frame.identifier (omega (arith, fits))
 
-data_said_by : (bytes : List ℕ) (test : Bool) (behind : List Member) → test ≡ true
+data_said_by : (bytes : List ℕ) (test : Bool) (after : List Member) → test ≡ true
     → text_in (value_at (codes "data")
-    (members_of ((if test then (codes "data", string (encode_upper bytes)) ∷ [] else []) ++ behind))) ≡ encode_upper bytes
-data_said_by bytes true behind is = refl
-data_said_by bytes false behind is = absurd (let no : false ≡ true = is in cc)
+    (members_of ((if test then (codes "data", string (encode_upper bytes)) ∷ [] else []) ++ after))) ≡ encode_upper bytes
+data_said_by bytes true after is = refl
+data_said_by bytes false after is = absurd (let no : false ≡ true = is in cc)
 
 count_said : (body : List ℕ) (frame : Frame) (said : List Member) → is_data frame ≡ true
     → length (text_at (codes "data") (members_of (saying body frame said))) / 2 ≡ length frame.bytes
@@ -150,12 +150,12 @@ in_values : (key body : List ℕ) (frame : Frame) (target : Target) (short : Boo
 in_values key body frame target short is named numbered grouped =
     let values = values_of frame target short in
     let rest = rest_members (rest_of body) in
-    let behind = (j1939_members frame.identifier target.group ++ values) ++ rest in
+    let after = (j1939_members frame.identifier target.group ++ values) ++ rest in
     at_said key body frame (message_members frame target ++ values) is
     ∙ ap (λ (b : Bool). if b then Some (string target.message.head.name)
     else if bytes_eq key (codes "number") then Some (number (decimal target.message.head.number))
-    else value_at key (members_of behind)) named
-    ∙ ap (λ (b : Bool). if b then Some (number (decimal target.message.head.number)) else value_at key (members_of behind)) numbered
+    else value_at key (members_of after)) named
+    ∙ ap (λ (b : Bool). if b then Some (number (decimal target.message.head.number)) else value_at key (members_of after)) numbered
     ∙ past_group key frame.identifier target.group values rest grouped
 
 is_said : (key : List ℕ) → bytes_eq key (codes "time") ≡ false → list_any (bytes_eq key) interface_keys ≡ false

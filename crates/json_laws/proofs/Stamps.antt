@@ -23,7 +23,7 @@ record IsStripped (digits rest : List ℕ) : Type 0 where
   whole : List ℕ
   is : without_leading_zeros (digits ++ 46 ∷ rest) ≡ whole ++ 46 ∷ rest
   numeral : IsNumeral 10 whole
-  first : (behind : List ℕ) → whole ≡ 48 ∷ behind → behind ≡ []
+  first : (after : List ℕ) → whole ≡ 48 ∷ after → after ≡ []
 
 digit_below : (d : ℕ) → is_digit d ≡ true → digit_value d < 10
 digit_below d is = grind arith
@@ -50,7 +50,7 @@ stripped_by d e digits rest false is all fewer = record {
   is = ap (λ (b : Bool). if b && is_digit e then without_leading_zeros (e ∷ digits ++ 46 ∷ rest)
       else d ∷ e ∷ digits ++ 46 ∷ rest) is;
   numeral = (omega arith, all_digits (d ∷ e ∷ digits) all);
-  first = λ behind same. absurd (grind (arith, is, same));
+  first = λ after same. absurd (grind (arith, is, same));
 }
 
 one_digit : (d : ℕ) (rest : List ℕ) (zero : Bool) → d == 48 ≡ zero → is_digit d ≡ true
@@ -59,13 +59,13 @@ one_digit d rest true is digit = record {
   whole = d ∷ [];
   is = ap (λ (b : Bool). if b && false then without_leading_zeros (46 ∷ rest) else d ∷ 46 ∷ rest) is;
   numeral = (omega arith, (digit_below d digit, tt));
-  first = λ behind same. let tails : [] ≡ behind = ap (λ (xs : List ℕ). drop 1 xs) same in sym tails;
+  first = λ after same. let tails : [] ≡ after = ap (λ (xs : List ℕ). drop 1 xs) same in sym tails;
 }
 one_digit d rest false is digit = record {
   whole = d ∷ [];
   is = ap (λ (b : Bool). if b && false then without_leading_zeros (46 ∷ rest) else d ∷ 46 ∷ rest) is;
   numeral = (omega arith, (digit_below d digit, tt));
-  first = λ behind same. let tails : [] ≡ behind = ap (λ (xs : List ℕ). drop 1 xs) same in sym tails;
+  first = λ after same. let tails : [] ≡ after = ap (λ (xs : List ℕ). drop 1 xs) same in sym tails;
 }
 
 stripped : (digits rest : List ℕ) → 0 < length digits → AllByRecursion (λ b. is_digit b ≡ true) digits → IsStripped digits rest
@@ -112,7 +112,7 @@ LinesAreTold = (body : List ℕ) (frame : Frame) → (frame_of body ≡ Some fra
 stamp_of : LinesAreTold → (body : List ℕ) (frame : Frame) → frame_of body ≡ Some frame → IsStampText (first_word body)
 stamp_of told body frame is =
     let line : IsLogLine body frame = (told body frame).0 is in
-    let rest = line.interface ++ (line.interface_gap ++ (line.frame_text ++ line.behind)) in
+    let rest = line.interface ++ (line.interface_gap ++ (line.frame_text ++ line.after)) in
     subst IsStampText (sym (ap first_word line.parts
     ∙ first_word_is line.stamp (line.stamp_gap ++ rest) (stamp_unbroken line.stamp line.stamp_is)
     (blanks_end line.stamp_gap rest line.stamp_gap_is))) line.stamp_is

@@ -16,7 +16,7 @@ use Rattle.can_layout.specs.declared.row.Reading.{Reading}
 use Rattle.can_layout.specs.declared.row.Reading.TheVariants.{Refused, Read}
 use Rattle.can_decode.specs.DecodedLines.{listed, shown_rows}
 use Rattle.json_lines.specs.Signals.{value_text, told_members, reading_members, signal_member, signal_members}
-use Rattle.json_lines.specs.Prepared.{value_label, row_label, next_label, behind_label}
+use Rattle.json_lines.specs.Prepared.{value_label, row_label, next_label, after_label}
 use Rattle.json_lines.proofs.Pushing.{pushed_then}
 
 -- an object of one member
@@ -42,7 +42,7 @@ two_further old mid new first second last begun =
 
 -- the label of a signal, and what follows it
 signal_text : (name bytes : List ℕ) (reading : Reading)
-    → (quoted name ++ (codes ":" ++ value_label reading)) ++ behind_label bytes reading
+    → (quoted name ++ (codes ":" ++ value_label reading)) ++ after_label bytes reading
     ≡ quoted name ++ (codes ":" ++ json_text (object_of (reading_members bytes reading)))
 signal_text name bytes (Refused cause) =
     append-nil (quoted name ++ (codes ":" ++ value_label (Refused cause)))
@@ -62,19 +62,19 @@ signal_text name bytes (Read decoder) =
     ∙ ap (λ (text : List ℕ). (key ++ (codes ":" ++ text)) ++ told) (sym (number_printed value))))
     ∙ ap (λ (text : List ℕ). quoted name ++ (codes ":" ++ text)) (sym (objects_are_printed (reading_members bytes (Read decoder))))
 
-signal_pushed : (old mid new bytes : List ℕ) (row : Row) → new ≡ mid ++ behind_label bytes row.reading → mid ≡ old
+signal_pushed : (old mid new bytes : List ℕ) (row : Row) → new ≡ mid ++ after_label bytes row.reading → mid ≡ old
     ++ row_label row
     → new ≡ old ++ member_text (signal_member bytes row)
 signal_pushed old mid new bytes row last begun =
-    pushed_then old mid new (row_label row) (behind_label bytes row.reading) last begun
+    pushed_then old mid new (row_label row) (after_label bytes row.reading) last begun
     ∙ ap (λ (text : List ℕ). old ++ text) (signal_text row.name bytes row.reading)
 
 -- a signal, after others or not
-pub next_pushed : (some : Bool) (old mid new bytes : List ℕ) (row : Row) → new ≡ mid ++ behind_label bytes row.reading
+pub next_pushed : (some : Bool) (old mid new bytes : List ℕ) (row : Row) → new ≡ mid ++ after_label bytes row.reading
     → mid ≡ old ++ (if some then next_label row else row_label row)
     → new ≡ old ++ (if some then further_member (signal_member bytes row) else member_text (signal_member bytes row))
 next_pushed true old mid new bytes row last begun =
-    pushed_then old mid new (next_label row) (behind_label bytes row.reading) last begun
+    pushed_then old mid new (next_label row) (after_label bytes row.reading) last begun
     ∙ ap (λ (text : List ℕ). old ++ (44 ∷ text)) (signal_text row.name bytes row.reading)
 next_pushed false old mid new bytes row last begun = signal_pushed old mid new bytes row last begun
 

@@ -12,7 +12,7 @@ use Rattle.json_lines.proofs.Pushing.{pushed_then}
 further-append : (first second : List Member) → further_members (first ++ second) ≡ further_members first ++ further_members second
 further-append first second = flat_map-append further_member first second
 
--- members, and more behind them
+-- members, and more after them
 pub both_further : (old mid new : List ℕ) (first second : List Member) → new ≡ mid ++ further_members second
     → mid ≡ old ++ further_members first → new ≡ old ++ further_members (first ++ second)
 both_further old mid new first second last begun =
@@ -47,22 +47,22 @@ unfolding known_members
 known_pushed old first second new body time interface rest frame target last middle begun is_time is_interface is_rest =
     let came = text_members (codes "interface") interface in
     let said = said_members frame.kind frame target in
-    let behind = rest_members rest in
-    let members = came ++ (frame_members frame ++ (said ++ behind)) in
+    let after = rest_members rest in
+    let members = came ++ (frame_members frame ++ (said ++ after)) in
     let one : Member = (codes "time", number time) in
-    let told : further_members (frame_members frame ++ (said ++ behind))
-    ≡ further_members (frame_members frame) ++ (further_members said ++ further_members behind) =
-    further-append (frame_members frame) (said ++ behind)
-    ∙ ap (λ (text : List ℕ). further_members (frame_members frame) ++ text) (further-append said behind) in
+    let told : further_members (frame_members frame ++ (said ++ after))
+    ≡ further_members (frame_members frame) ++ (further_members said ++ further_members after) =
+    further-append (frame_members frame) (said ++ after)
+    ∙ ap (λ (text : List ℕ). further_members (frame_members frame) ++ text) (further-append said after) in
     let all : second ≡ old ++ ((123 ∷ member_text one) ++ further_members members) =
     pushed_then old first second ((123 ∷ member_text one) ++ further_members came)
-    (further_members (frame_members frame) ++ (further_members said ++ further_members behind)) middle begun
+    (further_members (frame_members frame) ++ (further_members said ++ further_members after)) middle begun
     ∙ ap (λ (text : List ℕ). old ++ text)
     (append_assoc (123 ∷ member_text one) (further_members came)
-    (further_members (frame_members frame) ++ (further_members said ++ further_members behind))
+    (further_members (frame_members frame) ++ (further_members said ++ further_members after))
     ∙ ap (λ (text : List ℕ). (123 ∷ member_text one) ++ text)
     (ap (λ (text : List ℕ). further_members came ++ text) (sym told) ∙ sym (further-append came (frame_members frame ++ (said
-    ++ behind)))))
+    ++ after)))))
     in
     last ∙ ap (λ (text : List ℕ). text ++ 125 ∷ []) all
     ∙ append_assoc old ((123 ∷ member_text one) ++ further_members members) (125 ∷ [])

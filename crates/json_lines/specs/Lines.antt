@@ -11,7 +11,7 @@ use Rattle.dbc_values.specs.Lexical.{digit_zero, is_digit}
 use Rattle.dbc_records.specs.Records.{Message}
 use Rattle.dbc_records.specs.Databases.{Database}
 use Rattle.can_rows.specs.Groups.{group_number_of, priority_of, source_of, specific_of, format_of, first_broadcast_format}
-use Rattle.log_frames.specs.LogLines.{first_word, behind_first_word}
+use Rattle.log_frames.specs.LogLines.{first_word, after_first_word}
 use Rattle.log_frames.specs.Frames.{Frame, is_data, body_of, frame_of}
 use Rattle.log_frames.specs.declared.frame.Kind.{Kind}
 use Rattle.log_frames.specs.declared.frame.Kind.TheVariants.{Classic, Fd, Remote, Error}
@@ -37,11 +37,11 @@ unfoldable pub time_of : List ℕ → List ℕ
 time_of body = without_leading_zeros (take (length (first_word body) - 2) (drop 1 (first_word body)))
 
 unfoldable pub interface_of : List ℕ → List ℕ
-interface_of body = first_word (behind_first_word body)
+interface_of body = first_word (after_first_word body)
 
 -- what follows the frame
 unfoldable pub rest_of : List ℕ → List ℕ
-rest_of body = behind_first_word (behind_first_word (behind_first_word body))
+rest_of body = after_first_word (after_first_word (after_first_word body))
 
 -- ---- frames
 

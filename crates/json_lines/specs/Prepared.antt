@@ -33,9 +33,9 @@ row_tail (Refused cause) = []
 row_tail (Read decoder) = further_members (unit_members decoder.unit) ++ codes "}"
 
 -- what stands between the label of a signal and the next signal
-abbrev pub behind_label : List ℕ → Reading → List ℕ
-behind_label bytes (Refused cause) = []
-behind_label bytes (Read decoder) =
+abbrev pub after_label : List ℕ → Reading → List ℕ
+after_label bytes (Refused cause) = []
+after_label bytes (Read decoder) =
     let raw = raw_value bytes decoder.signed decoder.bits in
     value_text decoder raw ++ (further_members (told_members decoder (first_entry raw decoder.entries)) ++ codes "}")
 

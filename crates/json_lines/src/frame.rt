@@ -51,7 +51,7 @@ fn push_data(text: &mut TextBuffer, keys: &LineKeys, frame: &Frame) -> Result<()
 
 // The width, the kind, and the bytes of a data frame.
 #[tactic(auto, using(crate::proofs::Told::both_further))]
-fn push_behind_id(text: &mut TextBuffer, keys: &LineKeys, frame: &Frame) -> Result<(), Memory>
+fn push_after_id(text: &mut TextBuffer, keys: &LineKeys, frame: &Frame) -> Result<(), Memory>
     ensures { OnOk result (text.new.items ≡ text.old.items ++ further_members (flag_members frame.now.extended frame.now.kind
         ++ data_members frame.now)) }
 {
@@ -69,7 +69,7 @@ pub(crate) fn push_frame(
     ensures { OnOk result (text.new.items ≡ text.old.items ++ further_members (frame_members frame.now)) }
 {
     push_number_member(text, &keys.id, u64::from(frame.identifier))?;
-    push_behind_id(text, keys, frame)?;
+    push_after_id(text, keys, frame)?;
     Ok(())
 }
 

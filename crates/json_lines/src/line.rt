@@ -38,7 +38,7 @@ fn push_rest(text: &mut TextBuffer, keys: &LineKeys, rest: &[u8]) -> Result<(), 
 
 // What a frame is and says, and what follows it.
 #[tactic(auto, using(crate::proofs::Pushing::pushed_then))]
-fn push_behind_came(
+fn push_after_came(
     text: &mut TextBuffer,
     keys: &Keys,
     frame: &Frame,
@@ -68,7 +68,7 @@ fn push_known(
 {
     let words = words_of(body);
     push_came(text, ready, &words)?;
-    push_behind_came(text, ready.keys, frame, target, words.rest)?;
+    push_after_came(text, ready.keys, frame, target, words.rest)?;
     text.push(b'}')?;
     Ok(())
 }

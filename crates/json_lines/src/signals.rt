@@ -4,7 +4,7 @@ ghost use Rattle.std.specs.Prelude.{if◌then◌else◌};
 ghost use Rattle.can_layout.specs.Decoders.{first_entry};
 ghost use Rattle.json_texts.specs.Members.{further_members, object_text};
 ghost use Rattle.json_lines.specs.Signals.{value_text, told_members, signal_members};
-ghost use Rattle.json_lines.specs.Prepared.{row_tail, behind_label};
+ghost use Rattle.json_lines.specs.Prepared.{row_tail, after_label};
 ghost use Rattle.can_layout.specs.declared.row.Reading.TheVariants.{Read};
 
 use crate::keys::{Keys, SignalKeys};
@@ -80,7 +80,7 @@ fn push_value(
 
 // What follows the label of a signal: nothing if it can't be decoded.
 #[inline(always)]
-fn push_behind_label(
+fn push_after_label(
     text: &mut TextBuffer,
     keys: &SignalKeys,
     texts: &RowTexts,
@@ -88,7 +88,7 @@ fn push_behind_label(
     bytes: &[u8],
 ) -> Result<(), Memory>
     requires { texts.now.tail ≡ row_tail reading.now }
-    ensures { OnOk result (text.new.items ≡ text.old.items ++ behind_label bytes.now reading.now) }
+    ensures { OnOk result (text.new.items ≡ text.old.items ++ after_label bytes.now reading.now) }
 {
     match reading {
         Reading::Refused(_) => Ok(()),
@@ -132,7 +132,7 @@ impl<'a> SignalText for JsonSignals<'a> {
         let row = target.plan().row(place);
         let texts = target.signal(place);
         push_label(text, texts, some)?;
-        push_behind_label(text, self.keys, texts, &row.reading, bytes)?;
+        push_after_label(text, self.keys, texts, &row.reading, bytes)?;
         Ok(())
     }
 }

@@ -53,8 +53,8 @@ pub fn words_of(body: &[u8]) -> Words<'_>
     ensures interface { result.interface.now ≡ interface_of body.now }
     ensures rest { result.rest.now ≡ rest_of body.now }
 {
-    let (stamp, behind_stamp) = split_word(body);
-    let (interface, frame_on) = split_word(behind_stamp);
+    let (stamp, after_stamp) = split_word(body);
+    let (interface, frame_on) = split_word(after_stamp);
     let (_, rest) = split_word(frame_on);
     Words {
         time: without_leading_zeros(inner(stamp)),

@@ -162,11 +162,11 @@ length_zeros : (count : ℕ) → length (zeros count) ≡ count
 length_zeros zero = refl
 length_zeros (suc count) = omega (arith, length_zeros count)
 
-zeros_behind : (m count : ℕ) → m < 10 ^ 64 → (m ≡ 0 → count ≡ 0) → NoZeroFirst (decimal m ++ zeros count)
-zeros_behind zero count small none rest is =
+zeros_after : (m count : ℕ) → m < 10 ^ 64 → (m ≡ 0 → count ≡ 0) → NoZeroFirst (decimal m ++ zeros count)
+zeros_after zero count small none rest is =
     length_one (decimal 0 ++ zeros count) rest
     (length-append (decimal 0) (zeros count) ∙ omega (arith, (starts_well 0 small).1 refl, length_zeros count, none refl)) is
-zeros_behind (suc m) count small none rest is =
+zeros_after (suc m) count small none rest is =
     let well = starts_well (suc m) small in
     absurd (first_of (decimal (suc m)) (zeros count) rest well.0 is (well.2 (omega arith)))
 
@@ -185,12 +185,12 @@ front_first [] rest (suc k) other is = absurd (omega (arith, ap (λ (xs : List �
 front_first (d ∷ ds) rest (suc k) other is =
     other ds (ap (λ k. k ∷ ds) (let same : d ≡ 48 = ap (λ (xs : List ℕ). get_or xs 0 0) is in same))
 
-module _ (m behind : ℕ) (small : m < 10 ^ 64) (some : 1 ≤ m) where
+module _ (m after : ℕ) (small : m < 10 ^ 64) (some : 1 ≤ m) where
   abbrev digits : List ℕ
   digits = decimal m
 
   abbrev before : ℕ → ℕ
-  before z = length (zeros z ++ digits) - behind
+  before z = length (zeros z ++ digits) - after
 
   length_filled : (z : ℕ) → length (zeros z ++ digits) ≡ z + length digits
   length_filled z = length-append (zeros z) digits ∙ omega (arith, length_zeros z)
@@ -198,20 +198,20 @@ module _ (m behind : ℕ) (small : m < 10 ^ 64) (some : 1 ≤ m) where
   all_filled : (z : ℕ) → AllDigits 10 (zeros z ++ digits)
   all_filled z = all_appended (zeros z) digits (all_zeros z) (some_digits m small).1
 
-  first_filled : (z : ℕ) → z ≡ behind + 1 - length digits → NoZeroFirst (take (before z) (zeros z ++ digits))
+  first_filled : (z : ℕ) → z ≡ after + 1 - length digits → NoZeroFirst (take (before z) (zeros z ++ digits))
   first_filled zero is rest first = absurd (front_first digits rest (before 0) ((starts_well m small).2 some) first)
   first_filled (suc z) is rest first =
       length_one (take (before (suc z)) (zeros (suc z) ++ digits)) rest
       (omega (arith, length-take (before (suc z)) (zeros (suc z) ++ digits), length_filled (suc z), is)) first
 
-  numeral_before : (z : ℕ) → z ≡ behind + 1 - length digits → IsNumeral 10 (take (before z) (zeros z ++ digits))
+  numeral_before : (z : ℕ) → z ≡ after + 1 - length digits → IsNumeral 10 (take (before z) (zeros z ++ digits))
   numeral_before z is = (
     omega (arith, length-take (before z) (zeros z ++ digits), length_filled z, is),
     all_taken (before z) (zeros z ++ digits) (all_filled z),
   )
 
-  numeral_behind : (z : ℕ) → z ≡ behind + 1 - length digits → 1 ≤ behind → IsNumeral 10 (drop (before z) (zeros z ++ digits))
-  numeral_behind z is many = (
+  numeral_after : (z : ℕ) → z ≡ after + 1 - length digits → 1 ≤ after → IsNumeral 10 (drop (before z) (zeros z ++ digits))
+  numeral_after z is many = (
     omega (arith, length-drop (before z) (zeros z ++ digits), length_filled z, is, many),
     all_dropped (before z) (zeros z ++ digits) (all_filled z),
   )
@@ -262,7 +262,7 @@ module _ (negative : Bool) (m : ℕ) (small : m < 10 ^ 64) where
     tail = [];
     is = ap (λ text. sign_text negative ++ text) (sym (append-nil (decimal m ++ zeros count)));
     digits = whole_digits m count small;
-    first = zeros_behind m count small none;
+    first = zeros_after m count small none;
     follows = nothing_follows;
     ascii = IsAscii-nil;
   }
@@ -282,17 +282,17 @@ module _ (negative : Bool) (m : ℕ) (small : m < 10 ^ 64) where
   point_parts : (n : ℕ) → 1 ≤ m → HasParts (sign_text negative ++ point_before_last (suc n) (filled (suc n) (decimal m)))
   point_parts n some =
       let z = suc n + 1 - length (decimal m) in
-      let behind = drop (before m (suc n) small some z) (zeros z ++ decimal m) in
-      let fraction = numeral_behind m (suc n) small some z refl (omega arith) in
+      let after = drop (before m (suc n) small some z) (zeros z ++ decimal m) in
+      let fraction = numeral_after m (suc n) small some z refl (omega arith) in
       record {
         negative = negative;
         whole = take (before m (suc n) small some z) (zeros z ++ decimal m);
-        tail = 46 ∷ behind;
+        tail = 46 ∷ after;
         is = refl;
         digits = numeral_before m (suc n) small some z refl;
         first = first_filled m (suc n) small some z refl;
-        follows = fraction_follows behind fraction;
-        ascii = ascii_then 46 behind (omega arith) (IsAscii-from_digits behind fraction.1);
+        follows = fraction_follows after fraction;
+        ascii = ascii_then 46 after (omega arith) (IsAscii-from_digits after fraction.1);
       }
 
   either : (b : Bool) (x y : List ℕ) → HasParts (sign_text negative ++ x) → HasParts (sign_text negative ++ y)

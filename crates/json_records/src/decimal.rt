@@ -12,7 +12,7 @@ use dbc_values::{Decimal, Memory};
 use itoa::Buffer;
 use ready_texts::{TextBuffer, push_bytes};
 
-// The greatest number of digits that are written before or behind a point.
+// The greatest number of digits that are written before or after a point.
 const PLAIN_DIGITS: usize = 20;
 
 fn push_zeros(text: &mut TextBuffer, count: usize) -> Result<(), Memory>
@@ -26,17 +26,17 @@ fn push_zeros(text: &mut TextBuffer, count: usize) -> Result<(), Memory>
 
 // Digits with a point before the last of them, and zeros in front where there are too few.
 #[tactic(auto, using(crate::proofs::Appended::appended_then))]
-fn push_fraction(text: &mut TextBuffer, digits: &[u8], behind: usize) -> Result<(), Memory>
-    ensures { OnOk result (text.new.items ≡ text.old.items ++ point_before_last behind (filled behind digits.now)) }
+fn push_fraction(text: &mut TextBuffer, digits: &[u8], after: usize) -> Result<(), Memory>
+    ensures { OnOk result (text.new.items ≡ text.old.items ++ point_before_last after (filled after digits.now)) }
 {
-    if digits.len() > behind {
-        let (whole, fraction) = digits.split_at(digits.len() - behind);
+    if digits.len() > after {
+        let (whole, fraction) = digits.split_at(digits.len() - after);
         push_bytes(text, whole)?;
         text.push_piece(b".")?;
         push_bytes(text, fraction)
     } else {
         text.push_piece(b"0.")?;
-        push_zeros(text, behind - digits.len())?;
+        push_zeros(text, after - digits.len())?;
         push_bytes(text, digits)
     }
 }

@@ -94,17 +94,17 @@ eight (a ∷ b ∷ c ∷ d ∷ e ∷ bytes) long =
     ap (λ (rest : List ℕ). a ∷ b ∷ c ∷ d ∷ e ∷ rest) (three bytes (omega (arith, long)))
 
 -- eight more of the bytes that are left
-pub eight_more : (all text digits new eight rest behind : List ℕ) → new ≡ text ++ digits → digits ≡ flat_map pair_text eight
-    → all ≡ text ++ flat_map pair_text rest → eight ≡ take 8 rest → behind ≡ drop 8 rest → all ≡ new ++ flat_map pair_text behind
-eight_more all text digits new eight rest behind pushed spelled so_far front back =
+pub eight_more : (all text digits new eight rest after : List ℕ) → new ≡ text ++ digits → digits ≡ flat_map pair_text eight
+    → all ≡ text ++ flat_map pair_text rest → eight ≡ take 8 rest → after ≡ drop 8 rest → all ≡ new ++ flat_map pair_text after
+eight_more all text digits new eight rest after pushed spelled so_far front back =
     so_far
     ∙ ap (λ (bytes : List ℕ). text ++ flat_map pair_text bytes) (sym (take-append-drop 8 rest))
     ∙ ap (λ (digits : List ℕ). text ++ digits)
     (flat_map-append pair_text (take 8 rest) (drop 8 rest)
     ∙ ap₂ (λ (one more : List ℕ). one ++ flat_map pair_text more)
     (ap (flat_map pair_text) (sym front) ∙ sym spelled) (sym back))
-    ∙ sym (append_assoc text digits (flat_map pair_text behind))
-    ∙ ap (λ (text : List ℕ). text ++ flat_map pair_text behind) (sym pushed)
+    ∙ sym (append_assoc text digits (flat_map pair_text after))
+    ∙ ap (λ (text : List ℕ). text ++ flat_map pair_text after) (sym pushed)
 
 -- four bytes, and the others
 pub four_first : (old digits middle new four rest bytes : List ℕ) → new ≡ middle ++ flat_map pair_text rest → middle ≡ old ++ digits

@@ -1,4 +1,4 @@
--- A key, and its value behind it.
+-- A key, and its value after it.
 use Rattle.std.proofs.Common.{◌≡◌, ℕ, Bool, true, false, if◌then◌else◌, List, [], ◌∷◌, ◌++◌, sym, ap, ◌∙◌, append_assoc, append-nil}
 use Rattle.std.specs.Prelude.{codes}
 use Rattle.json.specs.Json.{string, number, boolean}

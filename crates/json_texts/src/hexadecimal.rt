@@ -69,9 +69,9 @@ fn push_short_pairs(text: &mut TextBuffer, bytes: &[u8]) -> Result<(), Memory>
     ensures { OnOk result (text.new.items ≡ text.old.items ++ flat_map pair_text bytes.now) }
 {
     match bytes.split_first_chunk::<4>() {
-        Some((four, behind)) => {
+        Some((four, after)) => {
             text.push_piece(&pairs_of_four(four))?;
-            push_few_pairs(text, behind)?;
+            push_few_pairs(text, after)?;
             Ok(())
         }
         None => push_few_pairs(text, bytes),
@@ -84,9 +84,9 @@ fn push_pairs(text: &mut TextBuffer, bytes: &[u8]) -> Result<(), Memory>
     ensures { OnOk result (text.new.items ≡ text.old.items ++ flat_map pair_text bytes.now) }
 {
     let mut rest = bytes;
-    'eights: while let Some((eight, behind)) = rest.split_first_chunk::<8>() {
+    'eights: while let Some((eight, after)) = rest.split_first_chunk::<8>() {
         text.push_piece(&pairs_of_eight(eight))?;
-        rest = behind;
+        rest = after;
     }
     push_short_pairs(text, rest)
 }

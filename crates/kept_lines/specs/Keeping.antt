@@ -14,7 +14,7 @@ abbrev pub kept : {X : Type 0} → Keep → List X → List X
 kept All lines = lines
 kept (Last count) lines = drop (length lines - count) lines
 
--- whether there is no room for a line more behind so many; where the oldest goes for it there always is
+-- whether there is no room for a line more after so many; where the oldest goes for it there always is
 abbrev pub is_full : Keep → ℕ → Bool
 is_full All lines = nat_le most_lines lines
 is_full (Last count) lines = false

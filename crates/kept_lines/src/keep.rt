@@ -58,7 +58,7 @@ pub enum Keep {
 }
 
 impl Keep {
-    /// Whether a line more behind so many is refused. Of the last lines none is, since the oldest goes for it.
+    /// Whether a line more after so many is refused. Of the last lines none is, since the oldest goes for it.
     pub fn is_full(self, lines: usize) -> bool
         ensures { result ≡ is_full self lines }
     {

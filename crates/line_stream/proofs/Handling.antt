@@ -207,7 +207,7 @@ module _ {State : Type 0} (rules : Rules State) (most : ℕ) where
     breaks = Breaks-behind a b c h.text k.out k.waiting h.wrote k.breaks;
   })
 
-  -- ---- more lines behind those that were met
+  -- ---- more lines after those that were met
 
   pub StopsAmong-more : (s u : State) (a c : Written) (all back : List (List ℕ)) → StopsAmong rules most s a all u c
       → StopsAmong rules most s a (all ++ back) u c

@@ -14,7 +14,7 @@ use Rattle.line_stream.specs.LineTexts.{StopsAtLong, StopsAtWrite, StopsAtMemory
 use Rattle.line_stream.proofs.Handling.{Runs-push, Broke-both}
 
 module _ {S : Type 0} (made : Texts S) (same : (s : S) (line : List ℕ) → made.text_of (made.next s line) ≡ made.text_of s) where
-  -- a run leads behind its lines
+  -- a run leads after its lines
   run-behind : (s t : S) (lines : List (List ℕ)) (text : List ℕ) → Runs (WritesText made) s lines t text → t ≡ behind made s lines
   run-behind s t [] text p = p.0
   run-behind s t (line ∷ lines) text p = run-behind p.0 t lines p.2 p.4 ∙ ap (λ r. behind made r lines) p.3.0

@@ -102,6 +102,6 @@ WritesText made before line after text = (after ≡ made.next before line) × (t
 abbrev pub writes_texts : {State : Type 0} → Texts State → Rules State
 writes_texts made = record { Step = WritesText made; Stops = λ state line. Unit {0}; Waits = λ held. Unit {0} }
 
--- what they have become behind lines
+-- what they have become after lines
 abbrev pub behind : {State : Type 0} → Texts State → State → List (List ℕ) → State
 behind made state lines = fold made.next state lines

@@ -77,7 +77,7 @@ module _ {State : Type 0} (rules : Rules State) (most : ℕ) where
     pub step : rules.Step between line after last
     pub breaks : Breaks old new out (waiting ++ last)
 
-  -- A put failed behind the first of these lines, which were handled. Their text was written but for its end, which was
+  -- A put failed after the first of these lines, which were handled. Their text was written but for its end, which was
   -- held and isn't empty, and of which a beginning was written.
   pub record BreaksBehind (before : State) (old : Written) (all : List (List ℕ)) (after : State) (new : Written) : Type 0 where
     pub lines : List (List ℕ)
@@ -91,7 +91,7 @@ module _ {State : Type 0} (rules : Rules State) (most : ℕ) where
     pub some : 0 < length waiting
     pub breaks : Breaks old new out waiting
 
-  -- a put failed for or behind one of these lines
+  -- a put failed for or after one of these lines
   abbrev pub BreaksAmong : State → Written → List (List ℕ) → State → Written → Type 0
   BreaksAmong before old all after new = BreaksInside before old all after new ⊎ BreaksBehind before old all after new
 

@@ -130,7 +130,7 @@ impl<'r, 'w, W: Sink> Streaming<'r, 'w, W> {
         Ok(())
     }
 
-    // Handles the lines that end in this piece, puts their texts, and keeps in `line` what stands behind the last LF. It
+    // Handles the lines that end in this piece, puts their texts, and keeps in `line` what stands after the last LF. It
     // answers how many lines ended.
     fn feed<const MOST: usize, H: Handler>(
         &mut self,
@@ -177,7 +177,7 @@ impl<'r, 'w, W: Sink> Streaming<'r, 'w, W> {
         Ok(count)
     }
 
-    // At the end of the input, handles what stands behind the last LF: one line, or none where nothing stands there. It
+    // At the end of the input, handles what stands after the last LF: one line, or none where nothing stands there. It
     // answers which.
     fn finish<const MOST: usize, H: Handler>(
         &mut self,

@@ -8,14 +8,14 @@ use Rattle.std.proofs.lemmas.Bool.{not-false, eqb-true}
 use Rattle.hex.specs.Hex.{decode_of}
 use Rattle.log_frames.specs.declared.frame.Kind.{Kind}
 use Rattle.log_frames.specs.declared.frame.Kind.TheVariants.{Error}
-use Rattle.log_frames.specs.LogLines.{first_word, behind_first_word, is_log_blank, is_stamp, frame_word}
+use Rattle.log_frames.specs.LogLines.{first_word, after_first_word, is_log_blank, is_stamp, frame_word}
 use Rattle.log_frames.specs.Frames.{Frame, Identifier, number_sign, frame_with, frame_of_parts, before_number_sign, behind_first}
-use Rattle.log_frames.specs.Frames.{behind_number_sign, identifier_of, form_of, frame_of_word, frame_of}
+use Rattle.log_frames.specs.Frames.{after_number_sign, identifier_of, form_of, frame_of_word, frame_of}
 use Rattle.log_frames.specs.LogGrammar.{HasNoBlank, SpellsFurther, IsIdentifierText, IsFrameText, IsStampText, IsWord, AreBlanks}
 use Rattle.log_frames.specs.LogGrammar.{IsBehindWord, IsLogLine}
 use Rattle.log_frames.proofs.Runs.{all_append, Stops, rest_stops, front_and_rest, front_is, rest_is}
-use Rattle.log_frames.proofs.LineWords.{HeadWord, head_word, first_word_is, behind_first_word_is, some_blanks, blanks_end}
-use Rattle.log_frames.proofs.LineWords.{word_begins, behind_ends, is_behind, some_in, HasWords, has_words, frame_word_is}
+use Rattle.log_frames.proofs.LineWords.{HeadWord, head_word, first_word_is, after_first_word_is, some_blanks, blanks_end}
+use Rattle.log_frames.proofs.LineWords.{word_begins, after_ends, is_after, some_in, HasWords, has_words, frame_word_is}
 use Rattle.log_frames.proofs.Stamps.{stamp_found, stamp_there, stamp_unbroken}
 use Rattle.log_frames.proofs.Hexadecimals.{some_same, no_digit, bytes_found, bytes_there}
 use Rattle.log_frames.proofs.Identifiers.{identifier_unbroken, identifier_found, identifier_there}
@@ -32,7 +32,7 @@ marked (b ∷ rest) tail stops is = ap (λ (b : ℕ). b ∷ rest) (eqb-true b nu
     ∙ ap (λ rest. number_sign ∷ rest) (some_same rest tail is)
 
 frame_by : (word : List ℕ) (frame : Frame) (identifier : Option Identifier) (tail : Option (List ℕ))
-    → identifier_of (before_number_sign word) ≡ identifier → behind_number_sign word ≡ tail
+    → identifier_of (before_number_sign word) ≡ identifier → after_number_sign word ≡ tail
     → option_and_then (λ identifier. option_and_then (frame_of_parts identifier) (option_and_then form_of tail)) identifier
     ≡ Some frame → IsFrameText word frame
 frame_by word frame None tail is_identifier is_tail is = absurd (let no : None ≡ Some frame = is in cc)
@@ -64,7 +64,7 @@ frame_by word frame (Some identifier) (Some tail) is_identifier is_tail is =
 
 frame_found : (word : List ℕ) (frame : Frame) → frame_of_word word ≡ Some frame → IsFrameText word frame
 unfolding frame_of_word
-frame_found word frame is = frame_by word frame (identifier_of (before_number_sign word)) (behind_number_sign word) refl refl is
+frame_found word frame is = frame_by word frame (identifier_of (before_number_sign word)) (after_number_sign word) refl refl is
 
 no_marks : (before : ℕ) (text : List ℕ) (number : ℕ) → SpellsFurther before text number → AllByRecursion (λ b. no_mark b ≡ true)
     text
@@ -104,8 +104,8 @@ frame_there word frame is =
     let form : HasForm is.kind is.tail frame.bytes = form_there is.kind is.tail frame.bytes is.told in
     let identified : identifier_of (before_number_sign word) ≡ Some is.identifier = ap identifier_of front
     ∙ identifier_there is.digits is.identifier is.identified in
-    let behind : behind_number_sign word ≡ Some is.tail = ap behind_first rest in
-    rw (identified, behind, form.form_is, bytes_there form.digits frame.bytes form.spelled)
+    let after : after_number_sign word ≡ Some is.tail = ap behind_first rest in
+    rw (identified, after, form.form_is, bytes_there form.digits frame.bytes form.spelled)
     (ap Some (frame_of_fields (if is.identifier.marks_error then Error else is.kind) is.identifier.extended is.identifier.number
     frame is.kind_is is.width is.number))
 
@@ -130,42 +130,42 @@ line_by : (body : List ℕ) (frame : Frame) (word : Option (List ℕ)) → frame
 line_by body frame None is_word is = absurd (let no : None ≡ Some frame = is in cc)
 line_by body frame (Some word) is_word is =
     let has : HasWords body word = has_words body word is_word in
-    let behind_stamp : List ℕ = behind_first_word body in
-    let behind_interface : List ℕ = behind_first_word behind_stamp in
-    let first : HeadWord body (first_word body) behind_stamp = head_word body in
-    let second : HeadWord behind_stamp (first_word behind_stamp) behind_interface = head_word behind_stamp in
-    let third : HeadWord behind_interface (first_word behind_interface) (behind_first_word behind_interface) =
-    head_word behind_interface in
-    let frame_is : IsFrameText (first_word behind_interface) frame = subst (λ word. IsFrameText word frame) (sym has.word_is)
+    let after_stamp : List ℕ = after_first_word body in
+    let after_interface : List ℕ = after_first_word after_stamp in
+    let first : HeadWord body (first_word body) after_stamp = head_word body in
+    let second : HeadWord after_stamp (first_word after_stamp) after_interface = head_word after_stamp in
+    let third : HeadWord after_interface (first_word after_interface) (after_first_word after_interface) =
+    head_word after_interface in
+    let frame_is : IsFrameText (first_word after_interface) frame = subst (λ word. IsFrameText word frame) (sym has.word_is)
     (frame_found word frame is) in
-    let some : 0 < length (first_word behind_interface) = some_word (first_word behind_interface) frame frame_is in
-    let some_stamp : 0 < length behind_stamp = subst (λ text. 0 < length text) (sym second.parts) (some_in (first_word behind_stamp)
-    (second.blanks ++ behind_interface) has.interface_is) in
-    let some_interface : 0 < length behind_interface = subst (λ text. 0 < length text) (sym third.parts)
-    (some_in (first_word behind_interface) (third.blanks ++ behind_first_word behind_interface) some) in
+    let some : 0 < length (first_word after_interface) = some_word (first_word after_interface) frame frame_is in
+    let some_stamp : 0 < length after_stamp = subst (λ text. 0 < length text) (sym second.parts) (some_in (first_word after_stamp)
+    (second.blanks ++ after_interface) has.interface_is) in
+    let some_interface : 0 < length after_interface = subst (λ text. 0 < length text) (sym third.parts)
+    (some_in (first_word after_interface) (third.blanks ++ after_first_word after_interface) some) in
     record {
       stamp = first_word body;
       stamp_gap = first.blanks;
-      interface = first_word behind_stamp;
+      interface = first_word after_stamp;
       interface_gap = second.blanks;
-      frame_text = first_word behind_interface;
-      behind = third.blanks ++ behind_first_word behind_interface;
+      frame_text = first_word after_interface;
+      after = third.blanks ++ after_first_word after_interface;
       parts =
           first.parts
           ∙ ap (λ rest. first_word body ++ (first.blanks ++ rest)) (second.parts
-          ∙ ap (λ rest. first_word behind_stamp ++ (second.blanks ++ rest)) third.parts);
+          ∙ ap (λ rest. first_word after_stamp ++ (second.blanks ++ rest)) third.parts);
       stamp_is = stamp_found (first_word body) has.stamp_is;
       stamp_gap_is = record {
-        some = some_blanks first.blanks behind_stamp first.ends first.begins some_stamp;
+        some = some_blanks first.blanks after_stamp first.ends first.begins some_stamp;
         blank = first.blank;
       };
       interface_is = record { some = has.interface_is; unbroken = second.unbroken };
       interface_gap_is = record {
-        some = some_blanks second.blanks behind_interface second.ends second.begins some_interface;
+        some = some_blanks second.blanks after_interface second.ends second.begins some_interface;
         blank = second.blank;
       };
       frame_is = frame_is;
-      behind_is = is_behind (third.blanks ++ behind_first_word behind_interface) third.ends;
+      after_is = is_after (third.blanks ++ after_first_word after_interface) third.ends;
     }
 
 pub found : (body : List ℕ) (frame : Frame) → frame_of body ≡ Some frame → IsLogLine body frame
@@ -173,38 +173,38 @@ unfolding frame_of
 found body frame is = line_by body frame (frame_word body) refl is
 
 -- the three words of a line by the grammar
-words_there : (stamp stamp_gap interface interface_gap word behind : List ℕ) → IsStampText stamp → AreBlanks stamp_gap
-    → IsWord interface → AreBlanks interface_gap → IsWord word → IsBehindWord behind
-    → frame_word (stamp ++ (stamp_gap ++ (interface ++ (interface_gap ++ (word ++ behind))))) ≡ Some word
-words_there stamp stamp_gap interface interface_gap word behind stamp_is stamp_gap_is interface_is interface_gap_is word_is
-    behind_is =
-    let behind_interface : List ℕ = word ++ behind in
-    let behind_stamp : List ℕ = interface ++ (interface_gap ++ behind_interface) in
-    let body : List ℕ = stamp ++ (stamp_gap ++ behind_stamp) in
+words_there : (stamp stamp_gap interface interface_gap word after : List ℕ) → IsStampText stamp → AreBlanks stamp_gap
+    → IsWord interface → AreBlanks interface_gap → IsWord word → IsBehindWord after
+    → frame_word (stamp ++ (stamp_gap ++ (interface ++ (interface_gap ++ (word ++ after))))) ≡ Some word
+words_there stamp stamp_gap interface interface_gap word after stamp_is stamp_gap_is interface_is interface_gap_is word_is
+    after_is =
+    let after_interface : List ℕ = word ++ after in
+    let after_stamp : List ℕ = interface ++ (interface_gap ++ after_interface) in
+    let body : List ℕ = stamp ++ (stamp_gap ++ after_stamp) in
     let unbroken : HasNoBlank stamp = stamp_unbroken stamp stamp_is in
-    let first : first_word body ≡ stamp = first_word_is stamp (stamp_gap ++ behind_stamp) unbroken
-    (blanks_end stamp_gap behind_stamp stamp_gap_is) in
-    let first_behind : behind_first_word body ≡ behind_stamp =
-    behind_first_word_is stamp stamp_gap behind_stamp unbroken stamp_gap_is.blank (blanks_end stamp_gap behind_stamp stamp_gap_is)
-    (word_begins interface (interface_gap ++ behind_interface) interface_is) in
-    let second : first_word behind_stamp ≡ interface = first_word_is interface (interface_gap ++ behind_interface)
-    interface_is.unbroken (blanks_end interface_gap behind_interface interface_gap_is) in
-    let second_behind : behind_first_word behind_stamp ≡ behind_interface =
-    behind_first_word_is interface interface_gap behind_interface interface_is.unbroken interface_gap_is.blank
-    (blanks_end interface_gap behind_interface interface_gap_is) (word_begins word behind word_is) in
-    let third : first_word behind_interface ≡ word = first_word_is word behind word_is.unbroken (behind_ends behind behind_is) in
+    let first : first_word body ≡ stamp = first_word_is stamp (stamp_gap ++ after_stamp) unbroken
+    (blanks_end stamp_gap after_stamp stamp_gap_is) in
+    let first_after : after_first_word body ≡ after_stamp =
+    after_first_word_is stamp stamp_gap after_stamp unbroken stamp_gap_is.blank (blanks_end stamp_gap after_stamp stamp_gap_is)
+    (word_begins interface (interface_gap ++ after_interface) interface_is) in
+    let second : first_word after_stamp ≡ interface = first_word_is interface (interface_gap ++ after_interface)
+    interface_is.unbroken (blanks_end interface_gap after_interface interface_gap_is) in
+    let second_after : after_first_word after_stamp ≡ after_interface =
+    after_first_word_is interface interface_gap after_interface interface_is.unbroken interface_gap_is.blank
+    (blanks_end interface_gap after_interface interface_gap_is) (word_begins word after word_is) in
+    let third : first_word after_interface ≡ word = first_word_is word after word_is.unbroken (after_ends after after_is) in
     frame_word_is body word (record {
       stamp_is = ap is_stamp first ∙ stamp_there stamp stamp_is;
-      interface_is = subst (λ text. 0 < length text) (sym (ap first_word first_behind ∙ second)) interface_is.some;
-      word_is = ap (λ text. first_word (behind_first_word text)) first_behind ∙ ap first_word second_behind ∙ third;
+      interface_is = subst (λ text. 0 < length text) (sym (ap first_word first_after ∙ second)) interface_is.some;
+      word_is = ap (λ text. first_word (after_first_word text)) first_after ∙ ap first_word second_after ∙ third;
     })
 
 pub there : (body : List ℕ) (frame : Frame) → IsLogLine body frame → frame_of body ≡ Some frame
 unfolding frame_of
 there body frame is =
     ap (option_and_then frame_of_word) (ap frame_word is.parts ∙ words_there is.stamp is.stamp_gap is.interface is.interface_gap
-    is.frame_text is.behind is.stamp_is is.stamp_gap_is is.interface_is is.interface_gap_is (frame_word_of is.frame_text frame
-    is.frame_is) is.behind_is)
+    is.frame_text is.after is.stamp_is is.stamp_gap_is is.interface_is is.interface_gap_is (frame_word_of is.frame_text frame
+    is.frame_is) is.after_is)
     ∙ frame_there is.frame_text frame is.frame_is
 
 -- a line tells one frame

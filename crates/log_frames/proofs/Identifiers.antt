@@ -48,8 +48,8 @@ identifier_of_parts extended marks_error number identifier width marks worth =
 -- ---- three digits
 
 -- a 0 in front changes nothing
-behind_zero : (text : List ℕ) (number : ℕ) → SpellsNumber (digit_zero ∷ text) number → SpellsNumber text number
-behind_zero text number spelled =
+after_zero : (text : List ℕ) (number : ℕ) → SpellsNumber (digit_zero ∷ text) number → SpellsNumber text number
+after_zero text number spelled =
     let zero_is : 0 ≡ spelled.0 = some_same 0 spelled.0 spelled.1 in
     subst (λ (value : ℕ). SpellsFurther (0 * 16 + value) text number) (sym zero_is) spelled.2
 
@@ -78,7 +78,7 @@ three_found text identifier (Some bytes) three decodes is =
     let spelled : SpellsBytes (digit_zero ∷ text) bytes = bytes_found (digit_zero ∷ text) bytes decodes in
     let two : length bytes ≡ 2 = let pairs = length-SpellsBytes (digit_zero ∷ text) bytes spelled in omega (arith, three, pairs) in
     let worth : SpellsNumber text (from_be_bytes w16 bytes) = subst (SpellsNumber text) (sym (two_bytes bytes two))
-    (behind_zero text (bytes_number 0 bytes) (number_of_pairs 0 (digit_zero ∷ text) bytes spelled)) in
+    (after_zero text (bytes_number 0 bytes) (number_of_pairs 0 (digit_zero ∷ text) bytes spelled)) in
     standard_by text (from_be_bytes w16 bytes) identifier (nat_le (from_be_bytes w16 bytes) greatest_standard) refl three worth is
 
 three_there : (text : List ℕ) (identifier : Identifier) → IsStandard text identifier → of_three_digits text ≡ Some identifier

@@ -88,40 +88,40 @@ so_far bytes rest = both (Some bytes) (told (map hex_digit_value rest))
 pub starts : (digits : List ℕ) → so_far [] digits ≡ result_ok (decode_of digits)
 starts digits = sym (both_nil (told (map hex_digit_value digits))) ∙ sym (all_decode digits)
 
-piece_told : (half : ℕ) (rest piece behind : List ℕ) → piece ≡ take (2 * half) rest → behind ≡ drop (2 * half) rest
-    → length behind + 2 * half ≡ length rest
-    → told (map hex_digit_value rest) ≡ both (result_ok (decode_of piece)) (told (map hex_digit_value behind))
-piece_told half rest piece behind front back long =
-    let whole : piece ++ behind ≡ rest = ap (λ piece. piece ++ behind) front ∙ ap (λ behind. take (2 * half) rest ++ behind) back
+piece_told : (half : ℕ) (rest piece after : List ℕ) → piece ≡ take (2 * half) rest → after ≡ drop (2 * half) rest
+    → length after + 2 * half ≡ length rest
+    → told (map hex_digit_value rest) ≡ both (result_ok (decode_of piece)) (told (map hex_digit_value after))
+piece_told half rest piece after front back long =
+    let whole : piece ++ after ≡ rest = ap (λ piece. piece ++ after) front ∙ ap (λ after. take (2 * half) rest ++ after) back
     ∙ take-append-drop (2 * half) rest in
     let piece_long : length (map hex_digit_value piece) ≡ 2 * half =
     let both_long = ap length whole in omega (
       arith,
       both_long,
-      length-append piece behind,
+      length-append piece after,
       long,
       length-map piece
           hex_digit_value,
     ) in
-    ap (λ digits. told (map hex_digit_value digits)) (sym whole) ∙ ap told (map-append hex_digit_value piece behind)
-    ∙ told_append half (map hex_digit_value piece) (map hex_digit_value behind) piece_long
-    ∙ ap (λ front. both front (told (map hex_digit_value behind))) (sym (all_decode piece))
+    ap (λ digits. told (map hex_digit_value digits)) (sym whole) ∙ ap told (map-append hex_digit_value piece after)
+    ∙ told_append half (map hex_digit_value piece) (map hex_digit_value after) piece_long
+    ∙ ap (λ front. both front (told (map hex_digit_value after))) (sym (all_decode piece))
 
-module _ (half : ℕ) (bytes rest piece behind : List ℕ) {all : Option (List ℕ)} (is : so_far bytes rest ≡ all)
-    (front : piece ≡ take (2 * half) rest) (back : behind ≡ drop (2 * half) rest) (long : length behind + 2 * half ≡ length
+module _ (half : ℕ) (bytes rest piece after : List ℕ) {all : Option (List ℕ)} (is : so_far bytes rest ≡ all)
+    (front : piece ≡ take (2 * half) rest) (back : after ≡ drop (2 * half) rest) (long : length after + 2 * half ≡ length
     rest) where
   -- one piece more is read
-  pub goes_on : (more : List ℕ) → Some more ≡ result_ok (decode_of piece) → so_far (bytes ++ more) behind ≡ all
+  pub goes_on : (more : List ℕ) → Some more ≡ result_ok (decode_of piece) → so_far (bytes ++ more) after ≡ all
   goes_on more read =
-      sym (both_more bytes more (told (map hex_digit_value behind)))
-      ∙ ap (both (Some bytes)) (ap (λ front. both front (told (map hex_digit_value behind))) read
-      ∙ sym (piece_told half rest piece behind front back long)) ∙ is
+      sym (both_more bytes more (told (map hex_digit_value after)))
+      ∙ ap (both (Some bytes)) (ap (λ front. both front (told (map hex_digit_value after))) read
+      ∙ sym (piece_told half rest piece after front back long)) ∙ is
 
   -- one spells nothing, so all of them don't
   pub fails : None ≡ result_ok (decode_of piece) → None ≡ all
   fails none =
-      ap (both (Some bytes)) (ap (λ front. both front (told (map hex_digit_value behind))) none
-      ∙ sym (piece_told half rest piece behind front back long)) ∙ is
+      ap (both (Some bytes)) (ap (λ front. both front (told (map hex_digit_value after))) none
+      ∙ sym (piece_told half rest piece after front back long)) ∙ is
 
 -- less than a pair is left
 pub ends : (bytes rest : List ℕ) {all : Option (List ℕ)} → so_far bytes rest ≡ all → length rest < 2
@@ -138,7 +138,7 @@ told_behind bytes digits = go (told (map hex_digit_value digits)) (all_decode di
     go None is = rw is refl
     go (Some more) is = rw is refl
 
--- ---- eight digits, with zeros behind them
+-- ---- eight digits, with zeros after them
 
 abbrev zeros : List ℕ
 zeros = 48 ∷ 48 ∷ 48 ∷ 48 ∷ 48 ∷ 48 ∷ 48 ∷ 48 ∷ []

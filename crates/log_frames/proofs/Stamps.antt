@@ -54,15 +54,15 @@ stamp_found (b ∷ text) is =
     let both = and_parts (b == opening_parenthesis) (is_seconds_end text) is in
     let more = and_parts (nat_lt 0 (prefix_len is_digit text)) (is_fraction_end (behind_digits text)) both.1 in
     let first : b ≡ opening_parenthesis = eqb-true b opening_parenthesis both.0 in
-    let behind : IsFraction (behind_digits text) = fraction_found (behind_digits text) more.1 in
+    let after : IsFraction (behind_digits text) = fraction_found (behind_digits text) more.1 in
     record {
       seconds = front_digits text;
-      fraction = behind.fraction;
+      fraction = after.fraction;
       spelled = ap (λ (b : ℕ). b ∷ text) first ∙ ap (λ text. opening_parenthesis ∷ text) (front_and_rest is_digit text
-          ∙ ap (λ rest. front_digits text ++ rest) behind.spelled);
+          ∙ ap (λ rest. front_digits text ++ rest) after.spelled);
       seconds_are = digits_found text (ltb-true 0 (prefix_len is_digit text) more.0);
-      fraction_is = behind.fraction_is;
-      short = behind.short;
+      fraction_is = after.fraction_is;
+      short = after.short;
     }
 
 -- ---- a stamp passes it
@@ -82,8 +82,8 @@ seconds_are_end : (seconds rest : List ℕ) → AreDigits seconds → Stops is_d
     → is_seconds_end (seconds ++ rest) ≡ true
 seconds_are_end seconds rest are stops is =
     let count : prefix_len is_digit (seconds ++ rest) ≡ length seconds = prefix_len_is is_digit seconds rest are.digit stops in
-    let behind : behind_digits (seconds ++ rest) ≡ rest = rest_is is_digit seconds rest are.digit stops in
-    rw (behind, count) (and_from (nat_lt 0 (length seconds)) (is_fraction_end rest) (lt-ltb 0 (length seconds) are.some) is)
+    let after : behind_digits (seconds ++ rest) ≡ rest = rest_is is_digit seconds rest are.digit stops in
+    rw (after, count) (and_from (nat_lt 0 (length seconds)) (is_fraction_end rest) (lt-ltb 0 (length seconds) are.some) is)
 
 stamp_passes : (seconds fraction : List ℕ) → AreDigits seconds → AreDigits fraction → length fraction ≤ 9
     → is_stamp (opening_parenthesis ∷ (seconds ++ point ∷ (fraction ++ closing_parenthesis ∷ []))) ≡ true

@@ -7,11 +7,11 @@ use Rattle.std.proofs.lemmas.List.{append-nil, append_assoc}
 use Rattle.hex.specs.Hex.{decode_of}
 use Rattle.dbc_values.specs.Lexical.{space}
 use Rattle.log_frames.specs.declared.frame.Kind.TheVariants.{Classic}
-use Rattle.log_frames.specs.LogLines.{is_log_blank, first_word, behind_first_word, is_stamp}
+use Rattle.log_frames.specs.LogLines.{is_log_blank, first_word, after_first_word, is_stamp}
 use Rattle.log_frames.specs.Frames.{Frame, Identifier, number_sign, identifier_of, frame_with, frame_of_word}
 use Rattle.log_frames.specs.LogGrammar.{HasNoBlank, IsFrameText}
 use Rattle.log_frames.proofs.Runs.{Stops}
-use Rattle.log_frames.proofs.LineWords.{first_word_is, behind_first_word_is}
+use Rattle.log_frames.proofs.LineWords.{first_word_is, after_first_word_is}
 use Rattle.log_frames.proofs.Stamps.{stamp_found, stamp_unbroken}
 use Rattle.log_frames.proofs.Hexadecimals.{length-SpellsBytes, bytes_found}
 use Rattle.log_frames.proofs.Identifiers.{identifier_found}
@@ -27,32 +27,32 @@ no_blank_first : (text : List ℕ) → list_any is_log_blank (take 1 text) ≡ f
 no_blank_first [] none = tt
 no_blank_first (b ∷ text) none = begins_by b (is_log_blank b) refl none
 
-pub record BeginsWithStamp (body behind : List ℕ) : Type 0 where
+pub record BeginsWithStamp (body after : List ℕ) : Type 0 where
   pub stamp : is_stamp (first_word body) ≡ true
-  pub rest : behind ≡ behind_first_word body
+  pub rest : after ≡ after_first_word body
 
-begins : (stamp behind : List ℕ) → is_stamp stamp ≡ true → list_any is_log_blank (take 1 behind) ≡ false
-    → BeginsWithStamp (stamp ++ ((space ∷ []) ++ behind)) behind
-begins stamp behind is no_blank =
+begins : (stamp after : List ℕ) → is_stamp stamp ≡ true → list_any is_log_blank (take 1 after) ≡ false
+    → BeginsWithStamp (stamp ++ ((space ∷ []) ++ after)) after
+begins stamp after is no_blank =
     let unbroken : HasNoBlank stamp = stamp_unbroken stamp (stamp_found stamp is) in
-    let first : first_word (stamp ++ ((space ∷ []) ++ behind)) ≡ stamp =
-    first_word_is stamp ((space ∷ []) ++ behind) unbroken refl in
+    let first : first_word (stamp ++ ((space ∷ []) ++ after)) ≡ stamp =
+    first_word_is stamp ((space ∷ []) ++ after) unbroken refl in
     record {
       stamp = ap is_stamp first ∙ is;
-      rest = sym (behind_first_word_is stamp (space ∷ []) behind unbroken (refl, tt) refl (no_blank_first behind no_blank));
+      rest = sym (after_first_word_is stamp (space ∷ []) after unbroken (refl, tt) refl (no_blank_first after no_blank));
     }
 
 -- the first twenty bytes are a stamp and a blank
-pub usual_stamp : (body twenty behind : List ℕ) → twenty ≡ take 20 body → behind ≡ drop 20 body
-    → is_stamp (take 19 twenty) ≡ true → drop 19 twenty ≡ space ∷ [] → list_any is_log_blank (take 1 behind) ≡ false
-    → BeginsWithStamp body behind
-usual_stamp body twenty behind front back is blank no_blank =
+pub usual_stamp : (body twenty after : List ℕ) → twenty ≡ take 20 body → after ≡ drop 20 body
+    → is_stamp (take 19 twenty) ≡ true → drop 19 twenty ≡ space ∷ [] → list_any is_log_blank (take 1 after) ≡ false
+    → BeginsWithStamp body after
+usual_stamp body twenty after front back is blank no_blank =
     let parts : twenty ≡ take 19 twenty ++ (space ∷ []) = sym (take-append-drop 19 twenty)
     ∙ ap (λ blank. take 19 twenty ++ blank) blank in
-    let whole : body ≡ take 19 twenty ++ ((space ∷ []) ++ behind) = sym (take-append-drop 20 body)
+    let whole : body ≡ take 19 twenty ++ ((space ∷ []) ++ after) = sym (take-append-drop 20 body)
     ∙ ap (λ front. front ++ drop 20 body) (sym front ∙ parts) ∙ ap (λ back. (take 19 twenty ++ (space ∷ [])) ++ back) (sym back)
-    ∙ append_assoc (take 19 twenty) (space ∷ []) behind in
-    subst (λ body. BeginsWithStamp body behind) (sym whole) (begins (take 19 twenty) behind is no_blank)
+    ∙ append_assoc (take 19 twenty) (space ∷ []) after in
+    subst (λ body. BeginsWithStamp body after) (sym whole) (begins (take 19 twenty) after is no_blank)
 
 -- ---- the word of the frame
 

@@ -27,7 +27,7 @@ word_goes_on zero s fits none = omega arith
 word_goes_on (suc n) [] fits none = absurd (omega (arith, fits))
 word_goes_on (suc n) (b ∷ s) fits none = goes_on b n s (is_log_blank b) refl none (word_goes_on n s (omega (arith, fits)))
 
--- so it goes on behind the bytes seen before
+-- so it goes on after the bytes seen before
 pub further : (at : ℕ) (s run : List ℕ) (r : ℕ) → IsFirstChunk (take (length s - at) (drop at s)) run 16
     → 16 ≤ prefix_len not_blank run → at ≤ length s
     → at + prefix_len not_blank (drop at s) ≡ r → (at + 16 ≤ length s)
@@ -37,9 +37,9 @@ further at s run r chunk none le so_far =
     let run_is : run ≡ take 16 (drop at s) = chunk.same ∙ ap (take 16) (take_rest s at) in
     let count : prefix_len not_blank run ≡ prefix_len not_blank (take 16 (drop at s)) = ap (prefix_len not_blank) run_is in
     let more = word_goes_on 16 (drop at s) enough (omega (arith, none, count)) in
-    let behind : prefix_len not_blank (drop 16 (drop at s)) ≡ prefix_len not_blank (drop (at + 16) s) =
+    let after : prefix_len not_blank (drop 16 (drop at s)) ≡ prefix_len not_blank (drop (at + 16) s) =
     ap (prefix_len not_blank) (drop-drop 16 at s) in
-    (omega (arith, enough, length-drop at s), omega (arith, more, behind, so_far))
+    (omega (arith, enough, length-drop at s), omega (arith, more, after, so_far))
 
 -- ---- blanks as lanes of a vector
 

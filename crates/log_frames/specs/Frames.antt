@@ -1,4 +1,4 @@
--- The frame of a log line: its kind, its identifier and its bytes, by what stands before and behind the first `#` of its word.
+-- The frame of a log line: its kind, its identifier and its bytes, by what stands before and after the first `#` of its word.
 -- Source: can-utils, the log format of `candump -L` (lib.h, "CAN log file"), where `_` begins a raw length code.
 use Rattle.std.specs.Prelude.{◌≡◌, ◌≤◌, ◌<◌, ℕ, ◌+◌, ◌*◌, ◌/◌, ◌%◌, ◌^◌, Bool, true, false, not, ◌&&◌, ◌||◌, ◌==◌, nat_le, List, []}
 use Rattle.std.specs.Prelude.{◌∷◌, length, take, drop, Option, Some, None, option_and_then, option_map, if◌then◌else◌}
@@ -83,7 +83,7 @@ standard_identifier n = if nat_le n greatest_standard then Some (record { extend
 abbrev pub extended_identifier : ℕ → Identifier
 extended_identifier n = record { extended = true; marks_error = n / 2 ^ 29 % 2 == 1; number = n % 2 ^ 29 }
 
--- three hexadecimal digits: behind a 0 they are two bytes, the higher first
+-- three hexadecimal digits: after a 0 they are two bytes, the higher first
 unfoldable pub of_three_digits : List ℕ → Option Identifier
 of_three_digits digits = option_and_then (λ bytes. standard_identifier (from_be_bytes w16 bytes))
     (result_ok (decode_of (digit_zero ∷ digits)))
@@ -127,7 +127,7 @@ unfoldable pub fd_form : List ℕ → Option Form
 fd_form [] = None
 fd_form (flags ∷ digits) = if is_hex_digit flags then form_up_to 64 Fd digits else None
 
--- nothing, or the length that is asked for: `0` to `8`, and behind an `8` perhaps a raw length code
+-- nothing, or the length that is asked for: `0` to `8`, and after an `8` perhaps a raw length code
 abbrev pub is_asked_length : List ℕ → Bool
 is_asked_length [] = true
 is_asked_length (digit ∷ []) = nat_le digit_zero digit && nat_le digit digit_eight
@@ -136,7 +136,7 @@ is_asked_length (digit ∷ code) = digit == digit_eight && is_raw_length_code co
 unfoldable pub remote_form : List ℕ → Option Form
 remote_form text = if is_asked_length text then Some (record { kind = Remote; digits = [] }) else None
 
--- what stands behind the first `#`: a further `#` begins an FD frame, and `R` a remote one
+-- what stands after the first `#`: a further `#` begins an FD frame, and `R` a remote one
 unfoldable pub form_of : List ℕ → Option Form
 form_of [] = classic_form []
 form_of (b ∷ text) = if b == number_sign then fd_form text else (if b == capital_r then remote_form text else classic_form
@@ -170,13 +170,13 @@ abbrev pub behind_first : List ℕ → Option (List ℕ)
 behind_first [] = None
 behind_first (b ∷ rest) = Some rest
 
--- what stands behind the first `#`, where there is one
-abbrev pub behind_number_sign : List ℕ → Option (List ℕ)
-behind_number_sign word = behind_first (drop (prefix_len (λ b. not (b == number_sign)) word) word)
+-- what stands after the first `#`, where there is one
+abbrev pub after_number_sign : List ℕ → Option (List ℕ)
+after_number_sign word = behind_first (drop (prefix_len (λ b. not (b == number_sign)) word) word)
 
 unfoldable pub frame_of_word : List ℕ → Option Frame
 frame_of_word word =
-    option_and_then (λ identifier. option_and_then (frame_of_parts identifier) (option_and_then form_of (behind_number_sign word)))
+    option_and_then (λ identifier. option_and_then (frame_of_parts identifier) (option_and_then form_of (after_number_sign word)))
     (identifier_of (before_number_sign word))
 
 -- the frame that a line without its CR is a log line of

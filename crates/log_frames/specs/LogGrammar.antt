@@ -88,7 +88,7 @@ pub record IsExtended (text : List ℕ) (identifier : Identifier) : Type 0 where
 abbrev pub IsIdentifierText : List ℕ → Identifier → Type 0
 IsIdentifierText text identifier = IsStandard text identifier ⊎ IsExtended text identifier
 
--- ---- what stands behind the first `#`
+-- ---- what stands after the first `#`
 
 -- `_` and a hexadecimal digit of 9 or more: a raw length code of a frame of eight bytes
 pub record IsLengthCode (text : List ℕ) : Type 0 where
@@ -98,7 +98,7 @@ pub record IsLengthCode (text : List ℕ) : Type 0 where
   pub worth : hex_digit_value digit ≡ Some value
   pub great : 9 ≤ value
 
--- a classic frame: at most 8 bytes, and behind exactly 8 perhaps a raw length code
+-- a classic frame: at most 8 bytes, and after exactly 8 perhaps a raw length code
 pub record IsClassicTail (text bytes : List ℕ) : Type 0 where
   pub pairs : List ℕ
   pub code : List ℕ
@@ -159,7 +159,7 @@ pub record IsFrameText (text : List ℕ) (frame : Frame) : Type 0 where
   pub width : frame.extended ≡ identifier.extended
   pub number : frame.identifier ≡ identifier.number
 
--- a stamp at the very beginning, an interface and a frame, with blanks between them; behind the frame nothing, or a blank and
+-- a stamp at the very beginning, an interface and a frame, with blanks between them; after the frame nothing, or a blank and
 -- anything
 pub record IsLogLine (body : List ℕ) (frame : Frame) : Type 0 where
   pub stamp : List ℕ
@@ -167,11 +167,11 @@ pub record IsLogLine (body : List ℕ) (frame : Frame) : Type 0 where
   pub interface : List ℕ
   pub interface_gap : List ℕ
   pub frame_text : List ℕ
-  pub behind : List ℕ
-  pub parts : body ≡ stamp ++ (stamp_gap ++ (interface ++ (interface_gap ++ (frame_text ++ behind))))
+  pub after : List ℕ
+  pub parts : body ≡ stamp ++ (stamp_gap ++ (interface ++ (interface_gap ++ (frame_text ++ after))))
   pub stamp_is : IsStampText stamp
   pub stamp_gap_is : AreBlanks stamp_gap
   pub interface_is : IsWord interface
   pub interface_gap_is : AreBlanks interface_gap
   pub frame_is : IsFrameText frame_text frame
-  pub behind_is : IsBehindWord behind
+  pub after_is : IsBehindWord after

@@ -1,4 +1,4 @@
--- The words of a log line: `(seconds.fraction) interface frame`, and behind a blank anything.
+-- The words of a log line: `(seconds.fraction) interface frame`, and after a blank anything.
 -- Source: can-utils, the log format of `candump -L` (lib.h, "CAN log file").
 use Rattle.std.specs.Prelude.{ℕ, ◌-◌, Bool, false, not, ◌&&◌, ◌||◌, ◌==◌, nat_lt, nat_le, slice_index, List, [], ◌∷◌, length, take}
 use Rattle.std.specs.Prelude.{drop, Option, Some, None, if◌then◌else◌}
@@ -16,14 +16,14 @@ is_log_blank b = b == space || b == tab
 abbrev pub first_word : List ℕ → List ℕ
 first_word bytes = take (prefix_len (λ b. not (is_log_blank b)) bytes) bytes
 
--- what stands behind the first word and the blanks that follow it
-abbrev pub behind_first_word : List ℕ → List ℕ
-behind_first_word bytes = let rest = drop (prefix_len (λ b. not (is_log_blank b)) bytes) bytes in
+-- what stands after the first word and the blanks that follow it
+abbrev pub after_first_word : List ℕ → List ℕ
+after_first_word bytes = let rest = drop (prefix_len (λ b. not (is_log_blank b)) bytes) bytes in
     drop (prefix_len is_log_blank rest) rest
 
 -- ---- the stamp
 
--- so many digits of a fraction, and behind them the closing parenthesis alone
+-- so many digits of a fraction, and after them the closing parenthesis alone
 abbrev pub closes_stamp : ℕ → List ℕ → Bool
 closes_stamp digits rest = nat_le 1 digits && nat_le digits 9 && bytes_eq rest (closing_parenthesis ∷ [])
 
@@ -51,6 +51,6 @@ body_of line = if slice_index line (length line - 1) == carriage_return then tak
 -- It is empty where only two words are there.
 unfoldable pub frame_word : List ℕ → Option (List ℕ)
 frame_word body =
-    let behind_stamp = behind_first_word body in
-    if is_stamp (first_word body) && not (length (first_word behind_stamp) == 0)
-    then Some (first_word (behind_first_word behind_stamp)) else None
+    let after_stamp = after_first_word body in
+    if is_stamp (first_word body) && not (length (first_word after_stamp) == 0)
+    then Some (first_word (after_first_word after_stamp)) else None

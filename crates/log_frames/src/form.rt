@@ -1,4 +1,4 @@
-//! Forms of frames: what stands behind the first `#`.
+//! Forms of frames: what stands after the first `#`.
 ghost use Rattle.std.specs.Prelude.{◌≡◌, ◌≤◌, ◌*◌, length, option_map, IfSome};
 ghost use Rattle.log_frames.specs.Frames.{form_of, classic_form, fd_form, remote_form, form_up_to, is_raw_length};
 ghost use Rattle.log_frames.specs.Frames.{is_raw_length_code, is_asked_length};
@@ -87,7 +87,7 @@ fn remote_form(text: &[u8]) -> Option<Form<'_>>
     })
 }
 
-/// The form of a frame, from what stands behind the first `#` of its word.
+/// The form of a frame, from what stands after the first `#` of its word.
 #[tactic(auto, unfolding(crate::specs::Frames::form_of))]
 pub fn form_of(text: &[u8]) -> Option<Form<'_>>
     ensures value { option_map form_view result ≡ form_of text.now }

@@ -3,7 +3,7 @@ ghost use Rattle.std.specs.Prelude.{◌≡◌, ◌≤◌, ◌∷◌, ◌++◌, t
 ghost use Rattle.std.specs.Prelude.{if◌then◌else◌};
 ghost use Rattle.std.specs.List.{prefix_len, list_any};
 ghost use Rattle.dbc_values.specs.Lexical.{space};
-ghost use Rattle.log_frames.specs.LogLines.{is_log_blank, first_word, behind_first_word, is_stamp, is_seconds_end, is_fraction_end};
+ghost use Rattle.log_frames.specs.LogLines.{is_log_blank, first_word, after_first_word, is_stamp, is_seconds_end, is_fraction_end};
 ghost use Rattle.log_frames.specs.LogLines.{frame_word, body_of};
 
 use dbc_values::digits_len;
@@ -80,11 +80,11 @@ fn blanks_len(bytes: &[u8]) -> usize
 #[inline(always)]
 pub fn split_word(bytes: &[u8]) -> (&[u8], &[u8])
     ensures word { result.0.now ≡ first_word bytes.now }
-    ensures behind { result.1.now ≡ behind_first_word bytes.now }
+    ensures after { result.1.now ≡ after_first_word bytes.now }
 {
     let (word, rest) = bytes.split_at(word_len(bytes));
-    let (_, behind) = rest.split_at(blanks_len(rest));
-    (word, behind)
+    let (_, after) = rest.split_at(blanks_len(rest));
+    (word, after)
 }
 
 fn is_fraction_end(bytes: &[u8]) -> bool
@@ -148,38 +148,38 @@ fn is_usual_stamp(bytes: &[u8]) -> bool
     others.to_bitmask() == 0
 }
 
-// What stands behind the stamp and one blank, where the stamp is as most are.
+// What stands after the stamp and one blank, where the stamp is as most are.
 #[inline(always)]
-fn behind_usual_stamp(body: &[u8]) -> Option<&[u8]>
-    ensures stamp { IfSome result (λ behind. is_stamp (first_word body.now) ≡ true) }
-    ensures behind { IfSome result (λ behind. behind.now ≡ behind_first_word body.now) }
+fn after_usual_stamp(body: &[u8]) -> Option<&[u8]>
+    ensures stamp { IfSome result (λ after. is_stamp (first_word body.now) ≡ true) }
+    ensures after { IfSome result (λ after. after.now ≡ after_first_word body.now) }
 {
-    let (stamp, behind) = body.split_first_chunk::<20>()?;
-    if !is_usual_stamp(stamp) || begins_with_blank(behind) {
+    let (stamp, after) = body.split_first_chunk::<20>()?;
+    if !is_usual_stamp(stamp) || begins_with_blank(after) {
         return None;
     }
-    Some(behind)
+    Some(after)
 }
 
-// The same behind any stamp.
+// The same after any stamp.
 #[inline(never)]
-fn behind_any_stamp(body: &[u8]) -> Option<&[u8]>
-    ensures { option_map (λ behind. behind.now) result ≡ (if is_stamp (first_word body.now) then Some (behind_first_word body.now)
+fn after_any_stamp(body: &[u8]) -> Option<&[u8]>
+    ensures { option_map (λ after. after.now) result ≡ (if is_stamp (first_word body.now) then Some (after_first_word body.now)
         else None) }
 {
-    let (stamp, behind) = split_word(body);
-    if is_stamp(stamp) { Some(behind) } else { None }
+    let (stamp, after) = split_word(body);
+    if is_stamp(stamp) { Some(after) } else { None }
 }
 
-// What stands behind the stamp and the blanks that follow it. `None` where the line does not begin with a stamp.
+// What stands after the stamp and the blanks that follow it. `None` where the line does not begin with a stamp.
 #[inline(always)]
-fn behind_stamp(body: &[u8]) -> Option<&[u8]>
-    ensures { option_map (λ behind. behind.now) result ≡ (if is_stamp (first_word body.now) then Some (behind_first_word body.now)
+fn after_stamp(body: &[u8]) -> Option<&[u8]>
+    ensures { option_map (λ after. after.now) result ≡ (if is_stamp (first_word body.now) then Some (after_first_word body.now)
         else None) }
 {
-    match behind_usual_stamp(body) {
-        Some(behind) => Some(behind),
-        None => behind_any_stamp(body),
+    match after_usual_stamp(body) {
+        Some(after) => Some(after),
+        None => after_any_stamp(body),
     }
 }
 
@@ -191,14 +191,14 @@ pub fn first_word(bytes: &[u8]) -> &[u8]
     word
 }
 
-/// What the word of the frame begins, which is empty where the line ends behind its interface. `None` where the line does not
+/// What the word of the frame begins, which is empty where the line ends after its interface. `None` where the line does not
 /// begin with a stamp and an interface.
 #[inline(always)]
 #[tactic(auto, unfolding(crate::specs::LogLines::frame_word))]
-pub fn behind_interface(body: &[u8]) -> Option<&[u8]>
+pub fn after_interface(body: &[u8]) -> Option<&[u8]>
     ensures { option_map (λ rest. first_word rest.now) result ≡ frame_word body.now }
 {
-    let interface_on = behind_stamp(body)?;
+    let interface_on = after_stamp(body)?;
     let (interface, rest) = split_word(interface_on);
     if interface.is_empty() {
         return None;

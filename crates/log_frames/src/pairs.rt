@@ -95,7 +95,7 @@ pub fn bytes_of_sixteen(digits: &[u8; 16]) -> Option<[u8; 8]>
     Some((high * u8x8::splat(16) + low).to_array())
 }
 
-/// The bytes that eight digits spell. Zeros behind them make sixteen.
+/// The bytes that eight digits spell. Zeros after them make sixteen.
 #[inline(always)]
 pub fn bytes_of_eight(digits: &[u8; 8]) -> Option<[u8; 4]>
     ensures { result ≡ result_ok (decode_of digits.now) }

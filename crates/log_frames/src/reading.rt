@@ -12,7 +12,7 @@ ghost use Rattle.log_frames.specs.Seen.{identifier_view, form_view, IsIdentifier
 use crate::form::{Form, form_of};
 use crate::frame::{Frame, Kind};
 use crate::identifier::{Identifier, identifier_of};
-use crate::line::{behind_interface, body_of, first_word};
+use crate::line::{after_interface, body_of, first_word};
 use crate::pairs::{bytes_of_pairs, bytes_of_sixteen};
 use arrayvec::ArrayVec;
 
@@ -41,12 +41,12 @@ fn push_pairs(bytes: &mut ArrayVec<u8, 64>, digits: &[u8]) -> bool
         ≡ option_map (λ more. bytes.old.items ++ more) (result_ok (decode_of digits.now)) }
 {
     let mut rest = digits;
-    'pairs: while let Some((pair, behind)) = rest.split_first_chunk::<2>() {
+    'pairs: while let Some((pair, after)) = rest.split_first_chunk::<2>() {
         let Some(one) = bytes_of_pairs::<2, 1>(pair) else {
             return false;
         };
         push_bytes(bytes, &one);
-        rest = behind;
+        rest = after;
     }
     rest.is_empty()
 }
@@ -62,12 +62,12 @@ fn bytes_of(digits: &[u8]) -> Option<ArrayVec<u8, 64>>
     }
     let mut bytes = ArrayVec::new();
     let mut rest = digits;
-    'sixteens: while let Some((sixteen, behind)) = rest.split_first_chunk::<16>() {
+    'sixteens: while let Some((sixteen, after)) = rest.split_first_chunk::<16>() {
         let Some(eight) = bytes_of_sixteen(sixteen) else {
             return None;
         };
         push_bytes(&mut bytes, &eight);
-        rest = behind;
+        rest = after;
     }
     if push_pairs(&mut bytes, rest) {
         Some(bytes)
@@ -180,7 +180,7 @@ fn fill_usual(frame: &mut Frame, rest: &[u8]) -> bool
     true
 }
 
-// Reads the frame of a word that something may stand behind.
+// Reads the frame of a word that something may stand after.
 #[inline(never)]
 fn fill_other(frame: &mut Frame, rest: &[u8]) -> bool
     ensures { (if result then Some frame.new else None) ≡ frame_of_word (first_word rest.now) }
@@ -201,7 +201,7 @@ fn fill_other(frame: &mut Frame, rest: &[u8]) -> bool
 pub fn fill_frame(frame: &mut Frame, line: &[u8]) -> bool
     ensures { (if result then Some frame.new else None) ≡ frame_of (body_of line.now) }
 {
-    match behind_interface(body_of(line)) {
+    match after_interface(body_of(line)) {
         Some(rest) => fill_usual(frame, rest) || fill_other(frame, rest),
         None => false,
     }

@@ -20,9 +20,9 @@ pairs_at zero n (a ∷ b ∷ rest) t long =
     rw none (eqb→eq _ _ (and_l _ _ here), eqb→eq _ _ (and_r _ _ here))
 pairs_at (suc i) n (a ∷ b ∷ rest) t long =
     let further : 2 * suc i ≡ suc (suc (2 * i)) = omega arith in
-    let behind : 2 * suc i + 1 ≡ suc (suc (2 * i + 1)) = omega arith in
+    let after : 2 * suc i + 1 ≡ suc (suc (2 * i + 1)) = omega arith in
     let next : n + suc i ≡ suc n + i = omega arith in
-    rw (behind, further, next) (pairs_at i (suc n) rest (and_r _ _ t) (omega arith))
+    rw (after, further, next) (pairs_at i (suc n) rest (and_r _ _ t) (omega arith))
 
 pair_table : T (are_pairs 0 PAIRS)
 unfolding are_pairs

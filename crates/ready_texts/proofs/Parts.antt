@@ -49,10 +49,10 @@ part_written at count n room piece rest few whole within =
     ∙ take-append-add (take at room) (piece ++ rest) count
     ∙ ap (λ (ys : List ℕ). take at room ++ ys) (take-append-le count piece rest (omega (arith, few, whole)))
 
--- a text behind its first two bytes, as it is copied
-behind_two : (count : ℕ) (front chunk rest : List ℕ) → chunk ≡ take 30 (take 30 (drop 2 front)) → 2 ≤ count → count ≤ 32
+-- a text after its first two bytes, as it is copied
+after_two : (count : ℕ) (front chunk rest : List ℕ) → chunk ≡ take 30 (take 30 (drop 2 front)) → 2 ≤ count → count ≤ 32
     → 30 ≤ length (take 30 (drop 2 front)) → drop 2 (take count front ++ rest) ≡ take (count - 2) chunk ++ rest
-behind_two count front chunk rest is some few whole =
+after_two count front chunk rest is some few whole =
     let all : count ≡ 2 + (count - 2) = omega (arith, some) in
     let long : 2 ≤ length (take count front) =
     omega (arith, some, few, whole, length-take count front, length-take 30 (drop 2 front), length-drop 2 front) in
@@ -62,18 +62,18 @@ behind_two count front chunk rest is some few whole =
     ∙ sym (take-take (count - 2) 30 (drop 2 front) (omega (arith, few)))
     ∙ ap (take (count - 2)) (sym (is ∙ take-take 30 30 (drop 2 front) (omega arith))))
 
-pub pushed_behind_two : (old mid new front chunk rest : List ℕ) (count : ℕ) → new ≡ mid ++ rest
+pub pushed_after_two : (old mid new front chunk rest : List ℕ) (count : ℕ) → new ≡ mid ++ rest
     → mid ≡ old ++ take (count - 2) chunk → chunk ≡ take 30 (take 30 (drop 2 front)) → 2 ≤ count → count ≤ 32
     → 30 ≤ length (take 30 (drop 2 front)) → new ≡ old ++ drop 2 (take count front ++ rest)
-pushed_behind_two old mid new front chunk rest count pushed first is some few whole =
+pushed_after_two old mid new front chunk rest count pushed first is some few whole =
     pushed
     ∙ ap (λ (ys : List ℕ). ys ++ rest) first
     ∙ append_assoc old (take (count - 2) chunk) rest
-    ∙ ap (λ (ys : List ℕ). old ++ ys) (sym (behind_two count front chunk rest is some few whole))
+    ∙ ap (λ (ys : List ℕ). old ++ ys) (sym (after_two count front chunk rest is some few whole))
 
 -- a shorter text has none
-pub behind_two_of_short : (count : ℕ) (front rest : List ℕ) → count < 2 → rest ≡ [] → drop 2 (take count front ++ rest) ≡ []
-behind_two_of_short count front rest few none =
+pub after_two_of_short : (count : ℕ) (front rest : List ℕ) → count < 2 → rest ≡ [] → drop 2 (take count front ++ rest) ≡ []
+after_two_of_short count front rest few none =
     ap (λ (ys : List ℕ). drop 2 (take count front ++ ys)) none
     ∙ ap (drop 2) (append-nil (take count front))
     ∙ drop_all 2 (take count front) (omega (arith, few, length-take count front))

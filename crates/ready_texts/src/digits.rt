@@ -12,7 +12,7 @@ const END: usize = 20;
 /// The decimal digits of a number, from which parts are appended.
 #[derive(Drop)]
 pub struct Digits {
-    // The digits, with room behind them for a front of 32 bytes.
+    // The digits, with room after them for a front of 32 bytes.
     room: [u8; 52],
     // Where they begin.
     start: usize,
@@ -84,9 +84,9 @@ impl Digits {
         self.push_part(text, 0, count)
     }
 
-    /// Appends the digits behind the first.
+    /// Appends the digits after the first.
     #[inline(always)]
-    pub fn push_behind(&self, text: &mut TextBuffer, count: usize) -> Result<(), Memory>
+    pub fn push_after(&self, text: &mut TextBuffer, count: usize) -> Result<(), Memory>
         requires { count ≤ length self.now }
         ensures { OnOk result (text.new.items ≡ text.old.items ++ drop count self.now) }
     {

@@ -16,7 +16,7 @@ pub struct ReadyText {
     front: [u8; FRONT],
     // How many of them count.
     count: usize,
-    // The bytes behind them.
+    // The bytes after them.
     rest: Vec<u8>,
     ghost within: { count ≤ 32 },
     ghost full: { count < 32 → rest.items ≡ [] },
@@ -30,7 +30,7 @@ impl Model for ReadyText {
     ghost view = { λ a. take a.count a.front ++ a.rest.items };
 }
 
-// Appends what stands behind a front, which is mostly nothing.
+// Appends what stands after a front, which is mostly nothing.
 #[inline(always)]
 fn push_rest(text: &mut TextBuffer, rest: &[u8]) -> Result<(), Memory>
     ensures { OnOk result (text.new.items ≡ text.old.items ++ rest.now) }
@@ -47,10 +47,10 @@ impl ReadyText {
         ensures { IfOk result (λ ready. ready ≡ text.now) }
     {
         let count = text.len().min(FRONT);
-        let (head, behind) = text.split_at(count);
+        let (head, after) = text.split_at(count);
         let mut front = [0; FRONT];
         front[..count].copy_from_slice(head);
-        let rest = Vec::from_slice(alloc, behind)?;
+        let rest = Vec::from_slice(alloc, after)?;
         Ok(ReadyText { front, count, rest })
     }
 
@@ -64,17 +64,17 @@ impl ReadyText {
         Ok(())
     }
 
-    /// Appends the text behind its first two bytes.
-    #[tactic(auto, using(crate::proofs::Parts::behind_two_of_short))]
+    /// Appends the text after its first two bytes.
+    #[tactic(auto, using(crate::proofs::Parts::after_two_of_short))]
     #[inline(always)]
-    pub fn push_behind_two(&self, text: &mut TextBuffer) -> Result<(), Memory>
+    pub fn push_after_two(&self, text: &mut TextBuffer) -> Result<(), Memory>
         ensures { OnOk result (text.new.items ≡ text.old.items ++ drop 2 self.now) }
     {
         if self.count < 2 {
             return Ok(());
         }
         match self.front[2..].first_chunk::<30>() {
-            Some(behind) => text.push_first(behind, self.count - 2)?,
+            Some(after) => text.push_first(after, self.count - 2)?,
             None => unreachable!(),
         }
         push_rest(text, self.rest.as_slice())?;

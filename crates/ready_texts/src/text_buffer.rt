@@ -9,11 +9,11 @@ use std::marker::Model;
 // The least room that is made.
 const LEAST: usize = 256;
 
-/// A text that is being made. Room stands ready behind it, so that a short piece costs one test and one copy of a fixed length.
+/// A text that is being made. Room stands ready after it, so that a short piece costs one test and one copy of a fixed length.
 /// Where memory is refused, what it holds means nothing until it is [cleared](Draft::clear).
 #[derive(Drop)]
 pub struct TextBuffer {
-    // The text, and behind it room in which anything may stand.
+    // The text, and after it room in which anything may stand.
     bytes: Vec<u8>,
     // How many of the bytes are the text.
     len: usize,
@@ -121,7 +121,7 @@ impl TextBuffer {
     // Appends bytes for which there is no room.
     #[cold]
     #[inline(never)]
-    fn push_behind_room(&mut self, bytes: &[u8]) -> Result<(), Memory>
+    fn push_after_room(&mut self, bytes: &[u8]) -> Result<(), Memory>
         ensures { OnOk result (self.new.items ≡ self.old.items ++ bytes.now) }
     {
         self.grow(bytes.len())?;
@@ -142,7 +142,7 @@ impl TextBuffer {
         ensures { OnOk result (self.new.items ≡ self.old.items ++ take count piece.now) }
     {
         if !place_piece(self.bytes.as_mut_slice(), self.len, piece) {
-            return self.push_behind_room(&piece[..count]);
+            return self.push_after_room(&piece[..count]);
         }
         self.len += count;
         Ok(())
@@ -179,7 +179,7 @@ pub fn push_bytes(text: &mut TextBuffer, bytes: &[u8]) -> Result<(), Memory>
     ensures { OnOk result (text.new.items ≡ text.old.items ++ bytes.now) }
 {
     if text.bytes.len() - text.len < bytes.len() {
-        return text.push_behind_room(bytes);
+        return text.push_after_room(bytes);
     }
     place_bytes(text.bytes.as_mut_slice(), text.len, bytes);
     text.len += bytes.len();

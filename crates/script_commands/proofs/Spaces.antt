@@ -46,14 +46,14 @@ rest_stops (b ∷ text) =
       | false ↦ λ is. is
     ] refl
 
-behind_blank : (text rest : List ℕ) → Stops text → behind_first text ≡ Some rest → text ≡ space ∷ rest
-behind_blank [] rest stops is = absurd (let no : None ≡ Some rest = is in cc)
-behind_blank (b ∷ text) rest stops is = ap (λ (b : ℕ). b ∷ text) (eqb-true b space (not-false (b == space) stops))
+after_blank : (text rest : List ℕ) → Stops text → behind_first text ≡ Some rest → text ≡ space ∷ rest
+after_blank [] rest stops is = absurd (let no : None ≡ Some rest = is in cc)
+after_blank (b ∷ text) rest stops is = ap (λ (b : ℕ). b ∷ text) (eqb-true b space (not-false (b == space) stops))
     ∙ ap (λ text. space ∷ text) (some_same text rest is)
 
 pub parts_are : (text rest : List ℕ) → rest_of text ≡ Some rest → text ≡ word_of text ++ space ∷ rest
 parts_are text rest is = sym (take-append-drop (word_len text) text)
-    ∙ ap (λ rest. word_of text ++ rest) (behind_blank (drop (word_len text) text) rest (rest_stops text) is)
+    ∙ ap (λ rest. word_of text ++ rest) (after_blank (drop (word_len text) text) rest (rest_stops text) is)
 
 no_more : (text : List ℕ) → behind_first text ≡ None → text ≡ []
 no_more [] is = refl

@@ -39,7 +39,7 @@ abbrev pub Says : List ℕ → Option Statement → Type 0
 Says text (Some statement) = HasStatement text statement
 Says text None = (fault : ReadFault) × HasFirstFault grammar.one_statement text fault
 
--- What the words behind a verb ask for: a command or none, as they stand, or a command by the statement that a text is.
+-- What the words after a verb ask for: a command or none, as they stand, or a command by the statement that a text is.
 pub data Sense : Type 0 where
   Plain : Option Command → Sense
   Reads : List ℕ → (Statement → Option Command) → Sense
@@ -53,7 +53,7 @@ abbrev pub attribute_set : AttrRow → Target → Option Edit
 attribute_set row (targets.Message number) = Some (edits.SetAttribute row.name number row.value)
 attribute_set row target = None
 
--- The edit that a verb asks for by a statement, behind the places of a message and of a signal. Where the verb takes fewer
+-- The edit that a verb asks for by a statement, after the places of a message and of a signal. Where the verb takes fewer
 -- places, what stands for the others is of no matter.
 abbrev pub edit_by : Verb → ℕ → ℕ → Statement → Option Edit
 edit_by verbs.AddMessage place at (statements.Head head) = Some (edits.AddMessage place head)
@@ -75,7 +75,7 @@ by_statement verb place at text = Reads text (λ statement. changes (edit_by ver
 
 -- ---- words
 
--- a number, and all that stands behind its blank
+-- a number, and all that stands after its blank
 abbrev pub both : Option ℕ → Option (List ℕ) → Option (ℕ × List ℕ)
 both (Some number) (Some rest) = Some (number, rest)
 both (Some number) None = None
@@ -84,7 +84,7 @@ both None rest = None
 abbrev pub number_and_rest : List ℕ → Option (ℕ × List ℕ)
 number_and_rest text = both (number_of (word_of text)) (rest_of text)
 
--- by a number and what stands behind it, or nothing
+-- by a number and what stands after it, or nothing
 abbrev pub by_pair : (ℕ → List ℕ → Sense) → Option (ℕ × List ℕ) → Sense
 by_pair sense None = Plain None
 by_pair sense (Some one) = sense one.0 one.1
@@ -139,7 +139,7 @@ show text =
 
 -- ---- verbs
 
--- what the verb of an edit asks for with the text behind its blank
+-- what the verb of an edit asks for with the text after its blank
 abbrev pub edit_sense : Verb → List ℕ → Sense
 edit_sense verbs.AddMessage text = with_number (λ place statement. by_statement verbs.AddMessage place 0 statement) text
 edit_sense verbs.RemoveMessage text = by_number (λ place. edits.RemoveMessage place) text
@@ -161,7 +161,7 @@ edit_sense verbs.DropTable text = by_name (λ n. edits.DropTable n) text
 edit_sense verbs.DropAttribute text = with_number (λ number name. by_string (λ n. edits.DropAttribute n number) name) text
 edit_sense verb text = Plain None
 
--- what a verb asks for with the text behind its blank
+-- what a verb asks for with the text after its blank
 abbrev pub sense_of : Verb → List ℕ → Sense
 sense_of verbs.Log text = Plain (Some (Log text))
 sense_of verbs.Show text = Plain (show text)
@@ -181,15 +181,15 @@ line_sense (Some verb) None = sense_alone verb
 unfoldable pub Means : List ℕ → Option Command → Type 0
 Means line meaning = HasSense (line_sense (verb_of (word_of (body_of line))) (rest_of (body_of line))) meaning
 
--- what is behind a byte at the front
-abbrev pub behind_byte : ℕ → List ℕ → Option (List ℕ)
-behind_byte wanted [] = None
-behind_byte wanted (b ∷ rest) = if b == wanted then Some rest else None
+-- what is after a byte at the front
+abbrev pub after_byte : ℕ → List ℕ → Option (List ℕ)
+after_byte wanted [] = None
+after_byte wanted (b ∷ rest) = if b == wanted then Some rest else None
 
 -- the line of a log that a line of a script gives, if it begins with `log` and a blank
 abbrev pub log_line : List ℕ → Option (List ℕ)
-log_line line = option_and_then (behind_byte 32) (option_and_then (behind_byte 103) (option_and_then (behind_byte 111)
-    (behind_byte 108 (body_of line))))
+log_line line = option_and_then (after_byte 32) (option_and_then (after_byte 103) (option_and_then (after_byte 111)
+    (after_byte 108 (body_of line))))
 
 -- memory may run out while such a command is read
 abbrev pub takes_memory : Option Verb → Bool

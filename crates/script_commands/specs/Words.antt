@@ -15,7 +15,7 @@ word_len text = prefix_len (λ b. not (b == space)) text
 abbrev pub word_of : List ℕ → List ℕ
 word_of text = take (word_len text) text
 
--- all that stands behind the first blank, where there is one
+-- all that stands after the first blank, where there is one
 abbrev pub rest_of : List ℕ → Option (List ℕ)
 rest_of text = behind_first (drop (word_len text) text)
 

@@ -4,7 +4,7 @@ ghost use Rattle.std.specs.Str.{bytes_eq};
 ghost use Rattle.script_commands.specs.Words.{verb_of, word_of};
 ghost use Rattle.std.specs.Prelude.{Some, ◌∷◌};
 ghost use Rattle.script_commands.specs.Commands.{HasSense, sense_of, line_sense, sense_alone, show_layout, show, changes, seen};
-ghost use Rattle.script_commands.specs.Commands.{Means, takes_memory, behind_byte, log_line, Log};
+ghost use Rattle.script_commands.specs.Commands.{Means, takes_memory, after_byte, log_line, Log};
 ghost use Rattle.log_frames.specs.LogLines.{body_of};
 
 use crate::command::Command;
@@ -47,7 +47,7 @@ fn show(text: &[u8]) -> Option<Command<'static>>
     }
 }
 
-// What a verb asks for with the text behind it.
+// What a verb asks for with the text after it.
 fn with_text<'a>(alloc: Global, verb: Verb, text: &'a [u8]) -> Result<Option<Command<'a>>, Memory>
     ensures sense { IfOk result (λ command. HasSense (sense_of verb text.now) (option_map seen command)) }
     ensures memory { OnErr result (IsTrue (takes_memory (Some verb))) }
@@ -69,7 +69,7 @@ fn alone(verb: Verb) -> Option<Command<'static>>
     }
 }
 
-// What a line asks for by its verb and the text behind that.
+// What a line asks for by its verb and the text after that.
 fn by_verb<'a>(
     alloc: Global,
     verb: Option<Verb>,
@@ -86,9 +86,9 @@ fn by_verb<'a>(
     }
 }
 
-// What is behind a byte at the front.
-fn behind_byte(text: &[u8], wanted: u8) -> Option<&[u8]>
-    ensures value { option_map (λ rest. rest.now) result ≡ behind_byte wanted text.now }
+// What is after a byte at the front.
+fn after_byte(text: &[u8], wanted: u8) -> Option<&[u8]>
+    ensures value { option_map (λ rest. rest.now) result ≡ after_byte wanted text.now }
     ensures shape { IfSome result (λ rest. text.now ≡ wanted ∷ rest.now) }
 {
     match text {
@@ -104,10 +104,10 @@ pub fn log_line(line: &[u8]) -> Option<&[u8]>
     ensures value { option_map (λ text. text.now) result ≡ log_line line.now }
     ensures means { IfSome result (λ text. Means line.now (Some (Log text.now))) }
 {
-    let after_l = behind_byte(body_of(line), b'l')?;
-    let after_o = behind_byte(after_l, b'o')?;
-    let after_g = behind_byte(after_o, b'g')?;
-    behind_byte(after_g, b' ')
+    let after_l = after_byte(body_of(line), b'l')?;
+    let after_o = after_byte(after_l, b'o')?;
+    let after_g = after_byte(after_o, b'g')?;
+    after_byte(after_g, b' ')
 }
 
 /// What a line asks for, or `None` where it is a bad command. Only the lines of a log and of edits take memory.

@@ -92,7 +92,7 @@ fn by_attribute(verb: Verb, row: AttrRow) -> Option<Edit>
     }
 }
 
-// The edit that a verb asks for by a statement, behind the places of a message and of a signal. Each kind of statement is let go in
+// The edit that a verb asks for by a statement, after the places of a message and of a signal. Each kind of statement is let go in
 // a function of its own.
 fn edit_by(verb: Verb, place: u32, at: u32, statement: Statement) -> Option<Edit>
     ensures { result ≡ edit_by verb place at statement }
@@ -178,10 +178,10 @@ fn change_message(alloc: Global, text: &[u8]) -> Result<Option<Edit>, Memory>
     let Some((place, words)) = number_and_rest(text) else {
         return Ok(None);
     };
-    let Some(behind) = rest_of(words) else {
+    let Some(after) = rest_of(words) else {
         return Ok(None);
     };
-    let Some((size, sender)) = number_and_rest(behind) else {
+    let Some((size, sender)) = number_and_rest(after) else {
         return Ok(None);
     };
     match change_to(alloc, word_of(words), size, sender)? {
@@ -302,7 +302,7 @@ fn drop_attribute(alloc: Global, text: &[u8]) -> Result<Option<Edit>, Memory>
     }
 }
 
-/// The edit that a verb asks for with the text behind it.
+/// The edit that a verb asks for with the text after it.
 pub(crate) fn edit_of(alloc: Global, verb: Verb, text: &[u8]) -> Result<Option<Edit>, Memory>
     ensures { IfOk result (λ edit. HasSense (edit_sense verb text.now) (changes edit)) }
 {

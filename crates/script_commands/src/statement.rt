@@ -1,4 +1,4 @@
-//! Statements behind verbs.
+//! Statements after verbs.
 ghost use Rattle.std.specs.Prelude.{IfOk};
 ghost use Rattle.script_commands.specs.Commands.{Says};
 

@@ -34,12 +34,12 @@ fn behind_first(text: &[u8]) -> Option<&[u8]>
     }
 }
 
-/// All that stands behind the first blank, where there is one.
+/// All that stands after the first blank, where there is one.
 pub(crate) fn rest_of(text: &[u8]) -> Option<&[u8]>
     ensures { option_map (λ rest. rest.now) result ≡ rest_of text.now }
 {
-    let (_, behind) = text.split_at(word_len(text));
-    behind_first(behind)
+    let (_, after) = text.split_at(word_len(text));
+    behind_first(after)
 }
 
 // Greater than any number that a script can write.
@@ -75,7 +75,7 @@ pub(crate) fn number_of(word: &[u8]) -> Option<u32>
     }
 }
 
-/// A number, and all that stands behind its blank.
+/// A number, and all that stands after its blank.
 pub(crate) fn number_and_rest(text: &[u8]) -> Option<(u32, &[u8])>
     ensures { option_map (λ one. (one.0, one.1.now)) result ≡ number_and_rest text.now }
 {

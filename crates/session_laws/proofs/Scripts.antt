@@ -93,9 +93,9 @@ breaks_inside input before old after new inside =
       breaks = subst (λ (w : List ℕ). Breaks old new inside.out (w ++ inside.last)) inside.waits inside.breaks;
     }
 
-breaks_behind : (input : List ℕ) (before : State) (old : Written) (after : State) (new : Written)
+breaks_after : (input : List ℕ) (before : State) (old : Written) (after : State) (new : Written)
     → BreaksBehind script_rules longest_line before old (lines_of input) after new → BreaksAtLine input before old after new
-breaks_behind input before old after new behind =
+breaks_after input before old after new behind =
     let none : length behind.waiting ≡ 0 = ap length behind.waits in
     absurd (omega (arith, none, behind.some))
 
@@ -117,6 +117,6 @@ serve_follows_run input before after unread left old new (Err faults.Read) told 
 serve_follows_run input before after unread left old new (Err faults.Write) told served =
     elim (rw told at served.2) [
       | inl inside ↦ breaks_inside input before old after new inside
-      | inr behind ↦ breaks_behind input before old after new behind
+      | inr behind ↦ breaks_after input before old after new behind
     ]
 serve_follows_run input before after unread left old new (Err faults.Memory) told served = (served.0, served.2)

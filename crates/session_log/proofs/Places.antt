@@ -79,7 +79,7 @@ all_done before after numbers lines places fresh stays decoded covers h = record
       ];
 }
 
--- a further item has its place behind the others
+-- a further item has its place after the others
 pub places-push : {X : Type 0} (test : X → Bool) (at : ℕ) (items : List X) (item : X)
     → places_from test at (items ++ item ∷ []) ≡ places_from test at items ++ (if test item then (at + length items) ∷ [] else [])
 places-push test at [] item = let none : at + 0 ≡ at = omega arith in rw none refl

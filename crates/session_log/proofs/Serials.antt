@@ -55,7 +55,7 @@ map_twice f g h same (x ∷ xs) = rw (same x, map_twice f g h same xs) refl
 pub further_place : (first place : ℕ) → first < 2 ^ 64 → place < 2 ^ 64 → place_from first ((first + place) % 2 ^ 64) ≡ place
 further_place first place within fits = further_at (2 ^ 64) first within place fits
 
--- those of items behind the first, once it is gone
+-- those of items after the first, once it is gone
 pub rest_places : {X : Type 0} (first : ℕ) (test : X → Bool) (items : List X) (serials : List ℕ) → first < 2 ^ 64
     → length items < 2 ^ 64
     → map (place_from first) serials ≡ places_from test 1 items → map (place_from ((first + 1) % 2 ^ 64)) serials

@@ -53,7 +53,7 @@ pub record SameSerials (before after : LogIndex) : Type 0 where
   pub by_number : (number : ℕ) → serials_at number after.numbers ≡ serials_at number before.numbers
   pub by_group : (group : ℕ) → serials_at group after.groups ≡ serials_at group before.groups
 
--- the serial number of a line with a data frame of the number is behind the others
+-- the serial number of a line with a data frame of the number is after the others
 pub record Puts (number serial : ℕ) (before after : LogIndex) : Type 0 where
   pub by_number : (other : ℕ) → serials_at other after.numbers ≡ serials_at other before.numbers ++ (if other == number then serial
       ∷ [] else [])

@@ -82,7 +82,7 @@ impl Log {
         &self.lines[place]
     }
 
-    /// Retains a line behind the others, and puts it into the index. Where memory is refused, the lines are as they were.
+    /// Retains a line after the others, and puts it into the index. Where memory is refused, the lines are as they were.
     pub fn retain(&mut self, alloc: Global, line: Line) -> Result<(), Memory>
         requires { IsNumbered line }
         ensures ok { OnOk result (self.new ≡ self.old ++ line ∷ []) }

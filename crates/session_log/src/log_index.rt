@@ -35,7 +35,7 @@ impl LogIndex {
         }
     }
 
-    /// Adds a line with a data frame of the number, behind the others.
+    /// Adds a line with a data frame of the number, after the others.
     pub(crate) fn add(&mut self, alloc: Global, number: u32, serial: usize) -> Result<(), Memory>
         ensures ok { OnOk result (Puts number serial self.old self.new) }
         ensures err { OnErr result (SameSerials self.old self.new) }

@@ -20,7 +20,7 @@ const SCRIPT: &[u8] = b"log (1.5) can0 053#2A\nremove-message 0\nshow lines\n";
 
 const REPLIES: &[u8] = b"ok\nok\n(1.5) can0 053#2A :: B(S: 84)\nok\n";
 
-// Behind its first command.
+// After its first command.
 const BOTH: Standing = Standing {
     messages: 2,
     signals: 1,
@@ -29,7 +29,7 @@ const BOTH: Standing = Standing {
     decoded: b"(1.5) can0 053#2A :: A(S: 42)",
 };
 
-// Behind its second.
+// After its second.
 const SECOND: Standing = Standing {
     messages: 1,
     signals: 1,

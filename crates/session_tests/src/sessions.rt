@@ -156,7 +156,7 @@ ok
 ok
 ";
 
-// Behind commands of which each was done.
+// After commands of which each was done.
 fn done(
     commands: &'static [u8],
     replies: &'static [u8],

@@ -99,7 +99,7 @@ fn send_limits<W: Sink>(out: &mut Out<'_, W>, limits: &Option<Limits>) -> Result
     }
 }
 
-// A text behind a blank.
+// A text after a blank.
 struct SpacedText;
 
 impl Style<Text> for SpacedText {
@@ -113,7 +113,7 @@ impl Style<Text> for SpacedText {
     }
 }
 
-// A text behind a comma.
+// A text after a comma.
 struct FurtherText;
 
 impl Style<Text> for FurtherText {

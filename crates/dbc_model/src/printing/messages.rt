@@ -102,7 +102,7 @@ fn send_limits<W: Sink>(out: &mut Out<'_, W>, signal: &Signal) -> Result<(), Wri
     send_pair(out, b'[', signal.minimum, b'|', signal.maximum, b']')
 }
 
-// A name behind a comma.
+// A name after a comma.
 struct FurtherReceiver;
 
 impl Style<Name> for FurtherReceiver {

@@ -7,7 +7,7 @@ use byte_devices::{Out, Sink, WriteFault};
 use dbc_values::Decimal;
 use itoa::Buffer;
 
-// The greatest number of digits that are written before or behind a point.
+// The greatest number of digits that are written before or after a point.
 const PLAIN_DIGITS: usize = 20;
 
 const ZEROS: [u8; PLAIN_DIGITS] = [b'0'; PLAIN_DIGITS];

@@ -76,7 +76,7 @@ pub fn send_word<W: Sink>(out: &mut Out<'_, W>, word: &[u8]) -> Result<(), Write
     out.send(word)
 }
 
-/// Holds the number of a message and the name of a signal, each behind a blank.
+/// Holds the number of a message and the name of a signal, each after a blank.
 #[tactic(auto, unfolding(dbc_records::specs::Layout::layout_text, dbc_records::specs::CanonicalText::signal_key))]
 pub fn send_signal_key<W: Sink>(
     out: &mut Out<'_, W>,
@@ -111,7 +111,7 @@ pub fn send_statement_end<W: Sink>(out: &mut Out<'_, W>) -> Result<(), WriteFaul
     out.send(b";\n")
 }
 
-/// Ends a statement behind entries.
+/// Ends a statement after entries.
 #[tactic(auto, unfolding(dbc_records::specs::Layout::layout_text, dbc_records::specs::CanonicalText::spaced_end))]
 pub fn send_spaced_end<W: Sink>(out: &mut Out<'_, W>) -> Result<(), WriteFault>
     ensures { Sends W.written out.old out.new result (layout_text (spaced_end)) }
@@ -119,7 +119,7 @@ pub fn send_spaced_end<W: Sink>(out: &mut Out<'_, W>) -> Result<(), WriteFault>
     out.send(b" ;\n")
 }
 
-/// Holds two numbers with marks before, between and behind them: ` (a,b)`.
+/// Holds two numbers with marks before, between and after them: ` (a,b)`.
 #[tactic(auto, using(crate::proofs::Layouts::layouts), unfolding(dbc_records::specs::CanonicalText::pair_layout))]
 pub fn send_pair<W: Sink>(
     out: &mut Out<'_, W>,
@@ -138,7 +138,7 @@ pub fn send_pair<W: Sink>(
     send_mark(out, closing)
 }
 
-/// A name behind a blank.
+/// A name after a blank.
 pub struct SpacedName;
 
 impl Style<Name> for SpacedName {

@@ -117,7 +117,7 @@ impl Style<FloatRow> for FloatLine {
     }
 }
 
-// A range behind a blank.
+// A range after a blank.
 struct FirstRange;
 
 impl Style<Range> for FirstRange {
@@ -139,7 +139,7 @@ impl Style<Range> for FirstRange {
     }
 }
 
-// A range behind a comma.
+// A range after a comma.
 struct FurtherRange;
 
 impl Style<Range> for FurtherRange {

@@ -52,7 +52,7 @@ pub fn send_list<S: Style<T>, T: Checked, W: Sink>(
     send_items::<S, T, W>(out, items.as_slice())
 }
 
-/// Holds the items, the first in one style and those behind it in another.
+/// Holds the items, the first in one style and those after it in another.
 pub fn send_separated<F: Style<T>, S: Style<T>, T: Checked, W: Sink>(
     out: &mut Out<'_, W>,
     items: &[T],

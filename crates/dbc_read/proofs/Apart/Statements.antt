@@ -1,4 +1,4 @@
--- In the canonical text of a database each item stands apart from what stands behind it.
+-- In the canonical text of a database each item stands apart from what stands after it.
 use Rattle.std.proofs.Common.{◌≡◌, ℕ, ◌<◌, ◌≤◌, ◌^◌, ◌-◌, ℤ, pos, negsuc, arith, Bool, true, false, ◌&&◌, List, [], ◌∷◌, ◌++◌}
 use Rattle.std.proofs.Common.{Option, Some, None, refl}
 use Rattle.std.specs.Prelude.{codes, nat_le, int_le, All, IsTrue, IfSome}

@@ -45,7 +45,7 @@ digit_no_point b is = grind (arith, nat_tests)
 digit_no_mark : (b : ℕ) → is_digit b ≡ true → not (is_exponent_mark b) ≡ true
 digit_no_mark b is = grind (arith, nat_tests)
 
--- the parts before and behind the first exponent mark, and of those before it around the first point
+-- the parts before and after the first exponent mark, and of those before it around the first point
 mantissa_by : (text front whole fraction : List ℕ) → before_first is_exponent_mark text ≡ front → before_first is_point front
     ≡ whole → after_first is_point front ≡ fraction
     → mantissa_of text ≡ digits_value 10 (whole ++ fraction)
@@ -83,7 +83,7 @@ reads_pointed whole fraction w f some =
     mantissa_no_mark : (b : ℕ) → is_mantissa_byte b ≡ true → not (is_exponent_mark b) ≡ true
     mantissa_no_mark b h = grind (arith, nat_tests)
 
--- digits, and an exponent behind them
+-- digits, and an exponent after them
 reads_powered : (digits sign power : List ℕ) → is_digits digits ≡ true → IsExponent (69 ∷ (sign ++ power))
     → Reads (digits ++ (69 ∷ (sign ++ power))) (digits_value 10 digits) (signed_digits_value 10 (sign ++ power) -ℤ pos 0)
 reads_powered digits sign power are is =
@@ -121,13 +121,13 @@ one_zero m count =
     let next : 1 + count ≡ suc count = omega arith in
     ap (λ (n : ℕ). n * 10 ^ count) one ∙ sym (tens_apart m 1 count) ∙ ap (λ (n : ℕ). m * 10 ^ n) next
 
-zeros_behind : (m count : ℕ) → digits_value_after 10 m (zeros count) ≡ m * 10 ^ count
-zeros_behind m zero = sym (tens_none m)
-zeros_behind m (suc count) = zeros_behind (m * 10 + 0) count ∙ one_zero m count
+zeros_after : (m count : ℕ) → digits_value_after 10 m (zeros count) ≡ m * 10 ^ count
+zeros_after m zero = sym (tens_none m)
+zeros_after m (suc count) = zeros_after (m * 10 + 0) count ∙ one_zero m count
 
 -- ---- the three forms
 
--- digits, and zeros behind them
+-- digits, and zeros after them
 reads_whole : (n count : ℕ) → n < 10 ^ 64 → Reads (decimal n ++ zeros count) (n * 10 ^ count) (pos 0)
 reads_whole n count short =
     let text = decimal n ++ zeros count in
@@ -135,7 +135,7 @@ reads_whole n count short =
     let some : 0 < length text = omega (arith, many, some_decimal n short) in
     let value : digits_value 10 text ≡ n * 10 ^ count =
     value_append 0 (decimal n) (zeros count) ∙ ap (λ (m : ℕ). digits_value_after 10 m (zeros count)) (value_decimal n short)
-    ∙ zeros_behind n count in
+    ∙ zeros_after n count in
     let number = reads_digits text (digits_from_all text some (all_append is_digit (decimal n) (zeros count) (all_decimal n short)
     (zeros_all count))) in
     record { form = number.form; mantissa = number.mantissa ∙ value; exponent = number.exponent }

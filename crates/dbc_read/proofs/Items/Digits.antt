@@ -1,4 +1,4 @@
--- Whole numbers are printed as digits that spell them, also behind an `m` and with a sign.
+-- Whole numbers are printed as digits that spell them, also after an `m` and with a sign.
 use Rattle.std.proofs.Common.{◌≡◌, ℕ, ◌<◌, ◌≤◌, ◌^◌, true, List, [], ◌∷◌, ◌++◌, length, refl, subst, arith}
 use Rattle.std.specs.Prelude.{codes, decimal}
 use Rattle.std.specs.List.{list_all}

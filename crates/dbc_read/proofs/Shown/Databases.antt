@@ -30,7 +30,7 @@ use Rattle.dbc_read.proofs.Texts.Layouts.{layout_tokens}
 
 -- ---- the forms of many statements
 
--- statements made of a list, and others behind them
+-- statements made of a list, and others after them
 put_form : {X : Type 0} (put : X → AnyStatement) (xs : List X) (rest : List AnyStatement) (parts : List Part) → flat_map form rest
     ≡ parts → flat_map form (map put xs ++ rest) ≡ flat_map (λ x. form (put x)) xs ++ parts
 put_form put [] rest parts same = same

@@ -43,7 +43,7 @@ use Rattle.dbc_read.proofs.Takes.Kept.{kept_takes}
 
 -- ---- a database and one statement more
 
--- what may stand behind a statement
+-- what may stand after a statement
 abbrev pub MayFollow : AnyStatement → Cut → Type 0
 MayFollow (Symbols symbols) cut = Stops has_symbol cut
 MayFollow (Nodes nodes) cut = Stops has_name cut

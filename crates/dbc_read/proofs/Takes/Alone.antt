@@ -30,7 +30,7 @@ use Rattle.dbc_read.proofs.Takes.Rows.{table_takes, values_take, mux_takes}
 use Rattle.dbc_read.proofs.Takes.Notes.{word_opens, given_takes}
 use Rattle.dbc_read.proofs.Takes.Messages.{head_takes, signal_takes}
 
--- what may stand behind a statement that stands alone
+-- what may stand after a statement that stands alone
 abbrev Closed : Cut → Type 0
 Closed cut = Stops begins_receiver cut
 

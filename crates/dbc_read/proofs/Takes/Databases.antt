@@ -64,7 +64,7 @@ timing_takes (Some numbers) =
     (takes_next _ (unsigned_takes numbers.0) (takes_next _ (mark_takes 58) (takes_next _ (unsigned_takes numbers.1)
     (takes_next _ (mark_takes 44) (takes_next _ (unsigned_takes numbers.2) takes_value)))))))) (λ cut may. tt))
 
--- ---- what may stand behind statements
+-- ---- what may stand after statements
 
 closes_end : (line : ℕ) → Closes (End line)
 unfolding starts
@@ -98,14 +98,14 @@ end_read : {A : Type 0} (a : A) (line : ℕ) → and_then (end_at (End line)) (�
 unfolding end_at
 end_read a line = refl
 
--- the parts of a text behind its version, as they are read
-abbrev behind_version : List ℕ → Reader Database
-behind_version version = statements_into (empty_database version) >>= λ before.
+-- the parts of a text after its version, as they are read
+abbrev after_version : List ℕ → Reader Database
+after_version version = statements_into (empty_database version) >>= λ before.
     (timed_into before >>= λ all. (end_at >>= λ _. value all))
 
 untimed_read : (version : Option (List ℕ)) (statements : List AnyStatement) (tokens : List Token) (line : ℕ) → MayAdd 0 statements
     → Spelled (flat_map form statements) tokens
-    → behind_version (version_text version) (tokens ▸▸ End line) ≡ Ok (gather version statements, End line)
+    → after_version (version_text version) (tokens ▸▸ End line) ≡ Ok (gather version statements, End line)
 unfolding timed_into starts
 untimed_read version statements tokens line may spelled =
     let before = statements_added (empty_database (version_text version)) statements may tokens (End line) spelled
@@ -121,18 +121,18 @@ unfolding has_word
 begins_timing numbers parts = opens_as (ap (λ (front : List Part). front ++ parts) (timing_is numbers))
     (word_opens (λ bytes. bytes_eq bytes (codes "BS_")) (codes "BS_") refl)
 
--- no number stands behind a bit timing
+-- no number stands after a bit timing
 no_number : (count : ℕ) (statements : List AnyStatement) → MayAdd count statements → (tokens : List Token) (line : ℕ)
     → Spelled (flat_map form statements) tokens → Stops (has_number false) (tokens ▸▸ End line)
 unfolding has_number decimal_of_number is_number starts
 no_number count statements may tokens line spelled = no_start (λ bytes. is_there (decimal_of_number false bytes)) count statements
     refl may tokens (End line) spelled refl
 
--- the statements behind a bit timing, with it
+-- the statements after a bit timing, with it
 timed_read : (version : Option (List ℕ)) (p : List AnyStatement) (numbers : Option (Decimal × Decimal × Decimal))
     (q : List AnyStatement) (tokens : List Token) (line : ℕ) → MayAdd 0 p → MayAdd (length (flat_map (records_of Messages) p)) q
     → Spelled (flat_map form p ++ (timing_form numbers ++ flat_map form q)) tokens
-    → behind_version (version_text version) (tokens ▸▸ End line) ≡ Ok (gather version (p ++ Timing numbers ∷ q), End line)
+    → after_version (version_text version) (tokens ▸▸ End line) ≡ Ok (gather version (p ++ Timing numbers ∷ q), End line)
 unfolding timed_into
 timed_read version p numbers q tokens line may more spelled =
     let half = halves (flat_map form p) (timing_form numbers ++ flat_map form q) tokens spelled in
@@ -147,8 +147,8 @@ timed_read version p numbers q tokens line may more spelled =
     let timing = (timing_takes numbers).takes other.front (other.rest ▸▸ End line) other.first
     (no_number (length (flat_map (records_of Messages) p)) q more other.rest line other.second) in
     let last = statements_added e q more other.rest (End line) other.second (closes_end line) in
-    ap (λ (t : List Token). behind_version (version_text version) (t ▸▸ End line)) half.parts
-    ∙ ap (behind_version (version_text version)) (all_then_twice half.front half.rest (End line))
+    ap (λ (t : List Token). after_version (version_text version) (t ▸▸ End line)) half.parts
+    ∙ ap (after_version (version_text version)) (all_then_twice half.front half.rest (End line))
     ∙ ap (λ (o : Result (Database × Cut) ReadFault). and_then o
     (λ before. (timed_into before >>= λ all. (end_at >>= λ _. value all)))) first
     ∙ ap (λ (o : Result (Database × Cut) ReadFault). and_then o (λ all. (end_at >>= λ _. value all)))
@@ -162,22 +162,22 @@ timed_read version p numbers q tokens line may more spelled =
 
 -- ---- all of it
 
--- the statements of a text that may stand behind its version
+-- the statements of a text that may stand after its version
 record MayStand (version : Option (List ℕ)) (statements : List AnyStatement) : Type 0 where
   fit : AllFit 0 statements
   placed : ArePlaced statements
   one_timing : length (flat_map timings_of statements) ≤ 1
 
-behind_read : (version : Option (List ℕ)) (statements : List AnyStatement) (tokens : List Token) (line : ℕ)
+after_read : (version : Option (List ℕ)) (statements : List AnyStatement) (tokens : List Token) (line : ℕ)
     → MayStand version statements → Spelled (flat_map form statements) tokens
-    → behind_version (version_text version) (tokens ▸▸ End line) ≡ Ok (gather version statements, End line)
-behind_read version statements tokens line text spelled = elim (parted statements text.one_timing) [
+    → after_version (version_text version) (tokens ▸▸ End line) ≡ Ok (gather version statements, End line)
+after_read version statements tokens line text spelled = elim (parted statements text.one_timing) [
   | inl none ↦ untimed_read version statements tokens line (record { fit = text.fit; no_timings = none; placed = text.placed })
       spelled
   | inr parts ↦ (
       let fit = fit_both 0 parts.before (Timing parts.numbers ∷ parts.behind) (subst (AllFit 0) parts.same text.fit) in
       let placed = placed_both parts.before (Timing parts.numbers ∷ parts.behind) (subst ArePlaced parts.same text.placed) in
-      subst (λ (all : List AnyStatement). behind_version (version_text version) (tokens ▸▸ End line) ≡ Ok (
+      subst (λ (all : List AnyStatement). after_version (version_text version) (tokens ▸▸ End line) ≡ Ok (
         gather version all,
         End line,
       )) (sym parts.same)
@@ -230,7 +230,7 @@ no_version version statements tokens line text spelled = elim (parted statements
     timing_no_version numbers parts = opens_as (ap (λ (front : List Part). front ++ parts) (timing_is numbers))
         (word_opens (λ bytes. bytes_eq bytes (codes "VERSION")) (codes "BS_") refl)
 
--- the database whose statements are put behind it, but for what they say of the bit timing
+-- the database whose statements are put after it, but for what they say of the bit timing
 abbrev with_timing : Option (List ℕ) → List AnyStatement → Database
 with_timing version statements = record (empty_database (version_text version))
     { bit_timing = timing_of (flat_map timings_of statements) }
@@ -251,6 +251,6 @@ database_again tokens line database spells =
     (no_version spells.version spells.statements half.rest line text half.second) in
     ap (λ (t : List Token). database_at (t ▸▸ End line)) half.parts
     ∙ ap database_at (all_then_twice half.front half.rest (End line))
-    ∙ ap (λ (o : Result (List ℕ × Cut) ReadFault). and_then o behind_version) version ∙ behind_read spells.version spells.statements
+    ∙ ap (λ (o : Result (List ℕ × Cut) ReadFault). and_then o after_version) version ∙ after_read spells.version spells.statements
     half.rest line text half.second
     ∙ ap (λ (d : Database). Ok (d, End line)) (sym spells.gathered)

@@ -26,7 +26,7 @@ use Rattle.dbc_reader.proofs.Sound.Adding.{joined, joined_twice}
 
 -- ---- each statement fits
 
--- behind so many messages
+-- after so many messages
 abbrev pub Fits : ℕ → AnyStatement → Type 0
 Fits count (Symbols symbols) = Unit {0}
 Fits count (Timing numbers) = Unit {0}

@@ -32,7 +32,7 @@ use Rattle.dbc_read.proofs.Takes.Kinds.{mark_takes, piece_takes}
 use Rattle.dbc_read.proofs.Takes.Rows.{mark_opens}
 use Rattle.dbc_read.proofs.Takes.Notes.{word_opens, text_no_word, number_no_word}
 
--- ---- what stands behind the first token
+-- ---- what stands after the first token
 
 pub second_opens : {test : Token → Bool} {passes : Bool} {parts : List Part} (part : Part) (P : List ℕ → Type 0)
     → ((tokens : List Token) → SaysPart part tokens → IsOne P tokens) → Opens test passes parts

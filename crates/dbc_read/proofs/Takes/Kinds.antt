@@ -162,13 +162,13 @@ plus_no_minus : (t : Token) → t.bytes ≡ codes "+" → has_mark 45 t ≡ fals
 unfolding has_mark
 plus_no_minus t e = ap (λ (b : List ℕ). bytes_eq b (45 ∷ [])) e
 
-module _ {A : Type 0} (behind_minus behind_plus : Reader A) (a : A) (AreSo : Bool → List ℕ → Type 0)
+module _ {A : Type 0} (behind_minus after_plus : Reader A) (a : A) (AreSo : Bool → List ℕ → Type 0)
     (minus : (t : Token) (cut : Cut) → AreSo true t.bytes → behind_minus (t ▸ cut) ≡ Ok (a, cut))
-    (plus : (t : Token) (cut : Cut) → AreSo false t.bytes → behind_plus (t ▸ cut) ≡ Ok (a, cut))
+    (plus : (t : Token) (cut : Cut) → AreSo false t.bytes → after_plus (t ▸ cut) ≡ Ok (a, cut))
     (number : (bytes : List ℕ) → AreSo false bytes → IsTrue (is_number bytes)) where
   abbrev signed_at : Reader A
-  signed_at = choose (has_mark 45) (mark_at 45 >>= λ _. behind_minus) (choose (has_mark 43) (mark_at 43 >>= λ _. behind_plus)
-      behind_plus)
+  signed_at = choose (has_mark 45) (mark_at 45 >>= λ _. behind_minus) (choose (has_mark 43) (mark_at 43 >>= λ _. after_plus)
+      after_plus)
 
   signed_is : (negative : Bool) (sign rest : List Token) (cut : Cut) → IsSign negative sign → IsOne (AreSo negative) rest
       → signed_at ((sign ++ rest) ▸▸ cut) ≡ Ok (a, cut)
@@ -190,16 +190,16 @@ module _ {A : Type 0} (behind_minus behind_plus : Reader A) (a : A) (AreSo : Boo
         ∙ signed_is y.0 y.1 y.2 cut y.4 y.5);
   }
 
-number_behind : (negative : Bool) (d : Decimal) (t : Token) (cut : Cut) → SpellsDecimal negative t.bytes d
+number_after : (negative : Bool) (d : Decimal) (t : Token) (cut : Cut) → SpellsDecimal negative t.bytes d
     → number_at negative (t ▸ cut) ≡ Ok (d, cut)
 unfolding number_at token_at
-number_behind negative d t cut e = ap (λ (o : Result Decimal Cause). answered t o cut) (decimal_is negative t.bytes d e)
+number_after negative d t cut e = ap (λ (o : Result Decimal Cause). answered t o cut) (decimal_is negative t.bytes d e)
 
 pub decimal_takes : (d : Decimal) → Takes decimal_at d (Is (Number d) ∷ []) Anything
 unfolding decimal_at
 decimal_takes d =
-    takes_signed (number_at true) (number_at false) d (λ negative bytes. SpellsDecimal negative bytes d) (number_behind true d)
-    (number_behind false d) (λ bytes e. e.form)
+    takes_signed (number_at true) (number_at false) d (λ negative bytes. SpellsDecimal negative bytes d) (number_after true d)
+    (number_after false d) (λ bytes e. e.form)
     (Is (Number d)) (alone (Is (Number d)))
 
 -- ---- whole numbers with a sign
@@ -220,23 +220,23 @@ entry_sign true n fits =
 abbrev SpellsInt : ℤ → Bool → List ℕ → Type 0
 SpellsInt z negative bytes = (n : ℕ) × SpellsNumber bytes n × (z ≡ signed negative n)
 
-whole_behind : (least most : ℕ) (make : ℕ → ℤ) (z : ℤ) (n : ℕ) (t : Token) (cut : Cut) → Within least most n
+whole_after : (least most : ℕ) (make : ℕ → ℤ) (z : ℤ) (n : ℕ) (t : Token) (cut : Cut) → Within least most n
     → SpellsNumber t.bytes n → z ≡ make n → (whole_at least most >>= λ n. value (make n)) (t ▸ cut) ≡ Ok (z, cut)
 unfolding whole_at token_at
-whole_behind least most make z n t cut within e same =
+whole_after least most make z n t cut within e same =
     ap (λ (o : Result ℕ Cause). and_then (answered t o cut) (λ n. value (make n))) (whole_is least most n t.bytes within e)
     ∙ ap (λ (z : ℤ). value z cut) (sym same)
 
-minus_behind : (z : ℤ) (t : Token) (cut : Cut) → IsTrue (entry_fits z) → SpellsInt z true t.bytes
+minus_after : (z : ℤ) (t : Token) (cut : Cut) → IsTrue (entry_fits z) → SpellsInt z true t.bytes
     → (whole_at 0 (2 ^ 63) >>= λ n. value (neg_ℤ (pos n))) (t ▸ cut) ≡ Ok (z, cut)
-minus_behind z t cut fits (n, e, same) =
-    whole_behind 0 (2 ^ 63) (λ n. neg_ℤ (pos n)) z n t cut (entry_sign true n (subst (λ (z : ℤ). entry_fits z ≡ true) same fits)) e
+minus_after z t cut fits (n, e, same) =
+    whole_after 0 (2 ^ 63) (λ n. neg_ℤ (pos n)) z n t cut (entry_sign true n (subst (λ (z : ℤ). entry_fits z ≡ true) same fits)) e
     same
 
-plus_behind : (z : ℤ) (t : Token) (cut : Cut) → IsTrue (entry_fits z) → SpellsInt z false t.bytes
+plus_after : (z : ℤ) (t : Token) (cut : Cut) → IsTrue (entry_fits z) → SpellsInt z false t.bytes
     → (whole_at 0 (2 ^ 64 - 1) >>= λ n. value (pos n)) (t ▸ cut) ≡ Ok (z, cut)
-plus_behind z t cut fits (n, e, same) =
-    whole_behind 0 (2 ^ 64 - 1) (λ n. pos n) z n t cut (entry_sign false n (subst (λ (z : ℤ). entry_fits z ≡ true) same fits)) e
+plus_after z t cut fits (n, e, same) =
+    whole_after 0 (2 ^ 64 - 1) (λ n. pos n) z n t cut (entry_sign false n (subst (λ (z : ℤ). entry_fits z ≡ true) same fits)) e
     same
 
 pub int_takes : (z : ℤ) → IsTrue (entry_fits z) → Takes int_at z (Is (Int z) ∷ []) Anything
@@ -244,7 +244,7 @@ unfolding int_at
 int_takes z fits =
     takes_signed (whole_at 0 (2 ^ 63) >>= λ n. value (neg_ℤ (pos n))) (whole_at 0 (2 ^ 64 - 1) >>= λ n. value (pos n)) z
     (SpellsInt z)
-    (λ t cut e. minus_behind z t cut fits e) (λ t cut e. plus_behind z t cut fits e) (λ bytes e. e.1.0)
+    (λ t cut e. minus_after z t cut fits e) (λ t cut e. plus_after z t cut fits e) (λ bytes e. e.1.0)
     (Is (Int z)) (alone (Is (Int z)))
 
 or_second : (a b c : Bool) → b ≡ true → (a || (b || c)) ≡ true

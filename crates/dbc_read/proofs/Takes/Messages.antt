@@ -183,15 +183,15 @@ first_false : (a b : Bool) → (a || b) ≡ false → b ≡ false
 first_false true b e = absurd cc
 first_false false b e = e
 
-no_name_behind : (cut : Cut) → Stops begins_receiver cut → Stops has_name cut
+no_name_after : (cut : Cut) → Stops begins_receiver cut → Stops has_name cut
 unfolding starts begins_receiver
-no_name_behind (End line) stops = refl
-no_name_behind (Fault line) stops = refl
-no_name_behind (t ▸ cut) stops = first_false (has_mark 44 t) (has_name t) stops
+no_name_after (End line) stops = refl
+no_name_after (Fault line) stops = refl
+no_name_after (t ▸ cut) stops = first_false (has_mark 44 t) (has_name t) stops
 
 receivers_take : (names : List (List ℕ)) → Takes receivers_at names (receivers_form names) (Stops begins_receiver)
 unfolding receivers_at has_name
-receivers_take [] = takes_none _ _ no_name_behind (takes_where takes_value (λ cut may. tt))
+receivers_take [] = takes_none _ _ no_name_after (takes_where takes_value (λ cut may. tt))
 receivers_take (name ∷ names) = takes_first _ (name_opens is_name name (λ is. is)) (takes_next _ (name_takes name)
     (further_names_take (name ∷ []) names))
 
@@ -234,7 +234,7 @@ is_new : (xs : List (List ℕ)) (x : List ℕ) (ys : List (List ℕ)) → are_di
 is_new [] x ys fit = refl
 is_new (y ∷ xs) x ys fit = let parts = new_before y x xs ys fit in rw (parts.0, is_new xs x ys parts.1) refl
 
--- a signal that stands behind these and before those
+-- a signal that stands after these and before those
 pub record Fitting (signals : List Signal) (s : Signal) : Type 0 where
   pub room : nat_lt (length signals) 999 ≡ true
   pub new : list_any (bytes_eq s.name) (names_of signals) ≡ false
@@ -253,7 +253,7 @@ fitting signals s more fit =
     room_left : (n m : ℕ) → nat_le (n + suc m) 999 ≡ true → nat_lt n 999 ≡ true
     room_left n m e = grind (arith, common_steps)
 
--- the signals behind these are signals, and all of them fit
+-- the signals after these are signals, and all of them fit
 pub record AreSignals (signals more : List Signal) : Type 0 where
   pub each : All IsSignal more
   pub fit : IsTrue (signals_fit (signals ++ more))

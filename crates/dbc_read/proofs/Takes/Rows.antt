@@ -28,7 +28,7 @@ use Rattle.dbc_read.proofs.Takes.{takes_first, takes_none, opens_one, allows_sto
 use Rattle.dbc_read.proofs.Takes.Kinds.{is_the_mark, number_is_no_mark, Within, within, word_takes, mark_takes, name_takes}
 use Rattle.dbc_read.proofs.Takes.Kinds.{text_takes, whole_takes, id_takes, int_takes, int_opens}
 
--- ---- a mark behind a list
+-- ---- a mark after a list
 
 pub mark_opens : (test : List ℕ → Bool) (mark : ℕ) {parts : List Part} → test (mark ∷ []) ≡ false
     → Opens (λ t. test t.bytes) false (Is (Mark mark) ∷ parts)

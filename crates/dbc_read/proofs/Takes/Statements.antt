@@ -187,7 +187,7 @@ rest_fits : (count : ℕ) (s : AnyStatement) (more : List AnyStatement) → MayA
     → MayAdd (count + length (flat_map (records_of Messages) (s ∷ []))) more
 rest_fits count s more may = record { fit = may.fit.1; no_timings = (untimed s more may.no_timings).1; placed = may.placed.1 }
 
--- what may stand behind all statements: the end, or a bit timing
+-- what may stand after all statements: the end, or a bit timing
 pub record Closes (cut : Cut) : Type 0 where
   pub symbols : Stops has_symbol cut
   pub names : Stops has_name cut
@@ -216,7 +216,7 @@ message_opens : (message : Message) → Opens has_symbol false (form (OfMessage 
 unfolding has_symbol is_symbol head_layout items_of
 message_opens message = word_opens is_symbol (codes "BO_") refl
 
--- behind a list of symbols
+-- after a list of symbols
 no_symbol : (statements : List AnyStatement) → EndsSymbols statements → flat_map timings_of statements ≡ []
     → (tokens : List Token) (cut : Cut) → Spelled (flat_map form statements) tokens → Stops has_symbol cut
     → Stops has_symbol (tokens ▸▸ cut)

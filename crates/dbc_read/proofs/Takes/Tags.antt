@@ -24,7 +24,7 @@ use Rattle.dbc_reader.proofs.Sound.Tags.{digits_are}
 use Rattle.dbc_read.proofs.Takes.{Takes, takes_where, takes_second, takes_one, opens_one}
 use Rattle.dbc_read.proofs.Takes.Kinds.{within, whole_is}
 
--- ---- digits behind an `m`
+-- ---- digits after an `m`
 
 pub spells_digits : (digits : List ℕ) → is_digits digits ≡ true → SpellsNumber digits (digits_value 10 digits)
 unfolding IsWholeNumber

@@ -1,4 +1,4 @@
--- A text that ends in a line feed, and another behind it, have the tokens of both.
+-- A text that ends in a line feed, and another after it, have the tokens of both.
 use Rattle.std.proofs.Common.{◌≡◌, ℕ, ◌+◌, ◌<◌, ◌≤◌, true, false, not, cond, List, [], ◌∷◌, ◌++◌, length, refl, sym, ap, subst, ◌∙◌}
 use Rattle.std.proofs.Common.{append_assoc, arith, ◌⊎◌, inl, inr}
 use Rattle.std.specs.List.{list_all, flat_map}
@@ -52,7 +52,7 @@ no_last b (c ∷ s) other all e =
 
 -- ---- gaps
 
--- bytes that end in a line feed, behind a byte that is none, are some, so what ends a line there is among them
+-- bytes that end in a line feed, after a byte that is none, are some, so what ends a line there is among them
 ends_more : (b : ℕ) (s t : List ℕ) → (b ≡ line_feed → ⊥) → last_of b s ≡ line_feed → EndsLine (s ++ []) → EndsLine (s ++ t)
 ends_more b [] t other last ends = absurd (other last)
 ends_more b (c ∷ s) t other last ends = ends
@@ -80,7 +80,7 @@ gap_join text gap rest last (parts, same, are) (more, also, these) = (
   parts_join 0 parts more rest are (ap (last_of 0) (sym same) ∙ last) these,
 )
 
--- a gap before a byte is one whatever stands behind the byte
+-- a gap before a byte is one whatever stands after the byte
 parts_before : (parts : List Part) (b : ℕ) (s t : List ℕ) → AreParts parts (b ∷ s) → AreParts parts (b ∷ t)
 parts_before [] b s t are = tt
 parts_before (Blank c ∷ parts) b s t are = (are.0, parts_before parts b s t are.1)
@@ -119,7 +119,7 @@ front_split (c ∷ u) v (d ∷ a) b e = let first : c ≡ d = cc in let rest : u
     both first (inl (w, same)) = inl (w, rw (first, same) refl)
     both first (inr (w, same)) = inr (w, rw (first, same) refl)
 
--- a token without line feeds stays the longest where more stands behind a line feed
+-- a token without line feeds stays the longest where more stands after a line feed
 open_more : (kind : Kind) (bytes rest more : List ℕ) → (kind ≡ Text → ⊥) → 0 < line_feeds rest → IsLongest kind bytes rest
     → IsLongest kind bytes (rest ++ more)
 open_more kind bytes rest more other some h = record { token = h.token; longest = bound }
@@ -152,7 +152,7 @@ longest_more Mark bytes rest more some h = closed_longest Mark bytes (rest ++ mo
 longest_more Word bytes rest more some h = open_more Word bytes rest more (λ e. cc) some h
 longest_more Number bytes rest more some h = open_more Number bytes rest more (λ e. cc) some h
 
--- ---- what stands behind a token
+-- ---- what stands after a token
 
 open_last : (kind : Kind) (bytes : List ℕ) (b : ℕ) (others : List ℕ) → (kind ≡ Text → ⊥) → bytes ≡ b ∷ others → IsToken kind bytes
     → last_of b others ≡ line_feed → ⊥
@@ -179,10 +179,10 @@ rest_last : (b : ℕ) (rest : List ℕ) → (b ≡ line_feed → ⊥) → last_o
 rest_last b [] other e = absurd (other e)
 rest_last b (c ∷ rest) other e = e
 
--- what stands behind a token ends in a line feed where the whole does
-behind_last : (kind : Kind) (gap bytes rest : List ℕ) (b : ℕ) (others : List ℕ) → bytes ≡ b ∷ others → IsToken kind bytes
+-- what stands after a token ends in a line feed where the whole does
+after_last : (kind : Kind) (gap bytes rest : List ℕ) (b : ℕ) (others : List ℕ) → bytes ≡ b ∷ others → IsToken kind bytes
     → last_of 0 (gap ++ (bytes ++ rest)) ≡ line_feed → last_of 0 rest ≡ line_feed
-behind_last kind gap bytes rest b others same is e =
+after_last kind gap bytes rest b others same is e =
     let front : last_of 0 (gap ++ (bytes ++ rest)) ≡ last_of (last_of 0 gap) (b ∷ (others ++ rest)) =
     last_append 0 gap (bytes ++ rest) ∙ ap (λ (l : List ℕ). last_of (last_of 0 gap) (l ++ rest)) same in
     let last : last_of (last_of b others) rest ≡ line_feed = sym (front ∙ last_append b others rest) ∙ e in
@@ -226,7 +226,7 @@ gap_joins line at after text more (t ▸ cut) last (is, e) (gap, rest, same, mor
   others,
 )
 
--- the same bytes are left, those of the text behind the first among those after it or among its own
+-- the same bytes are left, those of the text after the first among those after it or among its own
 left_same : (n after : ℕ) (bytes rest more : List ℕ) → n ≡ length (bytes ++ rest) + (length more + after)
     → n ≡ length (bytes ++ (rest ++ more)) + after
 left_same n after bytes rest more e = omega (
@@ -242,7 +242,7 @@ joins : (line at after : ℕ) (text more : List ℕ) (tokens : List Token) (cut 
 joins line at after text more [] cut last has have = gap_joins line at after text more cut last has have
 joins line at after text more (t ∷ tokens) cut last (gap, rest, same, is, e, left, longest, others) have =
     let x = token_begins t.kind t.bytes longest.token in
-    let behind = behind_last t.kind gap t.bytes rest x.0 x.1 x.2 longest.token (ap (last_of 0) (sym same) ∙ last) in
+    let behind = after_last t.kind gap t.bytes rest x.0 x.1 x.2 longest.token (ap (last_of 0) (sym same) ∙ last) in
     let whole : text ++ more ≡ gap ++ (t.bytes ++ (rest ++ more)) =
     ap (λ (l : List ℕ). l ++ more) same ∙ append_assoc gap (t.bytes ++ rest) more
     ∙ ap (λ (l : List ℕ). gap ++ l) (append_assoc t.bytes rest more) in (

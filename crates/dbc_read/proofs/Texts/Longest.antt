@@ -1,4 +1,4 @@
--- Where something stands behind a token that can't be part of it, the token is the longest at its place.
+-- Where something stands after a token that can't be part of it, the token is the longest at its place.
 use Rattle.std.proofs.Common.{◌≡◌, ℕ, suc, ◌+◌, ◌<◌, true, false, ◌||◌, ◌==◌, List, [], ◌∷◌, ◌++◌, length, drop, Some, refl, sym}
 use Rattle.std.proofs.Common.{ap, subst, ◌∙◌, append_assoc, arith, ◌⊎◌, inl, inr}
 use Rattle.std.specs.List.{list_all, prefix_len}
@@ -249,7 +249,7 @@ closed_longest kind bytes rest (inr text) is = subst (λ (k : Kind). IsToken k b
     one_text : IsToken kinds.Text bytes → token_at (bytes ++ rest) ≡ Some (kinds.Text, length bytes)
     one_text (text, same, is) = rw same (text_there text rest is)
 
--- any token, where something stands behind it that ends it
+-- any token, where something stands after it that ends it
 pub open_longest : (kind : Kind) (bytes rest : List ℕ) → EndsToken rest → IsToken kind bytes → IsLongest kind bytes rest
 open_longest kinds.Text bytes rest ends is = closed_longest kinds.Text bytes rest (inr refl) is
 open_longest kinds.Mark bytes rest ends is = closed_longest kinds.Mark bytes rest (inl refl) is

@@ -286,7 +286,7 @@ unfolding statement_into object_into value_row_into attribute_row_into begins_ke
     has_attribute_word has_word has_kept_word has_name has_string has_piece is_piece is_string is_name is_keyword starts first_fault
 kept_cat u d seen has q cut = (kept_more d seen has).follows q (worded u (codes "CAT_") ▸ cut)
 
--- ---- statements of two kinds, by the token behind their first word
+-- ---- statements of two kinds, by the token after their first word
 
 either_last : (a b q : Pattern) (seen : Seen) (t : Token) (cut : Cut) → after b t seen ≡ None → may_end a ≡ false
     → may_end b ≡ false → first_fault (Either a b q) seen (t ▸ cut) ≡ first_fault (a then q) seen (t ▸ cut)
@@ -440,8 +440,8 @@ no_string : (p : Pattern) (seen : Seen) (t : Token) (cut : Cut) → has_string t
 unfolding first_fault
 no_string p seen t cut e = rw e refl
 
-abbrev behind_name : Pattern
-behind_name = grammar.target then (grammar.given then grammar.statement_end)
+abbrev after_name : Pattern
+after_name = grammar.target then (grammar.given then grammar.statement_end)
 
 abbrev ev_kept : Pattern
 ev_kept = Word (codes "EV_") ⇒ grammar.kept_rest
@@ -456,24 +456,24 @@ attribute_short u d t (End at) e none = rw e refl
 attribute_short u d t (Fault at) e none = rw e refl
 attribute_short u d t (t3 ▸ cut) e none = rw (e, none t3 cut refl) refl
 
--- behind the name the pattern is that of the plain attribute
+-- after the name the pattern is that of the plain attribute
 attribute_first : (u : Token) (seen : Seen) (q : Pattern) (t : Token) (rest : Cut) → has_string t ≡ true
-    → first_fault (Either ev_kept behind_name q) seen rest ≡ first_fault (behind_name then q) seen rest
+    → first_fault (Either ev_kept after_name q) seen rest ≡ first_fault (after_name then q) seen rest
     → first_fault (grammar.statement then q) seen (worded u (codes "BA_") ▸ (t ▸ rest))
     ≡ first_fault (plain_attribute then q) seen (worded u (codes "BA_") ▸ (t ▸ rest))
 unfolding statement_into object_into value_row_into attribute_row_into begins_kept kept_fits has_object_word has_value_word
     has_attribute_word has_word has_kept_word has_name has_piece is_piece is_string starts first_fault
 attribute_first u seen q t rest e behind =
-    plain_token String (Either ev_kept behind_name q) seen t rest (rw e refl) ∙ behind
-    ∙ sym (plain_token String (behind_name then q) seen t rest (rw e refl))
+    plain_token String (Either ev_kept after_name q) seen t rest (rw e refl) ∙ behind
+    ∙ sym (plain_token String (after_name then q) seen t rest (rw e refl))
 
 attribute_no_name : (u : Token) (seen : Seen) (q : Pattern) (t : Token) (rest : Cut) → has_string t ≡ false
     → first_fault (grammar.statement then q) seen (worded u (codes "BA_") ▸ (t ▸ rest))
     ≡ first_fault (plain_attribute then q) seen (worded u (codes "BA_") ▸ (t ▸ rest))
 unfolding statement_into object_into value_row_into attribute_row_into begins_kept kept_fits has_object_word has_value_word
     has_attribute_word has_word has_kept_word has_name has_piece is_piece is_string starts first_fault
-attribute_no_name u seen q t rest e = no_string (Either ev_kept behind_name q) seen t rest e
-    ∙ sym (no_string (behind_name then q) seen t rest e)
+attribute_no_name u seen q t rest e = no_string (Either ev_kept after_name q) seen t rest e
+    ∙ sym (no_string (after_name then q) seen t rest e)
 
 attribute_first_kept : (u : Token) (seen : Seen) (q : Pattern) (t : Token) (u3 : Token) (cut : Cut)
     → has_string t ≡ true
@@ -484,7 +484,7 @@ attribute_first_kept : (u : Token) (seen : Seen) (q : Pattern) (t : Token) (u3 :
 unfolding statement_into object_into value_row_into attribute_row_into begins_kept kept_fits has_object_word has_value_word
     has_attribute_word has_word has_kept_word has_name has_piece is_piece is_string is_name is_keyword starts first_fault
 attribute_first_kept u seen q t u3 cut e =
-    plain_token String (Either ev_kept behind_name q) seen t (worded u3 (codes "EV_") ▸ cut) (rw e refl)
+    plain_token String (Either ev_kept after_name q) seen t (worded u3 (codes "EV_") ▸ cut) (rw e refl)
     ∙ sym (piece_more q seen t (worded u3 (codes "EV_") ▸ cut) (string_is_piece t e))
 
 other_word : (t : Token) → bytes_eq (codes "EV_") t.bytes ≡ false → has_word (codes "EV_") t ≡ false
@@ -499,14 +499,14 @@ attribute_named u d seen has q t e (End at) =
     rw (
       attribute_short u d t (End at) e (λ t3 cut is. absurd cc),
       attribute_first u seen q t (End at) e
-          (either_end ev_kept behind_name q seen at refl),
+          (either_end ev_kept after_name q seen at refl),
     )
     ((attribute_more d seen has).follows q (worded u (codes "BA_") ▸ (t ▸ End at)))
 attribute_named u d seen has q t e (Fault at) =
     rw (
       attribute_short u d t (Fault at) e (λ t3 cut is. absurd cc),
       attribute_first u seen q t (Fault at) e
-          (either_fault ev_kept behind_name q seen at),
+          (either_fault ev_kept after_name q seen at),
     )
     ((attribute_more d seen has).follows q (worded u (codes "BA_") ▸ (t ▸ Fault at)))
 attribute_named u d seen has q t e (t3 ▸ cut) =
@@ -526,7 +526,7 @@ attribute_named u d seen has q t e (t3 ▸ cut) =
           (let here : has_word (codes "EV_") t3 ≡ false = other_word t3 differ in
           rw (
             attribute_short u d t (t3 ▸ cut) e (only t3 cut differ),
-            attribute_first u seen q t (t3 ▸ cut) e (either_second ev_kept behind_name q seen t3 cut
+            attribute_first u seen q t (t3 ▸ cut) e (either_second ev_kept after_name q seen t3 cut
                 (no_token (Word (codes "EV_")) grammar.kept_rest seen t3 (rw here refl)) refl),
           )
           ((attribute_more d seen has).follows q (first ▸ (t ▸ (t3 ▸ cut)))))

@@ -56,9 +56,9 @@ pub joined_none : (d : Database) → joined d [] ≡ d
 joined_none d = rw (append-nil d.symbols, append-nil d.nodes)
     (ap (with_lists d) (fun_ext (λ (kind : Kind). append-nil (list_of kind d))))
 
-pub behind_both : {X : Type 0} (f : AnyStatement → List X) (list : List X) (xs ys : List AnyStatement) → (list ++ flat_map f xs)
+pub after_both : {X : Type 0} (f : AnyStatement → List X) (list : List X) (xs ys : List AnyStatement) → (list ++ flat_map f xs)
     ++ flat_map f ys ≡ list ++ flat_map f (xs ++ ys)
-behind_both f list xs ys = append_assoc list (flat_map f xs) (flat_map f ys)
+after_both f list xs ys = append_assoc list (flat_map f xs) (flat_map f ys)
     ∙ ap (λ more. list ++ more) (sym (flat_map-append f xs ys))
 
 pub listed : (kind : Kind) (d : Database) (lists : (kind : Kind) → List (RecordOf kind))
@@ -87,16 +87,16 @@ pub lists_twice : (d : Database) (xs ys : List AnyStatement)
     → Path ((kind : Kind) → List (RecordOf kind)) (λ kind. list_of kind (joined d xs) ++ flat_map (records_of kind) ys)
     (λ kind. list_of kind d ++ flat_map (records_of kind) (xs ++ ys))
 lists_twice d xs ys = fun_ext (λ (kind : Kind). ap (λ (l : List (RecordOf kind)). l ++ flat_map (records_of kind) ys)
-    (joined_list kind d xs) ∙ behind_both (records_of kind) (list_of kind d) xs ys)
+    (joined_list kind d xs) ∙ after_both (records_of kind) (list_of kind d) xs ys)
 
 pub joined_twice : (d : Database) (xs ys : List AnyStatement) → joined (joined d xs) ys ≡ joined d (xs ++ ys)
-joined_twice d xs ys = rw (behind_both symbols_of d.symbols xs ys, behind_both nodes_of d.nodes xs ys)
+joined_twice d xs ys = rw (after_both symbols_of d.symbols xs ys, after_both nodes_of d.nodes xs ys)
     (ap (with_lists (record d {
       symbols = d.symbols ++ flat_map symbols_of (xs ++ ys);
       nodes = d.nodes ++ flat_map nodes_of (xs ++ ys);
     })) (lists_twice d xs ys))
 
--- a row is put behind those of its kind
+-- a row is put after those of its kind
 row_put : (kind : Kind) (d : Database) (row : RecordOf kind)
     → with_list kind (joined d []) (list_of kind d ++ row ∷ []) ≡ joined d (OfKind kind row ∷ [])
 row_put Tables d row = refl
@@ -117,7 +117,7 @@ record_joined kind d row = ap (λ (e : Database). with_list kind e (list_of kind
 
 -- ---- what one statement more is
 
--- a statement was read that a database is joined by; which may stand behind it, and when it ends a list of symbols
+-- a statement was read that a database is joined by; which may stand after it, and when it ends a list of symbols
 pub record Adding (d : Database) (cut : Cut) (x : Database × Cut) : Type 0 where
   pub statement : AnyStatement
   pub spelt : Spelt (form statement) cut x.1
@@ -136,7 +136,7 @@ adds_choose {d} test {r} {s} h k = record { adds = λ cut x e. by_test (starts t
     by_test true cut x e = h.adds cut x e
     by_test false cut x e = k.adds cut x e
 
--- a statement whose form begins with a word that may be a symbol stands behind no list of symbols
+-- a statement whose form begins with a word that may be a symbol stands after no list of symbols
 no_first : (word : List ℕ) (parts : List Part) (cut rest : Cut) → is_symbol word ≡ true → Spelt (Is (Word word) ∷ parts) cut rest
     → starts has_symbol cut ≡ false → ⊥
 unfolding has_symbol starts
@@ -154,7 +154,7 @@ no_first word parts cut rest is h none =
 abbrev left : {A : Type 0} → A → Cut → Result (A × Cut) ReadFault
 left a rest = Ok (a, rest)
 
--- a title of a word and a colon, and a list that grows behind another
+-- a title of a word and a colon, and a list that grows after another
 titled_spelt : {X : Type 0} (word : List ℕ) (from : List X → Reader (List X)) {part : X → List Part} (add : List X → Database)
     → Grows from part → (before : List X) (cut : Cut) (x : Database × Cut)
     → (word_at word >>= λ _. (mark_at 58 >>= λ _. (from before >>= λ list. value (add list)))) cut ≡ Ok x
@@ -178,7 +178,7 @@ titled_spelt {X} word from {part} add grows before cut x e =
     same_left : {A : Type 0} (a b : A) (c d : Cut) → a ≡ b → c ≡ d → left a c ≡ left b d
     same_left a b c d e f = rw (e, f) refl
 
--- behind what is repeated no token stands that passes the test
+-- after what is repeated no token stands that passes the test
 module _ {S : Type 0} (test : Token → Bool) (r : S → Reader S) (shrinks : (s : S) → Shrinks (r s)) where
   turn_stops : (n : ℕ) → ((s : S) (cut : Cut) (x : S × Cut) → size cut ≤ n → turns n test r s cut ≡ Ok x → starts test x.1 ≡ false)
       → (s : S) (b : Bool) (cut : Cut) (x : S × Cut) → starts test cut ≡ b → size cut ≤ suc n

@@ -30,7 +30,7 @@ use Rattle.dbc_reader.proofs.Turns.Dropped.{database_drops, with_some_starts}
 use Rattle.dbc_reader.proofs.Sound.{Spelt, spelt_none, spelled_both, all_then_twice, Sound, sound_start, sound_then, sound_value}
 use Rattle.dbc_reader.proofs.Sound.{sound_choose, sound_end}
 use Rattle.dbc_reader.proofs.Sound.Kinds.{mark_sound, word_sound, text_sound, unsigned_sound}
-use Rattle.dbc_reader.proofs.Sound.Adding.{joined, joined_list, behind_both}
+use Rattle.dbc_reader.proofs.Sound.Adding.{joined, joined_list, after_both}
 use Rattle.dbc_reader.proofs.Sound.Starts.{joined_starts, joined_starts_twice, AreMatched}
 use Rattle.dbc_reader.proofs.Sound.Located.{first_of, Joins, located_more, all_join}
 
@@ -116,7 +116,7 @@ gather_timed version xs ys numbers timing before behind is =
     let d : Database = empty_database (version_text version) in
     let lists = fun_ext (λ (kind : Kind). ap (λ (l : List (RecordOf kind)). l
     ++ flat_map (records_of kind) ys) (joined_list kind d xs)
-    ∙ behind_both (records_of kind) (list_of kind d) xs all) in
+    ∙ after_both (records_of kind) (list_of kind d) xs all) in
     rw (
       flat_map-append symbols_of xs all,
       flat_map-append timings_of xs all,

@@ -22,7 +22,7 @@ use Rattle.dbc_reader.specs.Classes.{has_word, has_mark, where_true, bounded, th
 use Rattle.dbc_reader.specs.Forms.{Is, Unsigned, IsOne, IsSign, Says, SpellsNumber, signed}
 use Rattle.dbc_reader.specs.Reading.Parts.{word_at, mark_at, name_at, symbol_at, text_at, piece_at, whole_at, id_at, number_at}
 use Rattle.dbc_reader.specs.Reading.Parts.{decimal_at, int_at, names_from, symbols_from, pieces_from}
-use Rattle.dbc_reader.proofs.Sound.{Sound, Reads, reads_one, reads_behind, reads_as, reads_value, sound_reads, sound_choose}
+use Rattle.dbc_reader.proofs.Sound.{Sound, Reads, reads_one, reads_after, reads_as, reads_value, sound_reads, sound_choose}
 use Rattle.dbc_reader.proofs.Sound.{sound_one, grows_by_one, grows_repeated, sound_list}
 
 -- ---- one token
@@ -160,10 +160,10 @@ pub decimal_sound : Sound decimal_at (λ d. Is (Number d) ∷ [])
 unfolding decimal_at
 decimal_sound =
     sound_choose (has_mark 45) (sound_reads (λ d. Is (Number d))
-    (reads_as (reads_behind (λ _ d. Says (Number d)) minus_is (number_is true) (λ _ d tokens u v parts sign number.
+    (reads_as (reads_after (λ _ d. Says (Number d)) minus_is (number_is true) (λ _ d tokens u v parts sign number.
     signed_number true d tokens u v parts sign number)) (λ d tokens y. y.1)))
     (sound_choose (has_mark 43) (sound_reads (λ d. Is (Number d))
-    (reads_as (reads_behind (λ _ d. Says (Number d)) plus_is (number_is false) (λ _ d tokens u v parts sign number.
+    (reads_as (reads_after (λ _ d. Says (Number d)) plus_is (number_is false) (λ _ d tokens u v parts sign number.
     signed_number false d tokens u v parts sign number)) (λ d tokens y. y.1)))
     (sound_reads (λ d. Is (Number d)) (reads_as (number_is false) (λ d tokens number. signed_number false d tokens [] tokens refl
     (inl refl) number))))
@@ -182,12 +182,12 @@ unfolding int_at
 int_sound =
     sound_choose (has_mark 45)
     (sound_reads (λ z. Is (Int z))
-    (reads_as (reads_behind (λ _ z. Says (Int z)) minus_is (reads_value (λ n. neg_ℤ (pos n)) (whole_is 0 (2 ^ 63)))
+    (reads_as (reads_after (λ _ z. Says (Int z)) minus_is (reads_value (λ n. neg_ℤ (pos n)) (whole_is 0 (2 ^ 63)))
     (λ _ z tokens u v parts sign number. subst (λ z. Says (Int z) tokens) (sym number.1) (signed_whole true number.0 tokens u v
     parts sign number.2))) (λ z tokens y. y.1)))
     (sound_choose (has_mark 43)
     (sound_reads (λ z. Is (Int z))
-    (reads_as (reads_behind (λ _ z. Says (Int z)) plus_is (reads_value (λ n. pos n) (whole_is 0 (2 ^ 64 - 1)))
+    (reads_as (reads_after (λ _ z. Says (Int z)) plus_is (reads_value (λ n. pos n) (whole_is 0 (2 ^ 64 - 1)))
     (λ _ z tokens u v parts sign number. subst (λ z. Says (Int z) tokens) (sym number.1) (signed_whole false number.0 tokens u v
     parts sign number.2))) (λ z tokens y. y.1)))
     (sound_reads (λ z. Is (Int z)) (reads_as (reads_value (λ n. pos n) (whole_is 0 (2 ^ 64 - 1)))

@@ -23,7 +23,7 @@ use Rattle.dbc_reader.specs.Reading.Parts.{name_at, pair_at, comma_at, receivers
 use Rattle.dbc_reader.specs.Reading.Messages.{begun, begin_message_at, head_at, begin_signal_at, fresh, signal_name_at, tag_at}
 use Rattle.dbc_reader.specs.Reading.Messages.{sign_at, place_at, signal_at, signals_from, message_at}
 use Rattle.dbc_reader.proofs.Sound.{Sound, sound_one, sound_then, sound_value, sound_start, sound_choose, sound_end, sound_same}
-use Rattle.dbc_reader.proofs.Sound.{sound_list, first_and, sound_first, grows_repeated, grows_behind, grows_in_view}
+use Rattle.dbc_reader.proofs.Sound.{sound_list, first_and, sound_first, grows_repeated, grows_after, grows_in_view}
 use Rattle.dbc_reader.proofs.Sound.Kinds.{mark_sound, name_sound, text_sound, whole_sound, id_sound, decimal_sound}
 use Rattle.dbc_reader.proofs.Sound.Rows.{of_layout-append, perhaps_mark}
 use Rattle.dbc_reader.proofs.Sound.Tags.{order_sound, tag_token_sound}
@@ -133,7 +133,7 @@ unfolding receivers_at receivers_from
 receivers_sound =
     sound_choose _
     (sound_same
-    (sound_first name_sound (grows_repeated _ _ further_name_form (grows_behind comma_at name_at further_name_sound)))
+    (sound_first name_sound (grows_repeated _ _ further_name_form (grows_after comma_at name_at further_name_sound)))
     receivers_are) (sound_start (sound_value refl))
 
 -- ---- signals and messages

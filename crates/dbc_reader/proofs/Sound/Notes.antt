@@ -18,7 +18,7 @@ use Rattle.dbc_reader.specs.Reading.Attributes.{node_target_at, message_target_a
 use Rattle.dbc_reader.specs.Reading.Attributes.{object_at, limits_at, string_form_at, enumeration_at, form_at, definition_at}
 use Rattle.dbc_reader.specs.Reading.Attributes.{value_at, default_at, attribute_at}
 use Rattle.dbc_reader.proofs.Sound.{Sound, sound_then, sound_value, sound_start, sound_choose, grows_repeated, first_and}
-use Rattle.dbc_reader.proofs.Sound.{sound_first, sound_both, sound_end, grows_behind}
+use Rattle.dbc_reader.proofs.Sound.{sound_first, sound_both, sound_end, grows_after}
 use Rattle.dbc_reader.proofs.Sound.Kinds.{word_sound, mark_sound, name_sound, text_sound, id_sound, decimal_sound}
 use Rattle.dbc_reader.proofs.Sound.Rows.{of_layout-append, of_layout-items}
 
@@ -75,7 +75,7 @@ further_text_sound = sound_start (sound_then (mark_sound 44) λ _. sound_end tex
 
 texts_sound : Sound (text_at >>= λ text. texts_from (text ∷ [])) (first_and text_form further_text_form)
 unfolding texts_from
-texts_sound = sound_first text_sound (grows_repeated _ _ further_text_form (grows_behind (mark_at 44) text_at further_text_sound))
+texts_sound = sound_first text_sound (grows_repeated _ _ further_text_form (grows_after (mark_at 44) text_at further_text_sound))
 
 pub texts_layout_form : (texts : List (List ℕ)) → of_layout (texts_layout texts) ≡ first_and text_form further_text_form texts
 unfolding texts_layout spaced_text further_text items_of

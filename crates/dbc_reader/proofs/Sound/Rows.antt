@@ -18,10 +18,10 @@ use Rattle.dbc_reader.specs.Reading.Parts.{mark_at, entry_at, entries_from}
 use Rattle.dbc_reader.specs.Reading.Tables.{table_at, values_at, colon_at, float_at, range_at, ranges_from, ranges_at, mux_at}
 use Rattle.dbc_reader.proofs.Turns.{ok_is}
 use Rattle.dbc_reader.proofs.Sound.{Spelt, Sound, sound_then, sound_value, sound_start, sound_choose, grows_by_one, grows_repeated}
-use Rattle.dbc_reader.proofs.Sound.{sound_list, first_and, sound_first, sound_end, grows_behind}
+use Rattle.dbc_reader.proofs.Sound.{sound_list, first_and, sound_first, sound_end, grows_after}
 use Rattle.dbc_reader.proofs.Sound.Kinds.{word_sound, mark_sound, name_sound, text_sound, whole_sound, id_sound, int_sound}
 
--- ---- forms of layouts, one behind the other
+-- ---- forms of layouts, one after the other
 
 pub of_layout-append : (xs ys : Layout) → of_layout (xs ++ ys) ≡ of_layout xs ++ of_layout ys
 unfolding items_of
@@ -151,7 +151,7 @@ further_sound = sound_start (sound_then (mark_sound 44) λ _. sound_end range_so
 
 ranges_sound : Sound ranges_at (first_and range_form further_form)
 unfolding ranges_at ranges_from
-ranges_sound = sound_first range_sound (grows_repeated _ _ further_form (grows_behind (mark_at 44) range_at further_sound))
+ranges_sound = sound_first range_sound (grows_repeated _ _ further_form (grows_after (mark_at 44) range_at further_sound))
 
 ranges_layout_form : (ranges : List Range) → of_layout (ranges_layout ranges) ≡ first_and range_form further_form ranges
 unfolding ranges_layout range_layout further_range items_of

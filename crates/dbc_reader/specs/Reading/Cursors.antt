@@ -8,12 +8,12 @@ use Rattle.dbc_tokens.specs.Views.{left, cut_from}
 unfoldable pub left_at : Cursor → Cut
 left_at cursor = cut_from cursor.next (left cursor.after)
 
--- the tokens behind the first
+-- the tokens after the first
 abbrev pub behind : Cut → Cut
 behind (End line) = End line
 behind (Fault line) = Fault line
 behind (t ▸ cut) = cut
 
--- a word, and these tokens behind it: what is read behind a word does not depend on where the word is
+-- a word, and these tokens after it: what is read after a word does not depend on where the word is
 abbrev pub with_word : List ℕ → Cut → Cut
 with_word word cut = record { kind = kinds.Word; bytes = word; line = 0; left = 0 } ▸ cut

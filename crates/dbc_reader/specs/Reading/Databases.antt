@@ -75,7 +75,7 @@ record_at FloatTypes d = float_at
 record_at Multiplexings d = mux_at
 record_at KeptVerbatim d = kept_at
 
--- a row is put behind those of its kind
+-- a row is put after those of its kind
 unfoldable pub record_into : Kind → Database → Reader Database
 record_into kind d = do
   row ← record_at kind d
@@ -159,7 +159,7 @@ timing_at = do
   _ ← mark_at colon
   choose (has_number false) timing_numbers_at (value None)
 
--- the bit timing and what stands behind it, or nothing: no second one may follow
+-- the bit timing and what stands after it, or nothing: no second one may follow
 unfoldable pub timed_into : Database → Reader Database
 timed_into d = choose (has_word (codes "BS_")) (do
   timing ← timing_at

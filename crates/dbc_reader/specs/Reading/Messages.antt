@@ -108,7 +108,7 @@ signal_at signals = do
     receivers = receivers;
   })
 
--- signals, as many as there are, behind these
+-- signals, as many as there are, after these
 unfoldable pub signals_from : List Signal → Reader (List Signal)
 signals_from = repeated (has_word (codes "SG_")) (λ signals. do
   signal ← signal_at signals

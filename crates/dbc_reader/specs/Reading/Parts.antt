@@ -79,7 +79,7 @@ int_at = choose (has_mark minus) (do
 unfoldable pub begins_int : Token → Bool
 begins_int t = has_mark minus t || (has_mark plus t || has_whole t)
 
--- two decimals, with a mark before, between and behind them
+-- two decimals, with a mark before, between and after them
 unfoldable pub pair_at : ℕ → ℕ → ℕ → Reader (Decimal × Decimal)
 pair_at opening between closing = do
   _ ← mark_at opening
@@ -91,7 +91,7 @@ pair_at opening between closing = do
 
 -- ---- lists
 
--- names, as many as there are, behind these
+-- names, as many as there are, after these
 unfoldable pub names_from : List (List ℕ) → Reader (List (List ℕ))
 names_from = repeated has_name (λ names. do
   name ← name_at
@@ -127,7 +127,7 @@ receivers_at = choose has_name (do
   name ← name_at
   receivers_from (name ∷ [])) (value [])
 
--- further texts, each behind a comma
+-- further texts, each after a comma
 unfoldable pub texts_from : List (List ℕ) → Reader (List (List ℕ))
 texts_from = repeated (has_mark comma) (λ texts. do
   _ ← mark_at comma

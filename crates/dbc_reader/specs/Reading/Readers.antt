@@ -1,4 +1,4 @@
--- Readers: what stands at the front of some tokens and what is left behind it, or the first fault. They are joined by
+-- Readers: what stands at the front of some tokens and what is left after it, or the first fault. They are joined by
 -- `do`, by a choice and by repetition.
 use Rattle.std.specs.Prelude.{◌≡◌, ◌⊎◌, ℕ, zero, suc, Bool, true, false, Option, Some, None, Result, Ok, Err, if◌then◌else◌}
 use Rattle.dbc_tokens.specs.declared.fault.Cause.{Cause}

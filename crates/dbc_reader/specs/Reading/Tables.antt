@@ -51,7 +51,7 @@ range_at = do
   last ← whole_at 0 (2 ^ 64 - 1)
   value (record { first = first; last = last })
 
--- further ranges, each behind a comma
+-- further ranges, each after a comma
 unfoldable pub ranges_from : List Range → Reader (List Range)
 ranges_from = repeated (has_mark comma) (λ ranges. do
   _ ← mark_at comma

@@ -1,5 +1,5 @@
 -- The tokens of a text as a function of it, from left to right: how long the gap at the front is, how long the token
--- behind it is, and so on with the rest. What these tokens are is told apart from it, in `Tokens`.
+-- after it is, and so on with the rest. What these tokens are is told apart from it, in `Tokens`.
 use Rattle.std.specs.Prelude.{ℕ, zero, suc, ◌+◌, ◌-◌, Bool, true, false, ◌&&◌, ◌||◌, not, ◌==◌, if◌then◌else◌, List, [], ◌∷◌}
 use Rattle.std.specs.Prelude.{length, take, drop, slice_index, Option, Some, None}
 use Rattle.std.specs.List.{prefix_len}
@@ -31,7 +31,7 @@ abbrev pub text_len : Bool → List ℕ → Option ℕ
 text_len after [] = None
 text_len after (b ∷ bytes) = if b == quote && not after then Some 0 else option_map (λ n. 1 + n) (text_len (b == backslash) bytes)
 
--- behind this many digits: how many bytes a mantissa has, or 0 where there are no digits at all
+-- after this many digits: how many bytes a mantissa has, or 0 where there are no digits at all
 abbrev pub fraction_len : ℕ → List ℕ → ℕ
 fraction_len whole [] = whole
 fraction_len whole (b ∷ bytes) =
@@ -45,7 +45,7 @@ abbrev pub sign_len : List ℕ → ℕ
 sign_len [] = 0
 sign_len (b ∷ bytes) = if is_sign b then 1 else 0
 
--- behind an `E` and before a sign of this many bytes: how many bytes the exponent has, or 0 where no digits follow
+-- after an `E` and before a sign of this many bytes: how many bytes the exponent has, or 0 where no digits follow
 abbrev pub power_len : ℕ → List ℕ → ℕ
 power_len sign bytes = let digits = prefix_len is_digit (drop sign bytes) in if digits == 0 then 0 else 1 + (sign + digits)
 
@@ -98,18 +98,18 @@ line_text_at (b ∷ bytes) = if b == quote then option_map (λ n. (Text, 2 + n))
 
 -- ---- the text
 
--- the token that was found at the front, and then what `go` finds behind it
+-- the token that was found at the front, and then what `go` finds after it
 abbrev pub token_then : (ℕ → List ℕ → Cut) → ℕ → List ℕ → Option (Kind × ℕ) → Cut
 token_then go line rest None = Fault line
 token_then go line rest (Some t) = record { kind = t.0; bytes = take t.1 rest; line = line; left = length rest } ▸ go
     (line + line_feeds (take t.1 rest)) (drop t.1 rest)
 
--- behind the gap: the end of the text, or the token there and then what `go` finds
+-- after the gap: the end of the text, or the token there and then what `go` finds
 abbrev pub rest_then : (ℕ → List ℕ → Cut) → ℕ → List ℕ → Cut
 rest_then go line [] = End line
 rest_then go line (b ∷ bytes) = token_then go line (b ∷ bytes) (token_at (b ∷ bytes))
 
--- the gap at the front, and then what stands behind it
+-- the gap at the front, and then what stands after it
 abbrev pub gap_then : (ℕ → List ℕ → Cut) → ℕ → List ℕ → Cut
 gap_then go line text = let gap = gap_len false text in rest_then go (line + line_feeds (take gap text)) (drop gap text)
 

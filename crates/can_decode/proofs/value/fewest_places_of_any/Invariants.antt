@@ -3,8 +3,8 @@ use Rattle.can_decode.specs.Values.{fewest_places}
 use Rattle.can_decode.proofs.value.fewest_places_of_any.Given as goal
 
 -- the places that are left give what all give
-abbrev pub invariant-loop-behind : goal.invariant-loop-behind
-invariant-loop-behind l = fewest_places l.number l.behind ≡ fewest_places l.digits l.places
+abbrev pub invariant-loop-after : goal.invariant-loop-after
+invariant-loop-after l = fewest_places l.number l.after ≡ fewest_places l.digits l.places
 
-abbrev pub decreases-loop-behind : goal.decreases-loop-behind
-decreases-loop-behind l = l.behind
+abbrev pub decreases-loop-after : goal.decreases-loop-after
+decreases-loop-after l = l.after

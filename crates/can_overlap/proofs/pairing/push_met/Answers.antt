@@ -8,7 +8,7 @@ use Rattle.can_overlap.specs.declared.pair.Pair.{Pair}
 use Rattle.can_overlap.specs.Occupancy.{met_pair}
 use Rattle.can_overlap.specs.Places.{has}
 use Rattle.can_overlap.specs.MuxPaths.{goes_at}
-use Rattle.can_overlap.proofs.Gone.{goes_behind}
+use Rattle.can_overlap.proofs.Gone.{goes_after}
 use Rattle.can_overlap.proofs.Meeting.{none_met, next_met, all_met}
 use Rattle.can_overlap.proofs.pairing.push_met.Goals as goal
 
@@ -50,7 +50,7 @@ loop-next-preserved c =
           ∙ ap (λ ys. ys ++ pair_where (goes_at links walks c.loop-next.next) c.args.first c.loop-next.next)
           c.loop-next.invariant.done
           ∙ ap (λ n. done a ++ pair_where (goes_at links walks n) c.args.first n) (sym here)
-          ∙ ap (λ b. done a ++ pair_where b c.args.first (from + a)) (goes_behind links walks from a Loop inside)
+          ∙ ap (λ b. done a ++ pair_where b c.args.first (from + a)) (goes_after links walks from a Loop inside)
           ∙ next_met c.args.first links words from later
           c.args.found.now.items a (c.next_from-next-in-loop-next.result - from) (0, Loop)
           (omega (arith, onward, forward)) within (ap (has words) here ∙ c.loop-next.invariant.met (omega arith))

@@ -2,7 +2,7 @@ use Rattle.std.proofs.Common.{◌≡◌, [], ◌∷◌}
 use Rattle.dbc_reader.specs.Reading.Cursors.{left_at}
 use Rattle.dbc_reader.specs.Reading.Readers.{size}
 use Rattle.dbc_reader.specs.Reading.Parts.{receivers_from}
-use Rattle.dbc_reader.proofs.parts.receivers_behind.Given as goal
+use Rattle.dbc_reader.proofs.parts.receivers_after.Given as goal
 
 abbrev pub invariant-receivers : goal.invariant-receivers
 invariant-receivers l = receivers_from l.names (left_at l.at) ≡ receivers_from (l.fn.first ∷ []) (left_at l.initial.at)

@@ -2,7 +2,7 @@ use Rattle.std.proofs.Common.{◌≡◌, [], ◌∷◌}
 use Rattle.dbc_reader.specs.Reading.Cursors.{left_at}
 use Rattle.dbc_reader.specs.Reading.Readers.{size}
 use Rattle.dbc_reader.specs.Reading.Tables.{ranges_from}
-use Rattle.dbc_reader.proofs.tables.ranges_behind.Given as goal
+use Rattle.dbc_reader.proofs.tables.ranges_after.Given as goal
 
 abbrev pub invariant-further : goal.invariant-further
 invariant-further l = ranges_from l.ranges (left_at l.at) ≡ ranges_from (l.fn.first ∷ []) (left_at l.initial.at)

@@ -4,4 +4,4 @@ use Rattle.dbc_values.proofs.Exponents.{moved}
 use Rattle.dbc_values.proofs.number.reduced_exponent.Goals as goal
 
 pub returns : goal.returns
-returns c e h = moved e c.args.written _ c.args.behind_point c.args.zeros (omega arith) c.requires.zeros (omega (arith, ints)) h
+returns c e h = moved e c.args.written _ c.args.after_point c.args.zeros (omega arith) c.requires.zeros (omega (arith, ints)) h

@@ -21,7 +21,7 @@ sixteens-preserved c =
     let count = ap length items ∙ length-append c.sixteens.bytes.items c.in-Some-bytes_of_sixteen.eight in
     record {
       count = omega (arith, count, c.sixteens.invariant.count, c.in-Some.ensures.cases.2);
-      same = ap (λ items. so_far items c.in-Some.behind.now) items
+      same = ap (λ items. so_far items c.in-Some.after.now) items
           ∙ goes_on 8 c.sixteens.bytes.items c.sixteens.rest.now _ _ c.sixteens.invariant.same c.in-Some.ensures.cases.0
           c.in-Some.ensures.cases.1 c.in-Some.ensures.cases.2 _ c.in-Some-bytes_of_sixteen.ensures;
     }

@@ -13,7 +13,7 @@ pairs-preserved c =
     let count = ap length items ∙ length-append c.pairs.bytes.items c.in-Some-bytes_of_pairs.one in
     record {
       room = omega (arith, count, c.pairs.invariant.room, c.in-Some.ensures.cases.2);
-      same = ap (λ items. so_far items c.in-Some.behind.now) items
+      same = ap (λ items. so_far items c.in-Some.after.now) items
           ∙ goes_on 1 c.pairs.bytes.items c.pairs.rest.now _ _ c.pairs.invariant.same c.in-Some.ensures.cases.0
           c.in-Some.ensures.cases.1 c.in-Some.ensures.cases.2 _ c.in-Some-bytes_of_pairs.ensures;
     }

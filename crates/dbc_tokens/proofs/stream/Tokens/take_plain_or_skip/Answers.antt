@@ -1,12 +1,12 @@
 use Rattle.std.proofs.Common.{sym, ap, drop, ◌∙◌}
 use Rattle.std.specs.List.{prefix_len}
 use Rattle.dbc_values.specs.Lexical.{is_blank}
-use Rattle.dbc_tokens.proofs.PlainTokens.{plain_there, cut_at, cut_behind, none_ahead}
+use Rattle.dbc_tokens.proofs.PlainTokens.{plain_there, cut_at, cut_after, none_ahead}
 use Rattle.dbc_tokens.proofs.stream.Tokens.take_plain_or_skip.Goals as goal
 
 pub returns-in-None-clause-token : goal.returns-in-None-clause-token
 returns-in-None-clause-token c =
-    cut_behind _ _ _ _ _ c.leading_blanks-blanks.ensures.in_range.1 c.leading_blanks-blanks.ensures.count
+    cut_after _ _ _ _ _ c.leading_blanks-blanks.ensures.in_range.1 c.leading_blanks-blanks.ensures.count
     c.leading_blanks-blanks.ensures.line_feeds c.split_at.ensures.back
 
 pub returns-in-None-clause-skipped : goal.returns-in-None-clause-skipped

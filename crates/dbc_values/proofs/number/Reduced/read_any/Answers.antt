@@ -4,8 +4,8 @@ use Rattle.std.proofs.Common.{rules, ◌≡◌, ◌^◌, to_z, of_z}
 use Rattle.std.proofs.lemmas.Int.{to_z-of_z}
 use Rattle.std.specs.List.{after_first}
 use Rattle.dbc_values.specs.Lexical.{is_exponent_mark}
-use Rattle.dbc_values.specs.Numbers.{digits_before_point, digits_behind_point, written_exponent, StandsFor}
-use Rattle.dbc_values.proofs.NumberTexts.{digits_before, digits_behind, digits_of_exponent, before_is, behind_is, exponent_is}
+use Rattle.dbc_values.specs.Numbers.{digits_before_point, digits_after_point, written_exponent, StandsFor}
+use Rattle.dbc_values.proofs.NumberTexts.{digits_before, digits_after, digits_of_exponent, before_is, after_is, exponent_is}
 use Rattle.dbc_values.proofs.NumberTexts.{reduced}
 use Rattle.dbc_values.proofs.ExponentNumbers.{whole_result}
 use Rattle.dbc_values.proofs.number.Reduced.read_any.Goals as goal
@@ -17,12 +17,12 @@ mantissa_digits-digits-requires-clause-before c =
     c.split_around-2.ensures.front in
     rw part (digits_before c.args.number.now (search rules))
 
-pub mantissa_digits-digits-requires-clause-behind : goal.mantissa_digits-digits-requires-clause-behind
-mantissa_digits-digits-requires-clause-behind c =
-    let part : c.split_around-2.result.1.now ≡ digits_behind_point c.args.number.now =
-    behind_is _ _ _ _ _ c.exponent_place-place.ensures.value c.split_around.ensures.front c.point_place.ensures.value
+pub mantissa_digits-digits-requires-clause-after : goal.mantissa_digits-digits-requires-clause-after
+mantissa_digits-digits-requires-clause-after c =
+    let part : c.split_around-2.result.1.now ≡ digits_after_point c.args.number.now =
+    after_is _ _ _ _ _ c.exponent_place-place.ensures.value c.split_around.ensures.front c.point_place.ensures.value
     c.split_around-2.ensures.back in
-    rw part (digits_behind c.args.number.now (search rules))
+    rw part (digits_after c.args.number.now (search rules))
 
 pub signed_up_to_far-written-requires : goal.signed_up_to_far-written-requires
 signed_up_to_far-written-requires c =
@@ -33,7 +33,7 @@ signed_up_to_far-written-requires c =
 pub returns-in-Some : goal.returns-in-Some
 returns-in-Some c =
     whole_result c.args.number.now c.split_around.result.0.now c.split_around.result.1.now c.exponent_place-place.result
-    c.in-Some.value c.in-Some.behind_point c.of_word_and_exponent.result c.exponent_place-place.ensures.value
+    c.in-Some.value c.in-Some.after_point c.of_word_and_exponent.result c.exponent_place-place.ensures.value
     c.split_around.ensures.front c.split_around.ensures.back c.if-place-number.true c.in-Some.ensures.form
     c.in-Some.ensures.digits c.in-Some.ensures.power c.of_word_and_exponent.ensures
 
@@ -42,8 +42,8 @@ returns c =
     let before : c.split_around-2.result.0.now ≡ digits_before_point c.args.number.now =
     before_is _ _ _ _ _ c.exponent_place-place.ensures.value c.split_around.ensures.front c.point_place.ensures.value
     c.split_around-2.ensures.front in
-    let behind : c.split_around-2.result.1.now ≡ digits_behind_point c.args.number.now =
-    behind_is _ _ _ _ _ c.exponent_place-place.ensures.value c.split_around.ensures.front c.point_place.ensures.value
+    let after : c.split_around-2.result.1.now ≡ digits_after_point c.args.number.now =
+    after_is _ _ _ _ _ c.exponent_place-place.ensures.value c.split_around.ensures.front c.point_place.ensures.value
     c.split_around-2.ensures.back in
     let exponent : c.split_around.result.1.now ≡ after_first is_exponent_mark c.args.number.now =
     exponent_is _ _ _ c.exponent_place-place.ensures.value c.split_around.ensures.back in
@@ -58,6 +58,6 @@ returns c =
       search rules,
       rw (to_z-of_z w128 c.reduced_exponent.result fits)
           (reduced c.args.number.now c.split_around-2.result.0.now c.split_around-2.result.1.now
-          c.mantissa_digits-digits.result.front c.mantissa_digits-digits.result.zeros c.reduced_exponent.result before behind has
+          c.mantissa_digits-digits.result.front c.mantissa_digits-digits.result.zeros c.reduced_exponent.result before after has
           (c.reduced_exponent.ensures (written_exponent c.args.number.now) passed)),
     )

@@ -8,7 +8,7 @@ use Rattle.can_rows.specs.Groups.{group_of}
 use Rattle.json_dump.specs.Subjects.{Subject}
 use Rattle.json_dump.specs.Messages.{remark_members, plan_members, told_members, stated_members, placed_members, paired}
 use Rattle.json_dump.specs.Messages.{signal_member, group_json, head_members, planned_members}
-use Rattle.json_dump.proofs.message.Messages.write_behind_head.Goals as goal
+use Rattle.json_dump.proofs.message.Messages.write_after_head.Goals as goal
 
 pub returns : goal.returns
 returns g c =

@@ -19,5 +19,5 @@ returns g c =
     let told = remark_members c.args.self.now subject in
     let group : List Member = (codes "pgn", group_json (group_of message.head.number c.args.self.now)) ∷ [] in
     members_then (head_members message.head) (group ++ (told ++ signals))
-    c.args.text.now c.write_planned_head.new.text c.write_behind_head.new.text
-    c.in_ok-write_behind_head.ensures c.in_ok-write_planned_head.ensures
+    c.args.text.now c.write_planned_head.new.text c.write_after_head.new.text
+    c.in_ok-write_after_head.ensures c.in_ok-write_planned_head.ensures

@@ -9,7 +9,7 @@ returns c =
     λ row here.
     let there : Some row ≡ slice_get c.self.inside.target.now.plan.rows c.args.place =
     cc (here, ap (λ (plan : Plan). slice_get plan.rows c.args.place) c.self.view_is) in
-    next_pushed c.args.some c.args.text.now.items c.push_label.new.text.items c.push_behind_label.new.text.items c.args.bytes.now
+    next_pushed c.args.some c.args.text.now.items c.push_label.new.text.items c.push_after_label.new.text.items c.args.bytes.now
     row (search rules)
     (c.in_ok-push_label.ensures
     ∙ ap (λ (texts : RowTexts). c.args.text.now.items ++ (if c.args.some then texts.next else texts.label))
