@@ -1,5 +1,5 @@
 -- The text of a signal's value.
--- Source: cantools, the single-line form of `decode` (a value and its unit, or the text of a named value); the DBC file
+-- Source: cantools, the single-line form of `decode` (a value and its unit, or the text of a value description); the DBC file
 -- format, "Signal Definitions" (physical value) and "Signal Value Descriptions". That values are written exactly is the
 -- profile of candesk.
 use Rattle.std.specs.Prelude.{ℕ, ℤ, zero, suc, ◌+ℤ◌, ◌*ℤ◌, ◌/◌, ◌%◌, ◌==◌, int_lt, pos, unsigned_abs, List, [], ◌++◌, Option, Some}

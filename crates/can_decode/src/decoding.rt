@@ -13,8 +13,8 @@ use dbc_values::Memory;
 use std::alloc::Global;
 use std::marker::Model;
 
-/// A database with the plans of its messages in order and the index of them, and what is said of short frames. Contracts see the
-/// database and that choice.
+/// A database with the plans of its messages in order and the index of them, and what is said of truncated frames. Contracts see
+/// the database and that choice.
 #[derive(Drop)]
 pub struct Decoding {
     database: Database,

@@ -19,8 +19,8 @@ use ready_texts::{TextBuffer, push_bytes};
 use std::alloc::Global;
 use std::marker::Model;
 
-/// Where the messages of frames are looked for: a database, the plans of its messages in order, what is said of short frames, and
-/// what finds the message of a number.
+/// Where the messages of frames are looked for: a database, the plans of its messages in order, what is said of truncated frames,
+/// and what finds the message of a number.
 #[derive(Drop)]
 pub struct Finder<'a, C: Choose> {
     /// The database.

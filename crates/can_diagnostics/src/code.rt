@@ -21,7 +21,7 @@ pub enum Code {
     NoSwitch,
     /// The row of a signal's multiplexing has a range that ends before it begins, or names a signal that is no switch.
     BadMuxRow,
-    /// The way up from a signal, from switch to switch, leads to a signal twice.
+    /// The multiplexing chain from a signal, from switch to switch, leads to a signal twice.
     SwitchLoop,
     /// The raw bits of a signal are an IEEE 754 float.
     Float,
@@ -31,7 +31,7 @@ pub enum Code {
     Scale,
     /// A sender or a receiver is no node of the database.
     UnknownNode,
-    /// A named value is none that the signal's raw bits can have.
+    /// A value description is none that the signal's raw bits can have.
     ValueOutOfRange,
     /// An earlier entry of the row names the value.
     RepeatedValue,

@@ -73,7 +73,7 @@ impl Diagnostic {
         Ok(Diagnostic { code, subject })
     }
 
-    /// That of a named value of a signal of the message.
+    /// That of a value description of a signal of the message.
     pub fn of_value(
         code: Code,
         head: &Head,

@@ -17,7 +17,7 @@ pub enum Subject {
     Pair(u32, Name, Name, Name),
     /// A receiver of a signal: the message, the signal's name, and the node.
     Receiver(u32, Name, Name, Name),
-    /// A named value of a signal: the message, the signal's name, and the value.
+    /// A value description of a signal: the message, the signal's name, and the value.
     Value(u32, Name, Name, i128),
     /// An entry.
     Row(EntryKey),

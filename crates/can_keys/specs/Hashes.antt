@@ -1,4 +1,4 @@
--- Numbers of keys, by which most keys differ: those of equal keys are equal.
+-- Hashes of keys, by which most keys differ: those of equal keys are equal.
 use Rattle.std.specs.Prelude.{ℕ, ◌+◌, ◌*◌, ◌%◌, ◌^◌, List}
 use Rattle.std.specs.List.{fold}
 use Rattle.dbc_records.specs.declared.target.Target.{Target}
@@ -6,11 +6,11 @@ use Rattle.dbc_records.specs.declared.target.Target.TheVariants as targets
 use Rattle.dbc_records.specs.declared.entry_key.EntryKey.{EntryKey}
 use Rattle.dbc_records.specs.declared.entry_key.EntryKey.TheVariants as rows
 
--- the number after one more byte
+-- the hash after one more byte
 unfoldable pub hashed_byte : ℕ → ℕ → ℕ
 hashed_byte hash byte = ((hash * 11400714819323198485) % 2 ^ 64 + byte) % 2 ^ 64
 
--- the number after more bytes
+-- the hash after more bytes
 unfoldable pub hashed_bytes : ℕ → List ℕ → ℕ
 hashed_bytes hash bytes = fold hashed_byte hash bytes
 

@@ -1,24 +1,24 @@
-//! Numbers of keys, by which most keys differ.
+//! Hashes of keys, by which most keys differ.
 ghost use Rattle.std.specs.Prelude.{◌≡◌};
 ghost use Rattle.can_keys.specs.Hashes.{hashed_bytes, target_hash, entry_hash};
 ghost use Rattle.dbc_records.specs.EntryKeys.{target_of, entry_key};
 
 use dbc_records::{EntryKeyRef, TargetRef};
 
-/// What each step of a number multiplies by.
+/// What each step of a hash multiplies by.
 pub(crate) const FACTOR: u64 = 0x9E37_79B9_7F4A_7C15;
 
-/// A key after a number that is made of it. Equal keys have equal numbers, and most others have others, so most keys are told
-/// apart, and put in order, by one look.
+/// A key after its hash. Equal keys have equal hashes, and most others have others, so most keys are told apart, and put in order,
+/// by one comparison.
 #[derive(Clone, Copy, PartialEq, Eq, PartialOrd, Ord)]
 pub(crate) struct Hashed<K> {
-    /// The number.
+    /// The hash.
     pub hash: u64,
     /// The key.
     pub key: K,
 }
 
-/// The number after more bytes.
+/// The hash after more bytes.
 #[tactic(auto, unfolding(crate::specs::Hashes::hashed_bytes, crate::specs::Hashes::hashed_byte))]
 pub(crate) fn hashed_bytes(hash: u64, bytes: &[u8]) -> u64
     ensures { result ≡ hashed_bytes hash bytes.now }
@@ -41,7 +41,7 @@ fn target_hash(target: &TargetRef<'_>) -> u64
     }
 }
 
-/// A number that is made of the key of an entry: equal keys have equal numbers, and most others have others.
+/// The hash of the key of an entry: equal keys have equal hashes, and most others have others.
 pub fn entry_hash(key: &EntryKeyRef<'_>) -> u64
     ensures { result ≡ entry_hash (entry_key key.now) }
 {

@@ -22,7 +22,7 @@ use Rattle.can_mux.specs.declared.walk.Walk.TheVariants.{Chain, Absent, Loop}
 use Rattle.can_mux.proofs.WalkSteps.{walk_step}
 use Rattle.can_mux.proofs.WalkLaws.{further}
 
--- a question to ways up: only a chain passes, and one that begins with a link where the link does and the way after it
+-- a question to multiplexing chains: only a chain passes, and one that begins with a link where the link does and the way after it
 pub record IsAsked (asked : Walk → Bool) (met : Link → Bool) : Type 0 where
   pub top : asked (Chain []) ≡ true
   pub missing : asked (Absent true) ≡ false
@@ -52,7 +52,8 @@ module _ (bytes : List ℕ) (rows : List Row) where
   asks_met = record { top = refl; missing = refl; loop = refl; link = met_by_link }
 
 -- one turn of the code
-module _ (asked : Walk → Bool) (met : Link → Bool) (asks : IsAsked asked met) (aboves : List MuxParent) (n place : ℕ) (answer : Bool)
+module _ (asked : Walk → Bool) (met : Link → Bool) (asks : IsAsked asked met) (aboves : List MuxParent) (n place : ℕ)
+    (answer : Bool)
     (so_far : answer ≡ asked (walk_up n aboves place)) where
   turn : (above : MuxParent) → 0 < n → above_at aboves place ≡ above → answer ≡ asked (walk_above above (walk_up (n - 1) aboves))
   turn above some is =
@@ -194,7 +195,8 @@ present_by_chain bytes rows place =
     ]
 
 -- a signal under a switch is there where its link is met and its switch is there
-pub present_under : (bytes : List ℕ) (rows : List Row) (aboves : List MuxParent) → AreChained rows aboves → (place : ℕ) (link : Link)
+pub present_under : (bytes : List ℕ) (rows : List Row) (aboves : List MuxParent) → AreChained rows aboves → (place : ℕ)
+    (link : Link)
     → above_at aboves place ≡ Switch link
     → is_present bytes rows (slice_get rows place)
     ≡ (is_met bytes rows link && is_present bytes rows (slice_get rows link.switch))

@@ -44,7 +44,8 @@ module _ (bytes : List ℕ) (ranges : List Range) where
   by_row rows (Some row) = by_parts (is_whole bytes row) (are_met bytes rows row.chain) row.reading
 
 -- a signal under a switch is there where a range has the raw bits of the switch
-pub present_by_raw : (bytes : List ℕ) (rows : List Row) (aboves : List MuxParent) → AreChained rows aboves → (place : ℕ) (link : Link)
+pub present_by_raw : (bytes : List ℕ) (rows : List Row) (aboves : List MuxParent) → AreChained rows aboves → (place : ℕ)
+    (link : Link)
     → above_at aboves place ≡ Switch link
     → is_present bytes rows (slice_get rows place) ≡ is_among link.ranges (switch_raw bytes rows (slice_get rows link.switch))
 present_by_raw bytes rows aboves chained place link is =

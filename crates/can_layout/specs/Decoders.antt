@@ -29,7 +29,7 @@ abbrev pub unit_text : List ℕ → List ℕ
 unit_text [] = []
 unit_text (b ∷ unit) = codes " " ++ shown (b ∷ unit)
 
--- the named values, none where there is no row of them
+-- the value descriptions, none where there is no row of them
 abbrev pub entries_in : Option (List Entry) → List Entry
 entries_in None = []
 entries_in (Some entries) = entries

@@ -1,4 +1,4 @@
--- How a message is laid out: what its plan and its picture are both made of.
+-- How a message is laid out: what its plan and its diagram are both made of.
 use Rattle.std.specs.Prelude.{◌≡◌, ℕ, List, map, Option, Some, None, Result, Ok, Err}
 use Rattle.dbc_values.specs.Scales.{Scale}
 use Rattle.dbc_records.specs.Records.{Signal, Message}

@@ -15,7 +15,7 @@ pub record IsMeter (meter : Meter) : Type 0 where
 abbrev pub one_more : ℕ → ℕ
 one_more count = max count (min (count + 1) (2 ^ 64 - 1))
 
--- the meter after a plan, a picture or a decoded line more
+-- the meter after a plan, a diagram or a decoded line more
 abbrev pub with_plan : Meter → Meter
 with_plan meter = record { plans = one_more meter.plans; pictures = meter.pictures; lines = meter.lines }
 

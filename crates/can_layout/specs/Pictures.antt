@@ -1,4 +1,4 @@
--- The picture of a message: its bits, byte by byte, and below them each signal with what keeps it from being decoded and
+-- The diagram of a message: its bits, byte by byte, and below them each signal with what keeps it from being decoded and
 -- with the numbers of its switches. It reads only the message and the rows of its number. The form is candesk's own.
 use Rattle.std.specs.Prelude.{ℕ, List, [], ◌∷◌, ◌++◌, Option, Some, None, map, slice_get, codes, decimal, if◌then◌else◌}
 use Rattle.std.specs.List.{flat_map, enumerate_from}

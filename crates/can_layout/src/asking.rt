@@ -29,7 +29,7 @@ pub fn cause(database: &Database, place: usize, signal: usize) -> Option<Cause>
     )
 }
 
-/// The way up from a signal, by its place in a message, from switch to switch.
+/// The multiplexing chain from a signal, by its place in a message, from switch to switch.
 #[tactic(auto, unfolding(crate::specs::Plans::signal_at))]
 pub fn chain(
     alloc: Global,

@@ -15,7 +15,8 @@ use std::rc::Rc;
 /// How the values of a signal are read.
 #[derive(Drop)]
 pub struct Decoder {
-    // The named values, if there is a row of them. This and what follows up to the bits is read for each line, and stands together.
+    // The value descriptions, if there is a row of them. This and what follows up to the bits is read for each line, and stands
+    // together.
     named: Option<Rc<Named>>,
     /// Whether raw values are two's complement.
     pub signed: bool,
@@ -54,7 +55,8 @@ impl Model for Decoder {
 }
 
 impl Decoder {
-    /// How the values of a signal are read, by a scale for as many bits and by its named values. Its texts are made in the draft.
+    /// How the values of a signal are read, by a scale for as many bits and by its value descriptions. Its texts are made in the
+    /// draft.
     pub(crate) fn of(
         buffer: &mut TextBuffer,
         signal: &Signal,
@@ -83,7 +85,7 @@ impl Decoder {
         })
     }
 
-    /// The named values, in the order of the text.
+    /// The value descriptions, in the order of the text.
     pub fn entries(&self) -> &[Entry]
         ensures { result.now ≡ self.now.entries }
     {

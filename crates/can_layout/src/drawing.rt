@@ -1,4 +1,4 @@
-//! Pictures of one message, and of all.
+//! Diagrams of one message, and of all.
 ghost use Rattle.std.specs.Prelude.{◌≡◌, ◌<◌, IfOk, OnOk, Some, length, map, slice_get};
 ghost use Rattle.std.specs.Option.{option_map};
 ghost use Rattle.can_layout.specs.Pictures.{picture_of};
@@ -13,7 +13,7 @@ use dbc_records::{Database, Message};
 use dbc_values::Memory;
 use std::alloc::Global;
 
-// The picture of a message. The meter counts it, also where memory is refused.
+// The diagram of a message. The meter counts it, also where memory is refused.
 fn picture_sharing<L: Lookup>(
     alloc: Global,
     sharing: &Sharing<'_, L>,
@@ -28,7 +28,7 @@ fn picture_sharing<L: Lookup>(
     picture_in(alloc, &layout)
 }
 
-/// The picture of a message, by the rows of a database: a [`Database`] goes through them for each signal, an [`Indexed`] one
+/// The diagram of a message, by the rows of a database: a [`Database`] goes through them for each signal, an [`Indexed`] one
 /// finds them. The meter counts it, also where memory is refused.
 pub fn picture_with<L: Lookup>(
     alloc: Global,
@@ -42,7 +42,7 @@ pub fn picture_with<L: Lookup>(
     picture_sharing(alloc, &Sharing::none(lookup), message, meter)
 }
 
-/// The picture of the message at a place. It goes through the rows of the database for each signal. The meter counts it,
+/// The diagram of the message at a place. It goes through the rows of the database for each signal. The meter counts it,
 /// also where memory is refused.
 pub fn picture(
     alloc: Global,
@@ -58,7 +58,7 @@ pub fn picture(
     picture_with(alloc, database, &database.messages.as_slice()[place], meter)
 }
 
-// The pictures of messages, in order.
+// The diagrams of messages, in order.
 fn pictures_of<L: Lookup>(
     alloc: Global,
     lookup: &L,
@@ -77,7 +77,7 @@ fn pictures_of<L: Lookup>(
     Ok(pictures)
 }
 
-/// The pictures of all messages, in order, by an index of the rows. The meter counts each.
+/// The diagrams of all messages, in order, by an index of the rows. The meter counts each.
 pub fn pictures(
     alloc: Global,
     database: &Database,

@@ -6,7 +6,7 @@ ghost use Rattle.can_rows.specs.Rows.{rows_of};
 ghost use Rattle.can_layout.specs.Plans.{plan_of};
 ghost use Rattle.can_layout.specs.Pictures.{picture_of};
 
-/// The plan and the picture of a message read only the message and the rows of its number, so they are the same by two
+/// The plan and the diagram of a message read only the message and the rows of its number, so they are the same by two
 /// databases that agree in these.
 pub fn own_rows_alone()
     ensures plan { (a b : Database) (message : Message) → rows_of message.head.number a ≡ rows_of message.head.number b

@@ -1,4 +1,4 @@
-//! How a message is laid out: what its plan and its picture are both made of.
+//! How a message is laid out: what its plan and its diagram are both made of.
 ghost use Rattle.std.specs.Prelude.{◌≡◌, IfOk, map};
 ghost use Rattle.can_rows.specs.Rows.{rows_of};
 ghost use Rattle.can_mux.specs.Switches.{aboves_of};

@@ -1,4 +1,4 @@
-//! The picture of a message, and its legend.
+//! The diagram of a message, and its legend.
 ghost use Rattle.std.specs.Prelude.{◌≡◌, ◌++◌, IfOk, OnOk, decimal};
 ghost use Rattle.can_bits.specs.Grids.{right};
 ghost use Rattle.std.specs.List.{flat_map, enumerate_from};
@@ -81,12 +81,12 @@ fn push_legend<L: Lookup>(text: &mut Vec<u8>, layout: &Layout<'_, L>) -> Result<
     Ok(())
 }
 
-// Room for the picture of most messages: a line of 38 bytes for each byte, and one for each signal.
+// Room for the diagram of most messages: a line of 38 bytes for each byte, and one for each signal.
 fn room_for(message: &Message) -> usize {
     64 + 40 * usize::from(message.head.size) + 48 * message.signals.as_slice().len().min(256)
 }
 
-/// The picture of a message that is laid out so.
+/// The diagram of a message that is laid out so.
 #[tactic(auto, unfolding(crate::specs::Pictures::picture_in))]
 pub(crate) fn picture_in<L: Lookup>(
     alloc: Global,

@@ -1,6 +1,6 @@
-//! What the data of a message says of its signals: decode plans, multiplexing, and pictures of messages.
+//! What the data of a message says of its signals: decode plans, multiplexing, and diagrams of messages.
 //!
-//! A [`Plan`] says how each signal of a message is read and when it is there. Plans and pictures read only their message and the
+//! A [`Plan`] says how each signal of a message is read and when it is there. Plans and diagrams read only their message and the
 //! rows of its number.
 #![tactic(auto)]
 

@@ -61,7 +61,7 @@ pub fn plan_sharing<L: Lookup>(
     plan_in(alloc, &layout)
 }
 
-/// The plan and the picture of a message, made of one layout of it. The meter counts both, also where memory is refused.
+/// The plan and the diagram of a message, made of one layout of it. The meter counts both, also where memory is refused.
 pub fn plan_and_picture<L: Lookup>(
     alloc: Global,
     sharing: &Sharing<'_, L>,

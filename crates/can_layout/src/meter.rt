@@ -4,7 +4,7 @@ ghost use Rattle.can_layout.specs.Meters.{with_plan, with_picture, with_line};
 
 use std::marker::Model;
 
-/// How often a plan or a picture was made, and a line decoded. The counts begin at 0 and only rise; at `u64::MAX` they
+/// How often a plan or a diagram was made, and a line decoded. The counts begin at 0 and only rise; at `u64::MAX` they
 /// stay.
 #[derive(Drop)]
 pub struct Meter {
@@ -42,7 +42,7 @@ impl Meter {
         self.plans
     }
 
-    /// How many pictures were made.
+    /// How many diagrams were made.
     pub fn pictures(&self) -> u64
         ensures { result ≡ self.now.pictures }
     {
@@ -63,7 +63,7 @@ impl Meter {
         self.plans = self.plans.saturating_add(1);
     }
 
-    /// Counts a picture.
+    /// Counts a diagram.
     pub fn count_picture(&mut self)
         ensures { self.new ≡ with_picture self.old }
     {

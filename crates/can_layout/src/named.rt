@@ -1,4 +1,4 @@
-//! The named values of a signal.
+//! The value descriptions of a signal.
 ghost use Rattle.std.specs.Prelude.{◌≡◌, IfOk, IfSome, option_map};
 ghost use Rattle.can_layout.specs.Decoders.{first_entry, name_of};
 
@@ -9,7 +9,7 @@ use dbc_values::Memory;
 use ready_texts::{ReadyText, TextBuffer};
 use std::marker::Model;
 
-/// The named values of a signal, found by their raw values.
+/// The value descriptions of a signal, found by their raw values.
 #[derive(Drop)]
 pub struct Named {
     // The names of the first raw values.
@@ -33,7 +33,7 @@ impl Model for Named {
 }
 
 impl Named {
-    /// These named values. Their texts are made in the draft.
+    /// These value descriptions. Their texts are made in the draft.
     pub(crate) fn of(buffer: &mut TextBuffer, entries: Entries) -> Result<Named, Memory>
         ensures { IfOk result (λ named. named ≡ entries) }
     {
@@ -46,7 +46,7 @@ impl Named {
         })
     }
 
-    /// The named values, in the order of the text.
+    /// The value descriptions, in the order of the text.
     pub(crate) fn entries(&self) -> &[Entry]
         ensures { result.now ≡ self.now }
     {

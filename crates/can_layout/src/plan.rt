@@ -278,7 +278,7 @@ fn is_among(link: &Link, raw: Option<u64>) -> bool
     }
 }
 
-// Whether the way up from a place is a chain of which each switch has one of its numbers.
+// Whether the multiplexing chain from a place is a chain of which each switch has one of its numbers.
 #[inline(never)]
 fn are_met(rows: &[Row], aboves: &[MuxParent], place: usize, bytes: &[u8]) -> bool
     ensures { result ≡ are_met bytes.now rows.now (chain_of (walk_of aboves.now place)) }

@@ -20,7 +20,7 @@ pub enum Reading {
 /// A signal of a plan.
 #[derive(Drop)]
 pub struct Row {
-    /// The switches above it, from its own up, where the way up is a chain.
+    /// The switches above it, from its own up, where the multiplexing chain is a chain.
     pub chain: Option<Chain>,
     /// How it is read.
     pub reading: Reading,

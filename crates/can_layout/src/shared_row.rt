@@ -7,7 +7,7 @@ use dbc_records::ValueRow;
 use dbc_values::Checked;
 use std::rc::Rc;
 
-/// A message number of which plans share the named values.
+/// A message number of which plans share the value descriptions.
 #[derive(Drop)]
 pub(crate) struct SharedNumber {
     /// The number.
@@ -36,12 +36,12 @@ impl Keyed for SharedNumber {
     }
 }
 
-/// A row of named values, and these as plans share them.
+/// An entry of value descriptions, and these as plans share them.
 #[derive(Drop)]
 pub(crate) struct NamedRow<'a> {
     /// The row.
     pub row: &'a ValueRow,
-    /// Its named values.
+    /// Its value descriptions.
     pub named: Rc<Named>,
     ghost same: { named.value ≡ row.now.entries },
 }

@@ -15,7 +15,7 @@ use std::alloc::Global;
 use std::marker::Model;
 use std::rc::Rc;
 
-// The named values of a row.
+// The value descriptions of a row.
 fn named_in(buffer: &mut TextBuffer, row: &ValueRow) -> Result<Rc<Named>, Memory>
     ensures { IfOk result (λ named. named.value ≡ row.now.entries) }
 {
@@ -36,7 +36,7 @@ fn named_of(buffer: &mut TextBuffer, row: Option<&ValueRow>) -> Result<Option<Rc
     }
 }
 
-// The numbers that several messages have. Without named values there is no need to look for them.
+// The numbers that several messages have. Without value descriptions there is no need to look for them.
 fn shared_numbers(alloc: Global, database: &Database) -> Result<Vec<SharedNumber>, Memory> {
     if database.values.is_empty() {
         return Ok(Vec::new(alloc));
@@ -253,7 +253,7 @@ impl<'a, L: Lookup> Sharing<'a, L> {
         self.lookup
     }
 
-    // The row of a signal's named values, if plans share it.
+    // The entry of a signal's value descriptions, if plans share it.
     fn shared_row(&self, number: u32, signal: &Name) -> Option<&'a NamedRow<'a>>
         ensures { IfSome result (λ named. first_values signal.now (rows_of number self.now) ≡ Some (row_of named.now)) }
     {
@@ -261,7 +261,7 @@ impl<'a, L: Lookup> Sharing<'a, L> {
         shared.values.first(number, signal.as_bytes())
     }
 
-    // The named values of a signal.
+    // The value descriptions of a signal.
     fn named(
         &self,
         buffer: &mut TextBuffer,
@@ -308,7 +308,7 @@ impl<'a, L: Lookup> PlanRows<'a, L> {
         MessageRows::of(self.sharing.lookup(), self.number)
     }
 
-    /// The named values of a signal. Their texts are made in the draft.
+    /// The value descriptions of a signal. Their texts are made in the draft.
     pub(crate) fn named(
         &self,
         buffer: &mut TextBuffer,

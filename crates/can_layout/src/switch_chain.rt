@@ -32,7 +32,7 @@ impl Model for Chain {
         ≡ IsOf (links_in (walk_of chain.aboves.value chain.place)) };
 }
 
-// Whether the way up from a place is a chain.
+// Whether the multiplexing chain from a place is a chain.
 fn is_chain(aboves: &[MuxParent], place: usize) -> bool
     ensures { result ≡ is_some (chain_of (walk_of aboves.now place)) }
 {
@@ -58,7 +58,7 @@ fn link_at(aboves: &[MuxParent], place: usize) -> Option<&Link>
 }
 
 impl Chain {
-    /// The chain of the signal at a place, where its way up is one.
+    /// The chain of the signal at a place, where its multiplexing chain is one.
     pub(crate) fn of(aboves: &Rc<List<MuxParent>>, place: usize) -> Result<Option<Chain>, Memory>
         ensures { IfOk result (λ chain. chain ≡ chain_of (walk_of aboves.now.value place)) }
     {

@@ -1,4 +1,4 @@
-//! Parts of pictures, appended to a text.
+//! Parts of diagrams, appended to a text.
 ghost use Rattle.std.specs.Prelude.{◌≡◌, ◌++◌, OnOk, decimal, codes, slice_get, if◌then◌else◌};
 ghost use Rattle.std.specs.List.{flat_map};
 ghost use Rattle.can_layout.specs.Pictures.{title_line, span_text, cause_text, range_text, further_range, ranges_text, name_of};
@@ -25,7 +25,7 @@ fn push_number(text: &mut Vec<u8>, number: u64) -> Result<(), Memory>
     push_bytes(text, room.format(number).as_bytes())
 }
 
-/// The title of a picture.
+/// The title of a diagram.
 #[tactic(auto, unfolding(crate::specs::Pictures::title_line))]
 pub(crate) fn push_title(text: &mut Vec<u8>, head: &Head) -> Result<(), Memory>
     ensures { OnOk result (text.new.items ≡ text.old.items ++ title_line head.now) }

@@ -1,5 +1,5 @@
--- The way up from a signal is a chain, ends at a switch that is not there, or leads back to a signal, and the walk tells
--- which.
+-- The multiplexing chain from a signal is a chain, ends at a switch that is not there, or leads back to a signal, and the walk
+-- tells which.
 use Rattle.std.proofs.Common.{◌≡◌, ◌==◌, ℕ, zero, suc, ◌+◌, ◌-◌, ◌<◌, ◌≤◌, ◌⊎◌, inl, inr, Bool, true, false, List, [], ◌∷◌, length}
 use Rattle.std.proofs.Common.{Some, None, slice_get, eqb, refl, ap, sym, subst, ◌∙◌, arith, ⊎_elim}
 use Rattle.std.specs.List.{list_any, IsDistinct, AllByRecursion}

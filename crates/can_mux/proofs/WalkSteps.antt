@@ -1,4 +1,4 @@
--- The way up from a signal, link by link.
+-- The multiplexing chain from a signal, link by link.
 use Rattle.std.proofs.Common.{◌≡◌, ◌==◌, ℕ, zero, suc, ◌-◌, ◌<◌, true, false, List, [], ◌∷◌, ◌++◌, length, refl, ap, sym, ◌∙◌}
 use Rattle.std.proofs.Common.{arith}
 use Rattle.can_mux.specs.Links.{Link}

@@ -58,6 +58,6 @@ above_of rows signals signal = by_row signals signal.tag (first_mux signal.name 
 abbrev pub aboves_of : SignalRows → List Signal → List MuxParent
 aboves_of rows signals = map (above_of rows signals) signals
 
--- the ways up from each signal of a message
+-- the multiplexing chains from each signal of a message
 abbrev pub walks_of : SignalRows → List Signal → List Walk
 walks_of rows signals = map (walk_of (aboves_of rows signals)) (range_with_len 0 (length signals))

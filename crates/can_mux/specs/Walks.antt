@@ -1,4 +1,4 @@
--- The way up from a multiplexed signal: to its switch, to the switch of that, and so on.
+-- The multiplexing chain from a multiplexed signal: to its switch, to the switch of that, and so on.
 -- Source: the DBC file format, "Extended Multiplexing": a switch may be switched itself.
 use Rattle.std.specs.Prelude.{◌≡◌, ◌==◌, ℕ, zero, suc, ◌+◌, ◌<◌, Bool, true, false, List, [], ◌∷◌, Option, Some, None, length}
 use Rattle.std.specs.Prelude.{slice_get}
@@ -29,7 +29,7 @@ pub record IsChain (aboves : List MuxParent) (place : ℕ) (links : List Link) :
   pub leads : Leads aboves place links top
   pub ends : above_at aboves top ≡ Nothing
 
--- the way up comes to a signal whose switch is not there; `own` says that it is the first one
+-- the multiplexing chain comes to a signal whose switch is not there; `own` says that it is the first one
 pub record IsAbsent (aboves : List MuxParent) (place : ℕ) (own : Bool) : Type 0 where
   pub top : ℕ
   pub links : List Link
@@ -37,7 +37,7 @@ pub record IsAbsent (aboves : List MuxParent) (place : ℕ) (own : Bool) : Type 
   pub ends : above_at aboves top ≡ Missing
   pub first : own ≡ (length links == 0)
 
--- the way up comes to a signal from which it leads back to that signal
+-- the multiplexing chain comes to a signal from which it leads back to that signal
 pub record IsLoop (aboves : List MuxParent) (place : ℕ) : Type 0 where
   pub again : ℕ
   pub before : List Link

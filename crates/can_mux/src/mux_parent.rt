@@ -1,16 +1,16 @@
-//! What stands right above a signal in multiplexing.
+//! The multiplexor of a signal.
 
 use crate::link::Link;
 use dbc_values::Checked;
 
-/// What stands right above a signal in multiplexing.
+/// The parent of a signal in multiplexing.
 #[derive(Drop)]
 pub enum MuxParent {
     /// Nothing: the signal is not multiplexed.
     Nothing,
-    /// A switch that is not in the message.
+    /// A multiplexor that is not in the message.
     Missing,
-    /// A switch of the message.
+    /// A multiplexor of the message.
     Switch(Link),
 }
 

@@ -31,7 +31,7 @@ impl<'a, L: Lookup> MessageRows<'a, L> {
         MessageRows { lookup, number }
     }
 
-    /// The named values of a signal.
+    /// The value descriptions of a signal.
     pub fn values(&self, signal: &Name) -> Option<&ValueRow>
         ensures { option_map (λ row. row.now) result ≡ first_values signal.now self.now }
     {

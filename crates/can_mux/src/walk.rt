@@ -1,4 +1,4 @@
-//! The way up from a multiplexed signal.
+//! The multiplexing chain from a multiplexed signal.
 ghost use Rattle.std.specs.Prelude.{◌≡◌, ◌==◌, IfOk, length, slice_get};
 ghost use Rattle.std.specs.Option.{option_map};
 ghost use Rattle.can_mux.specs.Walks.{walk_of};
@@ -9,7 +9,7 @@ use crate::mux_parent::MuxParent;
 use dbc_values::{Copied, List, Memory};
 use std::alloc::Global;
 
-/// The way up from a signal, from switch to switch.
+/// The multiplexing chain from a signal, from switch to switch.
 #[derive(Drop)]
 pub enum Walk {
     /// It comes to a signal that is not multiplexed, by way of these switches. A signal that is not multiplexed itself has
@@ -40,7 +40,7 @@ fn absent(links: &List<Link>) -> Walk
     }
 }
 
-/// The way up from the signal at a place, where `aboves` says what stands right above each signal of the message.
+/// The multiplexing chain from the signal at a place, where `aboves` says what stands right above each signal of the message.
 pub fn walk_of(alloc: Global, aboves: &[MuxParent], place: usize) -> Result<Walk, Memory>
     ensures { IfOk result (λ walk. walk ≡ walk_of aboves.now place) }
 {

@@ -1,4 +1,4 @@
-//! The ways up from all signals of a message.
+//! The multiplexing chains from all signals of a message.
 ghost use Rattle.std.specs.Prelude.{◌≡◌, IfOk, map};
 ghost use Rattle.std.specs.List.{range_with_len};
 ghost use Rattle.can_mux.specs.Walks.{walk_of};
@@ -13,7 +13,7 @@ use dbc_records::Signal;
 use dbc_values::Memory;
 use std::alloc::Global;
 
-// The ways up from the first signals, of all that stand below `aboves`.
+// The multiplexing chains from the first signals, of all that stand below `aboves`.
 fn walks_below(alloc: Global, aboves: &[MuxParent], count: usize) -> Result<Vec<Walk>, Memory>
     ensures { IfOk result (λ walks. walks.items ≡ map (walk_of aboves.now) (range_with_len 0 count)) }
 {
@@ -24,7 +24,7 @@ fn walks_below(alloc: Global, aboves: &[MuxParent], count: usize) -> Result<Vec<
     Ok(walks)
 }
 
-/// The ways up from all signals of a message, in order. `rows` are those of the message's number.
+/// The multiplexing chains from all signals of a message, in order. `rows` are those of the message's number.
 pub fn message_walks<L: Lookup>(
     alloc: Global,
     rows: &MessageRows<'_, L>,

@@ -1,4 +1,4 @@
--- Ways up, each by its first link and the way of that one's switch.
+-- Multiplexing paths, each by its first link and the path of that one's multiplexor.
 use Rattle.std.specs.Prelude.{◌≡◌, ℕ, Bool, true, false, List, ◌∷◌, Option, Some, None, length, slice_get}
 use Rattle.std.specs.Option.{option_and_then}
 use Rattle.can_mux.specs.Links.{Link}
@@ -35,7 +35,7 @@ chain_if (Some (Chain links)) = Some links
 chain_if (Some (Absent own)) = None
 chain_if (Some Loop) = None
 
--- ---- one chain beside all ways
+-- ---- one chain and all paths
 
 abbrev pub goes_if : List Link → Option Walk → Bool
 goes_if links None = false
@@ -69,7 +69,7 @@ of_switch own owners switch = option_and_then (λ owner. own_at own owner) (slic
 abbrev pub AreEntered : List (Option Link) → List ℕ → List Link → Type 0
 AreEntered own owners links = (link : Link) → agrees_if_there (of_switch own owners link.switch) link ≡ agrees_with links link
 
--- a chain beside the ways of its message
+-- a chain, and the paths of its message
 pub record ChainIndex : Type 0 where
   pub links : List Link
   pub walks : List Walk

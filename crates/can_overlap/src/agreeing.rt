@@ -45,8 +45,8 @@ pub(crate) fn all_agree(a: &[Link], b: &[Link]) -> bool
     b.iter().all(|y| agrees_with(a, y))
 }
 
-/// Whether signals with these ways up can be there together. It compares each link with each, which [`crate::Marked::push_pairs`]
-/// doesn't.
+/// Whether signals with these multiplexing chains can be there together. It compares each link with each, which
+/// [`crate::Marked::push_pairs`] doesn't.
 pub fn together(first: &Walk, second: &Walk) -> bool
     ensures { result ≡ together first.now second.now }
 {

@@ -1,4 +1,4 @@
-//! One chain beside the ways of its message.
+//! The links of one multiplexing chain, indexed by their multiplexors.
 ghost use Rattle.std.specs.Prelude.{◌≡◌, ℕ, Some, None, IsTrue, IfOk, length, slice_get};
 ghost use Rattle.std.specs.Option.{option_map};
 ghost use Rattle.can_mux.specs.declared.walk.Walk.TheVariants.{Chain};
@@ -13,8 +13,8 @@ use dbc_values::Memory;
 use std::alloc::Global;
 use std::marker::Model;
 
-/// A chain beside the ways of its message, with a table of its links by their switches. The table serves where each switch stands
-/// once and each link is kept.
+/// A multiplexing chain, compared with the paths of its message, with a table of its links by their multiplexors. The table is used
+/// if each multiplexor is there once and each link is kept.
 #[derive(Drop)]
 pub(crate) struct ChainIndex<'a> {
     paths: &'a MuxPaths<'a>,
@@ -31,7 +31,8 @@ impl<'a> Model for ChainIndex<'a> {
 
     ghost view = { λ indexed. record { links = indexed.links.now; walks = indexed.paths.now.walks } };
 
-    ghost invariant = { λ indexed. IsTrue indexed.entered → AreEntered indexed.paths.now.own indexed.owners.items indexed.links.now };
+    ghost invariant = { λ indexed. IsTrue indexed.entered → AreEntered indexed.paths.now.own indexed.owners.items
+        indexed.links.now };
 }
 
 fn owner_at(owners: &[usize], switch: usize) -> Option<usize>
@@ -192,7 +193,7 @@ fn goes_up(indexed: &ChainIndex<'_>, noted: &[Option<bool>], place: usize) -> bo
     indexed.goes_slowly(current)
 }
 
-// Notes what was found of the signal at a place, and so of all on its way up for which that decided it.
+// Notes what was found of the signal at a place, and so of all on its multiplexing chain for which that decided it.
 fn note_up(noted: &mut [Option<bool>], indexed: &ChainIndex<'_>, place: usize, goes: bool)
     requires noted { AreNoted indexed.now noted.old }
     requires goes { goes ≡ goes_at indexed.now.links indexed.now.walks place }
@@ -211,7 +212,7 @@ fn note_up(noted: &mut [Option<bool>], indexed: &ChainIndex<'_>, place: usize, g
     }
 }
 
-/// Whether a signal with that chain and the one at a place can be there together. What is found on the way up is noted.
+/// Whether a signal with that chain and the one at a place can be there together. What is found on the multiplexing chain is noted.
 pub(crate) fn can_coexist(
     indexed: &ChainIndex<'_>,
     noted: &mut [Option<bool>],

@@ -1,4 +1,4 @@
-//! The ways up of a message's signals, each by its own link and the way of its switch.
+//! The multiplexing paths of a message's signals, each by its own link and the path of its multiplexor.
 ghost use Rattle.std.specs.Prelude.{◌≡◌, List, ◌∷◌, Some, None, IsTrue, IfOk, IfSome, length, slice_get};
 ghost use Rattle.std.specs.Option.{option_map};
 ghost use Rattle.can_mux.specs.Links.{Link as PlainLink};
@@ -12,8 +12,8 @@ use dbc_values::Memory;
 use std::alloc::Global;
 use std::marker::Model;
 
-/// The ways up of a message's signals. Where a signal's way is its own link and then the way of that switch, its own link is kept
-/// tidied.
+/// The multiplexing paths of a message's signals. If a signal's path is its own link and then the path of that multiplexor, its own
+/// link is kept with its ranges in order.
 #[derive(Drop)]
 pub(crate) struct MuxPaths<'a> {
     walks: &'a [Walk],

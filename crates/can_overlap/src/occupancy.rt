@@ -33,7 +33,7 @@ impl Occupancy {
         *self.rows.allocator()
     }
 
-    /// The signals of a message, marked in the table. They lie in these fields and have these ways up.
+    /// The signals of a message, marked in the table. They lie in these fields and have these multiplexing chains.
     pub fn marked<'a>(self, fields: &'a [Field], walks: &'a [Walk]) -> Result<Marked<'a>, Memory>
         requires lengths { length walks.now ≡ length fields.now }
         requires few { length fields.now ≤ 999 }

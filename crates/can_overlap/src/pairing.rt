@@ -23,8 +23,8 @@ fn push_pair(
     second: usize,
 ) -> Result<(), Memory>
     requires { AreNoted indexed.now noted.old }
-    ensures found { OnOk result (found.new.items ≡ found.old.items ++ pair_where (goes_at indexed.now.links indexed.now.walks second)
-        first second) }
+    ensures found { OnOk result (found.new.items ≡ found.old.items
+        ++ pair_where (goes_at indexed.now.links indexed.now.walks second) first second) }
     ensures noted { AreNoted indexed.now noted.new }
 {
     if can_coexist(indexed, noted, second) {

@@ -1,4 +1,4 @@
-//! Links that are compared often.
+//! Links with their ranges in order, for comparisons.
 ghost use Rattle.std.specs.Prelude.{◌≡◌, IfOk};
 ghost use Rattle.can_overlap.specs.Overlaps.{agree};
 
@@ -28,7 +28,7 @@ impl<'a> Model for SortedLink<'a> {
 }
 
 impl<'a> SortedLink<'a> {
-    /// The link, tidied.
+    /// The link, with its ranges in order.
     pub(crate) fn of(alloc: Global, link: &'a Link) -> Result<SortedLink<'a>, Memory>
         ensures { IfOk result (λ sorted_link. sorted_link ≡ link.now) }
     {

@@ -15,7 +15,7 @@ use dbc_values::{List, Memory};
 use std::alloc::Global;
 use std::test::Fail;
 
-// The way up from a signal that is there with the numbers from `first` to `last` of the signal at place 0.
+// The multiplexing chain from a signal that is there with the numbers from `first` to `last` of the signal at place 0.
 fn switched(alloc: Global, first: u64, last: u64) -> Result<Walk, Memory> {
     let mut ranges = List::new(alloc);
     ranges.push(Range { first, last })?;
@@ -121,7 +121,7 @@ fn link_below(alloc: Global, switch: usize, last: u64) -> Result<Link, Memory> {
     Ok(Link::new(switch, Numbers::of(alloc, ranges)?))
 }
 
-// The way up from the signal at a place, where each is under the one before.
+// The multiplexing chain from the signal at a place, where each is under the one before.
 fn way_of(alloc: Global, place: usize, last: u64) -> Result<Walk, Memory> {
     let mut links = List::new(alloc);
     for switch in (0..place).rev() {

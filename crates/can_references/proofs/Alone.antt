@@ -70,6 +70,6 @@ apart_none : (keys : List EntryKey) → AreApart [] keys
 apart_none [] = tt
 apart_none (key ∷ keys) = (refl, apart_none keys)
 
-pub each_alone : (d : Database) (keys : List EntryKey) → IsDistinct eqb (map entry_hash keys) → flat_map (faults_of_row d false) keys
-    ≡ each_after (row_fault d) [] keys
+pub each_alone : (d : Database) (keys : List EntryKey) → IsDistinct eqb (map entry_hash keys)
+    → flat_map (faults_of_row d false) keys ≡ each_after (row_fault d) [] keys
 each_alone d keys differ = sym (alone d [] keys (apart_none keys) differ)

@@ -1,4 +1,4 @@
--- What is kept of rows of many named values.
+-- What is kept of entries of many value descriptions.
 use Rattle.std.proofs.Common.{◌≡◌, ◌==◌, ◌&&◌, ℕ, Bool, true, false, List, [], ◌∷◌, ◌++◌, Option, Some, None, filter, bytes_eq}
 use Rattle.std.proofs.Common.{refl, sym, ap, ◌∙◌, inl, inr, cond, append-nil, ◌<◌, ◌+◌, length, get_or, take}
 use Rattle.std.specs.List.{find}
@@ -103,7 +103,7 @@ kept_there test rows by_key number name None are is = tt
 kept_there test rows by_key number name (Some values) are is =
     λ row first many. kept_is_first test rows number name row values.now (sym (are number name) ∙ sym is) first many
 
--- what is kept of the first row of a signal's named values, if that has many
+-- what is kept of the first entry of a signal's value descriptions, if that has many
 pub many_of_signal : (database : Database) (number : ℕ) (name : List ℕ) (row : ValueRow) (found : Option (Bor ValueRow))
     → Some row ≡ first_values name (rows_of number database) → has_many row ≡ true
     → IfSome found (λ (values : Bor ValueRow). (other : ValueRow) → find (is_of number name) database.values ≡ Some other

@@ -46,9 +46,9 @@ is_known_node database name = stands_in bytes_eq name database.nodes || bytes_eq
 
 -- ---- what is found by keys
 
--- these are all keys of a database, each kind in any order, and all rows of named values
-pub record AreCrossReferences (database : Database) (numbers : List ℕ) (names : List (List ℕ)) (groups : List ℕ) (signals : List (ℕ × List ℕ))
-    (nodes defined : List (List ℕ)) (many : List ValueRow) : Type 0 where
+-- these are all keys of a database, each kind in any order, and all entries of value descriptions
+pub record AreCrossReferences (database : Database) (numbers : List ℕ) (names : List (List ℕ)) (groups : List ℕ)
+    (signals : List (ℕ × List ℕ)) (nodes defined : List (List ℕ)) (many : List ValueRow) : Type 0 where
   pub all_numbers : IsPermutation (numbers_of database) numbers
   pub all_names : IsPermutation (names_of database) names
   pub all_groups : IsPermutation (groups_of database) groups

@@ -1,4 +1,4 @@
--- What is kept of rows of many named values.
+-- What is kept of entries of many value descriptions.
 use Rattle.std.specs.Prelude.{◌≡◌, ◌==◌, ◌&&◌, ℕ, Bool, true, List, Option, Some, None, filter}
 use Rattle.std.specs.List.{find}
 use Rattle.std.specs.BTreeMap.{BTreeMap, get_by}
@@ -22,7 +22,7 @@ is_wanted (Some wanted) number = stands_in (λ a b. a == b) number wanted
 abbrev pub is_kept_number : List ℕ → Option (List ℕ) → ℕ → Bool
 is_kept_number numbers wanted number = is_shared (λ a b. a == b) number numbers && is_wanted wanted number
 
--- the row has many named values, and its number passes a test
+-- the row has many value descriptions, and its number passes a test
 abbrev pub is_kept : (ℕ → Bool) → ValueRow → Bool
 is_kept test row = has_many row && test row.number
 

@@ -1,4 +1,4 @@
--- Named values that a signal never has.
+-- Value descriptions that a signal never has.
 -- Source: the DBC file format, "Signal Definitions", "Signal Value Descriptions (Value Encodings)".
 use Rattle.std.specs.Prelude.{ℕ, ℤ, pos, negsuc, ◌-◌, ◌^◌, ◌&&◌, nat_lt, Bool, true, not, List, [], ◌∷◌, Option, Some, None}
 use Rattle.std.specs.Prelude.{length, slice_get, if◌then◌else◌}
@@ -10,11 +10,11 @@ abbrev pub in_raw_range : Bool → ℕ → ℤ → Bool
 in_raw_range signed bits (pos n) = nat_lt n (2 ^ (if signed then bits - 1 else bits))
 in_raw_range signed bits (negsuc n) = signed && nat_lt n (2 ^ (bits - 1))
 
--- a named value that the signal never has
+-- a value description that the signal never has
 abbrev pub is_out_of_range : Signal → Entry → Bool
 is_out_of_range signal entry = not (in_raw_range signal.signed signal.length entry.number)
 
--- the number of a named value that the signal never has
+-- the number of a value description that the signal never has
 abbrev pub number_out_of_range : Signal → Entry → List ℤ
 number_out_of_range signal entry = if is_out_of_range signal entry then entry.number ∷ [] else []
 
@@ -22,11 +22,11 @@ number_out_of_range signal entry = if is_out_of_range signal entry then entry.nu
 abbrev pub numbers_out_of_range : Signal → List Entry → List ℤ
 numbers_out_of_range signal entries = flat_map (number_out_of_range signal) entries
 
--- the signal can have the named value, if there is one
+-- the signal can have the value description, if there is one
 abbrev pub has_at : Signal → Option Entry → Bool
 has_at signal None = true
 has_at signal (Some entry) = not (is_out_of_range signal entry)
 
--- the signal can have the first and the last of the named values
+-- the signal can have the first and the last of the value descriptions
 abbrev pub has_both_ends : Signal → List Entry → Bool
 has_both_ends signal entries = has_at signal (slice_get entries 0) && has_at signal (slice_get entries (length entries - 1))

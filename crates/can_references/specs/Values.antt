@@ -1,4 +1,4 @@
--- Named values whose number stood earlier among them, and rows of many named values.
+-- Value descriptions whose number stood earlier among them, and entries of many value descriptions.
 -- Source: the DBC file format, "Signal Value Descriptions (Value Encodings)". It gives each value one description; which of them
 -- are told is the profile of candesk.
 use Rattle.std.specs.Prelude.{ℤ, nat_lt, Bool, not, is_some, List, [], ◌∷◌, map, length, if◌then◌else◌}
@@ -11,7 +11,7 @@ use Rattle.can_references.specs.Finding.{stands_in, each_after}
 abbrev pub number_repeated : List ℤ → ℤ → List ℤ
 number_repeated before number = if stands_in int_eq number before then number ∷ [] else []
 
--- the numbers of named values that stood earlier among them, in order
+-- the numbers of value descriptions that stood earlier among them, in order
 abbrev pub numbers_repeated : List Entry → List ℤ
 numbers_repeated entries = each_after number_repeated [] (map (λ entry. entry.number) entries)
 
@@ -19,6 +19,6 @@ numbers_repeated entries = each_after number_repeated [] (map (λ entry. entry.n
 abbrev pub may_repeat : List Entry → Bool
 may_repeat entries = not (is_some (entry_order entries))
 
--- a row of so many named values that they aren't gone through for each message
+-- an entry of so many value descriptions that they aren't gone through for each message
 abbrev pub has_many : ValueRow → Bool
 has_many row = nat_lt 64 (length row.entries)

@@ -7,7 +7,8 @@ ghost use Rattle.can_keys.specs.SignalNames.{same_signal, named_signal};
 ghost use Rattle.can_rows.specs.Rows.{rows_of, first_values, entries_of};
 ghost use Rattle.can_rows.specs.Groups.{group_of};
 ghost use Rattle.can_references.specs.Finding.{is_shared, stands_in};
-ghost use Rattle.can_references.specs.CrossReferences.{numbers_of, names_of, groups_of, signals_in, signals_of, defined_in, perhaps};
+ghost use Rattle.can_references.specs.CrossReferences.{numbers_of, names_of, groups_of, signals_in, signals_of, defined_in};
+ghost use Rattle.can_references.specs.CrossReferences.{perhaps};
 ghost use Rattle.can_references.specs.CrossReferences.{is_known_node};
 ghost use Rattle.can_references.specs.RawRanges.{numbers_out_of_range};
 ghost use Rattle.can_references.specs.Values.{numbers_repeated, may_repeat};
@@ -25,8 +26,8 @@ use std::marker::Model;
 // The name that stands for no node.
 const NO_NODE: &[u8] = b"Vector__XXX";
 
-/// The numbers, names, groups and signals of the messages of a database, its nodes and its attribute definitions, beside
-/// what finds its rows.
+/// The identifiers, names, parameter groups and signals of the messages of a database, its nodes and its attribute definitions, and
+/// what finds its entries.
 #[derive(Drop)]
 pub struct CrossReferences<'a, L: Lookup> {
     lookup: &'a L,
@@ -139,7 +140,7 @@ fn defined_in<'a>(alloc: Global, definitions: &'a [AttrDef]) -> Result<Names<'a>
 }
 
 impl<'a, L: Lookup> CrossReferences<'a, L> {
-    // The same. Of rows of many named values that several messages have, what is found is kept if their number is wanted.
+    // The same. Of entries of many value descriptions that several messages have, what is found is kept if their number is wanted.
     fn with(
         alloc: Global,
         lookup: &'a L,
@@ -257,7 +258,7 @@ impl<'a, L: Lookup> CrossReferences<'a, L> {
         self.defined.has(name)
     }
 
-    // What is kept of the row of a signal's named values.
+    // What is kept of the entry of a signal's value descriptions.
     #[inline(always)]
     fn many_values(&self, number: u32, signal: &'a Signal) -> Option<&ManyValues<'a>>
         ensures { IfSome result (λ many. first_values signal.now.name (rows_of number self.now) ≡ Some many.now) }
@@ -301,7 +302,7 @@ impl<'a, L: Lookup> CrossReferences<'a, L> {
         }
     }
 
-    /// Adds the numbers of the named values of a signal that stood earlier among them, in the order of the text.
+    /// Adds the numbers of the value descriptions of a signal that stood earlier among them, in the order of the text.
     #[inline(always)]
     pub fn push_repeated(
         &self,

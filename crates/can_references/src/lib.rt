@@ -1,8 +1,8 @@
 //! Diagnostics about what parts of a database say of each other: numbers, names and groups that several messages have, nodes,
 //! messages, signals and definitions that are named and not there, and rows that stand twice.
 //!
-//! [`CrossReferences`] is what the whole of a database says, found by keys. With it each call adds the diagnostics of one message, of one row
-//! or of all rows.
+//! [`CrossReferences`] is what the whole of a database says, found by keys. With it each call adds the diagnostics of one message,
+//! of one row or of all rows.
 #![tactic(auto)]
 
 mod cross_references;

@@ -1,4 +1,4 @@
-//! The rows of many named values that several messages have, found by their keys.
+//! The entries of many value descriptions that several messages have, found by their keys.
 ghost use Rattle.std.specs.Prelude.{◌≡◌, ℕ, List, IsTrue, IfOk, IfSome, OnOk, Some, None, if◌then◌else◌};
 ghost use Rattle.std.specs.List.{find};
 ghost use Rattle.std.specs.Option.{option_map, option_or};
@@ -14,7 +14,7 @@ use std::alloc::Global;
 use std::collections::BTreeMap;
 use std::marker::Model;
 
-/// Up to this many named values of a row are gone through for each message.
+/// Up to this many value descriptions of a row are gone through for each message.
 pub(crate) const LINEAR_SEARCH_LIMIT: usize = 64;
 
 // A message number, and the name of a signal.
@@ -30,7 +30,7 @@ fn is_wanted(wanted: Option<&[u32]>, number: u32) -> bool
     }
 }
 
-// Whether what is found of a row is kept: it has many named values, several messages have its number, and that is wanted.
+// Whether what is found of a row is kept: it has many value descriptions, several messages have its number, and that is wanted.
 fn is_kept(numbers: &Numbers, wanted: Option<&[u32]>, row: &ValueRow) -> bool
     ensures { result ≡ is_kept (is_kept_number numbers.now (option_map (λ numbers. numbers.now) wanted.entry)) row.now }
 {
@@ -76,7 +76,7 @@ fn kept_rows<'a>(
     Ok(by_key)
 }
 
-/// Rows of named values, and what is found of some of those that have many. Contracts see all rows.
+/// Entries of value descriptions, and what is found of some of those that have many. Contracts see all rows.
 #[derive(Drop)]
 pub(crate) struct ManyRows<'a> {
     rows: &'a [ValueRow],
@@ -96,8 +96,8 @@ impl<'a> Model for ManyRows<'a> {
 }
 
 impl<'a> ManyRows<'a> {
-    /// These rows. What is found of those is kept that have many named values, and whose number stands at least twice among these
-    /// and is wanted.
+    /// These rows. What is found of those is kept that have many value descriptions, and whose number stands at least twice among
+    /// these and is wanted.
     pub(crate) fn of(
         alloc: Global,
         numbers: &Numbers,
@@ -115,7 +115,7 @@ impl<'a> ManyRows<'a> {
         self.by_key.is_empty()
     }
 
-    /// What is kept for a key. If the key's first row has many named values, it is found of that.
+    /// What is kept for a key. If the key's first row has many value descriptions, it is found of that.
     pub(crate) fn kept(&self, number: u32, name: &'a [u8]) -> Option<&ManyValues<'a>>
         ensures { IfSome result (λ values. (row : Row) → find (is_of number name.now) self.now ≡ Some row → IsTrue (has_many row)
             → values.now ≡ row) }

@@ -1,4 +1,4 @@
-//! Rows of many named values, with what is found of them once, however many messages have them.
+//! Entries of many value descriptions, with what is found of them once, however many messages have them.
 ghost use Rattle.std.specs.Prelude.{◌≡◌, false, [], ◌++◌, IfOk, OnOk};
 ghost use Rattle.can_references.specs.RawRanges.{numbers_out_of_range};
 ghost use Rattle.can_references.specs.Values.{numbers_repeated, may_repeat};
@@ -19,8 +19,8 @@ fn repeated_of(alloc: Global, entries: &Entries) -> Result<Vec<i128>, Memory>
     Ok(repeated)
 }
 
-/// A row of many named values: which of them a signal never has is found without going through all, and which repeat a number is
-/// found once. Contracts see the row.
+/// An entry of many value descriptions: which of them a signal never has is found without going through all, and which repeat a
+/// number is found once. Contracts see the row.
 #[derive(Drop)]
 pub(crate) struct ManyValues<'a> {
     row: &'a ValueRow,
@@ -42,7 +42,7 @@ impl<'a> Model for ManyValues<'a> {
 }
 
 impl<'a> ManyValues<'a> {
-    /// The named values of a row.
+    /// The value descriptions of a row.
     pub(crate) fn of(alloc: Global, row: &'a ValueRow) -> Result<ManyValues<'a>, Memory>
         ensures { IfOk result (λ made. made ≡ row.now) }
     {

@@ -1,4 +1,4 @@
-//! The named values of one row: which a signal never has, and which repeat a number.
+//! The value descriptions of one row: which a signal never has, and which repeat a number.
 ghost use Rattle.std.specs.Prelude.{◌≡◌, false, ◌-◌, ◌∷◌, ◌++◌, [], OnOk, length, slice_get, option_map};
 ghost use Rattle.can_references.specs.RawRanges.{numbers_out_of_range, has_at, has_both_ends};
 ghost use Rattle.can_references.specs.Values.{number_repeated, numbers_repeated, may_repeat};

@@ -26,7 +26,7 @@ rows_of number database = record {
 abbrev pub first_named : {R : Type 0} → (R → List ℕ) → List ℕ → List R → Option R
 first_named signal_of name rows = find (λ row. bytes_eq (signal_of row) name) rows
 
--- its named values
+-- its value descriptions
 abbrev pub first_values : List ℕ → SignalRows → Option ValueRow
 first_values name rows = first_named (λ row. row.signal) name rows.values
 
@@ -43,7 +43,7 @@ abbrev pub is_float_row : Option FloatRow → Bool
 is_float_row None = false
 is_float_row (Some row) = not (row.kind == 0)
 
--- the named values of a row, none where there is no row
+-- the value descriptions of a row, none where there is no row
 abbrev pub entries_of : Option ValueRow → List Entry
 entries_of None = []
 entries_of (Some row) = row.entries

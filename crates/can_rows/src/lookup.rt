@@ -19,7 +19,7 @@ pub trait Lookup {
     fn database(&self) -> &Database
         ensures { result.now ≡ whole self.now };
 
-    /// The named values of a signal.
+    /// The value descriptions of a signal.
     fn values(&self, number: u32, signal: &Name) -> Option<&ValueRow>
         ensures { option_map (λ row. row.now) result ≡ first_values signal.now (rows_of number (whole self.now)) };
 

@@ -47,7 +47,7 @@ Opens text options (Err fault) = IsRead text (Err fault)
 
 -- ---- edits
 
--- An accepted edit gives the defined database. A refused one is refused for the defined cause, or for want of memory where the
+-- An accepted edit gives the defined database. A refused one is refused for the defined cause, or because memory ran out where the
 -- definition accepts it, and the state is as it was.
 abbrev pub Applies : Edit → State → Result (Unit {0}) Refusal → State → Type 0
 Applies edit before answer after =

@@ -159,7 +159,7 @@ impl Session {
         }
     }
 
-    /// Does an edit. A refused one changes nothing but the meter; want of memory comes after all other refusals. Plans and
+    /// Does an edit. A refused one changes nothing but the meter; running out of memory comes after all other refusals. Plans and
     /// diagrams are made only of messages that have one of the edit's numbers, and only lines whose frames these concern are
     /// decoded again.
     pub fn apply(&mut self, edit: &Edit) -> Result<(), Refusal>
@@ -177,9 +177,9 @@ impl Session {
         Ok(())
     }
 
-    /// Retains a line, which holds no LF, as the session's choice says. A refused one changes nothing but the meter: a line has at
+    /// Keeps a line, which holds no LF, as the session's choice says. A refused one changes nothing but the meter: a line has at
     /// most 4,096 bytes, and where all lines are kept there is room for 1,048,576. Where the last ones are, the oldest goes for
-    /// a new one, and no log is full. Want of memory comes last.
+    /// a new one, and no log is full. Running out of memory comes last.
     pub fn add_line(&mut self, line: &[u8]) -> Result<(), Refusal>
         ensures step { Adds line.now self.old.state result self.new.state }
         ensures meter { Raised 0 1 self.old.meter self.new.meter }

@@ -23,7 +23,7 @@ use Rattle.candesk_runs.specs.Printing.{PrintsText}
 use Rattle.candesk_runs.specs.Statuses.{Ends, well}
 use Rattle.candesk_calls.specs.Scripting.{SessionRuns}
 
--- what the flag of the command line chooses for short frames
+-- what the flag of the command line chooses for truncated frames
 abbrev pub short_of : Bool → Short
 short_of flag = if flag then Show else Refuse
 

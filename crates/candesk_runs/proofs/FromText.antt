@@ -98,7 +98,7 @@ after_header bus before after old begun new (Err (run.Stream fault)) wrote rows 
 after_header bus before after old begun new (Err (run.Read fault)) wrote rows = rows
 after_header bus before after old begun new (Err run.Memory) wrote rows = absurd rows
 
--- a refusal for another cause than want of memory is for the first fault
+-- a refusal for another cause than that memory ran out is for the first fault
 pub first_fault_of : (text : List ℕ) (fault : ReadFault) → IsRead text (Err fault) → (fault.cause ≡ causes.Memory → ⊥)
     → HasFirstFault grammar.text text fault
 first_fault_of text fault (inl e) other = absurd (other (ap (λ (f : ReadFault). f.cause) e))

@@ -38,7 +38,7 @@ RunsToTexts text_of text before after old new (Err (faults.Read fault)) = IsUnto
     × HasFirstFault grammar.text text fault
 RunsToTexts text_of text before after old new (Err faults.Memory) = IsUntouched before after old new
 
--- the log is decoded, by what is chosen for short frames
+-- the log is decoded, by what is chosen for truncated frames
 abbrev pub Runs : List ℕ → Short → Unread → Unread → Written → Written → Result ℕ RunFault → Type 0
 Runs text short before after old new outcome =
     RunsToTexts (λ database. bus_line (record { database = database; short = short })) text before after old new outcome

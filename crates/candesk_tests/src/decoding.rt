@@ -1,5 +1,5 @@
-//! That lines are decoded, in whatever pieces they come and by either choice for short frames, and what is written where a device
-//! fails.
+//! That lines are decoded, in whatever pieces they come and by either choice for truncated frames, and what is written where a
+//! device fails.
 
 use crate::reading::database;
 use byte_devices::limp::Limp;
@@ -147,7 +147,7 @@ fn failing_devices(rt: HostRuntime) -> Result<(), Fail> {
     Ok(())
 }
 
-// Lines, what is chosen for short frames, and what is said of them.
+// Lines, what is chosen for truncated frames, and what is said of them.
 const LINES: [(&[u8], Short, &[u8]); 3] = [
     (
         b"(1.0)  c  123#0102 R\r",

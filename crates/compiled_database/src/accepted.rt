@@ -90,7 +90,7 @@ impl<'a> Accepted<'a> {
     }
 }
 
-/// An edit that was accepted, with what is shown of the database that it gives.
+/// An edit that was applied, with what is shown of the database that it gives.
 #[derive(Drop)]
 pub struct AppliedEdit<'a> {
     before: &'a Shown,

@@ -3,11 +3,11 @@ use Rattle.std.specs.Prelude.{◌≡◌, ℕ, List, Result, Ok, Err, codes, Matc
 use Rattle.dbc_edits.specs.declared.refusal.Refusal.{Refusal}
 use Rattle.dbc_edits.specs.declared.refusal.Refusal.TheVariants as refusals
 
--- what is accepted is refused for want of memory alone, and what is refused for its cause
+-- what is accepted is refused only because memory ran out, and what is refused for its cause
 abbrev pub IsRefusal : {A : Type 0} → Result A Refusal → Refusal → Type 0
 IsRefusal defined refusal = MatchResult defined (λ _. refusal ≡ refusals.Memory) (λ cause. refusal ≡ cause)
 
--- an answer is the defined one, or want of memory
+-- an answer is the defined one, or that memory ran out
 abbrev pub IsAnswer : {A : Type 0} → Result A Refusal → Result A Refusal → Type 0
 IsAnswer defined answer = MatchResult answer (λ value. defined ≡ Ok value) (λ refusal. IsRefusal defined refusal)
 

@@ -1,4 +1,4 @@
--- The rows of a database that belong to a message or a signal: its comments, attributes, named values, float types and
+-- The rows of a database that belong to a message or a signal: its comments, attributes, value descriptions, float types and
 -- multiplexer rows. Each is seen by its target: what it speaks of, as it is written.
 use Rattle.std.specs.Prelude.{ℕ, Bool, false, not, ◌&&◌, ◌||◌, ◌==◌, List, [], ◌∷◌, filter, map, if◌then◌else◌}
 use Rattle.std.specs.List.{list_any}
@@ -139,7 +139,7 @@ abbrev pub mux_renamed : Renaming → MuxRow → MuxRow
 mux_renamed renaming row =
     record row { signal = name_after renaming row.number row.signal; switch = name_after renaming row.number row.switch }
 
--- all rows of the number that name the old signal name the new one; kept statements stay
+-- all rows of the number that name the old signal name the new one; statements kept verbatim stay
 unfoldable pub rows_renamed : Renaming → Database → Database
 rows_renamed renaming database = record database {
   comments = map (comment_renamed renaming) database.comments;

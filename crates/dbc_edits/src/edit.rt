@@ -25,15 +25,15 @@ pub enum Edit {
     /// In the message at a place the signal of the same name gives way to this one.
     ChangeSignal(usize, Signal),
     /// The signal of a name in the message at a place takes another name, and so do all rows of the message's number that name it,
-    /// also as their switch. Kept statements stay.
+    /// also as their switch. Statements kept verbatim stay.
     RenameSignal(usize, Name, Name),
     /// The multiplexer row of a signal is set.
     SetMux(MuxRow),
-    /// The named values of a signal are set.
+    /// The value descriptions of a signal are set.
     SetValues(ValueRow),
     /// The multiplexer rows of a signal, by number and name, go.
     DropMux(u32, Name),
-    /// The rows of named values of a signal, by number and name, go.
+    /// The entries of value descriptions of a signal, by number and name, go.
     DropValues(u32, Name),
     /// The value tables of a name go.
     DropTable(Name),

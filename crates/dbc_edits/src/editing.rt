@@ -15,7 +15,7 @@ use std::alloc::Global;
 
 /// The changed database, or why the edit is refused.
 ///
-/// It copies the database, in time and memory linear in it, and the database handed in stays as it is. Want of memory is
+/// It copies the database, in time and memory linear in it, and the database handed in stays as it is. Running out of memory is
 /// answered only where nothing else refuses the edit.
 pub fn edited(alloc: Global, database: &Database, edit: &Edit) -> Result<Database, Refusal>
     ensures { IsAnswer (edited database.now edit.now) result }

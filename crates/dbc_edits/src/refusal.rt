@@ -28,7 +28,7 @@ pub enum Refusal {
     NoRow,
     /// No definition has the attribute's name.
     NoDefinition,
-    /// As many lines are retained as may be.
+    /// As many lines are kept as may be.
     LogFull,
     /// The line has too many bytes.
     LongLine,

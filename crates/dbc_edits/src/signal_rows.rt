@@ -1,4 +1,4 @@
-//! Edits of the multiplexer rows and the named values of signals.
+//! Edits of the multiplexer rows and the value descriptions of signals.
 ghost use Rattle.std.specs.Prelude.{◌≡◌, IfOk, Result};
 ghost use Rattle.dbc_records.specs.Databases.{Database as PlainDatabase};
 ghost use Rattle.dbc_edits.specs.declared.refusal.Refusal.{Refusal as PlainRefusal};
@@ -54,7 +54,7 @@ pub(crate) fn set_mux(database: &Database, row: &MuxRow) -> Result<Database, Ref
     Ok(edited)
 }
 
-// The database with the row of named values set.
+// The database with the entry of value descriptions set.
 fn with_named(database: &Database, key: &OfSignal<'_>, row: &ValueRow) -> Result<Database, Memory>
     ensures { IfOk result (λ edited. edited ≡ record database.now {
       values = with_item (is_values_of key.now.number key.now.name.now)
@@ -67,7 +67,7 @@ fn with_named(database: &Database, key: &OfSignal<'_>, row: &ValueRow) -> Result
     Ok(edited)
 }
 
-/// The database with the row of named values set, where its message has its signal.
+/// The database with the entry of value descriptions set, where its message has its signal.
 #[tactic(auto, unfolding(crate::specs::Edits::values_set, crate::specs::Edits::refused_if))]
 pub(crate) fn set_values(database: &Database, row: &ValueRow) -> Result<Database, Refusal>
     ensures { IsAnswer (values_set row.now database.now) result }
@@ -93,7 +93,7 @@ pub(crate) fn drop_mux(database: &Database, number: u32, name: &[u8]) -> Result<
     Ok(edited)
 }
 
-/// The database without the rows of named values of the signal.
+/// The database without the entries of value descriptions of the signal.
 #[tactic(auto, unfolding(crate::specs::Edits::values_dropped, crate::specs::Edits::refused_if))]
 pub(crate) fn drop_values(
     database: &Database,

@@ -56,7 +56,7 @@ print_law d is = (canonical_has d is, λ other has. printed_read d other has is)
 pub printed_accepted : (d : Database) (fault : ReadFault) → HasFirstFault grammar.text (canonical_text d) fault → IsDatabase d → ⊥
 printed_accepted d fault found is = no_fault_of (canonical_text d) d fault (canonical_has d is) found
 
--- so a fault of reading it is want of memory
+-- so a fault of reading it is that memory ran out
 pub printed_faultless : (d : Database) (fault : ReadFault) → (fault ≡ memory_fault) ⊎ HasFirstFault grammar.text (canonical_text d)
     fault → (fault.cause ≡ causes.Memory → ⊥) → IsDatabase d → ⊥
 printed_faultless d fault (inl memory) other is = other (ap (λ (f : ReadFault). f.cause) memory)

@@ -53,7 +53,7 @@ OneReadingAlone =
     (text : List ℕ) → (ExactlyOne (HasStatement text) × NoSuch (HasFirstFault grammar.one_statement text))
     ⊎ (ExactlyOne (HasFirstFault grammar.one_statement text) × NoSuch (HasStatement text))
 
--- a first fault names a line of the text, and is none of want of memory
+-- a first fault names a line of the text, and isn't that memory ran out
 abbrev pub FaultsAreOfTexts : Type 0
 FaultsAreOfTexts = (pattern : Pattern) (text : List ℕ) (fault : ReadFault) → HasFirstFault pattern text fault → (1 ≤ fault.line)
     × (fault.line ≤ 1 + line_feeds text) × (fault.cause ≢ causes.Memory)

@@ -34,7 +34,7 @@ pub fn one_reading_alone()
     ensures { OneReadingAlone }
 {}
 
-/// A first fault names a line of its text, and is none of want of memory.
+/// A first fault names a line of its text, and isn't that memory ran out.
 pub fn faults_are_of_texts()
     ensures { FaultsAreOfTexts }
 {}

@@ -68,7 +68,7 @@ pub fn attribute_line()
     ensures { PrintedUniquely IsAttrRow attribute_layout (λ row. form (Attribute row)) }
 {}
 
-/// The line of a signal's named values has the tokens of its form, and they spell it and nothing else.
+/// The line of a signal's value descriptions has the tokens of its form, and they spell it and nothing else.
 pub fn values_line()
     ensures { PrintedUniquely IsValueRow values_layout (λ row. form (Values row)) }
 {}

@@ -111,7 +111,7 @@ default = Word (codes "BA_DEF_DEF_") ⇒ String ⇒ (given then statement_end)
 abbrev pub attribute : Pattern
 attribute = Word (codes "BA_") ⇒ String ⇒ Either (Word (codes "EV_") ⇒ kept_rest) (target then (given then statement_end)) Done
 
--- named values, or those of an environment variable, which are kept
+-- value descriptions, or those of an environment variable, which are kept
 abbrev pub values : Pattern
 values = Word (codes "VAL_") ⇒ Either (Whole 0 (2 ^ 32 - 1) ⇒ Name ⇒ entries) (Name ⇒ kept_rest) Done
 

@@ -32,7 +32,7 @@ pub data Class : Type 0 where
   Tag : Class
   -- any token but a semicolon
   Piece : Class
-  -- a word that begins a kept statement
+  -- a word that begins a statement kept verbatim
   KeptWord : Class
   -- the `BO_` and `SG_` that begin a message and a signal, and the signal's name
   BeginsMessage : Class
@@ -147,7 +147,7 @@ after (Repeat a p) t seen = first_of (left_then (after a t seen) (Repeat a p)) (
 abbrev pub fault_in : ℕ → Cause → ReadFault
 fault_in line cause = record { line = line; cause = cause }
 
--- want of memory, which is a fault of no line
+-- running out of memory, which is a fault of no line
 abbrev pub memory_fault : ReadFault
 memory_fault = fault_in 0 causes.Memory
 

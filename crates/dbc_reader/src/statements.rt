@@ -76,7 +76,7 @@ fn add_table(alloc: Global, at: &mut Cursor<'_>, database: &mut Database) -> Res
     Ok(())
 }
 
-// Named values: those of an environment variable, which has a name in place of a number, are kept as they stand.
+// Value descriptions: those of an environment variable, which has a name in place of a number, are kept as they stand.
 #[tactic(auto, using(crate::proofs::Facts::Keywords::values_kept_step, crate::proofs::Facts::Keywords::values_step), unfolding(crate::specs::Reading::Databases::record_into))]
 fn add_values(alloc: Global, at: &mut Cursor<'_>, database: &mut Database) -> Result<(), Stopped>
     requires { keyword_at (left_at at.old) ≡ Some keywords.Values }

@@ -1,4 +1,4 @@
-//! Tables of named values, float types and extended multiplexing.
+//! Tables of value descriptions, float types and extended multiplexing.
 ghost use Rattle.std.specs.Prelude.{◌≡◌, [], ◌∷◌, codes, IfOk, IsTrue};
 ghost use Rattle.dbc_records.specs.Records.{ranges_fit};
 ghost use Rattle.dbc_reader.specs.Reading.Cursors.{left_at, with_word};
@@ -28,7 +28,7 @@ pub fn table(alloc: Global, at: &mut Cursor<'_>) -> Result<TableRow, Stopped>
     })
 }
 
-/// Takes the named values of a signal, after `VAL_`.
+/// Takes the value descriptions of a signal, after `VAL_`.
 #[tactic(auto, unfolding(crate::specs::Reading::Tables::values_at, crate::specs::Reading::Parts::word_at, crate::specs::Reading::Readers::token_at, crate::specs::Classes::has_word))]
 pub fn values(alloc: Global, at: &mut Cursor<'_>) -> Result<ValueRow, Stopped>
     ensures { GivesTo result (left_at at.new) (values_at (with_word (codes "VAL_") (left_at at.old))) }

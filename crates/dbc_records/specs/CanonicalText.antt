@@ -111,7 +111,7 @@ nodes_title = Is (Word (codes "BU_")) ∷ Is (Mark colon) ∷ []
 unfoldable pub nodes_layout : List (List ℕ) → Layout
 nodes_layout nodes = nodes_title ++ (flat_map spaced_name nodes ++ line_end)
 
--- ---- tables and named values
+-- ---- tables and value descriptions
 
 -- ` n "t"`
 unfoldable pub entry_layout : Entry → Layout
@@ -273,7 +273,7 @@ attribute_key row = word_layout (codes "BA_") ++ (spaced_text row.name ++ target
 unfoldable pub attribute_layout : AttrRow → Layout
 attribute_layout row = attribute_key row ++ (value_layout row.value ++ statement_end)
 
--- ---- float types, multiplexing, kept statements
+-- ---- float types, multiplexing, statements kept verbatim
 
 -- `SIG_VALTYPE_ id s`
 unfoldable pub float_key : FloatRow → Layout
@@ -323,7 +323,7 @@ unfoldable pub attributes_layout : Database → Layout
 attributes_layout d = flat_map definition_layout d.definitions ++ (flat_map default_layout d.defaults ++ flat_map attribute_layout
     d.attributes)
 
--- the rows of signals, and then the kept statements
+-- the rows of signals, and then the statements kept verbatim
 unfoldable pub rows_layout : Database → Layout
 rows_layout d = flat_map values_layout d.values ++ (flat_map float_layout d.floats ++ (flat_map mux_layout d.muxes
     ++ flat_map kept_layout d.kept))

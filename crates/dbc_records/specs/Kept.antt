@@ -15,7 +15,7 @@ begins [] tokens = true
 begins (test ∷ tests) [] = false
 begins (test ∷ tests) (token ∷ tokens) = test token && begins tests tokens
 
--- how a kept statement may begin: with one of their words; as the named values, the comment or the attribute of an
+-- how a statement kept verbatim may begin: with one of their words; as the value descriptions, the comment or the attribute of an
 -- environment variable
 abbrev pub kept_beginnings : List (List (List ℕ → Bool))
 kept_beginnings =
@@ -25,7 +25,7 @@ kept_beginnings =
     ∷ (bytes_eq (codes "BA_") ∷ is_string ∷ bytes_eq (codes "EV_") ∷ [])
     ∷ []
 
--- the tokens begin as a kept statement does; any may follow
+-- the tokens begin as a statement kept verbatim does; any may follow
 unfoldable pub kept_fits : List (List ℕ) → Bool
 kept_fits tokens = list_any (λ tests. begins tests tokens) kept_beginnings
 

@@ -106,7 +106,7 @@ pub record IsMessage (message : Message) : Type 0 where
   pub signals : All IsSignal message.signals
   pub fit : IsTrue (signals_fit message.signals)
 
--- ---- named values ("Value Table Definitions", "Signal Value Descriptions")
+-- ---- value descriptions ("Value Table Definitions", "Signal Value Descriptions")
 
 pub record Entry : Type 0 where
   pub number : ℤ
@@ -129,7 +129,7 @@ pub record IsTableRow (row : TableRow) : Type 0 where
   pub name : IsName row.name
   pub entries : All IsEntry row.entries
 
--- the named values of a signal
+-- the value descriptions of a signal
 pub record ValueRow : Type 0 where
   pub number : ℕ
   pub signal : List ℕ

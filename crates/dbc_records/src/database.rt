@@ -40,7 +40,7 @@ pub struct Database {
     pub defaults: List<AttrDefault>,
     /// Attributes, `BA_`.
     pub attributes: List<AttrRow>,
-    /// Named values of signals, `VAL_`.
+    /// Value descriptions of signals, `VAL_`.
     pub values: List<ValueRow>,
     /// Float types of signals, `SIG_VALTYPE_`.
     pub floats: List<FloatRow>,

@@ -1,4 +1,4 @@
-//! The named values of a signal.
+//! The value descriptions of a signal.
 ghost use Rattle.std.specs.Prelude.{◌≡◌, IfOk, IfSome, IsTrue};
 ghost use Rattle.dbc_records.specs.Orders.{are_in_order, entry_order};
 
@@ -9,7 +9,7 @@ use std::alloc::Global;
 use std::marker::Model;
 use std::rc::Rc;
 
-// Named values, and the order that their numbers are in, if they are in one.
+// Value descriptions, and the order that their numbers are in, if they are in one.
 #[derive(Drop)]
 struct Ordered {
     entries: List<Entry>,
@@ -38,7 +38,7 @@ impl Ordered {
     }
 }
 
-/// The named values of a signal. Copies share them.
+/// The value descriptions of a signal. Copies share them.
 #[derive(Drop)]
 pub struct Entries {
     ordered: Rc<Ordered>,
@@ -70,7 +70,7 @@ impl Copied for Entries {
 }
 
 impl Entries {
-    /// These named values.
+    /// These value descriptions.
     pub fn of(alloc: Global, entries: List<Entry>) -> Result<Entries, Memory>
         ensures { IfOk result (λ made. made ≡ entries) }
     {
@@ -78,7 +78,7 @@ impl Entries {
         Ok(Entries { ordered })
     }
 
-    /// The named values, in the order of the text.
+    /// The value descriptions, in the order of the text.
     pub fn as_slice(&self) -> &[Entry]
         ensures { result.now ≡ self.now }
     {

@@ -78,7 +78,7 @@ fn kept_fits(tokens: &Pieces) -> bool
 }
 
 impl Kept {
-    /// The statement, or `None` where no kept statement begins with these tokens.
+    /// The statement, or `None` where no statement kept verbatim begins with these tokens.
     pub fn new(tokens: Pieces) -> Option<Kept>
         ensures { result ≡ (if kept_fits tokens then Some (record { tokens = tokens }) else None) }
     {

@@ -1,18 +1,18 @@
-//! The named values of a signal.
+//! The value descriptions of a signal.
 ghost use Rattle.std.specs.Prelude.{◌≡◌, Some};
 
 use crate::entries::Entries;
 use dbc_values::{Checked, Copied, Memory, Name};
 use std::marker::Model;
 
-/// The named values of a signal: `VAL_ number signal entries ;`.
+/// The value descriptions of a signal: `VAL_ number signal entries ;`.
 #[derive(Drop)]
 pub struct ValueRow {
     /// The number of the message.
     pub number: u32,
     /// The name of the signal.
     pub signal: Name,
-    /// The named values, in the order of the text.
+    /// The value descriptions, in the order of the text.
     pub entries: Entries,
 }
 

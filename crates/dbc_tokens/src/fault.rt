@@ -63,8 +63,8 @@ impl fmt::Display for Cause {
 
 impl std::error::Error for Cause {}
 
-/// Where and why reading a text ended. Lines count from 1, and a line ends at each LF; a fault for want of memory has
-/// the line 0. It shows itself as `line 3: 2 Statement`, and want of memory as `90 Memory`.
+/// Where and why reading a text ended. Lines count from 1, and a line ends at each LF; a fault because memory ran out has
+/// the line 0. It shows itself as `line 3: 2 Statement`, and running out of memory as `90 Memory`.
 #[derive(Clone, Copy, Debug, PartialEq, Eq)]
 pub struct ReadFault {
     /// The line of the first byte of the token or place that the fault stands at, or of the end of the text.

@@ -17,7 +17,7 @@ pub fn others_stay()
         before after }
 {}
 
-/// A message whose number is none of the edit's keeps its plan and its picture.
+/// A message whose number is none of the edit's keeps its plan and its diagram.
 pub fn untouched_messages_stay()
     ensures plan { (before after : Database) (edit : Edit) (message : Message) → edited before edit ≡ Ok after
         → is_among (edit_numbers before edit) message.head.number ≡ false → plan_of after message ≡ plan_of before message }
@@ -25,7 +25,7 @@ pub fn untouched_messages_stay()
         → is_among (edit_numbers before edit) message.head.number ≡ false → picture_of after message ≡ picture_of before message }
 {}
 
-/// A line whose frame an edit doesn't touch is decoded as before, though places have moved, whatever is said of short frames.
+/// A line whose frame an edit doesn't touch is decoded as before, though places have moved, whatever is said of truncated frames.
 pub fn untouched_lines_stay()
     ensures { (short : Short) (before after : Database) (edit : Edit) (line : List ℕ) → edited before edit ≡ Ok after
         → line_touched (edit_numbers before edit) line ≡ false → decoded_line short after line ≡ decoded_line short before line }

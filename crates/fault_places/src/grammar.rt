@@ -25,7 +25,7 @@ pub enum Beginning {
     Signals,
 }
 
-// A pattern, or want of memory for it.
+// A pattern, or that memory ran out for it.
 type Made = Result<Pattern, Memory>;
 
 // The number of a message.

@@ -36,7 +36,8 @@ rows_chained database message aboves above =
     plan_chained (rows_of message.head.number database) message.head.size message.signals aboves
     (plan_of database message).rows above
     (ap (λ aboves. plan_rows (rows_of message.head.number database) aboves message.head.size message.signals) (sym above)
-    ∙ ap (λ (aboves : List MuxParent). plan_rows (rows_of message.head.number database) aboves message.head.size message.signals) refl)
+    ∙ ap (λ (aboves : List MuxParent). plan_rows (rows_of message.head.number database) aboves message.head.size
+    message.signals) refl)
 
 -- the chain of the entry at an index
 pub chain_is : (rows : List Row) (aboves : List MuxParent) (place : ℕ) (row : Row) → AreChained rows aboves

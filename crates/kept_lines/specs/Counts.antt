@@ -1,11 +1,11 @@
 -- Numbers of lines.
 use Rattle.std.specs.Prelude.{ℕ, Bool, ◌&&◌, nat_le, IsTrue, Option, Some, None, if◌then◌else◌}
 
--- the most lines that are retained
+-- the most lines that are kept
 abbrev pub most_lines : ℕ
 most_lines = 1048576
 
--- at least one, and no more than are retained
+-- at least one, and no more than are kept
 abbrev pub is_count : ℕ → Bool
 is_count count = nat_le 1 count && nat_le count most_lines
 

@@ -1,15 +1,15 @@
--- Which lines of a log are retained.
+-- Which lines of a log are kept.
 use Rattle.std.specs.Prelude.{ℕ, ◌-◌, Bool, false, nat_le, List, length, drop}
 use Rattle.kept_lines.specs.declared.keep.Keep.{Keep}
 use Rattle.kept_lines.specs.declared.keep.Keep.TheVariants.{All, Last}
 use Rattle.kept_lines.specs.Counts.{most_lines}
 
--- so many are retained at most
+-- so many are kept at most
 abbrev pub most_kept : Keep → ℕ
 most_kept All = most_lines
 most_kept (Last count) = count
 
--- what is retained of lines: all of them, or the last so many
+-- what is kept of lines: all of them, or the last so many
 abbrev pub kept : {X : Type 0} → Keep → List X → List X
 kept All lines = lines
 kept (Last count) lines = drop (length lines - count) lines

@@ -1,4 +1,4 @@
-//! How many lines are retained.
+//! How many lines are kept.
 ghost use Rattle.std.specs.Prelude.{◌≡◌};
 ghost use Rattle.kept_lines.specs.Counts.{count_of};
 ghost use Rattle.kept_lines.specs.Keeping.{most_kept, is_full};
@@ -25,7 +25,7 @@ impl Model for LineCount {
 }
 
 impl LineCount {
-    /// The most lines: so many are retained where all are.
+    /// The most lines: so many are kept where all are.
     pub const MOST: u64 = 1_048_576;
 
     /// That of a number; none where it is 0 or over the most.
@@ -48,7 +48,7 @@ impl LineCount {
     }
 }
 
-/// Which of the lines that were added are retained.
+/// Which of the lines that were added are kept.
 #[derive(Clone, Copy, Debug, PartialEq, Eq)]
 pub enum Keep {
     /// All of them. There is room for [`LineCount::MOST`], and a line more is refused.
@@ -68,7 +68,7 @@ impl Keep {
         }
     }
 
-    /// How many lines are retained at most.
+    /// How many lines are kept at most.
     pub fn most(self) -> usize
         ensures { result ≡ most_kept self }
     {

@@ -1,4 +1,4 @@
-//! Which lines of a log are retained: all of them, or the last so many.
+//! Which lines of a log are kept: all of them, or the last so many.
 #![tactic(auto)]
 
 mod keep;

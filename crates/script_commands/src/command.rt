@@ -11,7 +11,7 @@ pub enum Command<'a> {
     Change(Edit),
     /// The diagnostics are shown.
     ShowDiagnostics,
-    /// The picture of the message at a place is shown.
+    /// The diagram of the message at a place is shown.
     ShowLayout(u32),
     /// The decoded lines are shown.
     ShowLines,

@@ -62,7 +62,7 @@ fn by_mux(verb: Verb, row: MuxRow) -> Option<Edit>
     }
 }
 
-// By a row of named values.
+// By an entry of value descriptions.
 fn by_values(verb: Verb, row: ValueRow) -> Option<Edit>
     ensures { (place at : ℕ) → result ≡ edit_by verb place at (statements.Values row) }
 {
@@ -244,7 +244,7 @@ fn drop_mux(alloc: Global, text: &[u8]) -> Result<Option<Edit>, Memory>
     }
 }
 
-// Named values are dropped: a number and a name.
+// Value descriptions are dropped: a number and a name.
 fn drop_values(alloc: Global, text: &[u8]) -> Result<Option<Edit>, Memory>
     ensures { IfOk result (λ edit. HasSense (edit_sense verbs.DropValues text.now) (changes edit)) }
 {

@@ -27,7 +27,7 @@ pub enum Verb {
     RenameSignal,
     /// A multiplexer row is set.
     SetMux,
-    /// A row of named values is set.
+    /// An entry of value descriptions is set.
     SetValues,
     /// A value table is set.
     SetTable,
@@ -35,7 +35,7 @@ pub enum Verb {
     SetAttribute,
     /// The multiplexer rows of a signal go.
     DropMux,
-    /// The rows of named values of a signal go.
+    /// The entries of value descriptions of a signal go.
     DropValues,
     /// The value tables of a name go.
     DropTable,

@@ -1,4 +1,4 @@
--- No definition refuses for want of memory.
+-- No definition refuses because memory ran out.
 use Rattle.std.proofs.Common.{◌≡◌, ℕ, List, Bool, true, false}
 use Rattle.std.specs.Prelude.{Option, Some, None, Result, Ok, Err, MatchResult, nat_lt, length, if◌then◌else◌}
 use Rattle.dbc_records.specs.Records.{Message}

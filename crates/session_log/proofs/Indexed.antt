@@ -1,4 +1,4 @@
--- One more line in the index of the retained lines, and one less.
+-- One more line in the index of the kept lines, and one less.
 use Rattle.std.proofs.Common.{◌≡◌, ◌<◌, ◌+◌, ◌%◌, ◌^◌, ◌==◌, ℕ, Bool, true, false, List, [], ◌∷◌, ◌++◌, length, map, refl, sym, ap}
 use Rattle.std.proofs.Common.{◌∙◌, arith}
 use Rattle.std.specs.Prelude.{Some, None, ◌&&◌, if◌then◌else◌}

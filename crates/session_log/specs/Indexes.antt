@@ -1,4 +1,4 @@
--- The retained lines by the numbers and by the parameter groups of their data frames.
+-- The lines that are kept by the numbers and by the parameter groups of their data frames.
 -- Source: SAE J1939-21, "Parameter Group Numbers", for which frames belong to one group.
 use Rattle.std.specs.Prelude.{◌≡◌, ◌<◌, ◌≤◌, ℕ, Bool, true, false, not, ◌&&◌, ◌==◌, List, [], ◌∷◌, ◌++◌, All, length, count_by}
 use Rattle.std.specs.Prelude.{slice_get, map, drop, nat_eq, if◌then◌else◌}

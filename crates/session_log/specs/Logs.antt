@@ -1,4 +1,4 @@
--- The retained lines of a session with their decoded texts, and texts that are made anew.
+-- The lines that are kept of a session with their decoded texts, and texts that are made anew.
 use Rattle.std.specs.Prelude.{◌≡◌, ◌==◌, ℕ, ◌<◌, Bool, false, List, All, length, map}
 use Rattle.std.specs.List.{list_any, slice_index_or}
 use Rattle.can_choice.specs.Choices.{data_number}

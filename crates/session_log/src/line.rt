@@ -6,7 +6,7 @@ ghost use Rattle.session_log.specs.Logs.{bytes_of, IsNumbered, IsDecoded, Comple
 use smallvec::SmallVec;
 use std::collections::VecDeque;
 
-/// A retained line and its decoded text.
+/// A kept line and its decoded text.
 #[derive(Drop)]
 pub struct Line {
     /// The line. Up to 64 bytes lie in the value itself.
@@ -17,10 +17,10 @@ pub struct Line {
     pub decoded: Vec<u8>,
 }
 
-/// A text for the line at a place.
+/// A line decoded again: its index, and its new text.
 #[derive(Drop)]
 pub struct RedecodedLine {
-    /// The line's place.
+    /// The line's index.
     pub place: usize,
     /// Its decoded text.
     pub text: Vec<u8>,

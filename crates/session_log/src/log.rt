@@ -1,4 +1,4 @@
-//! The retained log.
+//! The session's log.
 ghost use Rattle.std.specs.Prelude.{◌≡◌, ◌<◌, ◌+◌, ◌%◌, ◌^◌, [], ◌∷◌, ◌++◌, IfOk, OnOk, OnErr, All, Some, drop, filter, length};
 ghost use Rattle.std.specs.Prelude.{map, slice_get};
 ghost use Rattle.can_decode.specs.DecodedLines.{Bus};
@@ -17,8 +17,8 @@ use std::collections::VecDeque;
 use std::hash::RandomState;
 use std::marker::Model;
 
-/// The retained lines in order of arrival, each with the number of its frame, and the index of them by their serial numbers, which
-/// stay while older lines go. Contracts see the lines.
+/// The lines that are kept in order of arrival, each with the number of its frame, and the index of them by their serial numbers,
+/// which stay while older lines go. Contracts see the lines.
 #[derive(Drop)]
 pub struct Log {
     // the serial number of the first line
@@ -82,7 +82,7 @@ impl Log {
         &self.lines[place]
     }
 
-    /// Retains a line after the others, and puts it into the index. Where memory is refused, the lines are as they were.
+    /// Keeps a line after the others, and puts it into the index. Where memory is refused, the lines are as they were.
     pub fn retain(&mut self, alloc: Global, line: Line) -> Result<(), Memory>
         requires { IsNumbered line }
         ensures ok { OnOk result (self.new ≡ self.old ++ line ∷ []) }

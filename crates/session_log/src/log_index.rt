@@ -1,4 +1,4 @@
-//! The retained lines by the numbers and by the parameter groups of their data frames.
+//! The lines that are kept by the numbers and by the parameter groups of their data frames.
 ghost use Rattle.std.specs.Prelude.{◌≡◌, [], OnOk, OnErr};
 ghost use Rattle.std.specs.Option.{option_map_or};
 ghost use Rattle.indexmap.specs.IndexMap.{hasher_of};

@@ -12,7 +12,7 @@ use Rattle.session_script.specs.Replies.{Replies}
 abbrev pub longest_line : ℕ
 longest_line = 65536
 
--- no line ends the script for want of memory
+-- no line ends the script because memory ran out
 abbrev pub NeverStops : State → List ℕ → Type 0
 NeverStops state line = ⊥
 

@@ -1,4 +1,4 @@
-//! Rows of tables, named values, float types and multiplexing, and kept statements.
+//! Rows of tables, value descriptions, float types and multiplexing, and statements kept verbatim.
 ghost use Rattle.std.specs.List.{flat_map};
 ghost use Rattle.byte_devices.specs.Outs.{Sends};
 ghost use Rattle.dbc_records.specs.Layout.{layout_text};
@@ -68,7 +68,7 @@ fn send_values_key<W: Sink>(out: &mut Out<'_, W>, row: &ValueRow) -> Result<(), 
     send_signal_key(out, row.number, &row.signal)
 }
 
-/// The line of a signal's named values.
+/// The line of a signal's value descriptions.
 pub struct ValuesLine;
 
 impl Style<ValueRow> for ValuesLine {
@@ -220,7 +220,7 @@ fn send_kept<W: Sink>(out: &mut Out<'_, W>, tokens: &Pieces) -> Result<(), Write
     send_tokens(out, tokens)
 }
 
-/// The line of a kept statement.
+/// The line of a statement kept verbatim.
 pub struct KeptLine;
 
 impl Style<Kept> for KeptLine {

@@ -382,7 +382,7 @@ attribute_neat row is =
     start_close (start_then (start (codes "BA_") refl) (middle_both (text_part row.name is.name)
     (target_part row.target is.target))) (middle_close (value_part row.value is.value) statement_closes)
 
--- ---- kept statements
+-- ---- statements kept verbatim
 
 piece_neat : (bytes : List ℕ) → IsPiece bytes → Line (piece_layout bytes)
 unfolding piece_layout

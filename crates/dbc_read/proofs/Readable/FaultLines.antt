@@ -1,4 +1,4 @@
--- A first fault names a line of its text, and is none of want of memory.
+-- A first fault names a line of its text, and isn't that memory ran out.
 use Rattle.std.proofs.Common.{◌≡◌, ◌≢◌, ℕ, ◌+◌, ◌≤◌, ◌^◌, ◌-◌, Bool, true, false, cond, List, [], ◌∷◌, ◌++◌, Option, Some, None}
 use Rattle.std.proofs.Common.{Result, Ok, Err, ap, subst, ◌∙◌, arith}
 use Rattle.std.specs.Prelude.{codes, nat_le, ◌==◌, ◌&&◌, length}
@@ -24,7 +24,7 @@ use Rattle.dbc_read.specs.Laws.{FaultsAreOfTexts}
 
 -- ---- causes
 
--- it is no want of memory
+-- it isn't that memory ran out
 abbrev NoMemory : {A : Type 0} → Result A Cause → Type 0
 NoMemory (Ok x) = Unit {0}
 NoMemory (Err cause) = cause ≢ causes.Memory

@@ -59,7 +59,7 @@ put_into : {A : Type 0} {r : Reader A} {a : A} {parts : List Part} {May : Cut �
     → Takes r a parts May → add a ≡ made → Takes (r >>= λ a. value (add a)) made parts May
 put_into {A} {r} {a} {parts} {May} {made} add h same = takes_made same (takes_last (λ a. value (add a)) h takes_value)
 
--- no kept statement
+-- no statement kept verbatim
 takes_unkept : (d : Database) {made : Database} {r : Reader Database} {parts : List Part} {May : Cut → Type 0} → NotKept parts
     → Takes r made parts May → Takes (choose_by begins_kept (record_into KeptVerbatim d) r) made parts May
 takes_unkept d {made} {r} {parts} {May} unkept h = record {

@@ -65,7 +65,8 @@ signal_begins : (other : List ℕ) (signal : Signal) {passes : Bool} → bytes_e
     → Opens (has_word other) passes (signal_form signal)
 signal_begins other signal {passes} e = opens_as (signal_form_is signal) (opens_word (codes "SG_") other e)
 
-statement_takes : (statement : Statement) → IsStatement statement → Takes standalone_statement_at statement (form_alone statement) Closed
+statement_takes : (statement : Statement) → IsStatement statement
+    → Takes standalone_statement_at statement (form_alone statement) Closed
 unfolding standalone_statement_at head_layout table_layout table_key values_layout values_key mux_layout mux_key attribute_layout
     attribute_key word_layout items_of
 statement_takes (statements.Head head) is =

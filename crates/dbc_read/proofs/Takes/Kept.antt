@@ -54,7 +54,7 @@ third_opens {test} {passes} {parts} part other P Q so so_other opens tokens cut 
 
 -- ---- statements that aren't kept
 
--- what spells these parts begins no kept statement
+-- what spells these parts begins no statement kept verbatim
 pub record NotKept (parts : List Part) : Type 0 where
   pub not_kept : (tokens : List Token) (cut : Cut) → Spelled parts tokens → begins_kept (tokens ▸▸ cut) ≡ false
 

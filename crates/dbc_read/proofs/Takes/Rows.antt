@@ -54,7 +54,7 @@ unfolding begins_int has_mark has_whole whole_of_number is_number
 semicolon_is_no_int =
     mark_opens (λ bytes. bytes_eq bytes (45 ∷ []) || (bytes_eq bytes (43 ∷ []) || is_whole_number (whole_of_number bytes))) 59 refl
 
--- ---- tables and named values
+-- ---- tables and value descriptions
 
 pub table_takes : (row : TableRow) → IsTableRow row → Takes table_at row (form (Table row)) Anything
 unfolding table_at

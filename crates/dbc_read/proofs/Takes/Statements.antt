@@ -100,7 +100,7 @@ among word words (other ∷ more) e = or_second (bytes_eq word other) (list_any 
     or_second true b e = refl
     or_second false b e = e
 
--- a kept statement has a first word
+-- a statement kept verbatim has a first word
 first_piece : (tokens : List (List ℕ)) → IsTrue (kept_fits tokens) → list_any (bytes_eq (first_of_all tokens)) beginnings ≡ true
 unfolding kept_fits
 first_piece [] fit = absurd cc

@@ -199,7 +199,7 @@ unfolding statement_into object_into value_row_into attribute_row_into begins_ke
     has_attribute_word has_word has_kept_word has_name has_string has_piece is_piece is_string is_name is_keyword starts first_fault
 default_case u d seen has q cut = (default_more d seen has).follows q (worded u (codes "BA_DEF_DEF_") ▸ cut)
 
--- ---- kept statements, by their first word
+-- ---- statements kept verbatim, by their first word
 
 kept_bo_tx_bu : (u : Token) → AgreesFor u (codes "BO_TX_BU_")
 unfolding statement_into object_into value_row_into attribute_row_into begins_kept kept_fits has_object_word has_value_word
@@ -306,7 +306,7 @@ no_token : (c : Class) (p : Pattern) (seen : Seen) (t : Token) → verdict c t s
     ≡ None
 no_token c p seen t e = rw e refl
 
--- a token of a kept statement
+-- a token of a statement kept verbatim
 piece_more : (q : Pattern) (seen : Seen) (t : Token) (cut : Cut) → has_piece t ≡ true → first_fault (grammar.kept_rest then q) seen
     (t ▸ cut) ≡ first_fault (grammar.kept_rest then q) seen cut
 unfolding first_fault
@@ -380,7 +380,7 @@ unfolding statement_into object_into value_row_into attribute_row_into begins_ke
     has_attribute_word has_word has_kept_word has_name has_string has_piece is_piece starts first_fault
 attribute_ends u d t cut e = rw e refl
 
--- ---- named values
+-- ---- value descriptions
 
 values_kept : (u : Token) (d : Database) (t : Token) (cut : Cut) → has_name t ≡ true
     → statement_into d (worded u (codes "VAL_") ▸ (t ▸ cut))

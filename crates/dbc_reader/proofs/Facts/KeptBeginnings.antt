@@ -236,7 +236,7 @@ any_of_four false false true d p q r s f g h k e = third_true p q r _ (h refl)
 any_of_four false false false true p q r s f g h k e = fourth_true p q r s (k refl)
 any_of_four false false false false p q r s f g h k e = absurd cc
 
--- the tokens that a kept statement keeps are those of one
+-- the tokens that a statement kept verbatim keeps are those of one
 pub pieces_fit : (tokens : List (List ℕ)) (cut rest : Cut) → begins_kept cut ≡ true → pieces_from [] cut ≡ Ok (tokens, rest)
     → IsTrue (kept_fits tokens)
 unfolding begins_kept kept_fits

@@ -53,7 +53,7 @@ entries_form : (entries : List Entry) → of_layout (flat_map entry_layout entri
 unfolding items_of entry_layout
 entries_form entries = of_layout-items entry_layout entries
 
--- ---- tables and named values
+-- ---- tables and value descriptions
 
 pub table_form : (row : TableRow) → form (Table row) ≡ Is (Word (codes "VAL_TABLE_")) ∷ Is (Name row.name)
     ∷ (flat_map entry_form row.entries ++ Is (Mark 59) ∷ [])

@@ -1,4 +1,4 @@
--- What the readers of rows, comments, attributes and kept statements read is proper.
+-- What the readers of rows, comments, attributes and statements kept verbatim read is proper.
 use Rattle.std.proofs.Common.{◌≡◌, ℕ, ◌^◌, ◌-◌, true, [], ◌∷◌, All, length, IfSome, Ok, refl, subst}
 use Rattle.std.specs.Prelude.{codes, nat_le, IsTrue}
 use Rattle.std.proofs.lemmas.List.Elements.{All-nil, All-push}
@@ -178,7 +178,7 @@ message_attribute_proper =
       proper = record { name = is_text; target = is_target.proper; value = is_given };
     })
 
--- ---- kept statements
+-- ---- statements kept verbatim
 
 kept_holds : (cut : Cut) (x : Kept × Cut) → begins_kept cut ≡ true → kept_at cut ≡ Ok x → IsKept x.0
 unfolding kept_at

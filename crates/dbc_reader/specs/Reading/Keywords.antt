@@ -16,7 +16,7 @@ keyword_words =
     ∷ (codes "CM_", keywords.Comment) ∷ (codes "BA_DEF_", keywords.Definition) ∷ (codes "BA_DEF_DEF_", keywords.Default)
     ∷ (codes "BA_", keywords.Attribute) ∷ []
 
--- by one of these words, or by one of the words of kept statements
+-- by one of these words, or by one of the words of statements kept verbatim
 abbrev pub keyword_among : List (List ℕ × Keyword) → List ℕ → Option Keyword
 keyword_among [] word = if is_kept_word word then Some keywords.Kept else None
 keyword_among (one ∷ others) word = if bytes_eq word one.0 then Some one.1 else keyword_among others word

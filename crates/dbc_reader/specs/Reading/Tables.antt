@@ -1,4 +1,4 @@
--- Reading of tables of named values, float types and extended multiplexing.
+-- Reading of tables of value descriptions, float types and extended multiplexing.
 -- Source: the DBC file format, "Value Table Definitions", "Signal Value Descriptions", "Signal Definitions"
 -- (signal_extended_value_type) and "Extended Multiplexing".
 use Rattle.std.specs.Prelude.{◌^◌, ◌-◌, List, [], ◌∷◌, ◌++◌, codes}

@@ -3,7 +3,7 @@ use Rattle.can_layout.specs.Pictures.{picture_of}
 use Rattle.can_layout.specs.Meters.{with_picture, repeated}
 use Rattle.can_layout.proofs.drawing.pictures_of.Given as goal
 
--- the pictures of the messages so far, each counted
+-- the diagrams of the messages so far, each counted
 abbrev pub invariant-loop-message : goal.invariant-loop-message
 invariant-loop-message g l = record {
   pictures : map (λ picture. picture.items) l.pictures.items ≡ map (picture_of (g.L.Lookup.whole l.lookup))

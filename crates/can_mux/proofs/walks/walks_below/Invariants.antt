@@ -3,6 +3,6 @@ use Rattle.std.specs.List.{range_with_len}
 use Rattle.can_mux.specs.Walks.{walk_of}
 use Rattle.can_mux.proofs.walks.walks_below.Given as goal
 
--- the ways up from the signals so far
+-- the multiplexing chains from the signals so far
 abbrev pub invariant-loop-place : goal.invariant-loop-place
 invariant-loop-place l = l.walks.items ≡ map (walk_of l.aboves) (range_with_len 0 l.place)

@@ -9,5 +9,6 @@ invariant_of-result c = All-permutation (λ hashed. hashed.hash ≡ hashed_bytes
     c.in_ok-hashed_all.ensures.hashes
 
 pub returns : goal.returns
-returns c = subst (λ (l : List (List ℕ)). IsPermutation l (map (λ hashed. hashed.key.now) c.of.result)) c.in_ok-hashed_all.ensures.keys
+returns c = subst (λ (l : List (List ℕ)). IsPermutation l (map (λ hashed. hashed.key.now) c.of.result))
+    c.in_ok-hashed_all.ensures.keys
     (IsPermutation-map (λ hashed. hashed.key.now) _ _ c.of.ensures)
