@@ -87,6 +87,7 @@ fn of_records(rt: HostRuntime) -> Result<(), Fail> {
     let Some(comment) = Comment::new(Target::Message(5), text) else {
         return Err(Fail::from("no comment"));
     };
+    assert!(rt; comment.key().target() == TargetRef::Message(5));
     let mut keys = EntryKeys::new(alloc);
     assert_eq!(rt; keys.add(comment.key()), Ok(true));
     assert_eq!(rt;

@@ -25,4 +25,6 @@ mod ready;
 #[cfg(test)]
 mod rows;
 #[cfg(test)]
+mod visiting;
+#[cfg(test)]
 mod words;
