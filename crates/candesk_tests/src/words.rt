@@ -1,68 +1,71 @@
 //! What no contract says: that words are read where memory is there, and what `--version` answers.
 
 use candesk_words::{Command, DumpForm, Job, Keep, LogForm, NoJob, ReportForm, job_of};
-use std::alloc::Global;
 use std::test::Fail;
-
-// The command that the words name, on the file `f`.
-fn command(alloc: Global, words: &[&str]) -> Option<Command> {
-    match job_of(alloc, words) {
-        Ok(Job { command, file }) if file.as_str() == "f" => Some(command),
-        _ => None,
-    }
-}
-
-fn decode(short: bool, form: LogForm) -> Option<Command> {
-    Some(Command::Decode { short, form })
-}
 
 #[test]
 fn words(rt: HostRuntime) -> Result<(), Fail> {
-    let alloc = rt.alloc();
-    let file = job_of(alloc, ["print", "--", "--f"].as_slice());
+    let job = job_of(rt.alloc(), ["print", "--", "--f"].as_slice());
     assert!(rt;
-        matches!(&file, Ok(Job { command: Command::Print, file }) if file.as_str() == "--f")
+        matches!(&job, Ok(Job { command: Command::Print, file }) if file.as_str() == "--f")
     );
-    let words = ["decode", "--short", "f"];
-    assert_eq!(rt;
-        command(alloc, words.as_slice()),
-        decode(true, LogForm::Lines)
+    let job = job_of(rt.alloc(), ["decode", "--short", "f"].as_slice());
+    assert!(rt;
+        matches!(&job, Ok(Job { command: Command::Decode { short: true, form: LogForm::Lines }, file }) if file.as_str() == "f")
     );
-    let words = ["decode", "f", "--json"];
-    assert_eq!(rt;
-        command(alloc, words.as_slice()),
-        decode(false, LogForm::Objects)
+    let job = job_of(rt.alloc(), ["session", "f", "--keep", "7"].as_slice());
+    assert!(rt;
+        matches!(&job, Ok(Job { command: Command::Session { keep: Keep::Last(count), .. }, .. }) if count.get() == 7)
     );
-    let words = ["decode", "--csv", "f"];
-    assert_eq!(rt;
-        command(alloc, words.as_slice()),
-        decode(false, LogForm::Rows)
-    );
-    let words = ["check", "f", "--json"];
-    assert_eq!(rt;
-        command(alloc, words.as_slice()),
-        Some(Command::Check(ReportForm::Objects))
-    );
-    let words = ["explain", "f"];
-    assert_eq!(rt;
-        command(alloc, words.as_slice()),
-        Some(Command::Explain(ReportForm::Lines))
-    );
-    let words = ["dump", "f", "--at"];
-    assert_eq!(rt;
-        command(alloc, words.as_slice()),
-        Some(Command::Dump(DumpForm::Locations))
-    );
-    let words = ["session", "f", "--keep", "7"];
+    let job = job_of(rt.alloc(), ["decode", "f", "--json"].as_slice());
     assert!(rt;
         matches!(
-            command(alloc, words.as_slice()),
-            Some(Command::Session { short: false, keep: Keep::Last(count) }) if count.get() == 7
+            &job,
+            Ok(Job {
+                command: Command::Decode {
+                    form: LogForm::Objects,
+                    ..
+                },
+                ..
+            })
         )
     );
-    let both = job_of(alloc, ["decode", "--csv", "--json", "f"].as_slice());
+    let job = job_of(rt.alloc(), ["decode", "--csv", "f"].as_slice());
+    assert!(rt;
+        matches!(
+            &job,
+            Ok(Job {
+                command: Command::Decode {
+                    form: LogForm::Rows,
+                    ..
+                },
+                ..
+            })
+        )
+    );
+    let job = job_of(rt.alloc(), ["check", "f", "--json"].as_slice());
+    assert!(rt;
+        matches!(
+            &job,
+            Ok(Job {
+                command: Command::Check(ReportForm::Objects),
+                ..
+            })
+        )
+    );
+    let job = job_of(rt.alloc(), ["dump", "f", "--at"].as_slice());
+    assert!(rt;
+        matches!(
+            &job,
+            Ok(Job {
+                command: Command::Dump(DumpForm::Locations),
+                ..
+            })
+        )
+    );
+    let both = job_of(rt.alloc(), ["decode", "--csv", "--json", "f"].as_slice());
     assert!(rt; matches!(&both, Err(NoJob::Usage)));
-    let version = job_of(alloc, ["--version"].as_slice());
+    let version = job_of(rt.alloc(), ["--version"].as_slice());
     assert!(rt;
         matches!(&version, Err(NoJob::Help(text)) if text.as_str().starts_with("candesk 1.0.0 ("))
     );
