@@ -1,4 +1,4 @@
-"""What the objects of `dump --json` say, in the words of `dump` and of `print`."""
+"""The contents of `dump --json`'s objects, in the words of `dump` and of `print`."""
 
 from __future__ import annotations
 
@@ -31,7 +31,7 @@ def objects(text: bytes) -> tuple[list[Item], Item]:
 
 
 def cell(places: list[int]) -> str:
-    """What is drawn at a bit: nothing, the place of its signal, or that it has several."""
+    """What the diagram has at a bit: nothing, the index of its signal, or that it has several."""
     return "." if not places else str(places[0]) if len(places) == 1 else "*"
 
 
@@ -47,20 +47,20 @@ def place_of(signal: Item) -> str:
     return f"{signal['start']}|{signal['length']}@{order}{'-' if signal['signed'] else '+'}"
 
 
-def legend(place: int, name: str, signal: Item) -> str:
+def legend(index: int, name: str, signal: Item) -> str:
     refused = "" if signal["refused"] is None else f" ?{signal['refused']}"
     if signal["chain"] is None:
-        return f"{place:4} {name} {place_of(signal)}{refused} never"
+        return f"{index:4} {name} {place_of(signal)}{refused} never"
     links = [f" when {link['switch']} " + ",".join("-".join(ends) for ends in link["ranges"]) for link in signal["chain"]]
-    return f"{place:4} {name} {place_of(signal)}{refused}" + "".join(links)
+    return f"{index:4} {name} {place_of(signal)}{refused}" + "".join(links)
 
 
 def picture(message: Item) -> Iterator[str]:
     yield f"Message {message['name']} {message['number']} {message['size']}"
     signals = message["signals"]
     yield from grid(int(message["size"]), [{int(bit) for bit in signal["positions"]} for signal in signals.values()])
-    for place, (name, signal) in enumerate(signals.items()):
-        yield legend(place, name, signal)
+    for index, (name, signal) in enumerate(signals.items()):
+        yield legend(index, name, signal)
 
 
 def pictures(messages: list[Item]) -> bytes:
@@ -117,8 +117,8 @@ def target_of(item: Item) -> bytes:
 
 def attribute(item: Item, target: bytes) -> bytes:
     value = item["value"]
-    told = value.encode() if isinstance(value, Number) else text_in(item, "value")
-    return b"BA_ %s%s %s;\n" % (text_in(item, "name"), target, told)
+    value_text = value.encode() if isinstance(value, Number) else text_in(item, "value")
+    return b"BA_ %s%s %s;\n" % (text_in(item, "name"), target, value_text)
 
 
 def remarks(item: Item, target: bytes) -> Iterator[bytes]:

@@ -14,7 +14,7 @@ import threading
 import time
 from typing import Any
 
-from tool_trying import path_of
+from tool_runs import ToolCase, path_of
 
 Object = dict[str, Any]
 
@@ -23,7 +23,7 @@ PATIENCE = 20
 PUBLISHED = "textDocument/publishDiagnostics"
 URI = "file:///work/a.dbc"
 LINE_END = re.compile("\r\n|\n|\r")
-# what an editor of today says that it understands
+# the capabilities of an editor of today
 CAPABILITIES: Object = {
     "textDocument": {
         "publishDiagnostics": {"relatedInformation": True},
@@ -181,7 +181,7 @@ class Editor:
     # ---- documents
 
     def open(self, text: str, uri: str = URI) -> list[Object]:
-        """Opens a document, and answers its diagnostics."""
+        """Opens a document, and returns its diagnostics."""
         self.version, self.text = self.version + 1, text
         item = {"uri": uri, "languageId": "dbc", "version": self.version, "text": text}
         self.note("textDocument/didOpen", {"textDocument": item})
@@ -192,7 +192,7 @@ class Editor:
         self.note("textDocument/didChange", {"textDocument": {"uri": uri, "version": self.version}, "contentChanges": changes})
 
     def replace(self, text: str, uri: str = URI) -> list[Object]:
-        """Sends a whole text, and answers its diagnostics."""
+        """Sends a whole text, and returns its diagnostics."""
         self.text = text
         self.change([{"text": text}], uri)
         return self.diagnostics(uri)
@@ -234,3 +234,18 @@ class Editor:
     def kill(self) -> None:
         self.process.kill()
         self.process.wait()
+
+
+class EditorCase(ToolCase):
+    """A test with a server of its own, which has to end without a fault."""
+
+    editor: Editor
+
+    def setUp(self) -> None:
+        super().setUp()
+        self.editor = Editor(self.program)
+
+    def tearDown(self) -> None:
+        ended = self.editor.end()
+        self.check_true("the server ends", ended == (0, b""), ended)
+        super().tearDown()

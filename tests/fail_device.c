@@ -31,23 +31,23 @@ static struct device other = {"FAIL_FILE", 0};
 static struct device output = {"FAIL_WRITE", 0};
 
 /* The number that the environment tells under a name, or 0. */
-static unsigned long told(const char *name) {
+static unsigned long setting(const char *name) {
     const char *number = getenv(name);
     return number == NULL ? 0 : strtoul(number, NULL, 10);
 }
 
 static void note_met(void) {
-    const char *met = getenv("DEVICE_MET");
-    if (met == NULL)
+    const char *reached = getenv("DEVICE_MET");
+    if (reached == NULL)
         return;
-    int file = open(met, O_CREAT | O_WRONLY, 0600);
+    int file = open(reached, O_CREAT | O_WRONLY, 0600);
     if (file >= 0)
         close(file);
 }
 
 /* Whether the next call of the device fails. */
 static int fails(struct device *device) {
-    unsigned long first = told(device->fails);
+    unsigned long first = setting(device->fails);
     if (++device->calls < first || first == 0)
         return 0;
     note_met();
@@ -55,14 +55,14 @@ static int fails(struct device *device) {
 }
 
 static size_t moved(size_t count) {
-    return told("BYTE_BY_BYTE") && count > 1 ? 1 : count;
+    return setting("BYTE_BY_BYTE") && count > 1 ? 1 : count;
 }
 
 static void cut_file(void) {
     const char *path = getenv("CUT_FILE");
-    if (path != NULL && other.calls == told("CUT_AT")) {
+    if (path != NULL && other.calls == setting("CUT_AT")) {
         note_met();
-        if (truncate(path, (off_t)told("CUT_TO")) != 0)
+        if (truncate(path, (off_t)setting("CUT_TO")) != 0)
             abort();
     }
 }
@@ -91,7 +91,7 @@ ssize_t write(int file, const void *bytes, size_t count) {
         return next(file, bytes, count);
     if (fails(&output)) {
         errno = EIO;
-        return told("WRITES_NONE") ? 0 : -1;
+        return setting("WRITES_NONE") ? 0 : -1;
     }
     return next(file, bytes, moved(count));
 }

@@ -1,4 +1,4 @@
-"""What the objects of `decode --json` say, in the words of `decode`, and the rows of `decode --csv` that tell the same."""
+"""The contents of `decode --json`'s objects, in the words of `decode`, and the rows of `decode --csv` for them."""
 
 from __future__ import annotations
 
@@ -14,11 +14,11 @@ FRAME = re.compile(rb"\(([^ \t]*)\)[ \t]+([^ \t]+)[ \t]+([0-9A-Fa-f]+)#([^ \t]*)
 
 
 class Wrong(Exception):
-    """An object that doesn't say what its line says."""
+    """An object that differs from its line."""
 
 
 def members_once(pairs: list[tuple[str, Any]]) -> dict[str, Any]:
-    """An object, of which each key stands once."""
+    """An object in which each key occurs once."""
     found = dict(pairs)
     if len(found) != len(pairs):
         raise Wrong(f"a key twice: {[key for key, _ in pairs]}")
@@ -48,14 +48,14 @@ def on_a_line(text: bytes) -> bytes:
     return text.replace(b"\r", b" ").replace(b"\n", b" ")
 
 
-def signal_text(name: str, told: dict[str, Any]) -> bytes:
+def signal_text(name: str, signal: dict[str, Any]) -> bytes:
     """`Speed: 20.5 km/h`"""
-    if "refused" in told:
-        return b"%s: ?%s" % (name.encode(), told["refused"].encode())
-    if "name" in told:
-        return b"%s: %s" % (name.encode(), on_a_line(bytes_of(told, "name")))
-    unit = b" " + on_a_line(bytes_of(told, "unit")) if "unit" in told else b""
-    return b"%s: %s%s" % (name.encode(), number(told["value"]), unit)
+    if "refused" in signal:
+        return b"%s: ?%s" % (name.encode(), signal["refused"].encode())
+    if "name" in signal:
+        return b"%s: %s" % (name.encode(), on_a_line(bytes_of(signal, "name")))
+    unit = b" " + on_a_line(bytes_of(signal, "unit")) if "unit" in signal else b""
+    return b"%s: %s%s" % (name.encode(), number(signal["value"]), unit)
 
 
 def group_text(item: dict[str, Any]) -> bytes:
@@ -67,8 +67,8 @@ def group_text(item: dict[str, Any]) -> bytes:
     return b"[p%d s%d%s]" % (group["priority"], group["source"], destination)
 
 
-def said(item: dict[str, Any]) -> bytes:
-    """What the frame says."""
+def decoded_text(item: dict[str, Any]) -> bytes:
+    """The text after `::`."""
     cause: str | None = item.get("not_decoded")
     if cause == "wrong size":
         return b"Wrong data size: %d instead of %d bytes" % (len(item["data"]) // 2, item["size"])
@@ -76,7 +76,7 @@ def said(item: dict[str, Any]) -> bytes:
         return b"Unknown frame id %d (0x%x)" % (item["id"], item["id"])
     if cause is not None:
         return cause.capitalize().encode()
-    signals = [signal_text(name, told) for name, told in item["signals"].items()]
+    signals = [signal_text(name, signal) for name, signal in item["signals"].items()]
     return b"%s%s(%s)" % (item["message"].encode(), group_text(item), b", ".join(signals))
 
 
@@ -96,29 +96,29 @@ def group_of(identifier: int) -> dict[str, int]:
 
 
 def decoded(item: dict[str, Any], body: bytes) -> bytes:
-    """The decoded line that an object tells for a line of a log."""
+    """The decoded line for a line of a log, from its object."""
     if "line" in item:
         return bytes_of(item, "line")
     found = FRAME.fullmatch(body)
     if found is None:
         raise Wrong(f"a frame of {body!r}")
     stamp, interface, identifier, frame, rest = found.groups()
-    number_told = int(identifier, 16) & 0x1FFFFFFF
+    identifier_number = int(identifier, 16) & 0x1FFFFFFF
     kind = kind_of(identifier, frame)
-    told = [number(item["time"]), bytes_of(item, "interface"), item["id"], bytes_of(item, "rest") if "rest" in item else b""]
-    wanted = [re.sub(rb"^0+(?=\d)", b"", stamp), interface, number_told, rest or b""]
-    told += [item["extended"], item["kind"], "data" in item]
+    values = [number(item["time"]), bytes_of(item, "interface"), item["id"], bytes_of(item, "rest") if "rest" in item else b""]
+    wanted = [re.sub(rb"^0+(?=\d)", b"", stamp), interface, identifier_number, rest or b""]
+    values += [item["extended"], item["kind"], "data" in item]
     wanted += [len(identifier) == 8, kind, kind in ("data", "fd")]
-    if told != wanted:
-        raise Wrong(f"{told} of {body!r}")
+    if values != wanted:
+        raise Wrong(f"{values} of {body!r}")
     data = bytes.fromhex(item["data"]) if "data" in item else None
     if data is not None and data != bytes.fromhex(re.sub(rb"^#.|\.", b"", frame.split(b"_")[0]).decode()):
         raise Wrong(f"{data!r} of {body!r}")
-    if "j1939" in item and item["j1939"] != group_of(number_told):
+    if "j1939" in item and item["j1939"] != group_of(identifier_number):
         raise Wrong(f"{item['j1939']} of {body!r}")
-    if "number" in item and "j1939" not in item and item["number"] != number_told | item["extended"] << 31:
+    if "number" in item and "j1939" not in item and item["number"] != identifier_number | item["extended"] << 31:
         raise Wrong(f"message {item['number']} of {body!r}")
-    return body + b" :: " + said(item)
+    return body + b" :: " + decoded_text(item)
 
 
 # ---- rows of CSV
@@ -127,12 +127,12 @@ HEADER = ["time", "interface", "id", "message", "signal", "value", "unit", "name
 
 
 def rows_of(item: dict[str, Any]) -> list[list[str]]:
-    """The rows that tell the signals of an object."""
+    """The rows of an object's signals."""
     rows = []
-    for name, told in item.get("signals", {}).items():
-        value = f"?{told['refused']}" if "refused" in told else number(told["value"]).decode()
+    for name, signal in item.get("signals", {}).items():
+        value = f"?{signal['refused']}" if "refused" in signal else number(signal["value"]).decode()
         came = [number(item["time"]).decode(), item["interface"], str(item["id"])]
-        rows.append([*came, item["message"], name, value, told.get("unit", ""), told.get("name", "")])
+        rows.append([*came, item["message"], name, value, signal.get("unit", ""), signal.get("name", "")])
     return rows
 
 

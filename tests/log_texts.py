@@ -1,10 +1,13 @@
-"""A database whose messages show each way in which a line is told to other programs, and lines of its log at random."""
+"""A database whose messages show each form of an object and a row, random lines of its log, and the examples that have a log."""
 
 from __future__ import annotations
 
+import os
 import random
 
-# group messages of both kinds of PDU, all causes, value descriptions, units that are UTF-8 and Latin-1 and have control bytes,
+from test_support import EXAMPLES
+
+# J1939 messages of both kinds of PDU, all causes, value descriptions, units that are UTF-8 and Latin-1 and have control bytes,
 # and 64 bits
 TEXT = (
     b"BU_: E\n"
@@ -29,7 +32,7 @@ TEXT = (
 
 
 def at_random(dice: random.Random, count: int) -> bytes:
-    """Lines of a log, most with numbers of the database."""
+    """Random lines of a log, most with CAN identifiers of the database."""
     identifiers = [b"18FEF131", b"0CEC21FE", b"123", b"124", b"125", b"126", b"127", b"128", b"129", b"7FF", b"00000123"]
     lines = []
     for _ in range(count):
@@ -44,3 +47,13 @@ def at_random(dice: random.Random, count: int) -> bytes:
             line = line[:at] + bytes([dice.choice([it for it in range(256) if it != 10])]) + line[at + 1 :]
         lines.append(line)
     return b"\n".join(lines) + b"\n"
+
+
+def logged_examples() -> list[tuple[str, str, str]]:
+    """The examples that have a log: the name of each, its database and its log."""
+    found = []
+    for name in sorted(os.listdir(EXAMPLES)):
+        log = os.path.join(EXAMPLES, name.replace(".dbc", ".log"))
+        if name.endswith(".dbc") and os.path.exists(log):
+            found.append((name, os.path.join(EXAMPLES, name), log))
+    return found

@@ -17,9 +17,9 @@ static int is_refused(void) {
         return 0;
     if (++allocations != strtoul(number, NULL, 10) && strcmp(number, "all") != 0)
         return 0;
-    const char *met = getenv("REFUSE_ALLOCATION_MET");
-    if (met != NULL) {
-        int file = open(met, O_CREAT | O_WRONLY, 0600);
+    const char *reached = getenv("REFUSE_ALLOCATION_MET");
+    if (reached != NULL) {
+        int file = open(reached, O_CREAT | O_WRONLY, 0600);
         if (file >= 0)
             close(file);
     }
