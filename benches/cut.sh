@@ -1,6 +1,6 @@
 #!/bin/sh
-# How fast a text is cut into tokens: the best MB per second of five runs over a generated database text of 20 MB, and
-# of `wc -w` on the same file. Needs rt and python3. The program that cuts is made in a temporary folder, over copies of
+# How fast a text is split into tokens: the best MB per second of five runs over a generated database text of 20 MB, and
+# of `wc -w` on the same file. Needs rt and python3. The program for this is built in a temporary folder, with copies of
 # the crates; proving it takes a minute or two.
 set -eu
 top=$(cd "$(dirname "$0")/.." && pwd)
@@ -16,7 +16,7 @@ echo "cut_speed: dbc_tokens" >> "$work/crates.txt"
 cp "$top/HANDLES" "$work/"
 
 cat > "$work/crates/cut_speed/src/main.rt" << 'PROGRAM'
-//! Cuts the text on standard input five times, and prints for each the number of tokens and the nanoseconds.
+//! Splits the text on standard input five times, and prints for each time the number of tokens and the nanoseconds.
 #![tactic(auto)]
 
 use dbc_tokens::tokens;

@@ -1,5 +1,5 @@
 #!/usr/bin/env bash
-# How fast a log is decoded: lines per second over 1,000,000 lines of the example, whose database has one message, the best
+# How fast a log is decoded: lines per second over 1,000,000 lines of the example, whose database has one message; the best
 # of five runs.
 set -eu
 root=$(cd "$(dirname "$(readlink -f "$0")")/.." && pwd)

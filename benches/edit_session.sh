@@ -1,12 +1,12 @@
 #!/usr/bin/env bash
-# How long an edit of a session takes, beside a plain reader and decoder in Rust (`plain/`) that do all of it anew: milliseconds of
-# processor time for one edit, the mean of twenty, with databases of 100, 1,000, 10,000 and 65,000 messages of four signals with
-# named values and no log, and its ratio to the plain reader's reading of the edited text; and with 1,000 messages and 1,000,000
-# lines, of 1,000 numbers and of one, nanoseconds for a line that is retained and for one that an edit touches, and their ratios to
-# the plain decoder's for a line of that log. Of each run the least of several rounds. Needs rustc and python3. Times go with the
-# machine, ratios less so.
+# How long an edit of a session takes, compared with a plain reader and decoder in Rust (`plain/`) that do everything again:
+# processor milliseconds for one edit, the mean of twenty, with databases of 100, 1,000, 10,000 and 65,000 messages of four signals
+# with value descriptions and no log, and the ratio to the plain reader's time for the edited text; and with 1,000 messages and
+# 1,000,000 lines, with 1,000 identifiers and with one, nanoseconds for a line that is kept and for one that an edit touches, and
+# their ratios to the plain decoder's time for a line of that log. Each figure is the least of several rounds. Needs rustc and
+# python3. Times depend on the machine, ratios less so.
 #
-#     edit_session.sh [PROGRAM [ROUNDS]]      5 rounds, where they aren't said
+#     edit_session.sh [PROGRAM [ROUNDS]]      5 rounds by default
 set -eu
 root=$(cd "$(dirname "$(readlink -f "$0")")/.." && pwd)
 work=$(mktemp -d)
@@ -34,15 +34,15 @@ def database(count):
     lines = ["BU_: Ecu"]
     for number in numbers:
         lines.append("BO_ %d Message%d: 8 Ecu" % (number, number % 2**31))
-        for place in range(4):
-            lines.append(' SG_ Signal%d : %d|16@1+ (0.5,-40) [0|0] "km/h" Ecu' % (place, 16 * place))
-    lines += ['VAL_ %d Signal%d 0 "off" 1 "on" ;' % (number, place) for number in numbers for place in range(4)]
+        for index in range(4):
+            lines.append(' SG_ Signal%d : %d|16@1+ (0.5,-40) [0|0] "km/h" Ecu' % (index, 16 * index))
+    lines += ['VAL_ %d Signal%d 0 "off" 1 "on" ;' % (number, index) for number in numbers for index in range(4)]
     return "\n".join(lines) + "\n"
 
 
-def write(path, what):
+def write(path, content):
     with open(path, "w") as file:
-        file.write(what)
+        file.write(content)
 
 
 def once(words, source):
@@ -82,15 +82,15 @@ for numbers in (1000, 1):
     decoded = 1e9 * least([plain, "decode", text], log) / LINES
     commands = "".join("log " + frame for frame in frames)
     kept = session(commands)
-    retained = 1e9 * (kept - opened) / LINES
+    kept_line = 1e9 * (kept - opened) / LINES
     edited = session(commands + EDIT * EDITS) - kept
     tables = session(commands + TABLE * EDITS) - kept
     touched = 1e9 * (edited - (unlogged - opened)) / EDITS / (LINES // numbers)
     print("%s lines of %d numbers, the plain decoder %.0f ns a line:" % (format(LINES, ","), numbers, decoded))
-    print("    a line retained %.0f ns: ratio %.2f" % (retained, retained / decoded))
+    print("    a line retained %.0f ns: ratio %.2f" % (kept_line, kept_line / decoded))
     print("    an edit that touches %s of them %.1f ms" % (format(LINES // numbers, ","), 1000 * edited / EDITS))
     print("    one that touches none %.1f ms" % (1000 * tables / EDITS))
-    # (of few lines the difference of two edits says nothing)
+    # (with few lines the difference of two edits means nothing)
     if numbers == 1:
         print("    a line touched %.0f ns: ratio %.2f" % (touched, touched / decoded))
 PYTHON

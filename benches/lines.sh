@@ -1,9 +1,9 @@
 #!/usr/bin/env bash
-# How fast a log is decoded, beside a plain decoder in Rust (`plain/`): nanoseconds of processor time for a line, and the ratio of
-# both, with a database of one message of one signal, one of a car, and one of J1939 groups; of each the least of several rounds.
-# What both write is compared first. Needs rustc and python3. Times go with the machine, ratios less so.
+# How fast a log is decoded, compared with a plain decoder in Rust (`plain/`): processor nanoseconds for a line, and the ratio of
+# both, with a database of one message of one signal, one of a car, and one of J1939 messages; each figure is the least of several
+# rounds. The outputs of both are compared first. Needs rustc and python3. Times depend on the machine, ratios less so.
 #
-#     lines.sh [PROGRAM [LINES [ROUNDS]]]      500,000 lines and 5 rounds, where they aren't said
+#     lines.sh [PROGRAM [LINES [ROUNDS]]]      500,000 lines and 5 rounds by default
 set -eu
 root=$(cd "$(dirname "$(readlink -f "$0")")/.." && pwd)
 work=$(mktemp -d)

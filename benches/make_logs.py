@@ -1,10 +1,10 @@
 #!/usr/bin/env python3
 """Databases with logs, to measure how fast logs are decoded. The same call gives the same bytes.
 
-    make_logs.py FOLDER [LINES]      1,000,000 lines a log, where their number isn't said
+    make_logs.py FOLDER [LINES]      1,000,000 lines in a log by default
 
-Each is a pair of files in the folder: `small` has one message of one signal, `car` 100 messages of 8 to 20 signals, in both orders
-of bytes, with named values and plain and extended multiplexing, `j1939` 60 group messages from 16 source addresses.
+Each is a pair of files in the folder: `small` has one message of one signal, `car` 100 messages of 8 to 20 signals, in both byte
+orders, with value descriptions and plain and extended multiplexing, `j1939` 60 J1939 messages from 16 source addresses.
 """
 
 import os
@@ -28,7 +28,7 @@ def intel_bits(start, length):
 
 
 def motorola_bits(start, length):
-    """The places of the bits from the highest one on, which is where the signal begins."""
+    """The positions of the bits from the most significant one, which is the start bit."""
     bits = []
     for _ in range(length):
         bits.append(start)
@@ -39,14 +39,14 @@ def motorola_bits(start, length):
 class Layout:
     """Places signals into the free bits of a message."""
 
-    def __init__(self, chance, size, used=()):
-        self.chance, self.size, self.used = chance, size, set(used)
+    def __init__(self, chance, length, used=()):
+        self.chance, self.length, self.used = chance, length, set(used)
 
     def place(self, length, is_intel):
         for _ in range(60):
-            start = self.chance.randrange(8 * self.size)
+            start = self.chance.randrange(8 * self.length)
             bits = intel_bits(start, length) if is_intel else motorola_bits(start, length)
-            if max(bits) < 8 * self.size and not self.used & set(bits):
+            if max(bits) < 8 * self.length and not self.used & set(bits):
                 self.used |= set(bits)
                 return start
         return None
@@ -58,17 +58,17 @@ def limits(length, is_signed, factor, offset):
     return "|".join(format(end.normalize(), "f") for end in sorted(ends))
 
 
-def signal(name, tag, field, scale, unit, receiver="Vector__XXX"):
-    """The line of a signal; its field is start, length, whether it is Intel's, and whether it is signed."""
+def signal(name, indicator, field, scale, unit, receiver="Vector__XXX"):
+    """The line of a signal; its field is start, length, whether it is Intel (little-endian), and whether it is signed."""
     start, length, is_intel, is_signed = field
     return ' SG_ %s %s: %d|%d@%d%s (%s,%s) [%s] "%s" %s' % (
-        name, tag + " " if tag else "", start, length, is_intel, "-" if is_signed else "+", *scale,
+        name, indicator + " " if indicator else "", start, length, is_intel, "-" if is_signed else "+", *scale,
         limits(length, is_signed, *scale), unit, receiver,
     )  # fmt: skip
 
 
 def write_log(path, lines, seed, pick):
-    """A log whose frames `pick` chooses: it gives so many identifiers. Each frame has eight bytes."""
+    """Writes a log whose identifiers come from `pick`, which returns as many as it is asked for. Each frame has eight bytes."""
     chance = random.Random(seed)
     now = 1_700_000_000_000_000
     with open(path, "w", 1 << 20) as file:
@@ -92,30 +92,30 @@ def small(folder, lines):
 
 
 class Car:
-    """The text of a car's messages, as it is put together."""
+    """The text of a car's messages, as it is built."""
 
     def __init__(self):
         self.chance = random.Random(2)
-        self.nodes = ["ECU%d" % place for place in range(12)]
+        self.nodes = ["ECU%d" % index for index in range(12)]
         self.text, self.values, self.muxes, self.comments, self.attributes = [], [], [], [], []
         self.count = 0
 
     def field(self, layout, is_small):
-        """Start, length and order of a signal that fits, or None."""
+        """Start, length and byte order of a signal that fits, or None."""
         chance, one = self.chance, self.chance.random()
         if is_small or one < 0.5:
             length = chance.choice([1, 1, 2, 2, 3, 4])
         else:
             length = chance.choice([5, 7, 8, 8, 10, 12]) if one < 0.9 else 16
         is_intel = chance.random() < 0.5
-        for size in (length, 1):
-            start = layout.place(size, is_intel)
+        for bits in (length, 1):
+            start = layout.place(bits, is_intel)
             if start is not None:
-                return start, size, is_intel
+                return start, bits, is_intel
         return None
 
-    def add(self, number, layout, tag, is_small=False):
-        """Adds a signal, and gives its name, or None where none fits."""
+    def add(self, number, layout, indicator, is_small=False):
+        """Adds a signal, and returns its name, or None if none fits."""
         chance, field = self.chance, self.field(layout, is_small)
         if field is None:
             return None
@@ -126,17 +126,17 @@ class Car:
         has_names = length <= 4 and chance.random() < 0.45
         scale = ("1", "0") if has_names or length < 3 else (chance.choice(FACTORS), chance.choice(OFFSETS))
         unit = "" if has_names else chance.choice(UNITS)
-        self.text.append(signal(name, tag, (*field, is_signed), scale, unit, chance.choice(self.nodes)))
+        self.text.append(signal(name, indicator, (*field, is_signed), scale, unit, chance.choice(self.nodes)))
         if has_names:
-            named = ['%d "%s state %d"' % (value, chance.choice(WORDS), value) for value in reversed(range(1 << length))]
-            self.values.append("VAL_ %d %s %s ;" % (number, name, " ".join(named)))
+            described = ['%d "%s state %d"' % (value, chance.choice(WORDS), value) for value in reversed(range(1 << length))]
+            self.values.append("VAL_ %d %s %s ;" % (number, name, " ".join(described)))
         if chance.random() < 0.3:
             words = " ".join(chance.choice(WORDS).lower() for _ in range(8))
             self.comments.append('CM_ SG_ %d %s "%s";' % (number, name, words))
         return name
 
     def branches(self, number, layout, is_extended, wanted):
-        """Adds a switch of two bits with what is there beside it, and what is there for each of its values."""
+        """Adds a multiplexor of two bits, signals that are always present, and signals for each of the multiplexor's values."""
         self.text.append(signal("Mux_0", "M", (layout.place(2, True), 2, 1, 0), ("1", "0"), ""))
         self.count += 1
         for _ in range(3):
@@ -148,12 +148,12 @@ class Car:
             if branch == 3 and is_extended and name:
                 self.muxes.append("SG_MUL_VAL_ %d %s Mux_0 3-3, 5-9;" % (number, name))
 
-    def message(self, place, number):
+    def message(self, index, number):
         chance, wanted = self.chance, self.chance.randint(8, 20)
-        self.text.append("BO_ %d Msg_%s_%03d: 8 %s" % (number, chance.choice(WORDS), place, chance.choice(self.nodes)))
+        self.text.append("BO_ %d Msg_%s_%03d: 8 %s" % (number, chance.choice(WORDS), index, chance.choice(self.nodes)))
         layout, self.count = Layout(chance, 8), 0
-        if place % 4 == 3:
-            self.branches(number, layout, place % 8 == 7, wanted)
+        if index % 4 == 3:
+            self.branches(number, layout, index % 8 == 7, wanted)
         else:
             while self.count < wanted and self.add(number, layout, "", wanted > 10) is not None:
                 pass
@@ -170,9 +170,9 @@ class Car:
 
 def car(folder, lines):
     made = Car()
-    numbers = sorted(made.chance.sample(range(0x80, 0x7F0), 85)) + [0x98000000 + place * 0x1357 for place in range(15)]
-    for place, number in enumerate(numbers):
-        made.message(place, number)
+    numbers = sorted(made.chance.sample(range(0x80, 0x7F0), 85)) + [0x98000000 + index * 0x1357 for index in range(15)]
+    for index, number in enumerate(numbers):
+        made.message(index, number)
     with open(folder + "/car.dbc", "w") as file:
         file.write(made.whole())
     names = ["%08X" % (number & 0x1FFFFFFF) if number >> 31 else "%03X" % number for number in numbers]
@@ -180,15 +180,15 @@ def car(folder, lines):
     write_log(folder + "/car.log", lines, 3, lambda chance, count: chance.choices(names + ["7F5"], weights + [20], k=count))
 
 
-# factors, offsets and units as groups of vehicles have them; the last is of 32 bits
-GROUP_SCALES = [
+# factors, offsets and units of signals in J1939 messages; the last is for 32 bits
+J1939_SCALES = [
     ("0.125", "0", "rpm"), ("0.00390625", "0", "km/h"), ("1", "-40", "degC"), ("1", "-125", "%"), ("0.03125", "-273", "degC"),
     ("0.4", "0", "%"), ("0.5", "0", "kPa"), ("0.05", "0", "V"), ("1", "0", ""), ("0.0000001", "-210", "deg"),
 ]  # fmt: skip
 
 
-def group_signals(chance, number):
-    """The lines of a group's signals, one behind the other, and of their named values."""
+def j1939_signals(chance, number):
+    """The lines of the signals of a J1939 message, one bit range after another, and of their value descriptions."""
     text, values, bit = [], [], 0
     while bit < 64 and len(text) < 14:
         length = chance.choice([2, 2, 4, 8, 8, 16, 16, 32])
@@ -196,7 +196,7 @@ def group_signals(chance, number):
             length = 2
         if bit + length > 64:
             break
-        *scale, unit = ("1", "0", "") if length < 8 else GROUP_SCALES[9] if length == 32 else chance.choice(GROUP_SCALES[:9])
+        *scale, unit = ("1", "0", "") if length < 8 else J1939_SCALES[9] if length == 32 else chance.choice(J1939_SCALES[:9])
         name = "SPN%d_%s%d" % (chance.randrange(20, 9000), chance.choice(WORDS), len(text))
         text.append(signal(name, "", (bit, length, 1, 0), scale, unit))
         if length == 2:
@@ -205,11 +205,11 @@ def group_signals(chance, number):
     return text, values
 
 
-def groups(chance):
-    """60 groups: format, specific and priority of each."""
+def parameter_groups(chance):
+    """60 parameter groups: PDU format, PDU specific and priority of each."""
     made = {}
-    for place in range(60):
-        if place % 6 == 5:
+    for index in range(60):
+        if index % 6 == 5:
             key = (chance.randrange(0, 240), 0)
         else:
             key = (chance.choice([0xF0, 0xFE, 0xFE, 0xFF]), chance.randrange(256))
@@ -222,13 +222,13 @@ def groups(chance):
 def j1939(folder, lines):
     chance = random.Random(4)
     text, values, attributes = [], [], []
-    chosen = groups(chance)
-    for place, (form, specific, priority) in enumerate(chosen):
+    chosen = parameter_groups(chance)
+    for index, (form, specific, priority) in enumerate(chosen):
         number = 0x80000000 | priority << 26 | form << 16 | specific << 8 | 0xFE
-        text.append("BO_ %d PG_%s%s_%02d: 8 Vector__XXX" % (number, chance.choice(WORDS), chance.choice(WORDS), place))
-        signals, named = group_signals(chance, number)
+        text.append("BO_ %d PG_%s%s_%02d: 8 Vector__XXX" % (number, chance.choice(WORDS), chance.choice(WORDS), index))
+        signals, described = j1939_signals(chance, number)
         text += signals + [""]
-        values += named
+        values += described
         attributes.append('BA_ "VFrameFormat" BO_ %d 3;' % number)
     definitions = [
         'BA_DEF_ BO_ "VFrameFormat" ENUM "StandardCAN","ExtendedCAN","reserved","J1939PG";',

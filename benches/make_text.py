@@ -1,5 +1,5 @@
 #!/usr/bin/env python3
-"""A database text, to measure how fast texts are read: so many messages of four signals, with comments and named values.
+"""A database text, to measure how fast texts are read: MESSAGES messages of four signals, with comments and value descriptions.
 
     make_text.py FILE MESSAGES
 """
@@ -10,7 +10,7 @@ import sys
 def main():
     path, messages = sys.argv[1], int(sys.argv[2])
     with open(path, "w") as out:
-        nodes = " ".join("Node%d" % place for place in range(30))
+        nodes = " ".join("Node%d" % index for index in range(30))
         out.write('VERSION "generated"\n\nNS_ :\n\tCM_\n\tBA_\n\nBS_:\n\nBU_: ' + nodes + "\n\n")
         for message in range(messages):
             out.write("BO_ %d Message%d: 8 Node%d\n" % (2147483648 + message, message, message % 30))

@@ -1,7 +1,7 @@
 #!/usr/bin/env bash
-# How much sooner logs are decoded on several processors: seconds for 10,000,000 lines (or as many as are named) by `candesk decode`
-# alone, and by both tools for many logs with 1, 2, 4 .. workers beside each other, up to as many as there are processors; the best
-# of three runs, each until what was written, some 1 GB, is on the disk. Needs GNU parallel and Dask's distributed.
+# How much faster logs are decoded on several processors: seconds for 10,000,000 lines (or another number, the argument) by `candesk
+# decode` alone, and by both tools for many logs with 1, 2, 4 .. parallel workers, up to the number of processors; the best of three
+# runs, each until its output, some 1 GB, is on the disk. Needs GNU parallel and Dask's distributed.
 set -eu
 lines=${1:-10000000}
 root=$(cd "$(dirname "$(readlink -f "$0")")/.." && pwd)
@@ -27,7 +27,7 @@ seconds() {
         rm -rf "$work/out"
         mkdir "$work/out"
         local began=$EPOCHREALTIME
-        "$@" > "$work/said" 2>&1 || { cat "$work/said" >&2; exit 1; }
+        "$@" > "$work/output" 2>&1 || { cat "$work/output" >&2; exit 1; }
         local ended=$EPOCHREALTIME
         best=$(awk -v a="$began" -v b="$ended" -v best="$best" 'BEGIN { t = b - a; print (best == "" || t < best) ? t : best }')
     done

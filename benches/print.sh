@@ -1,6 +1,6 @@
 #!/usr/bin/env bash
-# How fast a database is printed: megabytes per second for 65,535 messages of 4 signals each, the best of five runs
-# beside `cat` of the same text. It makes a program of its own for that in a folder of its own, which takes minutes.
+# How fast a database is printed: megabytes per second for 65,535 messages of 4 signals each, the best of five runs,
+# compared with `cat` of the same text. The program for this is built in a temporary folder, which takes minutes.
 set -eu
 root=$(cd "$(dirname "$(readlink -f "$0")")/.." && pwd)
 work=$(mktemp -d)
@@ -44,8 +44,8 @@ fn signal(alloc: Global, number: u32) -> Option<Signal> {
 
 fn message(alloc: Global, number: u32) -> Option<Message> {
     let mut signals = List::new(alloc);
-    for place in 0..4u32 {
-        signals.push(signal(alloc, place)?).ok()?;
+    for index in 0..4u32 {
+        signals.push(signal(alloc, index)?).ok()?;
     }
     let head = Head::new(number, name(alloc, b"Message", number)?, 8, name(alloc, b"Node", 0)?)?;
     Message::new(head, signals)
@@ -88,7 +88,7 @@ fn prints(rt: &HostRuntime, times: u32) -> Option<()> {
     Some(())
 }
 
-// Without a word it builds and prints once, else it builds alone.
+// Without arguments, builds and prints the database once; with arguments, only builds it.
 fn main(rt: HostRuntime) -> ExitCode {
     let times = match std::env::args(&rt) {
         Ok(words) => if words.count() > 1 { 0 } else { 1 },

@@ -1,7 +1,7 @@
 #!/usr/bin/env bash
 # How fast `candesk print` is: megabytes per second and peak memory for a generated database of 65,535 messages of 4
-# signals each, with comments and rows of named values, and for its first half; the best of five runs, beside `cat` of
-# the same text. Needs python3.
+# signals each, with comments and value descriptions, and for one of half as many messages; the best of five runs,
+# compared with `cat` of the same text. Needs python3.
 set -eu
 root=$(cd "$(dirname "$(readlink -f "$0")")/.." && pwd)
 work=$(mktemp -d)

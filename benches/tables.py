@@ -1,9 +1,9 @@
 #!/usr/bin/env python3
-"""tables.py [LINES]: what a table of a log costs, by candesk-table, by the Python package and by canmatrix, in one run.
+"""tables.py [LINES]: the speed of tables of a log, by candesk-table, by the Python package and by canmatrix, in one run.
 
-The log is LINES lines (1,000,000 where left out) of examples/drive.log, again and again, with the database of a car. For each way
-it says how many lines a second it took, in seconds of the clock; canmatrix decodes a hundredth of the lines. What isn't at hand of
-pandas and canmatrix is left out. Nothing else should run on the machine.
+The log is LINES lines (1,000,000 by default) of examples/drive.log, repeated, with the database of a car. For each way it prints
+the lines per second of wall-clock time; canmatrix decodes a hundredth of the lines. If pandas or canmatrix isn't installed, its
+rows are left out. Nothing else should run on the machine.
 """
 
 from __future__ import annotations
@@ -28,11 +28,11 @@ os.environ.setdefault("CANDESK", os.path.join(ROOT, "candesk"))
 
 CAR, DRIVE = (os.path.join(ROOT, "examples", it) for it in ("car.dbc", "drive.log"))
 LINES = 1_000_000
-# how many lines there are for each that canmatrix decodes, as it takes so much longer
-FEWER = 100
+# how many lines there are for each that canmatrix decodes, since it takes so much longer
+CANMATRIX_DIVISOR = 100
 
 
-def tell(what: str, lines: int, call: Callable[[], object]) -> None:
+def measure(what: str, lines: int, call: Callable[[], object]) -> None:
     began = time.perf_counter()
     call()
     print(f"{what:45}{lines / (time.perf_counter() - began):12,.0f} lines a second", flush=True)
@@ -62,14 +62,14 @@ def main(words: list[str]) -> int:
     with tempfile.NamedTemporaryFile(suffix=".log") as log, candesk.load(CAR) as db:
         log.writelines(lines)
         log.flush()
-        tell("candesk-table --long", count, lambda: table(log.name, "--long"))
-        tell("candesk-table --long --only 'Eng*'", count, lambda: table(log.name, "--long", "--only", "Eng*"))
-        tell("candesk-table --message EngineSpeed", count, lambda: table(log.name, "--message", "EngineSpeed"))
-        tell("the package: db.decode", count, lambda: sum(1 for _ in db.decode(log.name)))
+        measure("candesk-table --long", count, lambda: table(log.name, "--long"))
+        measure("candesk-table --long --only 'Eng*'", count, lambda: table(log.name, "--long", "--only", "Eng*"))
+        measure("candesk-table --message EngineSpeed", count, lambda: table(log.name, "--message", "EngineSpeed"))
+        measure("the package: db.decode", count, lambda: sum(1 for _ in db.decode(log.name)))
         if importlib.util.find_spec("pandas"):
-            tell("the package: db.frame, one message", count, lambda: db.frame(log.name, message="EngineSpeed"))
+            measure("the package: db.frame, one message", count, lambda: db.frame(log.name, message="EngineSpeed"))
     if importlib.util.find_spec("canmatrix"):
-        tell("canmatrix: Frame.decode", count // FEWER, lambda: by_canmatrix(lines[: count // FEWER]))
+        measure("canmatrix: Frame.decode", count // CANMATRIX_DIVISOR, lambda: by_canmatrix(lines[: count // CANMATRIX_DIVISOR]))
     return 0
 
 

@@ -1,10 +1,10 @@
 #!/usr/bin/env bash
-# How fast a database text is read, beside a plain reader in Rust (`plain/`), which reads less and checks nothing: milliseconds of
-# processor time, and the ratio to the plain reader's, of `check` and `print`, of `decode` with an empty log, and of a session that
-# is opened and closed; with 65,535 messages of four signals with comments and named values, and with half as many messages. Of each
-# the least of several rounds. Needs rustc and python3. Times go with the machine, ratios less so.
+# How fast a database text is read, compared with a plain reader in Rust (`plain/`), which reads less and checks nothing: processor
+# milliseconds, and the ratio to the plain reader's, of `check` and `print`, of `decode` with an empty log, and of a session that is
+# opened and closed; with 65,535 messages of four signals with comments and value descriptions, and with half as many messages. Each
+# figure is the least of several rounds. Needs rustc and python3. Times depend on the machine, ratios less so.
 #
-#     texts.sh [PROGRAM [ROUNDS]]      5 rounds, where they aren't said
+#     texts.sh [PROGRAM [ROUNDS]]      5 rounds by default
 set -eu
 root=$(cd "$(dirname "$(readlink -f "$0")")/.." && pwd)
 work=$(mktemp -d)

@@ -1,11 +1,11 @@
-"""Tries must-fail edits by the kit's `rt check`, many in one check, and says of each whether the prover refuses it.
+"""Tries must-fail edits by the kit's `rt check`, many in one check, and reports for each whether the prover refuses it.
 
-Edits of different functions are made in one copy of the crates, and one check judges them all. An edit is refused if the check says
-of a goal of its own function that it isn't proved, or of that function's proof that an answer is wrong: a function knows others by
-their contracts alone, which no edit of a body changes, so an edit opens no goal of another function. An edit that changes more than
-bodies of functions, such as a constant, is tried alone, as is one of which a check of several says nothing; alone, it is refused if
-any goal of the crate stays open. An edit that is refused only since a proof names what the edit took away tells nothing of a
-contract: it is hollow, which is said, and fails nothing.
+Edits of different functions are made in one copy of the crates, and one check covers them all. An edit is refused if the check
+reports that a goal of its own function isn't proved, or that an answer in that function's proof is wrong: a function uses others
+only by their contracts, which no edit of a body changes, so an edit opens no goal of another function. An edit that changes more
+than bodies of functions, such as a constant, is tried alone, as is one about which a check of several reports nothing; alone, it is
+refused if any goal of the crate stays open. An edit that is refused only because a proof names what the edit removed shows nothing
+about a contract: it is hollow, which is reported, and is no failure.
 """
 
 from __future__ import annotations
@@ -22,33 +22,33 @@ from enum import Enum
 
 import proving
 
-# The crates whose edits are tried in groups, by lanes. They are low and have many edits: above them a lane would have to check more
-# crates than its edits save, and a lane's checks take half a gigabyte a crate.
+# The crates whose edits are tried together, by lanes. They are low and have many edits: above them a lane would have to check more
+# crates than its edits save, and a lane's checks take half a gigabyte for each crate.
 LANES = (
     (
-        "dbc_values", "dbc_records", "byte_devices", "kept_lines", "log_frames", "ready_texts", "line_stream", "json_texts",
-        "dbc_edits", "dbc_model", "candesk_words",
+        "dbc_values", "dbc_records", "byte_devices", "session_kept_lines", "can_frames", "dbc_text_buffer", "can_line_stream",
+        "can_json_texts", "dbc_edits", "dbc_model", "candesk_words",
     ),
-    ("dbc_tokens", "dbc_reader", "dbc_ranges", "fault_places", "fault_reports"),
-    ("can_rows", "can_bits", "can_mux", "can_overlap", "can_diagnostics", "can_keys", "can_references", "can_check"),
+    ("dbc_tokens", "dbc_reader", "dbc_ranges", "dbc_faults"),
+    ("can_entries", "can_bits", "can_mux", "can_overlap", "can_diagnostics", "can_references", "can_check"),
     ("can_layout", "can_choice", "can_decode"),
 )
-# what all lanes stand on
+# what all lanes depend on
 BASE = ("dbc_values", "dbc_records")
 NAME = re.compile(r"[A-Za-z0-9_-][A-Za-z0-9_.-]*\.edit")
-# an item that is a function: its indent and its name
+# the first line of a function: its indent and its name
 HEAD = re.compile(r"^( *)(?:pub(?:\([^)]*\))? )?(?:const )?(?:unsafe )?fn (\w+)", re.M)
-# a line of the prover that has a position: the file, the line, and what is said
-PLACED = re.compile(r"^(?:note: |error: )?(?:\./)?((?:src|proofs|specs)/\S+?):(\d+):\d+: (.*)$", re.M)
+# a line of the prover's output with a location: the file, the line, and the message
+LOCATED = re.compile(r"^(?:note: |error: )?(?:\./)?((?:src|proofs|specs)/\S+?):(\d+):\d+: (.*)$", re.M)
 OPEN_GOAL = "it is not proved"
-# what is said of a proof that names what is no longer there
+# the messages for a proof that names what no longer exists
 NAMES_NOTHING = re.compile(r"has no field|is not in scope|has no `|was not admitted")
 # a check that came to its end
 ENDED = re.compile(r"^logic=(not-)?proved", re.M)
 
 
 class Verdict(Enum):
-    """What a try of an edit comes to."""
+    """The result of a trial of an edit."""
 
     REFUSED = "refused"
     PROVED = "NOT REFUSED: what it changes is still proved"
@@ -59,7 +59,7 @@ class Verdict(Enum):
 
 @dataclass(frozen=True)
 class Function:
-    """A function of a crate: its file, its name, and its first and last line, attributes and comments with it."""
+    """A function of a crate: its file, its name, and its first and last line, including attributes and comments."""
 
     file: str
     name: str
@@ -70,13 +70,13 @@ class Function:
         return file == self.file and self.first <= line <= self.last
 
     def has_proof(self, file: str) -> bool:
-        """Whether a file of proofs is that of a function of this name."""
+        """Whether a file has the proof of a function with this name."""
         return file.startswith("proofs/") and f"/{self.name}/" in f"{os.path.dirname(file)}/"
 
 
 @dataclass(frozen=True)
 class Edit:
-    """An edit: its name, the texts that it makes of files, and the functions whose bodies it changes; none if it changes more."""
+    """An edit: its name, the new texts of files, and the functions whose bodies it changes; none if it changes more."""
 
     name: str
     texts: dict[str, str]
@@ -84,35 +84,35 @@ class Edit:
 
 
 @dataclass
-class Said:
-    """What a check said."""
+class Output:
+    """The output of a check."""
 
     text: str
     has_ended: bool = field(init=False)
-    placed: list[tuple[str, int, str]] = field(init=False)
+    located: list[tuple[str, int, str]] = field(init=False)
 
     def __post_init__(self) -> None:
         self.has_ended = bool(ENDED.search(self.text))
-        self.placed = [(file, int(line), what) for file, line, what in PLACED.findall(self.text)]
+        self.located = [(file, int(line), message) for file, line, message in LOCATED.findall(self.text)]
 
     def refusals(self, function: Function | None = None) -> Iterator[bool]:
-        """What is refused of a function, or of any: each with whether it is hollow."""
-        for file, line, what in self.placed:
+        """The refusals of a function, or of all functions: each with whether it is hollow."""
+        for file, line, message in self.located:
             if file.startswith("src/"):
-                if OPEN_GOAL in what and (function is None or function.has_line(file, line)):
+                if OPEN_GOAL in message and (function is None or function.has_line(file, line)):
                     yield False
-            elif "error" in what and (function is None or function.has_proof(file)):
-                yield bool(NAMES_NOTHING.search(what))
+            elif "error" in message and (function is None or function.has_proof(file)):
+                yield bool(NAMES_NOTHING.search(message))
 
 
 def function_at(source: str, file: str, at: int) -> Function | None:
-    """The function in whose body a position of a source stands, or None."""
+    """The function whose body contains a position of a source, or None."""
     head = next((it for it in reversed(list(HEAD.finditer(source))) if it.start() <= at), None)
     if head is None:
         return None
     indent, name = head.groups()
     end = source.find(f"\n{indent}}}\n", head.start())
-    # (after clauses the brace stands on a line of its own)
+    # (after clauses the brace is on its own line)
     brace = source.find(f"\n{indent}{{\n", head.start(), end)
     body = brace if brace >= 0 else source.find("{\n", head.start())
     if not body < at < end:
@@ -137,7 +137,7 @@ def pairs_of(text: str) -> Iterator[tuple[str, str, str]]:
 
 
 def edit_of(crate: str, name: str) -> Edit | None:
-    """Reads an edit of the crate in this folder, or answers None where it can't be made."""
+    """Reads an edit of the crate in this folder. None if it can't be made."""
     texts: dict[str, str] = {}
     functions: set[Function | None] = set()
     for file, old, new in pairs_of(content(f"{crate}/must-fail/{name}")):
@@ -166,18 +166,18 @@ def names_of(crate: str) -> list[str]:
     return sorted(it for it in os.listdir(folder) if not it.endswith(".md")) if os.path.isdir(folder) else []
 
 
-def first_group(edits: Iterable[Edit]) -> tuple[list[Edit], list[Edit]]:
-    """As many edits as change different functions each, and the rest."""
-    group: list[Edit] = []
+def first_batch(edits: Iterable[Edit]) -> tuple[list[Edit], list[Edit]]:
+    """A batch of edits that change different functions, and the rest."""
+    batch: list[Edit] = []
     rest: list[Edit] = []
     taken: set[Function] = set()
     for edit in edits:
         if edit.functions and not edit.functions & taken:
-            group.append(edit)
+            batch.append(edit)
             taken |= edit.functions
         else:
             rest.append(edit)
-    return group, rest
+    return batch, rest
 
 
 class Stopped(Exception):
@@ -192,7 +192,7 @@ class Checks:
         self.running: set[subprocess.Popen[str]] = set()
         self.is_stopped = False
 
-    def run(self, folder: str) -> Said:
+    def run(self, folder: str) -> Output:
         """Checks the crate in a folder."""
         with self.lock:
             if self.is_stopped:
@@ -203,13 +203,13 @@ class Checks:
             )
             self.running.add(ran)
         try:
-            return Said(ran.communicate()[0])
+            return Output(ran.communicate()[0])
         finally:
             with self.lock:
                 self.running.discard(ran)
 
     def stop(self) -> None:
-        """Ends those that run, and lets no other begin."""
+        """Ends the running checks, and lets no other start."""
         with self.lock:
             self.is_stopped = True
             for it in self.running:
@@ -217,8 +217,8 @@ class Checks:
 
 
 class Trial:
-    """The trial of a crate's edits in a copy of the crates that nothing else uses meanwhile, where this one and all below are
-    checked. `verdicts` then says by name what each came to, and `count` how many checks that took."""
+    """The trial of a crate's edits in a copy of the crates that nothing else uses meanwhile, in which this crate and all below it
+    are checked. Afterwards `verdicts` has the result of each edit by name, and `count` how many checks that took."""
 
     def __init__(self, checks: Checks, folder: str) -> None:
         self.checks, self.folder, self.count = checks, folder, 0
@@ -228,20 +228,20 @@ class Trial:
         found = {name: edit_of(self.folder, name) for name in names_of(self.folder)}
         self.verdicts = {name: Verdict.UNFIT for name, edit in found.items() if edit is None}
         edits = [edit for edit in found.values() if edit]
-        group, left = first_group(edits)
-        while len(group) > 1:
-            said = self.check(group)
-            refused = [it for it in group if said.has_ended and is_refused(it, said)]
+        batch, left = first_batch(edits)
+        while len(batch) > 1:
+            output = self.check(batch)
+            refused = [it for it in batch if output.has_ended and is_refused(it, output)]
             self.verdicts |= {it.name: Verdict.REFUSED for it in refused}
             if not refused:
                 break
-            group, left = first_group([*left, *(it for it in group if it not in refused)])
+            batch, left = first_batch([*left, *(it for it in batch if it not in refused)])
         for edit in edits:
             if edit.name not in self.verdicts:
-                self.verdicts[edit.name] = judged_alone(self.check([edit]))
+                self.verdicts[edit.name] = verdict_alone(self.check([edit]))
 
-    def check(self, edits: list[Edit]) -> Said:
-        """Makes edits of different functions, checks the crate, and takes them back."""
+    def check(self, edits: list[Edit]) -> Output:
+        """Makes edits of different functions, checks the crate, and undoes them."""
         before = {file: content(f"{self.folder}/{file}") for edit in edits for file in edit.texts}
         self.count += 1
         try:
@@ -253,23 +253,23 @@ class Trial:
                 write(f"{self.folder}/{file}", source)
 
 
-def is_refused(edit: Edit, said: Said) -> bool:
-    """Whether a check of several refuses an edit for a reason of its own."""
-    return any(not is_hollow for function in edit.functions for is_hollow in said.refusals(function))
+def is_refused(edit: Edit, output: Output) -> bool:
+    """Whether a check of several edits refuses this one for its own reason."""
+    return any(not is_hollow for function in edit.functions for is_hollow in output.refusals(function))
 
 
-def judged_alone(said: Said) -> Verdict:
-    """What a check of one edit alone comes to."""
-    if not said.has_ended:
+def verdict_alone(output: Output) -> Verdict:
+    """The result of a check of one edit alone."""
+    if not output.has_ended:
         return Verdict.UNKNOWN
-    refusals = list(said.refusals())
+    refusals = list(output.refusals())
     if False in refusals:
         return Verdict.REFUSED
-    return Verdict.HOLLOW if refusals or "logic=not-proved" in said.text else Verdict.PROVED
+    return Verdict.HOLLOW if refusals or "logic=not-proved" in output.text else Verdict.PROVED
 
 
 def merged(source: str, texts: list[str]) -> str:
-    """A source with the lines that others change of it, each other ones."""
+    """A source with the changes of several texts of it, each of which changes other lines."""
     lines = source.split("\n")
     together = list(lines)
     for text in texts:
@@ -293,19 +293,19 @@ class Lane:
 
 
 def lanes_of(tried: Iterable[str]) -> list[Lane]:
-    """For each lane that has crates to be tried, these and those below them."""
+    """For each lane with crates to try, these crates and those below them."""
     wanted = set(tried)
     own = [[it for it in lane if it in wanted] for lane in LANES]
     return [Lane(proving.with_below(*names), set(names)) for names in own if names]
 
 
 class Edits(threading.Thread):
-    """The trials of crates' edits in lanes, each in a copy of its own, as a check keeps all crates below its own from others. What
-    all lanes stand on is checked once, and copied. `passed` and `failures` say at the end what came of it."""
+    """The trials of crates' edits in lanes, each in its own copy, since a check locks all crates below its own. What all lanes
+    depend on is checked once, and copied. `passed` and `failures` are the result at the end."""
 
-    def __init__(self, rooms: list[str], lanes: list[Lane]) -> None:
+    def __init__(self, copies: list[str], lanes: list[Lane]) -> None:
         super().__init__(daemon=True)
-        self.rooms, self.lanes = rooms, lanes
+        self.copies, self.lanes = copies, lanes
         self.untried = {name for lane in lanes for name in lane.tried}
         self.passed, self.failures = 0, list[str]()
         self.checks, self.lock = Checks(), threading.Lock()
@@ -316,7 +316,7 @@ class Edits(threading.Thread):
         except (Stopped, OSError) as error:
             print(f"prove: {error!r}", flush=True)
         else:
-            threads = [threading.Thread(target=self.lane, args=it, daemon=True) for it in zip(self.rooms, self.lanes, strict=True)]
+            threads = [threading.Thread(target=self.lane, args=it, daemon=True) for it in zip(self.copies, self.lanes, strict=True)]
             for thread in threads:
                 thread.start()
             for thread in threads:
@@ -324,45 +324,45 @@ class Edits(threading.Thread):
         self.failures += [f"{it}: its edits were NOT TRIED" for it in sorted(self.untried)]
 
     def share(self) -> None:
-        """Checks in the first lane's copy what all lanes stand on, and copies it into the others'."""
+        """Checks what all lanes depend on in the first lane's copy, and copies it into the others."""
         shared = [it for it in BASE if all(it in lane.names for lane in self.lanes)]
-        if not all(self.is_proved(self.rooms[0], it) for it in shared):
+        if not all(self.is_proved(self.copies[0], it) for it in shared):
             raise Stopped
-        for room in self.rooms[1:]:
+        for copy in self.copies[1:]:
             for it in shared:
-                shutil.rmtree(f"{room}/crates/{it}")
-                shutil.copytree(f"{self.rooms[0]}/crates/{it}", f"{room}/crates/{it}")
+                shutil.rmtree(f"{copy}/crates/{it}")
+                shutil.copytree(f"{self.copies[0]}/crates/{it}", f"{copy}/crates/{it}")
 
     def stop(self) -> None:
-        """Tries no more."""
+        """Stops the trials."""
         self.checks.stop()
 
-    def lane(self, room: str, lane: Lane) -> None:
+    def lane(self, copy: str, lane: Lane) -> None:
         try:
             for name in lane.names:
-                if not self.is_proved(room, name):
+                if not self.is_proved(copy, name):
                     return
                 if name in lane.tried:
-                    self.try_crate(room, name)
+                    self.try_crate(copy, name)
         except Stopped:
             return
 
-    def is_proved(self, room: str, name: str) -> bool:
-        """Checks a crate, and answers whether those above it can follow."""
-        said = self.checks.run(f"{room}/crates/{name}")
-        if "logic=proved" in said.text:
+    def is_proved(self, copy: str, name: str) -> bool:
+        """Checks a crate, and returns whether those above it can follow."""
+        output = self.checks.run(f"{copy}/crates/{name}")
+        if "logic=proved" in output.text:
             return True
-        print(f"{said.text}prove: `rt check` doesn't prove {name}", flush=True)
+        print(f"{output.text}prove: `rt check` doesn't prove {name}", flush=True)
         return False
 
-    def try_crate(self, room: str, name: str) -> None:
-        trial = Trial(self.checks, f"{room}/crates/{name}")
+    def try_crate(self, copy: str, name: str) -> None:
+        trial = Trial(self.checks, f"{copy}/crates/{name}")
         trial.run()
-        told = {it: f"{name}/{it}: {verdict.value}" for it, verdict in trial.verdicts.items() if verdict is not Verdict.REFUSED}
-        bad = [line for it, line in told.items() if trial.verdicts[it] is not Verdict.HOLLOW]
+        lines = {it: f"{name}/{it}: {verdict.value}" for it, verdict in trial.verdicts.items() if verdict is not Verdict.REFUSED}
+        bad = [line for it, line in lines.items() if trial.verdicts[it] is not Verdict.HOLLOW]
         refused = len(trial.verdicts) - len(bad)
         print(f"prove: {name}: {refused} of {len(trial.verdicts)} edits refused, in {trial.count} checks", flush=True)
-        for line in told.values():
+        for line in lines.values():
             print(f"prove: {line}", flush=True)
         with self.lock:
             self.untried.discard(name)

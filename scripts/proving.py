@@ -1,6 +1,6 @@
-"""What the scripts share that prove, build and pass on programs: the crates of crates.txt, bare copies for `rt ci`, digests of
-sources, and the programs that a proof leaves in the checkout, each with a stamp that tells what it was built from and how. The
-digest of the sources decides which program is theirs; which kit built it is told, and compared by nobody.
+"""What the scripts for proofs, builds and releases share: the crates of crates.txt, bare copies for `rt ci`, digests of sources,
+and the programs that a proof leaves in the checkout, each with a stamp of its sources and its origin. The digest of the sources
+decides which program is current; the kit that built it is recorded, but never compared.
 """
 
 from __future__ import annotations
@@ -20,22 +20,22 @@ from dataclasses import dataclass
 
 ROOT = os.path.dirname(os.path.dirname(os.path.realpath(__file__)))
 PROGRAM = "candesk"
-# what a proof of a crate reads of it
+# the parts of a crate that its proof reads
 PARTS = ("src", "specs", "proofs")
-# the file with the program's version, the word there that a proof of the whole replaces by digits of the digest, and how many
+# the file with the program's version, the word there that a complete proof replaces with digits of the digest, and how many digits
 VERSION_FILE = "crates/candesk_words/src/version.rt"
 UNPROVED = "development"
 DIGITS = 12
-# how the program in the checkout came about: a complete proof here, a build over kept checks, a pack, or dist/
+# the origin of the program in the checkout: a complete proof here, a build from kept checks, a pack, or dist/
 PROOF, KEPT, PACK, DIST = "proof", "kept", "pack", "dist"
 NO_KIT = "rt of the Rattle kit isn't on the PATH"
-# how much earlier than now a file's time is set so that no change of the same moment is missed, in nanoseconds
+# how far a file's time is set back so that no change at the same moment is missed, in nanoseconds
 MOMENT = 10_000_000
 
 
 @dataclass(frozen=True)
 class Stamp:
-    """What a program was built from, by which kit, the sum of its bytes, and how it came here."""
+    """The sources and the kit of a program, its checksum, and its origin."""
 
     kit: str
     sources: str
@@ -43,7 +43,7 @@ class Stamp:
     origin: str
 
     def packed(self) -> str:
-        """What is said of the program in a pack or a package: all but how it came here."""
+        """The stamp in a pack or a package: all except the origin."""
         return f"{self.kit}\nsources {self.sources}\nprogram {self.program}\n"
 
     def text(self) -> str:
@@ -66,7 +66,7 @@ class Built:
         return f"{self.path}.stamp-of-sources"
 
     def stamp(self) -> Stamp:
-        """Its stamp; ValueError or OSError where it has none that can be read."""
+        """Its stamp. Raises ValueError or OSError if it has none that can be read."""
         with open(self.stamp_path, encoding="utf-8") as text:
             kit, *rest = text.read().splitlines()
         found = dict(line.split(" ", 1) for line in rest)
@@ -76,7 +76,7 @@ class Built:
             raise ValueError(f"the stamp has no {missing}") from None
 
     def current(self) -> Stamp | None:
-        """Its stamp if it is built from the sources as they are."""
+        """Its stamp if it is built from the current sources, else None."""
         try:
             stamp = self.stamp()
             is_same = stamp.sources == sources_of(self.crate) and stamp.program == sum_of(self.path)
@@ -85,7 +85,7 @@ class Built:
             return None
 
     def take(self, file: str, sources: str, kit: str, origin: str, read_at: int | None = None) -> None:
-        """Puts a program into the checkout that was built of these sources, which were read at this time, in nanoseconds."""
+        """Copies a program into the checkout. It was built from these sources, which were read at this time, in nanoseconds."""
         os.makedirs(os.path.dirname(self.path), exist_ok=True)
         made = f"{self.path}.new-{os.getpid()}"
         shutil.copyfile(file, made)
@@ -104,14 +104,14 @@ class Built:
 
 
 CANDESK = Built(PROGRAM, PROGRAM)
-# what tests the program's calls: their tests, and what makes them one by one
+# the tests of the program's calls, and the program that makes these calls one by one
 TESTS = Built(f"{PROGRAM}_tests", f"{PROGRAM}_tests_tests")
-GROWTHS = Built("growths", "growths")
-ALL_BUILT = (CANDESK, TESTS, GROWTHS)
+PROBE = Built("candesk_probe", "candesk_probe")
+ALL_BUILT = (CANDESK, TESTS, PROBE)
 
 
 def set_time(file: str, at: int | None = None) -> None:
-    """Says of a program that sources are newer that change after this time, in nanoseconds, or from now on."""
+    """Sets the time of a program so that sources are newer if they change after this time, in nanoseconds, or from now on."""
     before = (at or time.time_ns()) - MOMENT
     os.utime(file, ns=(before, before))
 
@@ -119,8 +119,8 @@ def set_time(file: str, at: int | None = None) -> None:
 # ---- crates
 
 
-def stands_on(root: str = ROOT) -> dict[str, list[str]]:
-    """The crates of crates.txt, each with the names of what it stands on."""
+def dependencies(root: str = ROOT) -> dict[str, list[str]]:
+    """The crates of crates.txt, each with the names of its dependencies."""
     found = {}
     with open(f"{root}/crates.txt", encoding="utf-8") as lines:
         for line in lines:
@@ -131,8 +131,8 @@ def stands_on(root: str = ROOT) -> dict[str, list[str]]:
 
 
 def with_below(*names: str) -> list[str]:
-    """These crates and all crates that they stand on, each behind its own."""
-    below = stands_on()
+    """These crates and all their dependencies, each crate after its own."""
+    below = dependencies()
     found: list[str] = []
 
     def add(name: str) -> None:
@@ -147,7 +147,7 @@ def with_below(*names: str) -> list[str]:
 
 
 def files_of(crate: str, parts: Iterable[str] = PARTS, root: str = ROOT) -> Iterator[str]:
-    """The files in these parts of a crate; what an editor puts beside them isn't theirs."""
+    """The files in these parts of a crate, without files that an editor puts next to them."""
     for part in parts:
         for at, folders, names in os.walk(f"{root}/crates/{crate}/{part}"):
             folders.sort()
@@ -157,7 +157,7 @@ def files_of(crate: str, parts: Iterable[str] = PARTS, root: str = ROOT) -> Iter
 
 
 def kit_line() -> str:
-    """The kit's name for itself, or nothing where there is no kit."""
+    """The name that the kit reports, or an empty text if there is no kit."""
     if not shutil.which("rt"):
         return ""
     return subprocess.run(["rt", "version"], capture_output=True, text=True, check=False).stdout.strip()
@@ -167,8 +167,8 @@ def kit_line() -> str:
 
 
 def digest_of(names: Iterable[str], root: str = ROOT, others: Iterable[str] = ()) -> str:
-    """A digest of what some crates are made of, and of other files; contents count, and no times or places."""
-    total, below, names = hashlib.sha256(), stands_on(root), list(names)
+    """A digest of the sources of some crates, and of other files; contents count, and no times or absolute paths."""
+    total, below, names = hashlib.sha256(), dependencies(root), list(names)
     for name in names:
         total.update(f"\0{name}: {' '.join(below[name])}".encode())
     for file in [f"{root}/HANDLES", *(it for name in names for it in files_of(name, root=root)), *others]:
@@ -177,8 +177,8 @@ def digest_of(names: Iterable[str], root: str = ROOT, others: Iterable[str] = ()
 
 
 def sources_of(crate: str, root: str = ROOT) -> str:
-    """The digest of the sources of a crate and of all below it. `--version` has the first digits of the program's, so the same
-    sources give the same version whatever kit builds them."""
+    """The digest of the sources of a crate and of all crates below it. `--version` has the first digits of the program's, so the
+    same sources give the same version whatever kit builds them."""
     return digest_of(with_below(crate), root)
 
 
@@ -192,7 +192,7 @@ def sum_of(file: str) -> str:
 
 @contextlib.contextmanager
 def alone(what: str) -> Iterator[None]:
-    """Waits until no other run holds this checkout, and says on standard error that it waits."""
+    """Waits until no other run has locked this checkout, and reports on standard error that it waits."""
     held = os.open(ROOT, os.O_RDONLY)
     try:
         try:
@@ -206,8 +206,8 @@ def alone(what: str) -> Iterator[None]:
 
 
 @dataclass(frozen=True)
-class Room:
-    """A bare copy of crates that `rt ci` takes for a whole repository: its folder, when it was made, the kit that is here, and the
+class BareCopy:
+    """A copy of crates that `rt ci` takes for a whole repository: its folder, when it was made, the kit that is here, and the
     digest of the sources of each program that it builds, as they were copied."""
 
     path: str
@@ -216,7 +216,7 @@ class Room:
     sources: dict[str, str]
 
     def take(self, built: Built) -> bool:
-        """Puts a program that was built here into the checkout, and answers whether there is one."""
+        """Copies a program that was built here into the checkout, and returns whether there is one."""
         file = f"{self.path}/crates/{built.crate}/out/{built.name}"
         if built.crate not in self.sources or not os.path.isfile(file):
             return False
@@ -224,47 +224,47 @@ class Room:
         return True
 
 
-def copy_crates(names: Iterable[str], tried: Iterable[str], room: str) -> None:
-    """Makes a folder the top of a repository with these crates, without what was built, and with the must-fail edits of the crates
+def copy_crates(names: Iterable[str], tried: Iterable[str], folder: str) -> None:
+    """Makes a folder the root of a repository with these crates, without build outputs, and with the must-fail edits of the crates
     that are tried."""
-    os.mkdir(f"{room}/.git")
+    os.mkdir(f"{folder}/.git")
     for name in names:
         left_out = ("out",) if name in tried else ("out", "must-fail")
-        shutil.copytree(f"{ROOT}/crates/{name}", f"{room}/crates/{name}", ignore=shutil.ignore_patterns(*left_out))
-    below = stands_on()
-    with open(f"{room}/crates.txt", "w", encoding="utf-8") as lines:
+        shutil.copytree(f"{ROOT}/crates/{name}", f"{folder}/crates/{name}", ignore=shutil.ignore_patterns(*left_out))
+    below = dependencies()
+    with open(f"{folder}/crates.txt", "w", encoding="utf-8") as lines:
         lines.writelines(f"{name}: {' '.join(below[name])}\n" for name in names)
-    shutil.copyfile(f"{ROOT}/HANDLES", f"{room}/HANDLES")
+    shutil.copyfile(f"{ROOT}/HANDLES", f"{folder}/HANDLES")
 
 
 @contextlib.contextmanager
-def room_for(names: list[str], tried: Iterable[str] = ()) -> Iterator[Room]:
-    """A temporary copy of the crates, with the must-fail edits of some, and without what was built. The program says there by its
-    version what it is built from."""
+def bare_copy(names: list[str], tried: Iterable[str] = ()) -> Iterator[BareCopy]:
+    """A temporary copy of the crates, with the must-fail edits of some, and without build outputs. The version of the program there
+    has digits of the digest of its sources."""
     sweep()
-    with tempfile.TemporaryDirectory(prefix=f"candesk-room-{os.getpid()}-") as room:
+    with tempfile.TemporaryDirectory(prefix=f"candesk-copy-{os.getpid()}-") as folder:
         made_at, kit = time.time_ns(), kit_line()
-        copy_crates(names, set(tried), room)
-        sources = {it.crate: sources_of(it.crate, room) for it in ALL_BUILT if set(with_below(it.crate)) <= set(names)}
+        copy_crates(names, set(tried), folder)
+        sources = {it.crate: sources_of(it.crate, folder) for it in ALL_BUILT if set(with_below(it.crate)) <= set(names)}
         if os.path.dirname(os.path.dirname(VERSION_FILE)) in (f"crates/{it}" for it in names):
-            name_build(f"{room}/{VERSION_FILE}", sources.get(PROGRAM) or sources_of(PROGRAM))
-        yield Room(room, made_at, kit, sources)
+            name_build(f"{folder}/{VERSION_FILE}", sources.get(PROGRAM) or sources_of(PROGRAM))
+        yield BareCopy(folder, made_at, kit, sources)
 
 
 def name_build(file: str, digest: str) -> None:
     """Puts digits of the digest into the program's version."""
     with open(file, encoding="utf-8") as text:
-        before, *behind = text.read().split(UNPROVED)
-    if len(behind) != 1:
-        what = f"must have the word {UNPROVED} once, and has it {len(behind)} times"
-        sys.exit(f"{os.path.basename(sys.argv[0])}: {VERSION_FILE} {what}")
+        before, *after = text.read().split(UNPROVED)
+    if len(after) != 1:
+        why = f"must have the word {UNPROVED} once, and has it {len(after)} times"
+        sys.exit(f"{os.path.basename(sys.argv[0])}: {VERSION_FILE} {why}")
     with open(file, "w", encoding="utf-8") as text:
-        text.write(f"{before}{digest[:DIGITS]}{behind[0]}")
+        text.write(f"{before}{digest[:DIGITS]}{after[0]}")
 
 
 def sweep() -> None:
-    """Removes the rooms of runs that were killed."""
+    """Removes the copies of runs that were killed."""
     for name in os.listdir(tempfile.gettempdir()):
-        of = re.match(r"candesk-room-(\d+)-", name)
-        if of and not os.path.exists(f"/proc/{of[1]}"):
+        found = re.match(r"candesk-copy-(\d+)-", name)
+        if found and not os.path.exists(f"/proc/{found[1]}"):
             shutil.rmtree(f"{tempfile.gettempdir()}/{name}", ignore_errors=True)

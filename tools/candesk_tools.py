@@ -1,14 +1,14 @@
-"""What the tools share: where the program is, how it is called, how its texts are cut, how files are replaced and faults are told,
-and databases as the Python package `candesk` has them.
+"""What the tools share: finding and calling the program, splitting its texts, replacing files, reporting faults, and databases as
+objects of the Python package `candesk`.
 
-Nothing here knows what a database means. A text of a database is cut into its quoted texts and what stands between them, and of the
-canonical text, which `candesk print` writes, the lines of messages and signals are found, for their names.
+Nothing here interprets a database. A database text is split into quoted texts and the text between them. In canonical text, as
+`candesk print` writes it, the lines of messages and signals are found, for their names.
 """
 
 from __future__ import annotations
 
 import tool_start
-from tool_start import BAD_FILES, BAD_WORDS, INTERRUPTED, NO_MEMORY, REFUSED, TOOL, Fault, lacks_memory, tell
+from tool_start import BAD_FILES, BAD_WORDS, INTERRUPTED, NO_MEMORY, REJECTED, TOOL, Fault, lacks_memory, report
 
 import argparse
 import contextlib
@@ -24,56 +24,58 @@ import tempfile
 import threading
 import time
 from collections.abc import Callable, Iterable, Iterator
-from typing import IO, BinaryIO, NamedTuple, NoReturn
+from dataclasses import dataclass
+from typing import IO, BinaryIO, NoReturn
 
 HERE = os.path.dirname(os.path.realpath(__file__))
-# (installed, the package stands beside this file; in a checkout it has a folder of its own)
+# (installed, the package is next to this file; in a checkout it has a folder of its own)
 sys.path.append(os.path.join(os.path.dirname(HERE), "python"))
 
 import candesk  # noqa: E402
 
-__all__ = ["BAD_FILES", "BAD_WORDS", "INTERRUPTED", "NO_MEMORY", "REFUSED", "TOOL", "Fault", "lacks_memory", "tell"]
+__all__ = ["BAD_FILES", "BAD_WORDS", "INTERRUPTED", "NO_MEMORY", "REJECTED", "TOOL", "Fault", "lacks_memory", "report"]
 
-# the largest exit status that a program may have of its own (a checkout without a program has 70)
+# the largest exit status of a program that ended by itself (a checkout without a program has 70)
 LARGEST_STATUS = 99
 
-# an interrupt, one that is repeated, as it came where nothing could be raised, and a request to end
+# an interrupt, one that is repeated since it arrived when nothing could be raised, and a request to end
 INTERRUPTS = (signal.SIGINT, signal.SIGALRM, signal.SIGTERM)
 
-# what the program says of a line of a log that is over 4,096 bytes
+# the program's message for a line of a log that has over 4,096 bytes
 LONG_LINE = "40 LongLine"
 
-# A quoted text: its closing quote is the first that doesn't stand directly behind a backslash.
+# A quoted text: its closing quote is the first that doesn't directly follow a backslash.
 QUOTED = rb'"[^"]*(?:(?<=\\)"[^"]*)*(?<!\\)"'
-# the pieces of any database: a quoted text, a comment up to the end of its line, and what stands between
+# the pieces of any database: a quoted text, a comment up to the end of its line, and the text between
 PIECES = re.compile(rb'(?P<quoted>%s)|(?P<comment>//[^\n]*)|(?P<plain>[^"/]+|/)|(?P<open>"[^\0]*)' % QUOTED, re.DOTALL)
-# the pieces of a canonical text, in which a line feed that isn't quoted ends a statement
+# the pieces of canonical text, in which an unquoted line feed ends a statement
 CANONICAL = re.compile(rb'%s|\n|[^"\n]+' % QUOTED)
 MESSAGE = re.compile(rb"BO_ (\d+) (\w+): (\d+) ")
 SIGNAL = re.compile(rb" SG_ (\w+) ")
-# the beginnings of messages and signals in a canonical text: a line feed that is quoted begins none
+# the beginnings of messages and signals in canonical text; none follows a quoted line feed
 HEADS = re.compile(rb"%s|^BO_ (\d+) (\w+): (\d+) |^ SG_ (\w+) " % QUOTED, re.MULTILINE)
 
 
-class Message(NamedTuple):
-    """A message of a database: its place, number and name, the names of its signals, and its size in bytes."""
+@dataclass
+class Message:
+    """A message of a database: its index, ID as in `BO_` and name, the names of its signals, and its length in bytes."""
 
-    place: int
+    index: int
     number: int | None
     name: str
     signals: list[str]
-    size: int = 0
+    length: int = 0
 
 
 class Words(argparse.ArgumentParser):
-    """A parser whose faults are one line."""
+    """An argument parser that reports an error in one line."""
 
     def error(self, message: str) -> NoReturn:
         raise Fault(f"{message}; see {self.prog} --help", BAD_WORDS)
 
 
 def words_parser(described: str | None) -> Words:
-    """A parser that shows a tool's own text as its help."""
+    """An argument parser with a tool's own text as its help."""
     shape = argparse.RawDescriptionHelpFormatter
     return Words(prog=TOOL, usage=argparse.SUPPRESS, description=described, formatter_class=shape, allow_abbrev=False)
 
@@ -83,7 +85,7 @@ def stop(*_: object) -> NoReturn:
 
 
 def run_tool(main: Callable[[list[str]], int]) -> None:
-    """Runs a tool and ends with its status. Anything else that ends it is one line; if the reader of its output is gone, none."""
+    """Runs a tool and exits with its status. Any other end is reported in one line; none if the reader of its output is gone."""
     signal.signal(signal.SIGTERM, stop)
     threading.excepthook = thread_failed
     try:
@@ -101,7 +103,7 @@ failures: list[BaseException] = []
 
 
 def thread_failed(raised: threading.ExceptHookArgs) -> None:
-    """Ends the tool by interrupting its main thread: without one of its threads its output would be incomplete."""
+    """Ends the tool by interrupting its main thread: its output would be incomplete without the thread that failed."""
     failures.append(raised.exc_value or MemoryError())
     main = threading.main_thread().ident
     if main is not None:
@@ -109,6 +111,7 @@ def thread_failed(raised: threading.ExceptHookArgs) -> None:
 
 
 def counted(count: int, word: str) -> str:
+    """A count with its noun, in the plural unless it is 1."""
     return f"{count} {word}" + ("" if count == 1 else "s")
 
 
@@ -116,44 +119,44 @@ def counted(count: int, word: str) -> str:
 
 
 def program() -> str:
-    """The program: $CANDESK; or candesk beside the tools, or in the checkout that they stand in; or on the PATH."""
+    """The path of the program: $CANDESK; else candesk next to the tools, or in their checkout; else candesk on the PATH."""
     named = os.environ.get("CANDESK")
-    beside = [os.path.join(HERE, "candesk"), os.path.join(os.path.dirname(os.path.realpath(sys.argv[0])), "candesk")]
+    neighbors = [os.path.join(HERE, "candesk"), os.path.join(os.path.dirname(os.path.realpath(sys.argv[0])), "candesk")]
     checkout = os.path.join(os.path.dirname(HERE), "candesk")
-    for path in (named,) if named else (*beside, checkout, shutil.which("candesk")):
+    for path in (named,) if named else (*neighbors, checkout, shutil.which("candesk")):
         if path and os.path.isfile(path) and os.access(path, os.X_OK):
             return os.path.abspath(path)
     raise Fault(f"there is no candesk at {named}, which CANDESK names" if named else "there is no candesk on the PATH", BAD_FILES)
 
 
-def said_by(errors: bytes) -> str:
-    """What the program said on standard error, without its own name."""
-    lines = errors.decode(errors="replace").splitlines() or ["it said nothing"]
+def error_message(errors: bytes) -> str:
+    """The program's message on standard error, without its own name."""
+    lines = errors.decode(errors="replace").splitlines() or ["it reported nothing"]
     return lines[-1].removeprefix("candesk: ")
 
 
 def status_of(returned: int) -> int:
-    """A tool's exit status for that of a program. A program that a signal ended, or that never started, has none of its own."""
+    """A tool's exit status for that of a program; `BAD_FILES` if a signal ended the program, or it never started."""
     return returned if 0 <= returned <= LARGEST_STATUS else BAD_FILES
 
 
 def printed(path: str) -> bytes:
-    """The canonical text of a database. A database that is refused is a fault with the program's own words."""
+    """The canonical text of a database. Raises a fault with the program's message if the database is rejected."""
     if not os.path.exists(path):
         raise Fault(f"{path}: no such file", BAD_FILES)
     done = subprocess.run([program(), "print", "--", path], stdin=subprocess.DEVNULL, capture_output=True, check=False)
     if done.returncode:
-        raise Fault(f"{path}: {said_by(done.stderr)}", status_of(done.returncode))
+        raise Fault(f"{path}: {error_message(done.stderr)}", status_of(done.returncode))
     return done.stdout
 
 
 @contextlib.contextmanager
 def as_faults() -> Iterator[None]:
-    """Turns the package's exceptions into faults, with the program's own words and statuses."""
+    """Turns the package's exceptions into faults, with the program's messages and statuses."""
     try:
         yield
     except candesk.Rejected as error:
-        raise Fault(str(error), REFUSED) from error
+        raise Fault(str(error), REJECTED) from error
     except candesk.ProgramFailed as error:
         raise Fault(str(error), status_of(error.status)) from error
     except candesk.Error as error:
@@ -161,7 +164,7 @@ def as_faults() -> Iterator[None]:
 
 
 def database(path: str) -> candesk.Database:
-    """A database as objects. One that is rejected is a fault with the program's own words."""
+    """A database as objects. Raises a fault with the program's message if it is rejected."""
     if not os.path.exists(path):
         raise Fault(f"{path}: no such file", BAD_FILES)
     os.environ["CANDESK"] = program()
@@ -170,7 +173,7 @@ def database(path: str) -> candesk.Database:
 
 
 class Progress:
-    """How much of a file was read, as it is shown on a terminal where nothing else is."""
+    """How much of a file was read, shown on a terminal unless the output goes there."""
 
     # how often, in seconds
     EVERY = 0.5
@@ -192,7 +195,7 @@ class Progress:
             self.width = len(text)
 
     def end(self) -> None:
-        """Takes away what is shown."""
+        """Clears what is shown."""
         if self.width:
             sys.stderr.write("\r" + " " * self.width + "\r")
             sys.stderr.flush()
@@ -204,14 +207,14 @@ DEBIAN_PYTHON = "/usr/bin/python3"
 
 
 def has_package(name: str) -> bool:
-    """Whether a package is at hand. Debian puts its packages beside its own Python, so where another runs, that one is tried."""
+    """Whether a package is installed. Debian installs packages for its own Python, so if another one runs, restarts with that."""
     if importlib.util.find_spec(name):
         return True
     tried = os.environ.get("CANDESK_PYTHON") or os.path.realpath(sys.executable) == os.path.realpath(DEBIAN_PYTHON)
     if tried or not os.access(DEBIAN_PYTHON, os.X_OK):
         return False
-    asked = f"import importlib.util, sys; sys.exit(importlib.util.find_spec({name!r}) is None)"
-    if subprocess.run([DEBIAN_PYTHON, "-c", asked], stdin=subprocess.DEVNULL, capture_output=True, check=False).returncode:
+    code = f"import importlib.util, sys; sys.exit(importlib.util.find_spec({name!r}) is None)"
+    if subprocess.run([DEBIAN_PYTHON, "-c", code], stdin=subprocess.DEVNULL, capture_output=True, check=False).returncode:
         return False
     sys.stdout.flush()
     signal.pthread_sigmask(signal.SIG_BLOCK, {signal.SIGINT})
@@ -227,7 +230,7 @@ def need_package(name: str, source: str) -> None:
 
 
 def shown(text: bytes) -> str:
-    """A text as the program's objects have it: UTF-8, or else each byte a character of Latin-1."""
+    """A text as in the program's objects: UTF-8, or else each byte a character of Latin-1."""
     try:
         return text.decode()
     except UnicodeDecodeError:
@@ -235,22 +238,22 @@ def shown(text: bytes) -> str:
 
 
 def pieces(text: bytes) -> Iterator[tuple[str | None, int, bytes]]:
-    """The pieces of any database, each with its kind: quoted, comment, plain, or open where a quote is never closed."""
+    """The pieces of any database, each with its kind: quoted, comment, plain, or open for a quote that is never closed."""
     return ((found.lastgroup, found.start(), found.group()) for found in PIECES.finditer(text))
 
 
 def line_of(text: bytes, at: int) -> int:
-    """The number of the line in which a byte stands, from 1."""
+    """The line number of a byte, from 1."""
     return text.count(b"\n", 0, at) + 1
 
 
 def comment_line(text: bytes) -> int | None:
-    """The line of the first `//` comment, or nothing."""
+    """The line number of the first `//` comment, or None."""
     return next((line_of(text, at) for kind, at, _ in pieces(text) if kind == "comment"), None)
 
 
 def canonical_lines(canonical: bytes) -> Iterator[list[bytes]]:
-    """The lines of a canonical text, each in its pieces. A line feed within quotes ends none."""
+    """The lines of canonical text, each as its pieces. A line feed within quotes ends no line."""
     line: list[bytes] = []
     for found in CANONICAL.finditer(canonical):
         if found.group() == b"\n":
@@ -261,7 +264,7 @@ def canonical_lines(canonical: bytes) -> Iterator[list[bytes]]:
 
 
 def messages_of(canonical: bytes) -> list[Message]:
-    """The messages of a canonical text, each with the names of its signals, in order."""
+    """The messages of canonical text in order, each with the names of its signals."""
     found: list[Message] = []
     for head in HEADS.finditer(canonical):
         if head[1]:
@@ -276,8 +279,8 @@ def messages_of(canonical: bytes) -> list[Message]:
 
 @contextlib.contextmanager
 def uninterrupted() -> Iterator[None]:
-    """Holds back interrupts until what stands here is done, whichever thread they come to. (A mask would hold them back from this
-    thread alone, and another would take them for it.) Only the main thread is interrupted: others have nothing to hold back."""
+    """Defers interrupts until the block is done, whichever thread they are sent to. (A mask would defer them in this thread alone,
+    and another one would take them.) Only the main thread is interrupted: others have nothing to defer."""
     if threading.current_thread() is not threading.main_thread():
         yield
         return
@@ -293,10 +296,10 @@ def uninterrupted() -> Iterator[None]:
 
 
 class Folder(tempfile.TemporaryDirectory[str]):
-    """A temporary folder that no interrupt keeps from being removed."""
+    """A temporary folder that is removed despite interrupts."""
 
     def __init__(self, prefix: str, dir: str | None = None) -> None:
-        # (the first file or folder of all also tries where such may be)
+        # (the first temporary file or folder also looks for a folder to put it in)
         with uninterrupted():
             super().__init__(prefix=prefix, dir=dir)
 
@@ -306,14 +309,14 @@ class Folder(tempfile.TemporaryDirectory[str]):
 
 
 def temporary_database() -> IO[bytes]:
-    """A temporary file for a database, which is removed when it is closed, and which no interrupt keeps from being removed."""
+    """A temporary file for a database. It is removed when it is closed, despite interrupts."""
     with uninterrupted():
         return tempfile.NamedTemporaryFile(prefix="candesk-", suffix=".dbc")
 
 
 @contextlib.contextmanager
 def naming(name: str) -> Iterator[None]:
-    """Gives an error of a stream or an open file, which has no name of its own, this one."""
+    """Adds a name to an error of a stream or an open file, which has none of its own."""
     try:
         yield
     except OSError as error:
@@ -323,7 +326,7 @@ def naming(name: str) -> Iterator[None]:
 
 
 def lines_of(stream: Iterable[bytes], name: str) -> Iterator[bytes]:
-    """The lines of a stream; an error while they are read has the stream's name."""
+    """The lines of a stream. An error while reading has the stream's name."""
     lines = iter(stream)
     while True:
         try:
@@ -338,12 +341,12 @@ def lines_of(stream: Iterable[bytes], name: str) -> Iterator[bytes]:
 
 @contextlib.contextmanager
 def replacing(path: str) -> Iterator[BinaryIO]:
-    """A new file in place of another: written beside it, and renamed once it is whole. Mode and owner stay."""
-    path, room = os.path.realpath(path), ""
+    """A new file in place of another: written in the same folder, and renamed once it is complete. Mode and owner stay."""
+    path, made = os.path.realpath(path), ""
     try:
         try:
             with uninterrupted():
-                number, room = tempfile.mkstemp(prefix=".candesk-", dir=os.path.dirname(path))
+                number, made = tempfile.mkstemp(prefix=".candesk-", dir=os.path.dirname(path))
         except OSError as error:
             raise Fault(f"{path}: {error.strerror}", BAD_FILES) from error
         with naming(path), os.fdopen(number, "wb") as file:
@@ -351,10 +354,10 @@ def replacing(path: str) -> Iterator[BinaryIO]:
             file.flush()
             keep_rights(path, file.fileno())
             os.fsync(file.fileno())
-        os.replace(room, path)
+        os.replace(made, path)
     except BaseException:
         with contextlib.suppress(OSError):
-            os.unlink(room)
+            os.unlink(made)
         raise
     folder = os.open(os.path.dirname(path), os.O_RDONLY)
     with contextlib.suppress(OSError):
@@ -363,7 +366,7 @@ def replacing(path: str) -> Iterator[BinaryIO]:
 
 
 def keep_rights(path: str, number: int) -> None:
-    """Gives an open file the mode and owner of another, or the mode of any new file where there is none."""
+    """Gives an open file the mode and owner of the file at a path, or the mode of a new file if there is none."""
     if os.path.exists(path):
         there = os.stat(path)
         with contextlib.suppress(OSError):

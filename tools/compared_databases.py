@@ -1,4 +1,4 @@
-"""What two databases differ in, by their objects, and which lines of a log they decode differently."""
+"""The differences of two databases, and the lines of a log that they decode differently."""
 
 from __future__ import annotations
 
@@ -15,7 +15,7 @@ import candesk_tools as tools  # (it finds the package)
 import candesk
 
 Item = TypeVar("Item")
-# what of messages and signals is compared by value, with the word for each
+# the attributes of messages and signals that are compared by value, with the word for each
 OF_MESSAGE = (
     ("name", "name"), ("number", "number"), ("length", "length"), ("sender", "sender"), ("pgn", "PGN"), ("comment", "comment"),
 )
@@ -24,7 +24,7 @@ OF_SIGNAL = (
     ("scale", "factor"), ("offset", "offset"), ("minimum", "minimum"), ("maximum", "maximum"), ("unit", "unit"),
     ("receivers", "receivers"), ("indicator", "multiplexer indicator"), ("refused", "not decoded"), ("comment", "comment"),
 )
-# what the last object has that is compared item by item, with the member that names one, and the word for it
+# the members of the last object that are compared item by item, by name or as lists, with the word for each
 OF_REST = (("value_tables", "value table"), ("definitions", "attribute definition"), ("defaults", "attribute default"))
 LISTS = (
     ("nodes", "node"), ("comments", "comment"), ("attributes", "attribute"), ("values", "value descriptions"),
@@ -47,7 +47,8 @@ def shown(value: object) -> str:
 def paired(
     old: Sequence[Item], new: Sequence[Item], *keys: Callable[[Item], Hashable]
 ) -> list[tuple[Item | None, Item | None]]:
-    """Items that belong together by the first key that finds a partner, in the order of the new ones; then the other old ones."""
+    """Pairs of old and new items, matched by the first key that finds a partner, in the order of the new ones; then the other old
+    ones."""
     partners: dict[int, int] = {}
     for key in keys:
         left: dict[Hashable, collections.deque[int]] = {}
@@ -72,20 +73,20 @@ def changes(old: object, new: object, compared: Iterable[tuple[str, str]]) -> li
 
 
 def changed_entries(what: str, old: Mapping[Any, object], new: Mapping[Any, object]) -> list[str]:
-    """What of value descriptions or attributes changed, each by its key."""
-    told = []
+    """The changes of value descriptions or attributes, each by its key."""
+    changed = []
     for key in dict.fromkeys([*old, *new]):
         if key not in new:
-            told.append(f"{what} {key} {shown(old[key])} removed")
+            changed.append(f"{what} {key} {shown(old[key])} removed")
         elif key not in old:
-            told.append(f"{what} {key} {shown(new[key])} added")
+            changed.append(f"{what} {key} {shown(new[key])} added")
         elif old[key] != new[key]:
-            told.append(f"{what} {key} {shown(old[key])} -> {shown(new[key])}")
-    return told
+            changed.append(f"{what} {key} {shown(old[key])} -> {shown(new[key])}")
+    return changed
 
 
 def chain(signal: candesk.Signal) -> str:
-    """The multiplexors above a signal, as a layout diagram has them."""
+    """The multiplexing chain of a signal, as in a layout diagram."""
     if signal.chain is None:
         return "never"
     levels = (f"{it.signal} {','.join(f'{low}-{high}' for low, high in it.ranges)}" for it in signal.chain)
@@ -93,17 +94,17 @@ def chain(signal: candesk.Signal) -> str:
 
 
 def signal_changes(old: candesk.Signal, new: candesk.Signal) -> list[str]:
-    told = changes(old, new, OF_SIGNAL)
+    changed = changes(old, new, OF_SIGNAL)
     if chain(old) != chain(new):
-        told.append(f"multiplexing {chain(old)} -> {chain(new)}")
-    told += changed_entries("value", old.choices or {}, new.choices or {})
-    return told + changed_entries("attribute", old.attributes, new.attributes)
+        changed.append(f"multiplexing {chain(old)} -> {chain(new)}")
+    changed += changed_entries("value", old.choices or {}, new.choices or {})
+    return changed + changed_entries("attribute", old.attributes, new.attributes)
 
 
 def message_lines(old: candesk.Message, new: candesk.Message) -> Iterator[str]:
-    told = changes(old, new, OF_MESSAGE) + changed_entries("attribute", old.attributes, new.attributes)
-    if told:
-        yield f"~ message {new.name} {new.number}: {', '.join(told)}"
+    changed = changes(old, new, OF_MESSAGE) + changed_entries("attribute", old.attributes, new.attributes)
+    if changed:
+        yield f"~ message {new.name} {new.number}: {', '.join(changed)}"
     bits: Callable[[candesk.Signal], object] = lambda it: (it.positions, it.indicator)  # noqa: E731
     for before, after in paired(old.signals, new.signals, lambda it: it.name, bits):
         if before is None and after is not None:
@@ -115,7 +116,7 @@ def message_lines(old: candesk.Message, new: candesk.Message) -> Iterator[str]:
 
 
 def rest_lines(old: Mapping[str, Any], new: Mapping[str, Any]) -> Iterator[str]:
-    """What changed of what no message has."""
+    """The changes of everything outside messages."""
     for name, word in (("version", "version"), ("bit_timing", "bit timing")):
         if old[name] != new[name]:
             yield f"~ {word}: {shown(old[name])} -> {shown(new[name])}"
@@ -154,7 +155,7 @@ def differences(old: candesk.Database, new: candesk.Database) -> Iterator[str]:
 
 @contextlib.contextmanager
 def decoded(database: str, log: str) -> Iterator[IO[bytes]]:
-    """The decoded lines of a log. How the program ended is judged at the end, if all was read."""
+    """The decoded lines of a log. If all were read, raises a fault if the program failed."""
     with open(log, "rb") as file, tools.naming(log):
         words = [tools.program(), "decode", "--", database]
         with subprocess.Popen(words, stdin=file, stdout=subprocess.PIPE, stderr=subprocess.PIPE) as running:
@@ -166,12 +167,12 @@ def decoded(database: str, log: str) -> Iterator[IO[bytes]]:
                 running.kill()
                 raise
     if status:
-        said = tools.said_by(errors)
-        raise tools.Fault(f"{log if said == tools.LONG_LINE else database}: {said}", tools.status_of(status))
+        message = tools.error_message(errors)
+        raise tools.Fault(f"{log if message == tools.LONG_LINE else database}: {message}", tools.status_of(status))
 
 
 def differing_lines(old: str, new: str, log: str) -> Iterator[bytes]:
-    """The lines of a log that the two decode differently, with what each says."""
+    """The lines of a log that the two decode differently, as each decodes them."""
     with decoded(old, log) as before, decoded(new, log) as after:
         for number, (one, other) in enumerate(itertools.zip_longest(before, after, fillvalue=b"\n"), 1):
             if one != other:

@@ -1,7 +1,7 @@
-"""Rows of `candesk decode --csv` that pass through in pieces: cut at row ends, chosen by message and signal, with floats filled in.
+"""Rows of `candesk decode --csv` passed on in pieces: split at row ends, chosen by message and signal, with floats filled in.
 
-A field may stand in quotes, and then hold commas, line feeds and quotes, each twice. Most pieces have no quote, and are cut by
-commas and line feeds alone.
+A quoted field may contain commas, line feeds and doubled quotes. Most pieces have no quote, and are split at commas and line feeds
+alone.
 """
 
 from __future__ import annotations
@@ -12,14 +12,14 @@ import re
 from collections.abc import Callable, Iterable, Iterator
 from typing import Protocol
 
-# where the message, the signal and the value are in a row
+# the columns of the message, the signal and the value
 MESSAGE, SIGNAL, VALUE = 3, 4, 5
 FLOAT = b"?float"
 TO_QUOTE = re.compile(r'[,"\r\n]')
 
 
 def whole_rows(pieces: Iterator[bytes]) -> Iterator[bytes]:
-    """The same bytes, cut after the ends of rows: a line feed within quotes ends none."""
+    """The same bytes, split after row ends. A line feed within quotes ends no row."""
     kept = b""
     for piece in pieces:
         kept += piece
@@ -34,7 +34,7 @@ def whole_rows(pieces: Iterator[bytes]) -> Iterator[bytes]:
 
 
 def quoted(field: str) -> str:
-    """A field as the program writes it. (Python's writer leaves a CR that stands alone without quotes.)"""
+    """A field as the program writes it. (Python's writer doesn't quote a lone CR.)"""
     return '"' + field.replace('"', '""') + '"' if TO_QUOTE.search(field) else field
 
 
@@ -43,7 +43,7 @@ def row_text(row: Iterable[str]) -> str:
 
 
 def changed(piece: bytes, change: Callable[[list[str]], list[str] | None]) -> bytes:
-    """A piece of whole rows, each as it is changed to, or without it."""
+    """A piece of whole rows after a change of each; a row that is changed to None is dropped."""
     rows = csv.reader(io.StringIO(piece.decode(), newline=""))
     return "".join(row_text(it) for it in map(change, rows) if it is not None).encode()
 
@@ -59,7 +59,7 @@ class Float(Protocol):
 
 
 def with_floats(piece: bytes, floats: Iterator[Float]) -> bytes:
-    """A piece of whole rows in which each `?float` is the value and unit of the next of these."""
+    """A piece of whole rows with each `?float` replaced by the value and unit of the next of these floats."""
     if FLOAT not in piece:
         return piece
 
@@ -77,7 +77,7 @@ def with_floats(piece: bytes, floats: Iterator[Float]) -> bytes:
 
 
 class Only:
-    """Keeps the rows of these messages and signals, of pieces of whole rows."""
+    """Filters pieces of whole rows: keeps those of some messages and signals."""
 
     def __init__(self, wanted: set[tuple[str, str]]) -> None:
         self.wanted = wanted

@@ -1,6 +1,6 @@
-"""What can be typed at a position: keywords, nodes, messages, signals, names of attributes, and values of enumerations.
+"""Completions at a position: keywords, nodes, messages, signals, names of attributes, and values of enumerations.
 
-The statement up to the cursor is looked at by its words; names come from the last version of the text that was a valid database.
+The statement before the cursor is split into tokens; names come from the last version of the text that was a valid database.
 """
 
 from __future__ import annotations
@@ -31,7 +31,7 @@ TYPES = ("INT", "HEX", "FLOAT", "STRING", "ENUM")
 
 
 class Item(NamedTuple):
-    """Something that can be typed: how it is shown, the kind, more about it, and what is typed if it isn't what is shown."""
+    """A completion: its label, its kind, a detail, and the inserted text if it isn't the label."""
 
     label: str
     kind: int
@@ -39,16 +39,16 @@ class Item(NamedTuple):
     text: str = ""
 
 
-class Begun(NamedTuple):
-    """The statement before the cursor: its tokens, and where the one begins that is being typed."""
+class StatementStart(NamedTuple):
+    """The statement before the cursor: its tokens, and where the token that is being typed begins."""
 
     tokens: list[bytes]
     begin: int
     is_quoted: bool
 
 
-def begun(data: bytes, offset: int) -> Begun | None:
-    """The statement that was begun before an offset; none within a comment."""
+def statement_start(data: bytes, offset: int) -> StatementStart | None:
+    """The statement that begins before an offset; None within a comment."""
     pieces = [(kind, start, start + len(piece)) for kind, start, piece in tools.pieces(data[:offset])]
     if pieces and pieces[-1][0] == "comment":
         return None
@@ -63,7 +63,7 @@ def begun(data: bytes, offset: int) -> Begun | None:
         if starts:
             start = starts[-1]
             break
-    return Begun([it.group() for it in TOKENS.finditer(data, start, begin) if it["token"]], begin, is_quoted)
+    return StatementStart([it.group() for it in TOKENS.finditer(data, start, begin) if it["token"]], begin, is_quoted)
 
 
 # ---- what may follow
@@ -82,7 +82,7 @@ def nodes(known: Database) -> list[Item]:
 
 
 def messages(known: Database) -> list[Item]:
-    """The numbers of messages, also by their names."""
+    """The IDs of messages, also by their names."""
     by_number = [Item(str(it["number"]), CLASS, it["name"]) for it in known.messages]
     return by_number + [Item(it["name"], CLASS, str(it["number"]), str(it["number"])) for it in known.messages]
 
@@ -108,7 +108,7 @@ def values_of(known: Database, name: bytes) -> list[Item]:
 
 
 def after_target(known: Database, tokens: list[bytes]) -> list[Item] | None:
-    """What may follow these tokens of a target, `SG_ 500 Speed` for one; None after a whole one."""
+    """Completions after these tokens of a target, such as `SG_ 500 Speed`; None after a complete one."""
     kind, *rest = tokens or [b""]
     if kind == b"BU_" and not rest:
         return nodes(known)
@@ -124,7 +124,7 @@ def after_comment(known: Database, tokens: list[bytes]) -> list[Item]:
 
 
 def after_attribute(known: Database, tokens: list[bytes]) -> list[Item]:
-    """What may follow `BA_`: a name, the kind of its objects, one of them, and a value."""
+    """Completions after `BA_`: a name, the kind of its objects, one of them, and a value."""
     if len(tokens) == 1:
         return attributes(known)
     name, target = tokens[1], tokens[2:]
@@ -138,7 +138,7 @@ def after_attribute(known: Database, tokens: list[bytes]) -> list[Item]:
 
 
 def after_signal_key(known: Database, tokens: list[bytes]) -> list[Item]:
-    """What may follow the keyword of an entry of a signal: a message, the signal, and for `SG_MUL_VAL_` its multiplexor."""
+    """Completions after the keyword of an entry of a signal: a message, the signal, and for `SG_MUL_VAL_` its multiplexor."""
     if len(tokens) == 1:
         return messages(known)
     if len(tokens) == 2:
@@ -157,12 +157,12 @@ def after_default(known: Database, tokens: list[bytes]) -> list[Item]:
 
 
 def after_message(known: Database, tokens: list[bytes]) -> list[Item]:
-    """(`BO_ 500 Motor : 8`)"""
+    """The sender, after `BO_ 500 Motor : 8`."""
     return nodes(known) if len(tokens) == 5 else []
 
 
 def after_signal(known: Database, tokens: list[bytes]) -> list[Item]:
-    """After the unit follow receivers."""
+    """Receivers, after the unit."""
     return nodes(known) if any(it.startswith(b'"') for it in tokens) else []
 
 
@@ -188,7 +188,7 @@ def item_of(item: Item, where: Object) -> Object:
 
 def completion(document: Document, params: Object, client: Client) -> list[Object]:
     data, offset = document.text.data, document.offset(params)
-    found = begun(data, offset)
+    found = statement_start(data, offset)
     if found is None:
         return []
     known = database(document.last_valid or document.snapshot)

@@ -1,4 +1,4 @@
-"""The database of a text, by the objects of `candesk dump --json`, and the words in which messages and signals are described."""
+"""The database of a text, from the objects of `candesk dump --json`, and descriptions of its messages and signals."""
 
 from __future__ import annotations
 
@@ -15,7 +15,7 @@ Object = dict[str, Any]
 NOBODY = "Vector__XXX"
 # how many value descriptions are shown
 MAX_DESCRIPTIONS = 40
-# below this PDU format the next byte of a J1939 identifier is a destination and not of the PGN
+# below this PDU format (PDU1) the next byte of a J1939 identifier is the destination, and not part of the PGN
 FIRST_BROADCAST = 240
 
 
@@ -30,13 +30,13 @@ class Database:
         return [it for it in self.messages if it["number"] == number]
 
     def index_of(self, number: int, signal: str | None = None) -> int | None:
-        """The index of the first message with a number, and with such a signal."""
+        """The index of the first message with an ID, and with a signal if one is given."""
         numbered = (it for it in enumerate(self.messages) if it[1]["number"] == number)
         return next((at for at, it in numbered if signal is None or signal in it["signals"]), None)
 
 
 def database_of(answer: Answer) -> Database | None:
-    """The database that an answer has; none if the text was rejected."""
+    """The database in an answer; None if the text was rejected."""
     if answer.status:
         return None
     *messages, rest = answer.objects()
@@ -59,17 +59,17 @@ def diagrams(snapshot: Snapshot) -> list[str]:
     return found
 
 
-# ---- words
+# ---- descriptions
 
 
 def j1939_line(identifier: int) -> str:
-    """The fields of a 29-bit identifier as J1939 has them."""
+    """The J1939 fields of a 29-bit identifier."""
     pdu_format, pdu_specific = identifier >> 16 & 0xFF, identifier >> 8 & 0xFF
-    group = identifier >> 8 & 0x3FFFF
-    group = group & ~0xFF if pdu_format < FIRST_BROADCAST else group
+    pgn = identifier >> 8 & 0x3FFFF
+    pgn = pgn & ~0xFF if pdu_format < FIRST_BROADCAST else pgn
     return (
         f"J1939: priority 0x{identifier >> 26:X}, PDU format 0x{pdu_format:02X}, PDU specific 0x{pdu_specific:02X}, "
-        f"source address 0x{identifier & 0xFF:02X}, PGN 0x{group:04X}"
+        f"source address 0x{identifier & 0xFF:02X}, PGN 0x{pgn:04X}"
     )
 
 
@@ -78,7 +78,7 @@ def length_of(message: Object) -> str:
 
 
 def message_lines(message: Object) -> list[str]:
-    """A message in words."""
+    """The description of a message."""
     identifier = message["id"]
     kind = "no identifier" if identifier is None else f"0x{identifier:03X}"
     if message["extended"]:
@@ -98,7 +98,7 @@ def offset_words(offset: str) -> str:
 
 
 def signal_lines(message: Object, name: str) -> list[str]:
-    """A signal in words: its message, its exact scale, who receives it, when it is present, and its value descriptions."""
+    """The description of a signal: its message, exact scale, receivers, when it is present, and its value descriptions."""
     it = message["signals"][name]
     kind = f"{tools.counted(it['length'], 'bit')} from {it['start']}, {it['order']}, {'signed' if it['signed'] else 'unsigned'}"
     unit = f" {it['unit']}" if it["unit"] else ""

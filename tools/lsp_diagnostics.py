@@ -1,4 +1,4 @@
-"""Diagnostics of the protocol, made of the objects that `candesk explain --json` writes."""
+"""Diagnostics of the protocol, from the objects of `candesk explain --json`."""
 
 from __future__ import annotations
 
@@ -12,19 +12,19 @@ ERROR, WARNING, INFORMATION = 1, 2, 3
 SEVERITIES = {"error": ERROR, "warning": WARNING, "information": INFORMATION}
 # how many diagnostics an editor gets: it draws all of them, again after each edit
 MAX_DIAGNOSTICS = 5_000
-# what a name in an entry's key is of
+# the keyword for the kind of object that an entry's key names
 TARGETS = {"node": "BU_", "message": "BO_", "signal": "SG_", "environment_variable": "EV_"}
-# the entries whose key has the kind of their target before its number
+# the entries whose key has the kind of their target before its ID
 WITH_TARGET = ("CM_", "BA_")
 
 
 def name_of(it: Object) -> str:
-    """A name as it is shown; of one that isn't UTF-8 the bytes are Latin-1."""
+    """A name for display; if it isn't UTF-8, its bytes are read as Latin-1."""
     return str(it["name"]).replace("\r", " ").replace("\n", " ")
 
 
 def target_of(it: Object) -> str:
-    """What an entry is for, as it is written."""
+    """The target of an entry, as it is written."""
     kind = ""
     if it["entry"] in WITH_TARGET:
         kind = "SG_" if "signal" in it else "BO_" if "number" in it else "BU_" if "node" in it else ""
@@ -40,7 +40,7 @@ def key_of(it: Object) -> str:
 
 
 def subject_of(it: Object) -> str:
-    """What a diagnostic is about."""
+    """The subject of a diagnostic."""
     if "entry" in it:
         return key_of(it)
     subject = f"{it['number']} {it['message']}"
@@ -83,6 +83,6 @@ def diagnostic_of(it: Object, text: Text, uri: str, has_related: bool) -> Object
 def diagnostics_of(objects: list[Object], text: Text, uri: str, has_related: bool) -> list[Object]:
     made = [diagnostic_of(it, text, uri, has_related) for it in objects[:MAX_DIAGNOSTICS]]
     if len(objects) > MAX_DIAGNOSTICS:
-        told = f"only the first {MAX_DIAGNOSTICS:,} of {len(objects):,} problems are listed; see `candesk check`"
-        made.append({"range": text.range(0, 0), "severity": INFORMATION, "source": "candesk", "message": told})
+        note = f"only the first {MAX_DIAGNOSTICS:,} of {len(objects):,} problems are listed; see `candesk check`"
+        made.append({"range": text.range(0, 0), "severity": INFORMATION, "source": "candesk", "message": note})
     return made

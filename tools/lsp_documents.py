@@ -16,7 +16,7 @@ Object = dict[str, Any]
 
 LINE_END = re.compile(rb"\r\n|\n|\r")
 NOT_ASCII = re.compile("[^\x00-\x7f]")
-# the name of the error handler, and the characters that are bytes in disguise
+# the name of the error handler, and the characters that represent stray bytes
 STRAY = "candesk-stray"
 FIRST_STRAY, LAST_STRAY, STRAY_BASE = 0xDC80, 0xDCFF, 0xDC00
 
@@ -87,7 +87,7 @@ def wide_characters(line: bytes) -> Wide:
 
 
 def mapped(at: int, begins: list[int], sizes: list[int], others: list[int], other_sizes: list[int], is_end: bool) -> int:
-    """An offset in bytes in units, or the other way round. Within a character it is its beginning, or its end."""
+    """Converts an offset in bytes to one in units, or back. An offset within a character becomes its beginning, or its end."""
     index = bisect_right(begins, at) - 1
     if index < 0:
         return at
@@ -124,7 +124,7 @@ class Text:
         self.starts = line_starts(self.data)
 
     def line_of(self, offset: int) -> int:
-        """The index of the line that has a byte."""
+        """The index of the line of a byte."""
         return bisect_right(self.starts, offset) - 1
 
     def line(self, index: int) -> Line:
@@ -137,7 +137,7 @@ class Text:
         return self.last
 
     def position(self, offset: int, is_end: bool = False) -> Object:
-        """The position of an offset. Within a character it is that of the character, or the one after it for the end of a range."""
+        """The position of an offset. Within a character it is that of the character, or that after it for the end of a range."""
         line = self.line(self.line_of(max(0, min(offset, len(self.data)))))
         begins, sizes, unit_begins, unit_sizes = line.wide
         wanted = max(0, min(offset, line.end) - line.begin)
@@ -156,7 +156,7 @@ class Text:
         return min(line.begin + mapped(column, unit_begins, unit_sizes, begins, sizes, True), line.end)
 
     def replace(self, begin: int, end: int, new: bytes) -> None:
-        """Replaces the bytes from one offset to another. Only the lines there are looked at; those after it are moved."""
+        """Replaces the bytes from one offset to another. Only the lines there are scanned; those after it are moved."""
         self.data, self.last = self.data[:begin] + new + self.data[end:], None
         last = begin + len(new)
         window = max(begin - 1, 0)

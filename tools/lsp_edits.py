@@ -1,4 +1,4 @@
-"""Edits of a text: formatting, and quick fixes where a diagnostic has an obvious one."""
+"""Edits of a text: formatting, and quick fixes for diagnostics that have an obvious one."""
 
 from __future__ import annotations
 
@@ -19,19 +19,19 @@ from lsp_requests import WARNING, Client, Document, RequestError
 Object = dict[str, Any]
 
 QUICK_FIX = "quickfix"
-# for how many diagnostics fixes are looked for at once; each is tried by a run of the program
+# for how many diagnostics fixes are offered at once; each fix is tried by a run of the program
 MAX_FIXES = 20
-# what marks an extended identifier, and how many bits it has
+# the mark of an extended identifier, and how many bits it has
 BIT_31, EXTENDED_BITS = 1 << 31, 29
 STRING_AFTER = re.compile(rb"\s*%s[ \t]*" % tools.QUOTED, re.DOTALL)
 # the statements kept verbatim that name messages or their signals
-GROUP, RELATION = b"SIG_GROUP_", b"BA_REL_"
-OF_MESSAGES = (GROUP, RELATION, b"SIG_TYPE_REF_", b"BO_TX_BU_")
+SIGNAL_GROUP, RELATION = b"SIG_GROUP_", b"BA_REL_"
+OF_MESSAGES = (SIGNAL_GROUP, RELATION, b"SIG_TYPE_REF_", b"BO_TX_BU_")
 TOKENS = re.compile(rb'//[^\n]*|%s|(?P<word>[A-Za-z_]\w*|\d\w*|:)' % tools.QUOTED, re.DOTALL)
 
 
 class Edit(NamedTuple):
-    """Bytes of a text, and what takes their place."""
+    """A range of bytes of a text, and its replacement."""
 
     begin: int
     end: int
@@ -63,7 +63,7 @@ def line_end(data: bytes) -> bytes:
 
 
 def printed_after(data: bytes, command: str) -> bytes:
-    """The canonical text after a command of a session. A command that is refused is an error of the request."""
+    """The canonical text after a session command. Raises a `RequestError` if the command is refused."""
     reply, _, rest = ask(("session",), data, command.encode() + b"\nprint\n").out.partition(b"\n")
     if reply != b"ok":
         raise RequestError(f"candesk session: {reply.decode(errors='replace')}")
@@ -71,7 +71,7 @@ def printed_after(data: bytes, command: str) -> bytes:
 
 
 def is_confirmed(data: bytes, edits: list[Edit], command: str) -> bool:
-    """Whether edits do to a text what a command of a session does to its database."""
+    """Whether edits of a text have the same result as a session command."""
     return ask(PRINT, edited(data, edits)).out == printed_after(data, command)
 
 
@@ -91,7 +91,7 @@ def kept_words(data: bytes) -> list[list[Word]]:
 
 
 def kept_numbers(data: bytes, number: int) -> list[Word]:
-    """Where statements kept verbatim name a message by its number: after their keyword, or after that of a message or signal."""
+    """The occurrences of a message ID in statements kept verbatim: after their keyword, or after that of a message or signal."""
     found: list[Word] = []
     for words in kept_words(data):
         keywords = (b"SG_", b"BO_") if words[0][0] == RELATION else (words[0][0],)
@@ -101,14 +101,15 @@ def kept_numbers(data: bytes, number: int) -> list[Word]:
 
 
 def kept_signals(data: bytes, number: int, name: str) -> list[Word]:
-    """Where statements kept verbatim name a signal: after its message's number, or in a group of that message after the colon."""
+    """The occurrences of a signal in statements kept verbatim: after its message ID, or in a signal group of that message after the
+    colon."""
     found: list[Word] = []
     for words in kept_words(data):
         texts = [it[0] for it in words]
         numbered, named = b"%d" % number, name.encode()
-        if texts[0] == GROUP and texts[1:2] == [numbered] and b":" in texts:
+        if texts[0] == SIGNAL_GROUP and texts[1:2] == [numbered] and b":" in texts:
             found += [word for word in words[texts.index(b":") :] if word[0] == named]
-        elif texts[0] != GROUP:
+        elif texts[0] != SIGNAL_GROUP:
             found += [word for before, word in zip(texts, words[1:]) if word[0] == named and before == numbered]
     return found
 
@@ -117,10 +118,10 @@ def kept_signals(data: bytes, number: int, name: str) -> list[Word]:
 
 
 def formatted(document: Document, client: Client) -> bytes | None:
-    """The text in the form that the client wants; nothing where it can't be had, which is shown."""
+    """The text in the form that the client wants; None if it can't be formatted, and then the reason is shown."""
     data, answer = document.snapshot.data, document.snapshot.answer(PRINT)
     if answer.status:
-        client.show(WARNING, f"not formatted: {tools.said_by(answer.errors)}")
+        client.show(WARNING, f"not formatted: {tools.error_message(answer.errors)}")
         return None
     if client.is_vector:
         made = vector_order.vector_text(answer.out, data)
@@ -203,7 +204,7 @@ def fix_value(snapshot: Snapshot, it: Object) -> Fix | None:
 
 
 def fix_identifier(snapshot: Snapshot, it: Object) -> Fix | None:
-    """Sets bit 31 of a message's number, and of all entries that name it, if a session does the same."""
+    """Sets bit 31 of a message ID, also in all entries that name it, if a session does the same."""
     old = it["number"]
     new = old | BIT_31
     known = database(snapshot)

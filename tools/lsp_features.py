@@ -1,4 +1,4 @@
-"""What the server answers about a position or a whole text: hover, outline, definition and references; and all that it offers."""
+"""The features of a position or a whole text: hover, outline, definition and references; and all capabilities of the server."""
 
 from __future__ import annotations
 
@@ -26,7 +26,7 @@ KINDS = {"BO_": CLASS, "SG_": FIELD, "VAL_TABLE_": ENUM, "BA_DEF_": PROPERTY}
 
 
 def index_at(found: Names, known: Database, thing: Thing, statement: Statement | None) -> int | None:
-    """The index of the message that is meant: in a `BO_` or `SG_` statement its own, elsewhere the first with the number."""
+    """The index of a thing's message: in a `BO_` or `SG_` statement its own, elsewhere the first with its ID."""
     if statement and statement.keyword in ("BO_", "SG_") and statement.thing and statement.thing.number == thing.number:
         return sum(it.keyword == "BO_" and it.begin <= statement.begin for it in found.statements) - 1
     return known.index_of(thing.number, thing.name or None)
@@ -63,7 +63,7 @@ def attribute_lines(known: Database, name: str) -> list[str]:
 
 
 def described(document: Document, found: Names, known: Database, thing: Thing, statement: Statement | None) -> list[str]:
-    """Something in words, with the layout diagram of its message."""
+    """The description of a thing, with the layout diagram of its message."""
     simple = {NODE: node_lines, TABLE: table_lines, ATTRIBUTE: attribute_lines}
     if thing.kind in simple:
         return simple[thing.kind](known, thing.name)
@@ -76,7 +76,7 @@ def described(document: Document, found: Names, known: Database, thing: Thing, s
 
 
 def fenced(lines: list[str]) -> str:
-    """Lines as a block of code in Markdown, whatever is in them."""
+    """Lines as a block of code in Markdown, whatever they contain."""
     text = "\n".join(lines)
     fence = "`" * max(3, *(1 + len(it) for it in re.findall("`+", text) or [""]))
     return f"{fence}\n{text}\n{fence}"
@@ -141,7 +141,7 @@ def outline(document: Document, found: Names, known: Database) -> list[Object]:
 
 
 def flat(symbols: list[Object], uri: str, container: str = "") -> list[Object]:
-    """The symbols of an outline as a list, for a client that takes no tree."""
+    """The symbols of an outline as a list, for a client without support for trees."""
     made: list[Object] = []
     for it in symbols:
         location = {"uri": uri, "range": it["selectionRange"]}

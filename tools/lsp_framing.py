@@ -1,8 +1,8 @@
 """Messages of the language server protocol on byte streams: JSON after a header with its length.
 
-The reader of Debian's python3-pylsp-jsonrpc takes `Content-Length` only as the first header, reads all that follows as the body if
-there is none, and a body of any size; so the framing is done here. After a header without a length it continues at the next length
-in the stream.
+The reader of Debian's python3-pylsp-jsonrpc accepts `Content-Length` only as the first header, reads all that follows as the body
+if there is none, and reads a body of any length; so the framing is done here. After a header without a length it continues at the
+next length in the stream.
 """
 
 from __future__ import annotations
@@ -23,7 +23,7 @@ PARSE_ERROR, INVALID_REQUEST = -32700, -32600
 
 
 class BadMessage(Exception):
-    """A message that can't be used. The reader goes on with the next one."""
+    """A message that can't be used. The reader continues with the next one."""
 
     def __init__(self, text: str, code: int) -> None:
         super().__init__(text)
@@ -39,7 +39,7 @@ def skip(stream: BinaryIO, count: int) -> None:
 
 
 def body_length(stream: BinaryIO) -> int | None:
-    """The length that the next header gives, or nothing at the end of the stream."""
+    """The length in the next header, or None at the end of the stream."""
     length: int | None = None
     has_lines = False
     while line := stream.readline(MAX_HEADER_LINE):
@@ -66,7 +66,7 @@ def parsed(body: bytes) -> Object:
 
 
 def read_message(stream: BinaryIO) -> Object | None:
-    """The next message, or nothing at the end of the stream."""
+    """The next message, or None at the end of the stream."""
     length = body_length(stream)
     if length is None:
         return None

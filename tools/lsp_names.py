@@ -1,4 +1,4 @@
-"""The tokens of a text that name something, by what `candesk dump --at` writes, and what each of them names.
+"""The tokens of a text that name something, from the output of `candesk dump --at`, and what each of them names.
 
 The program reports where messages, signals, entries, senders and receivers are. Lists of nodes and statements kept verbatim, which
 it doesn't report, are found by their words, outside of strings and comments.
@@ -28,7 +28,7 @@ KEYWORDS = frozenset((*vector_order.SECTIONS, b"SG_"))
 
 
 class Thing(NamedTuple):
-    """What is named: a message or a signal by the message's number, anything else by its name alone."""
+    """A named thing: a message or a signal by the message ID, anything else by its name alone."""
 
     kind: str
     name: str
@@ -46,7 +46,7 @@ class Name(NamedTuple):
 
 @dataclass(frozen=True)
 class Statement:
-    """The start of a statement, up to the last token of its key, and what it is about; nothing if that is the whole database."""
+    """The start of a statement, up to the last token of its key, and what it is about; None if that is the whole database."""
 
     begin: int
     end: int
@@ -55,7 +55,7 @@ class Statement:
 
 
 class Names:
-    """The locations of a text in its order. The tokens in them are looked at when they are asked for."""
+    """The locations of a text in its order. Their tokens are scanned only when they are needed."""
 
     def __init__(self, data: bytes, objects: list[Object]) -> None:
         self.data = data
@@ -94,7 +94,7 @@ def name_at(found: Names, offset: int) -> Name | None:
 
 
 def tokens_in(data: bytes, begin: int, end: int) -> list[tuple[int, int]]:
-    """Where the tokens of a part of a text are."""
+    """The spans of the tokens in a part of a text."""
     return [it.span() for it in TOKENS.finditer(data, begin, end) if it["token"]]
 
 
@@ -102,7 +102,7 @@ def tokens_in(data: bytes, begin: int, end: int) -> list[tuple[int, int]]:
 
 
 def thing_of(it: Object) -> Thing | None:
-    """What an object of a location is about."""
+    """The thing that an object of a location is about."""
     if "node" in it:
         return Thing(NODE, it["node"])
     if "signal" in it:
@@ -152,7 +152,7 @@ def names_of(it: Object, data: bytes) -> Iterator[Name]:
 
 
 def statement_of(it: Object) -> Statement | None:
-    """The statement that a location begins; none for a sender or a receiver."""
+    """The statement that a location begins; None for a sender or a receiver."""
     at, entry = it["at"][0], it.get("entry")
     if entry is None and "node" in it:
         return None
@@ -160,7 +160,7 @@ def statement_of(it: Object) -> Statement | None:
 
 
 def names(snapshot: Snapshot) -> Names | None:
-    """The names of a text; none if it is rejected, or if the program doesn't report locations."""
+    """The names of a text; None if it is rejected, or if the program doesn't report locations."""
 
     def made() -> Names | None:
         answer = snapshot.answer(LOCATIONS)
@@ -184,7 +184,7 @@ class NodeList(NamedTuple):
 
 
 def words(data: bytes, needed: bytes) -> Iterator[tuple[bytes, int, int]]:
-    """The words and signs of a text outside of strings and comments, from a piece on that has some bytes; a string is a quote."""
+    """The words and symbols of a text outside strings and comments, from each piece that contains `needed`; a string is a quote."""
     is_needed = False
     for kind, start, piece in tools.pieces(data):
         is_needed = is_needed or kind == "plain" and needed in piece

@@ -1,6 +1,6 @@
-"""Runs of the program over the text of a document, and what it reported of one version.
+"""Runs of the program over the text of a document, and its answers about one version.
 
-The text is in memory that has the name of a file, so nothing is left over however the server ends.
+The text is in a file in memory, so nothing is left over however the server ends.
 """
 
 from __future__ import annotations
@@ -19,9 +19,9 @@ import candesk_tools as tools
 
 Object = dict[str, Any]
 
-# how long a run may take, in seconds; the largest text that the server takes needs about one
+# how long a run may take, in seconds; the largest text that the server accepts needs about one
 PATIENCE = 10
-# the statuses of an answer: done, and with problems or rejected
+# the statuses of an answer: done, or with problems or rejected
 ANSWERS = (0, 1)
 BAD_WORDS = 2
 
@@ -33,9 +33,10 @@ class Exact(str):
 DECODER = json.JSONDecoder(parse_float=Exact)
 LINE_FEED = "\n"
 
+
 @dataclass(frozen=True)
 class Answer:
-    """What a run ended with."""
+    """The result of a run."""
 
     status: int
     out: bytes
@@ -48,7 +49,7 @@ class Answer:
 
 
 def memory_file(data: bytes) -> int:
-    """A descriptor of a file in memory."""
+    """A descriptor of a file in memory with some data."""
     try:
         number = os.memfd_create("candesk-lsp")
     except OSError as error:
@@ -63,7 +64,7 @@ def memory_file(data: bytes) -> int:
 
 
 def kill(process: subprocess.Popen[bytes]) -> None:
-    """Kills a process that has a session of its own, with its children if it is a script."""
+    """Kills a process with its own process session, and its children if it is a script."""
     if process.returncode is None:
         with contextlib.suppress(ProcessLookupError):
             os.killpg(process.pid, signal.SIGKILL)
@@ -93,7 +94,7 @@ class Run:
             raise tools.Fault(f"{command[0]} can't be started: {error.strerror}", tools.BAD_FILES) from error
 
     def answer(self) -> Answer:
-        """What the run ends with. A fault, if the program is missing, is ended by a signal, or has an error of its own."""
+        """The result of the run. Raises a fault if the program is missing, is ended by a signal, or has an error of its own."""
         number = memory_file(self.data)
         try:
             with self.lock:
@@ -111,7 +112,7 @@ class Run:
         if process.returncode < 0:
             raise tools.Fault(f"candesk {self.words[0]} was ended by signal {-process.returncode}", tools.BAD_FILES)
         if process.returncode not in (*ANSWERS, BAD_WORDS):
-            raise tools.Fault(f"candesk {self.words[0]}: {tools.said_by(errors)}", tools.BAD_FILES)
+            raise tools.Fault(f"candesk {self.words[0]}: {tools.error_message(errors)}", tools.BAD_FILES)
         return Answer(process.returncode, out, errors)
 
 
@@ -140,7 +141,7 @@ class Snapshot:
         return self.answers[words]
 
     def value(self, name: str, make: Callable[[], Any]) -> Any:
-        """Something that is made of answers, once."""
+        """A value that is computed from answers, once."""
         if name not in self.values:
             self.values[name] = make()
         return self.values[name]

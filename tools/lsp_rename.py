@@ -1,4 +1,4 @@
-"""The renaming of a signal: edits of the tokens that name it alone, and only if a session renames it with the same result."""
+"""The renaming of a signal: edits of only the tokens that name it, and only if a session renames it with the same result."""
 
 from __future__ import annotations
 
@@ -29,7 +29,7 @@ def prepare_rename(document: Document, params: Object, client: Client) -> Object
     if not found:
         return None
     name = found[1]
-    # (at a keyword the signal is meant that its statement is about)
+    # (at a keyword, the name is that of the statement's signal)
     token = f"\\b{re.escape(name.thing.name)}$".encode()
     last = re.search(token, document.text.data[name.begin : name.end])
     begin = name.begin + last.start() if last else name.begin
@@ -57,6 +57,6 @@ def rename(document: Document, params: Object, client: Client) -> Object:
         raise RequestError("the text would be rejected; nothing is changed")
     if kept:
         lines = sorted({tools.line_of(data, begin) for _, begin, _ in kept})
-        told = f"{tools.counted(len(lines), 'line')} with statements kept verbatim, which candesk doesn't check"
-        client.show(INFO, f"renaming {thing.name} also changes {told}: {', '.join(map(str, lines))}")
+        what = f"{tools.counted(len(lines), 'line')} with statements kept verbatim, which candesk doesn't check"
+        client.show(INFO, f"renaming {thing.name} also changes {what}: {', '.join(map(str, lines))}")
     return {"changes": {document.uri: edits_of(document, everything)}}

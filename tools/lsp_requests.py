@@ -1,4 +1,4 @@
-"""What a request is about: a document, and a client with what it understands and wants."""
+"""The context of a request: a document, and a client with its capabilities and options."""
 
 from __future__ import annotations
 
@@ -38,7 +38,7 @@ class Document:
 
 
 def capability(params: Object, *path: str) -> Any:
-    """What a client says of a capability; nothing if it doesn't."""
+    """The value of a client's capability; None if the client doesn't have it."""
     it: Any = params.get("capabilities")
     for name in path:
         it = it.get(name) if isinstance(it, dict) else None
@@ -51,7 +51,7 @@ def ignore(kind: int, text: str) -> None:
 
 @dataclass
 class Client:
-    """What the client understands, and the options that it gave."""
+    """The capabilities of a client, and the options that it gave."""
 
     has_related: bool = False
     has_markdown: bool = False

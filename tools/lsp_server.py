@@ -1,7 +1,7 @@
 """The language server: it reads messages, keeps documents, checks each after a pause, and answers requests.
 
 One thread reads, one runs the program for diagnostics, and the main thread does all else: it waits for events, and only it writes.
-A check of a version that is superseded is stopped, and what it reports is dropped.
+The check of a superseded version is stopped, and its report is dropped.
 """
 
 from __future__ import annotations
@@ -22,18 +22,18 @@ from lsp_requests import ERROR, INVALID_PARAMS, WARNING, Client, Document, Reque
 
 Object = dict[str, Any]
 
-# how long a text has to stay as it is before it is checked, in seconds
+# how long a text has to stay unchanged before it is checked, in seconds
 DEBOUNCE = 0.1
-# the longest text that is taken, in bytes: a check of it takes half a second, and each edit needs one
+# the longest text that is checked, in bytes: a check of it takes half a second, and each edit needs one
 MAX_TEXT = 16 << 20
 # how many messages may wait to be handled
 MAX_WAITING = 100
-# how long the server waits for a check to end that it stopped, in seconds
+# how long the server waits for a stopped check to end, in seconds
 PATIENCE = 5
 
 METHOD_NOT_FOUND, NOT_INITIALIZED, CANCELLED = -32601, -32002, -32800
 CANCEL = "$/cancelRequest"
-# what parameters, or a program's output, raise that aren't as they should be
+# the exceptions that malformed parameters or output of a program raise
 BAD_PARAMETERS = (LookupError, TypeError, ValueError, AttributeError, ArithmeticError)
 # changes of a document come as ranges with their new text
 INCREMENTAL = 2
@@ -48,7 +48,7 @@ class Closed:
 
 @dataclass(frozen=True)
 class Checked:
-    """What the program reported of a version."""
+    """The program's report about a version."""
 
     check: Check
     words: tuple[str, ...]
@@ -57,7 +57,7 @@ class Checked:
 
 @dataclass(frozen=True)
 class Finished:
-    """A check is over, perhaps by a fault."""
+    """A check has ended, perhaps by a fault."""
 
     check: Check
     fault: BaseException | None
@@ -67,7 +67,7 @@ Event = Union[Object, lsp_framing.BadMessage, Closed, Checked, Finished]
 
 
 def cancelled_id(message: Object) -> str:
-    """The request that a client doesn't wait for any more."""
+    """The ID of a request that a client has cancelled."""
     params = message.get("params")
     return str(params.get("id")) if isinstance(params, dict) else ""
 
@@ -119,7 +119,7 @@ class Server:
     client: Client = field(default_factory=Client)
     is_initialized: bool = False
     is_shut_down: bool = False
-    # the requests that the client doesn't wait for any more
+    # the IDs of requests that the client has cancelled
     cancelled: set[str] = field(default_factory=set)
     # the last fault that was shown, until the program answers again
     shown: str = ""
@@ -148,7 +148,7 @@ class Server:
             self.events.put(message)
 
     def run(self) -> int:
-        """Serves up to the end; the exit status."""
+        """Serves up to the end. Returns the exit status."""
         threading.Thread(target=self.read_all, daemon=True).start()
         status: int | None = None
         while status is None:
@@ -161,13 +161,13 @@ class Server:
         return status
 
     def pause(self) -> float | None:
-        """How long to wait for an event until the next check is due; for ever if none is."""
+        """How long to wait for an event until the next check is due, in seconds; None if none is."""
         if self.check or not self.due:
             return None
         return max(0.0, min(self.due.values()) - time.monotonic())
 
     def handle(self, event: Event) -> int | None:
-        """Handles an event; the exit status, if it is the last one."""
+        """Handles an event. Returns the exit status if it is the last one."""
         if isinstance(event, Closed):
             if event.error:
                 event.error.filename = "standard input"
@@ -190,7 +190,7 @@ class Server:
             self.send({"id": event.get("id"), "error": {"code": lsp_framing.INVALID_REQUEST, "message": "no method"}})
         return None
 
-    # ---- what is sent
+    # ---- sending
 
     def send(self, message: Object) -> None:
         lsp_framing.write_message(self.sink, {"jsonrpc": "2.0", **message})
@@ -203,7 +203,7 @@ class Server:
         if self.is_initialized:
             self.notify("window/showMessage", {"type": kind, "message": f"candesk: {text}"})
         else:
-            tools.tell(text)
+            tools.report(text)
 
     def show_fault(self, fault: BaseException) -> None:
         """Shows that the program failed, once until it answers again."""
@@ -236,7 +236,7 @@ class Server:
                     pass
 
     def take(self, event: Checked) -> None:
-        """Takes what the program reported of a version, unless another one has come since."""
+        """Takes the program's report about a version, unless a newer one has come since."""
         document = self.documents.get(event.check.uri)
         if document is None or document.snapshot is not event.check.snapshot:
             return
@@ -253,14 +253,14 @@ class Server:
     def publish(self, document: Document) -> None:
         answer = document.snapshot.answer(CHECK)
         if answer.status == BAD_WORDS:
-            raise ValueError(tools.said_by(answer.errors))
+            raise ValueError(tools.error_message(answer.errors))
         made = lsp_diagnostics.diagnostics_of(answer.objects(), document.text, document.uri, self.client.has_related)
         self.notify("textDocument/publishDiagnostics", {"uri": document.uri, "version": document.version, "diagnostics": made})
 
     # ---- documents
 
     def changed(self, document: Document) -> None:
-        """Notes that a document has another text: what was known of the one before is dropped."""
+        """Records that a document has another text: what was known about the previous one is dropped."""
         if OBJECTS in document.snapshot.answers and not document.snapshot.answers[OBJECTS].status:
             document.last_valid = document.snapshot
         document.snapshot = Snapshot(document.text.data)
@@ -271,8 +271,8 @@ class Server:
         if self.check and self.check.uri == uri:
             self.check.stop()
 
-    def refuse(self, uri: str, size: int) -> None:
-        """Refuses a text that is too long. Its document is unknown from then on, until it is opened again."""
+    def reject(self, uri: str, size: int) -> None:
+        """Rejects a text that is too long. Its document is unknown from then on, until it is opened again."""
         self.forget(uri)
         why = f"{size:,} bytes; a text of over {MAX_TEXT:,} isn't checked, as each edit would take too long"
         self.show(WARNING, f"{uri}: {why}")
@@ -287,7 +287,7 @@ class Server:
         item = params["textDocument"]
         data = to_bytes(item["text"])
         if len(data) > MAX_TEXT:
-            self.refuse(item["uri"], len(data))
+            self.reject(item["uri"], len(data))
             return
         document = Document(item["uri"], item.get("version", 0), Text(data), Snapshot(data))
         self.documents[document.uri] = document
@@ -301,7 +301,7 @@ class Server:
             new = to_bytes(change["text"])
             size = len(new) if change.get("range") is None else len(document.text.data) + len(new)
             if size > MAX_TEXT:
-                self.refuse(document.uri, size)
+                self.reject(document.uri, size)
                 return
             apply_change(document.text, change.get("range"), new)
         document.version = params["textDocument"].get("version", document.version)
@@ -335,12 +335,12 @@ class Server:
         except RequestError as error:
             self.send({"id": request["id"], "error": {"code": error.code, "message": str(error)}})
         except tools.Fault as fault:
-            # (no error of the request besides: an editor would show both)
+            # (no error of the request in addition: an editor would show both)
             self.show_fault(fault)
             self.send({"id": request["id"], "result": None})
         except BAD_PARAMETERS as error:
-            told = f"{request['method']} has bad parameters: {error!r}"
-            self.send({"id": request["id"], "error": {"code": INVALID_PARAMS, "message": told}})
+            message = f"{request['method']} has bad parameters: {error!r}"
+            self.send({"id": request["id"], "error": {"code": INVALID_PARAMS, "message": message}})
         else:
             self.send({"id": request["id"], "result": result})
 

@@ -1,7 +1,7 @@
-"""What the two tools for many logs share: which logs there are, where their outputs go, and blocks of a log that end at line ends.
+"""What the two tools for many logs share: the logs, where their outputs go, and blocks of a log that end at line ends.
 
-Each line of a log is decoded by itself. So what is written of a log whose last byte is a line feed, and then of another, is what is
-written of the two as one; and blocks that end at line ends, decoded apart, give the bytes of the whole when they are put together.
+Each line of a log is decoded independently. So the output of a log that ends in a line feed, followed by that of another
+log, is the output of the two as one; and blocks that end at line ends can be decoded separately and their outputs concatenated.
 """
 
 from __future__ import annotations
@@ -18,31 +18,31 @@ LOG, DECODED = ".log", ".decoded"
 
 
 class Failures:
-    """The logs that failed while the others went on, each with its fault."""
+    """The logs that failed while others were still decoded, each with its fault."""
 
     def __init__(self) -> None:
         self.faults: dict[str, tools.Fault] = {}
 
     @contextlib.contextmanager
     def of(self, log: str) -> Iterator[None]:
-        """Records why a log failed, and goes on."""
+        """Records why a log failed, and continues."""
         try:
             yield
         except (tools.Fault, OSError) as error:
             self.add(log, error)
 
     def add(self, log: str, error: tools.Fault | OSError) -> None:
-        """Records the first fault of a log. If the tool itself is out of memory, no log can go on."""
+        """Records the first fault of a log. If the tool itself is out of memory, raises the error."""
         if tools.lacks_memory(error):
             raise error
         if isinstance(error, OSError):
             error = tools.Fault(f"{error.filename or log}: {error.strerror}", tools.BAD_FILES)
         self.faults.setdefault(log, error)
 
-    def tell(self) -> int:
+    def report(self) -> int:
         """Reports each log that failed, in order, and returns the highest status, or 0 if none failed."""
         for _, fault in sorted(self.faults.items()):
-            tools.tell(str(fault))
+            tools.report(str(fault))
         return max((it.status for it in self.faults.values()), default=0)
 
 
@@ -71,22 +71,22 @@ def outputs_of(logs: list[str], folder: str | None) -> list[str]:
 
 
 def decode_words(database: str, is_short: bool) -> list[str]:
-    """The command that decodes a log; a database that is refused is told before anything is begun."""
+    """The command that decodes a log. Raises a fault if the database is rejected, before anything is started."""
     tools.printed(database)
     return [tools.program(), "decode", *(["--short"] if is_short else []), os.path.abspath(database)]
 
 
 def fault_of(log: str, returned: int, errors: bytes) -> tools.Fault:
-    """Why a log could not be decoded, in the program's own words."""
-    return tools.Fault(f"{log}: {tools.said_by(errors)}", tools.status_of(returned))
+    """The fault of a log that could not be decoded, with the program's message."""
+    return tools.Fault(f"{log}: {tools.error_message(errors)}", tools.status_of(returned))
 
 
 def fault_with_line(log: str, begin: int, made: str, returned: int, errors: bytes) -> tools.Fault:
-    """The same, with the number of a line that is too long. `made` has the lines before it, from byte `begin` of the log on."""
-    said = tools.said_by(errors)
-    if said == tools.LONG_LINE:
-        said = f"line {line_feeds(log, begin) + line_feeds(made) + 1}: {said}"
-    return tools.Fault(f"{log}: {said}", tools.status_of(returned))
+    """The same, with the line number of a line that is too long. `made` has the lines before it, from byte `begin` of the log."""
+    message = tools.error_message(errors)
+    if message == tools.LONG_LINE:
+        message = f"line {line_feeds(log, begin) + line_feeds(made) + 1}: {message}"
+    return tools.Fault(f"{log}: {message}", tools.status_of(returned))
 
 
 def line_feeds(path: str, end: int | None = None) -> int:
@@ -107,7 +107,7 @@ def decode_whole(decode: list[str], log: str, output: str) -> None:
 
 
 def put_in_place(made: str, output: str) -> None:
-    """Puts a file that was made on the same file system in its place, once it is on the disk."""
+    """Renames a file on the same file system to an output, once it is on the disk."""
     with open(made, "rb") as file:
         tools.keep_rights(output, file.fileno())
         os.fsync(file.fileno())
@@ -115,7 +115,7 @@ def put_in_place(made: str, output: str) -> None:
 
 
 def put_together(parts: Iterable[str], output: str) -> None:
-    """Puts files together, in their order, and takes each away."""
+    """Concatenates files in order, and removes each."""
     with tools.replacing(output) as file:
         for part in parts:
             with open(part, "rb") as source:
@@ -124,7 +124,7 @@ def put_together(parts: Iterable[str], output: str) -> None:
 
 
 def blocks_of(log: str, size: int) -> list[tuple[int, int]]:
-    """The blocks of a log: where each begins and ends. Each but the last ends behind a line feed."""
+    """The blocks of a log: where each begins and ends. Each except the last ends after a line feed."""
     blocks, begin = [], 0
     end_of_log = os.path.getsize(log)
     with open(log, "rb") as file:

@@ -1,15 +1,15 @@
 "use strict";
-// The page asks the server by wishes, each with a number, and is told what changed. All text of a database or a log is only ever
-// text: nothing is put into the page as HTML, and names are keys of Maps alone.
+// The page sends requests to the server, each with an id, and the server pushes changes. Text of a database or a log is only ever
+// text: nothing is put into the page as HTML, and names are keys of Maps only.
 const by = id => document.getElementById(id);
-const LINE = 18, MOST_HEIGHT = 8e6, HISTORY = 120;
+const LINE = 18, MAX_HEIGHT = 8e6, HISTORY = 120;
 const page = {
-  state: null, place: 0, message: null, branch: new Map(), counts: new Map(), remedies: new Map(),
+  state: null, index: 0, message: null, branch: new Map(), counts: new Map(), remedies: new Map(),
   // the window of the log, and the last values of a message
   total: 0, first: 0, history: new Map(), historyOf: "",
-  // wishes that wait for their answers, and when an edit began
-  asked: 0, waiting: new Map(), editedAt: 0,
-  // what the lists were made of
+  // requests that wait for their answers, and when an edit began
+  lastId: 0, waiting: new Map(), editedAt: 0,
+  // the contents of the lists
   items: [], listed: null, offered: -1, found: null,
 };
 
@@ -24,14 +24,14 @@ function made(tag, text, properties = {}) {
 const colour = index => `hsl(${(index * 137.5) % 360} 65% var(--light))`;
 const hex = message => (message.number >= 2 ** 31 ? (message.number % 2 ** 31).toString(16).toUpperCase().padStart(8, "0")
   : message.number.toString(16).toUpperCase().padStart(3, "0"));
-const say = text => { by("said").textContent = text; };
+const showStatus = text => { by("status").textContent = text; };
 
-// ---- talking
+// ---- requests
 
 const socket = new WebSocket(`ws://${location.host}/talk`);
-function wish(want, words = {}) {
+function request(want, words = {}) {
   return new Promise((done, refused) => {
-    const id = ++page.asked;
+    const id = ++page.lastId;
     page.waiting.set(id, { done, refused });
     socket.send(JSON.stringify({ id, want, ...words }));
   });
@@ -40,26 +40,26 @@ async function edit(want, words) {
   page.editedAt = performance.now();
   try {
     // (the answer has all that this page shows)
-    const look = { place: page.place, first: Math.max(0, Math.round(page.first)), count: visible() };
-    await showState(await wish(want, { ...words, look }));
-    say(want === "save" ? "saved" : "ok");
+    const look = { place: page.index, first: Math.max(0, Math.round(page.first)), count: visible() };
+    await showState(await request(want, { ...words, look }));
+    showStatus(want === "save" ? "saved" : "ok");
   } catch (error) {
-    say(error.message);
+    showStatus(error.message);
   }
 }
 socket.onmessage = event => {
-  const told = JSON.parse(event.data);
-  if (told.id !== undefined) {
-    const { done, refused } = page.waiting.get(told.id);
-    page.waiting.delete(told.id);
-    if (told.refused !== undefined) refused(new Error(told.refused)); else done(told.answer);
+  const reply = JSON.parse(event.data);
+  if (reply.id !== undefined) {
+    const { done, refused } = page.waiting.get(reply.id);
+    page.waiting.delete(reply.id);
+    if (reply.refused !== undefined) refused(new Error(reply.refused)); else done(reply.answer);
   }
-  if (told.state) showState(told);
-  if (told.counts) showCounts(told.counts);
-  if (told.log) showTotal(told.log.total);
+  if (reply.state) showState(reply);
+  if (reply.counts) showCounts(reply.counts);
+  if (reply.log) showTotal(reply.log.total);
 };
-socket.onclose = () => { say("the server has ended"); document.body.inert = true; };
-document.addEventListener("visibilitychange", () => wish("hidden", { hidden: document.hidden }));
+socket.onclose = () => { showStatus("the server has ended"); document.body.inert = true; };
+document.addEventListener("visibilitychange", () => request("hidden", { hidden: document.hidden }));
 
 // ---- messages
 
@@ -72,7 +72,7 @@ async function showState({ state, message, lines }) {
   by("title").textContent = `${state.file}${state.isSaved ? "" : " (edited)"}`;
   by("undo").disabled = !state.undo; by("redo").disabled = !state.redo;
   by("undo").textContent = `Undo ${state.undo || ""}`; by("redo").textContent = `Redo ${state.redo || ""}`;
-  page.place = Math.min(page.place, page.state.messages.length - 1);
+  page.index = Math.min(page.index, page.state.messages.length - 1);
   if (message && lines) {
     putMessage(JSON.parse(message));
     putLines(lines);
@@ -83,16 +83,16 @@ async function showState({ state, message, lines }) {
     await showLines(page.first);
   }
   if (page.editedAt) {
-    // how long the edit took until the next picture of the page has all of it, in milliseconds
+    // how long the edit took until the next frame of the page shows all of it, in milliseconds
     const began = page.editedAt;
     page.editedAt = 0;
-    requestAnimationFrame(() => { document.body.getBoundingClientRect(); by("said").dataset.took = performance.now() - began; });
+    requestAnimationFrame(() => { document.body.getBoundingClientRect(); by("status").dataset.took = performance.now() - began; });
   }
   showChoices();
-  for (const [words, remedy] of Object.entries(await wish("remedies"))) page.remedies.set(words, remedy);
+  for (const [words, remedy] of Object.entries(await request("remedies"))) page.remedies.set(words, remedy);
   showFound();
 }
-// the list of messages is made anew only where it differs; what came of each is put into it
+// the list of messages is rebuilt only if it differs; the counts of frames are put into it
 function showMessages() {
   const sought = by("search").value.toLowerCase(), key = `${page.state.edition} ${sought}`;
   if (page.listed !== key) {
@@ -109,7 +109,7 @@ function showMessages() {
     showFrames();
   }
   for (const item of page.items) {
-    const isCurrent = item.message.place === page.place;
+    const isCurrent = item.message.place === page.index;
     if (item.isCurrent === isCurrent) continue;
     item.isCurrent = isCurrent;
     item.button.ariaCurrent = isCurrent ? "true" : null;
@@ -117,9 +117,9 @@ function showMessages() {
 }
 function showFrames() {
   for (const { message, frames, cycle } of page.items) {
-    const came = page.counts.get(String(message.number));
-    put(frames, came ? `${came.count} frames` : "no frames");
-    put(cycle, came && came.cycle !== null ? `${(came.cycle * 1000).toFixed(1)} ms` : "");
+    const found = page.counts.get(String(message.number));
+    put(frames, found ? `${found.count} frames` : "no frames");
+    put(cycle, found && found.cycle !== null ? `${(found.cycle * 1000).toFixed(1)} ms` : "");
   }
 }
 // puts a text into an element, if it isn't there already
@@ -129,8 +129,8 @@ function put(element, text) {
   texts.set(element, text);
   element.textContent = text;
 }
-function openMessage(place) {
-  page.place = place; page.branch.clear();
+function openMessage(index) {
+  page.index = index; page.branch.clear();
   showMessages(); showMessage();
 }
 function showCounts(counts) {
@@ -138,7 +138,7 @@ function showCounts(counts) {
   showFrames();
   showValues();
 }
-// the diagnostics, those that are new first; of very many the first ones
+// the diagnostics, new ones first; of very many the first ones
 function showFound() {
   const { amount, found } = page.state;
   const key = JSON.stringify(found.map(([words, isNew]) => [words, isNew, page.remedies.get(words)]));
@@ -157,8 +157,8 @@ function showFound() {
 // ---- layout
 
 async function showMessage() {
-  if (page.place < 0) { by("name").textContent = "no messages"; return; }
-  putMessage(JSON.parse(await wish("message", { place: page.place })));
+  if (page.index < 0) { by("name").textContent = "no messages"; return; }
+  putMessage(JSON.parse(await request("message", { place: page.index })));
 }
 function putMessage(message) {
   page.message = message;
@@ -167,7 +167,7 @@ function putMessage(message) {
   showBranches(); showGrid(); showSignals(); showValues();
 }
 const signals = () => Object.entries(page.message.signals);
-function isThere(signal) {
+function isPresent(signal) {
   if (signal.chain === null) return false;
   return signal.chain.every(level => !page.branch.has(level.switch) ||
     level.ranges.some(([low, high]) => low <= page.branch.get(level.switch) && page.branch.get(level.switch) <= high));
@@ -194,7 +194,7 @@ function showBranches() {
 function showGrid() {
   const owners = new Map();
   signals().forEach(([name, signal], index) => {
-    if (isThere(signal)) for (const at of signal.positions) owners.set(at, [...(owners.get(at) || []), { name, signal, index }]);
+    if (isPresent(signal)) for (const at of signal.positions) owners.set(at, [...(owners.get(at) || []), { name, signal, index }]);
   });
   const bytes = Math.max(page.message.size, ...[...owners.keys()].map(at => Math.floor(at / 8) + 1));
   const rows = [];
@@ -218,7 +218,7 @@ const along = (signal, at) => signal.order === "intel" ? at : Math.floor(at / 8)
 let dragged = null;
 by("grid").ondragstart = event => {
   const at = Number(event.target.dataset.at);
-  const found = signals().find(([, it]) => isThere(it) && it.positions.includes(at));
+  const found = signals().find(([, it]) => isPresent(it) && it.positions.includes(at));
   dragged = found ? { name: found[0], signal: found[1], at } : null;
 };
 by("grid").ondragover = event => event.preventDefault();
@@ -227,7 +227,7 @@ by("grid").ondrop = event => {
   if (!dragged || event.target.dataset.at === undefined) return;
   const { name, signal, at } = dragged, by8 = along(signal, Number(event.target.dataset.at)) - along(signal, at);
   const start = along(signal, Math.max(0, along(signal, signal.start) + by8));
-  edit("move", { place: page.place, signal: name, start, length: signal.length });
+  edit("move", { place: page.index, signal: name, start, length: signal.length });
 };
 function showSignals() {
   const head = made("tr");
@@ -237,7 +237,7 @@ function showSignals() {
     swatch.style.background = colour(index);
     const number = (value, label) => made("input", null, { type: "number", value, min: 0, "aria-label": `${label} of ${name}` });
     const start = number(signal.start, "start"), length = number(signal.length, "length");
-    const move = () => edit("move", { place: page.place, signal: name, start: Number(start.value), length: Number(length.value) });
+    const move = () => edit("move", { place: page.index, signal: name, start: Number(start.value), length: Number(length.value) });
     start.onchange = move; length.onchange = move;
     const cells = [swatch, made("span", `${index} ${name}${signal.refused ? ` ?${signal.refused}` : ""}`), start, length,
       made("span", `${signal.order}${signal.signed ? " signed" : ""}`),
@@ -249,11 +249,11 @@ function showSignals() {
     return row;
   }));
 }
-// the last values of the message that is looked at; all that the server keeps where it is new or was edited
+// the last values of the message that is shown; all that the server keeps if it is new or was edited
 async function showValues() {
   if (!page.message || document.hidden) return;
   const number = page.message.number, key = `${number} ${page.state.version}`, all = page.historyOf !== key;
-  const frames = (await wish("values", { number, all })).map(it => JSON.parse(it));
+  const frames = (await request("values", { number, all })).map(it => JSON.parse(it));
   if (!frames.length || number !== page.message.number) return;
   if (all) { page.history.clear(); page.historyOf = key; }
   const last = new Map(Object.entries(frames[frames.length - 1].signals || {}));
@@ -290,10 +290,10 @@ function plot(canvas, past) {
 function showTotal(total) {
   page.total = total;
   by("total").textContent = `${total.toLocaleString()} lines`;
-  by("space").style.height = `${Math.min(total * LINE, MOST_HEIGHT)}px`;
+  by("space").style.height = `${Math.min(total * LINE, MAX_HEIGHT)}px`;
   showLines(by("follow").checked ? total : page.first);
 }
-// how many lines are visible (asked for at every update, so that it isn't measured there)
+// how many lines are visible (needed at every update, so it isn't measured there)
 const countRows = () => Math.ceil(by("log").clientHeight / LINE) + 1;
 let rows = countRows();
 new ResizeObserver(() => {
@@ -309,7 +309,7 @@ async function showLines(first) {
   isAsking = true;
   while (wanted) {
     const { first: from } = wanted; wanted = null;
-    putLines(await wish("lines", { first: Math.max(0, Math.round(from)), count: visible() }));
+    putLines(await request("lines", { first: Math.max(0, Math.round(from)), count: visible() }));
   }
   isAsking = false;
 }
@@ -345,14 +345,14 @@ function showChoices() {
   by("only").value = chosen;
 }
 async function filter() {
-  say("filtering"); await edit("filter", { message: by("only").value, signal: by("onlySignal").value });
+  showStatus("filtering"); await edit("filter", { message: by("only").value, signal: by("onlySignal").value });
 }
 by("only").onchange = async () => {
   by("onlySignal").replaceChildren(made("option", "all", { value: "" }));
   const found = page.state.messages.find(it => it.name === by("only").value);
   await filter();
   if (found) {
-    const message = JSON.parse(await wish("message", { place: found.place }));
+    const message = JSON.parse(await request("message", { place: found.place }));
     by("onlySignal").append(...Object.keys(message.signals).map(it => made("option", it, { value: it })));
   }
 };
@@ -363,7 +363,7 @@ by("onlySignal").onchange = filter;
 by("form").onsubmit = event => { event.preventDefault(); edit("edit", { command: by("command").value }); };
 by("undo").onclick = () => edit("undo"); by("redo").onclick = () => edit("redo"); by("save").onclick = () => edit("save");
 by("changes").onclick = async () => {
-  by("differences").textContent = (await wish("differences")).join("\n") || "none";
+  by("differences").textContent = (await request("differences")).join("\n") || "none";
   by("dialog").showModal();
 };
 by("search").oninput = showMessages;

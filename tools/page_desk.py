@@ -1,7 +1,7 @@
-"""What a live page shows: a database that is edited, with the window of its log that is looked at.
+"""The state of a live page: a database that is edited, and the visible window of its log.
 
-One `candesk session --keep` holds the database and the lines of the window, so that every answer is the program's. The log itself
-never goes through the session: it stays in its file, found by an index, or comes live and is kept in a ring.
+One `candesk session --keep` has the database and the lines of the window, so that every answer is the program's. The log itself
+never goes through the session: it stays in its file, where an index finds its lines, or comes live into a ring buffer.
 """
 
 from __future__ import annotations
@@ -22,29 +22,29 @@ import compared_databases
 import shell_session
 import vector_order
 
-# the most lines of a window, and of a log that comes live, and the most bytes of a line
+# the most lines of a window, and of a live log, and the most bytes of a line
 WINDOW = 200
 RING = 200_000
-MOST_BYTES = 4096
+MAX_BYTES = 4096
 # how many of the last objects of a message are kept, for its plots
 RECENT = 120
-# how many live lines are counted at once (all their objects have room in a pipe), and how many at most before others have a turn
+# how many live lines are counted at once (their objects fit in a pipe), and how many at most in one call
 BATCH = 100
-MOST_COUNTED = 2_000
-# how many texts of before and after are kept
-UNDONE = 100
+MAX_COUNTED = 2_000
+# how many texts are kept for undo
+MAX_UNDO = 100
 # how many diagnostics a page shows
-MOST_FOUND = 50
-# every so many lines the index of a file has the place of one
+MAX_FOUND = 50
+# a file's index has the offset of each line whose number, from 0, is a multiple of this
 STEP = 64
 CHUNK = 1 << 20
 # the start and length of a signal's statement
-PLACE = re.compile(rb"( SG_ \w+(?: m\d+M?| M)? : )(\d+)\|(\d+)@")
+POSITION = re.compile(rb"( SG_ \w+(?: m\d+M?| M)? : )(\d+)\|(\d+)@")
 SIGNAL = re.compile(rb" SG_ (\w+) ")
 
 
 class Refused(Exception):
-    """An edit or a wish that is refused, with the words for the page."""
+    """An edit or a request that is refused, with the message for the page."""
 
 
 class FileLog:
@@ -70,7 +70,7 @@ class FileLog:
             base, last = base + len(chunk), chunk[-1:]
         self.count += last != b"\n"
 
-    # the number of the first line that is there
+    # the index of the first line that is kept
     first = 0
 
     def lines(self, first: int, count: int) -> list[bytes]:
@@ -81,7 +81,7 @@ class FileLog:
             return [line.rstrip(b"\n") for _ in range(min(count, self.count - first)) if (line := file.readline())]
 
     def pieces(self) -> tuple[int, Iterator[bytes]]:
-        """The number of the first line, and all lines in pieces."""
+        """The index of the first line, and all lines in pieces."""
         return 0, self.chunks()
 
     def chunks(self) -> Iterator[bytes]:
@@ -90,12 +90,12 @@ class FileLog:
 
 
 class LiveLog:
-    """A log that comes live: the last lines of it."""
+    """The last lines of a live log."""
 
     is_live = True
 
-    def __init__(self, most: int = RING) -> None:
-        self.kept: collections.deque[bytes] = collections.deque(maxlen=most)
+    def __init__(self, limit: int = RING) -> None:
+        self.kept: collections.deque[bytes] = collections.deque(maxlen=limit)
         self.came = 0
         self.lock = threading.Lock()
 
@@ -105,7 +105,7 @@ class LiveLog:
 
     @property
     def first(self) -> int:
-        """The number of the first line that is there; those before it went for later ones."""
+        """The index of the first line that is kept; later lines replaced those before it."""
         return self.came - len(self.kept)
 
     def put(self, lines: list[bytes]) -> None:
@@ -128,21 +128,21 @@ class LiveLog:
 Log = Union[FileLog, LiveLog]
 
 
-class Came:
-    """What came of a message: how often, the first and last time, and the last objects."""
+class Frames:
+    """The frames of a message: how many, the first and last time, and the last objects."""
 
     def __init__(self, time: float) -> None:
-        self.frames, self.first, self.last = 0, time, time
+        self.count, self.first, self.last = 0, time, time
         self.recent: collections.deque[bytes] = collections.deque(maxlen=RECENT)
 
     def put(self, time: float, line: bytes) -> None:
-        self.frames += 1
+        self.count += 1
         self.last = time
         self.recent.append(line)
 
 
 class Desk:
-    """A database that is edited. Calls may come from several threads; one is done after another."""
+    """A database that is edited. Calls may come from several threads; they run one after another."""
 
     def __init__(self, path: str, short: bool, log: Log) -> None:
         self.path, self.short, self.log = path, short, log
@@ -150,14 +150,14 @@ class Desk:
         with open(path, "rb") as file:
             self.read_text = file.read()
         self.session = shell_session.Session(path, short, WINDOW)
-        self.before: collections.deque[bytes] = collections.deque(maxlen=UNDONE)
+        self.before: collections.deque[bytes] = collections.deque(maxlen=MAX_UNDO)
         self.after: list[bytes] = []
-        # `version` rises with every edit, and `edition` if the list of messages changes
+        # `version` increases with every edit, and `edition` if the list of messages changes
         self.version = self.edition = 0
         self.text = self.saved = self.session.text()
         self.messages = self.listed()
         self.diagnostics = [tools.shown(it) for it in self.session.diagnostics()]
-        self.found = [(it, False) for it in self.diagnostics[:MOST_FOUND]]
+        self.found = [(it, False) for it in self.diagnostics[:MAX_FOUND]]
         self.filter: tuple[str, str] | None = None
         self.matches: array.array[int] | None = None
 
@@ -167,9 +167,9 @@ class Desk:
     # ---- what is shown
 
     def listed(self) -> list[dict[str, Any]]:
-        """The messages as a page lists them."""
+        """The messages, in the form for the list of a page."""
         found = tools.messages_of(self.text)
-        return [{"place": it.place, "number": it.number, "name": it.name, "size": it.size} for it in found]
+        return [{"place": it.index, "number": it.number, "name": it.name, "size": it.length} for it in found]
 
     def summary(self) -> dict[str, Any]:
         return {
@@ -178,51 +178,51 @@ class Desk:
         }
 
     def state(self) -> dict[str, Any]:
-        """The messages, the diagnostics, and what can be undone."""
+        """The messages, the diagnostics, and how many edits can be undone."""
         with self.lock:
             return {**self.summary(), "messages": self.messages, "diagnostics": self.diagnostics}
 
     def glance(self, edition: int) -> dict[str, Any]:
-        """The same for a page: how many diagnostics there are, and the first of them, each with whether it is new. The messages
-        are left out if the page has those of this edition already."""
+        """The same for a page, but of the diagnostics only the count and the first ones, each with whether it is new. The messages
+        are left out if the page already has those of this edition."""
         with self.lock:
             messages = {} if edition == self.edition else {"messages": self.messages}
             return {**self.summary(), **messages, "amount": len(self.diagnostics), "found": self.found}
 
     @contextlib.contextmanager
     def printed(self) -> Iterator[str]:
-        """A file of the database as it is now."""
+        """A temporary file with the database as it is now."""
         with tools.temporary_database() as file:
             file.write(self.text)
             file.flush()
             yield file.name
 
-    def said(self, *words: str) -> bytes:
-        """What the program writes of the database as it is now."""
+    def output(self, *words: str) -> bytes:
+        """The output of the program for the database as it is now."""
         with self.printed() as path:
             done = subprocess.run([tools.program(), *words, "--", path], stdin=subprocess.DEVNULL, capture_output=True, check=False)
         return done.stdout
 
-    def message(self, place: int) -> str:
-        """The object of a message, as the program writes it. What it would write of later ones isn't waited for."""
-        if not 0 <= place < len(self.messages):
-            raise Refused(f"there is no message {place}")
+    def message(self, index: int) -> str:
+        """The JSON object of a message, as the program writes it. The program is ended before it writes later ones."""
+        if not 0 <= index < len(self.messages):
+            raise Refused(f"there is no message {index}")
         with self.printed() as path:
             words = [tools.program(), "dump", "--json", "--", path]
             with subprocess.Popen(words, stdin=subprocess.DEVNULL, stdout=subprocess.PIPE) as running:
                 assert running.stdout
-                line = next(itertools.islice(running.stdout, place, None), b"")
+                line = next(itertools.islice(running.stdout, index, None), b"")
                 running.kill()
         if not line.endswith(b"\n"):
-            raise Refused(f"there is no message {place}")
+            raise Refused(f"there is no message {index}")
         return line.decode()
 
     def remedies(self) -> dict[str, str]:
-        """The remedy of each diagnostic that a page shows, by its words."""
+        """The remedy of each diagnostic that a page shows, by its text."""
         shown = {words for words, _ in self.found}
         found: dict[str, str] = {}
         words = ""
-        for line in tools.shown(self.said("explain")).split("\n"):
+        for line in tools.shown(self.output("explain")).split("\n"):
             if line.startswith(("line ", "lines ")):
                 words = line.partition(": ")[2]
             elif words in shown and line.startswith("  remedy: "):
@@ -230,7 +230,7 @@ class Desk:
         return found
 
     def lines(self, first: int, count: int) -> dict[str, Any]:
-        """A window of the log, decoded; of the lines that a filter leaves, if there is one."""
+        """A window of the log, decoded; of the filtered lines, if there is a filter."""
         with self.lock:
             count = max(0, min(count, WINDOW))
             total = self.total
@@ -246,18 +246,18 @@ class Desk:
 
     @property
     def total(self) -> int:
-        """How many lines there are, or how many a filter leaves."""
+        """The number of lines, after the filter if there is one."""
         return self.log.count if self.matches is None else len(self.matches)
 
     def decoded(self, lines: list[bytes]) -> list[str]:
-        """Lines as the session shows them. (One that it refuses, as it is too long, is shown as it is.)"""
-        kept = [it for it in lines if len(it) <= MOST_BYTES]
+        """Lines as the session shows them. (A line that is too long for the session is shown undecoded.)"""
+        kept = [it for it in lines if len(it) <= MAX_BYTES]
         self.session.log(kept)
         shown = iter(self.session.shown_lines()[-len(kept) :] if kept else [])
-        return [tools.shown(next(shown) if len(it) <= MOST_BYTES else it[: MOST_BYTES]) for it in lines]
+        return [tools.shown(next(shown) if len(it) <= MAX_BYTES else it[: MAX_BYTES]) for it in lines]
 
     def differences(self) -> list[str]:
-        """What differs from the file as it was read or saved."""
+        """The differences from the file as it was read or saved."""
         with self.lock, tools.temporary_database() as old, self.printed() as new:
             old.write(self.read_text)
             old.flush()
@@ -266,7 +266,7 @@ class Desk:
     # ---- edits
 
     def edit(self, command: str) -> None:
-        """Does an edit as it is in a script. One that is refused raises, and changes nothing."""
+        """Does an edit, in the form of a session command. Raises if it is refused; then nothing changes."""
         with self.lock:
             reply = self.session.ask(command.encode("utf-8", "surrogateescape"))[0]
             if reply != b"ok":
@@ -275,22 +275,22 @@ class Desk:
             self.after.clear()
             self.changed(self.session.text())
 
-    def move(self, place: int, signal: str, start: int, length: int) -> None:
-        """Gives a signal another start or length, by its statement as it is printed."""
+    def move(self, index: int, signal: str, start: int, length: int) -> None:
+        """Gives a signal another start or length, in its statement as it is printed."""
         with self.lock:
             at = -1
             for pieces in tools.canonical_lines(self.text):
                 line = b"".join(pieces)
                 at += tools.MESSAGE.match(line) is not None
                 found = SIGNAL.match(line)
-                if at == place and found and found[1].decode() == signal:
-                    moved = PLACE.sub(rb"\g<1>%d|%d@" % (start, length), line, count=1)
-                    self.edit(f"change-signal {place} " + moved.lstrip().decode("utf-8", "surrogateescape"))
+                if at == index and found and found[1].decode() == signal:
+                    moved = POSITION.sub(rb"\g<1>%d|%d@" % (start, length), line, count=1)
+                    self.edit(f"change-signal {index} " + moved.lstrip().decode("utf-8", "surrogateescape"))
                     return
             raise Refused(f"there is no signal {signal}")
 
     def changed(self, text: bytes) -> None:
-        """After an edit: what is shown of the database. Diagnostics that it brought come first."""
+        """Updates the state after an edit. New diagnostics come first."""
         self.text = text
         self.version += 1
         messages, self.messages = self.messages, self.listed()
@@ -299,10 +299,10 @@ class Desk:
         self.diagnostics = [tools.shown(it) for it in self.session.diagnostics()]
         new = [it for it in self.diagnostics if it not in before]
         others = (it for it in self.diagnostics if it in before)
-        self.found = [*((it, True) for it in new[:MOST_FOUND]), *((it, False) for it in others)][:MOST_FOUND]
+        self.found = [*((it, True) for it in new[:MAX_FOUND]), *((it, False) for it in others)][:MAX_FOUND]
 
     def open_text(self, text: bytes) -> None:
-        """Opens a text of before or after in a session of its own."""
+        """Opens an earlier or later text in a new session."""
         with tools.temporary_database() as file:
             file.write(text)
             file.flush()
@@ -327,7 +327,7 @@ class Desk:
             self.open_text(self.after.pop())
 
     def save(self) -> None:
-        """Writes the database into its file, whole; not over what another changed in the meantime, nor over // comments."""
+        """Replaces the file with the database; refuses if others changed the file in the meantime, or it has // comments."""
         with self.lock:
             with open(self.path, "rb") as file:
                 if file.read() != self.read_text:
@@ -342,7 +342,7 @@ class Desk:
     # ---- the whole log
 
     def decoder(self, text: bytes) -> subprocess.Popen[bytes]:
-        """A program that decodes lines into objects by a database."""
+        """A running program that decodes lines into JSON objects."""
         with tools.temporary_database() as file:
             file.write(text)
             file.flush()
@@ -350,14 +350,14 @@ class Desk:
             running = subprocess.Popen(words, start_new_session=True, stdin=subprocess.PIPE, stdout=subprocess.PIPE,
                                        stderr=subprocess.DEVNULL)
             assert running.stdin and running.stdout
-            # (the database was read once a line is answered)
+            # (the database has been read once a line is answered)
             running.stdin.write(b"\n")
             running.stdin.flush()
             running.stdout.readline()
         return running
 
     def objects(self) -> Iterator[tuple[int, bytes]]:
-        """The objects of all lines of the log with their numbers, by the database as it is now."""
+        """The indexes and JSON objects of all lines of the log, decoded by the database as it is now."""
         with self.decoder(self.text) as running:
             assert running.stdin and running.stdout
             first, pieces = self.log.pieces()
@@ -378,7 +378,7 @@ class Desk:
             sink.close()
 
     def set_filter(self, message: str, signal: str) -> None:
-        """Leaves only the lines that show a message, or a signal of it; all lines, if both are empty."""
+        """Filters the lines: only those that show a message, or a signal of it; all lines if both are empty."""
         wanted = b'"message":"%s"' % message.encode() if message else b'"signals":{'
         shown = b'"%s":{' % signal.encode() if signal else b""
         found = None
@@ -389,33 +389,33 @@ class Desk:
 
 
 class Counts:
-    """What came of each message, by its number."""
+    """The frames of each message, by its ID as in `BO_`."""
 
     def __init__(self) -> None:
-        self.found: dict[int, Came] = {}
+        self.found: dict[int, Frames] = {}
 
     def put(self, line: bytes) -> None:
-        """Counts the object of a line."""
+        """Counts the JSON object of a line."""
         at = line.find(b',"number":')
         if at < 0:
             return
         end = at + len(b',"number":')
         number = int(line[end : end + 11].split(b",", 1)[0].rstrip(b"}\n"))
         time = float(line[8 : line.index(b",")])
-        came = self.found.get(number)
-        if came is None:
-            came = self.found[number] = Came(time)
-        came.put(time, line)
+        frames = self.found.get(number)
+        if frames is None:
+            frames = self.found[number] = Frames(time)
+        frames.put(time, line)
 
     def shown(self) -> dict[str, dict[str, Any]]:
         return {
-            str(number): {"count": it.frames, "cycle": (it.last - it.first) / (it.frames - 1) if it.frames > 1 else None}
+            str(number): {"count": it.count, "cycle": (it.last - it.first) / (it.count - 1) if it.count > 1 else None}
             for number, it in list(self.found.items())
         }
 
 
 class LiveCounts(Counts):
-    """Counts of a log that comes live, by a program that is kept open."""
+    """Counts of a live log, by a program that is kept running."""
 
     def __init__(self, desk: Desk) -> None:
         super().__init__()
@@ -428,9 +428,9 @@ class LiveCounts(Counts):
         self.running.wait()
 
     def count(self, lines: list[bytes]) -> None:
-        """Counts lines, by the database as it is now: after an edit all that is kept is counted anew. Of many only the first are
-        counted at once, and the others by later calls."""
-        most = max(MOST_COUNTED, 2 * len(lines))
+        """Counts lines, by the database as it is now: after an edit all kept lines are counted again. Of very many lines, the last
+        are counted by later calls."""
+        limit = max(MAX_COUNTED, 2 * len(lines))
         if self.version != self.desk.version:
             self.close()
             self.version, self.found = self.desk.version, {}
@@ -439,8 +439,8 @@ class LiveCounts(Counts):
             self.waiting.clear()
         self.waiting.extend(lines)
         assert self.running.stdin and self.running.stdout
-        for _ in range(0, min(len(self.waiting), most), BATCH):
-            batch = [self.waiting.popleft()[:MOST_BYTES] for _ in range(min(BATCH, len(self.waiting)))]
+        for _ in range(0, min(len(self.waiting), limit), BATCH):
+            batch = [self.waiting.popleft()[:MAX_BYTES] for _ in range(min(BATCH, len(self.waiting)))]
             self.running.stdin.write(b"".join(it + b"\n" for it in batch))
             self.running.stdin.flush()
             for _ in batch:

@@ -1,7 +1,7 @@
-"""The server of a live page: one page on the loopback, and a WebSocket that asks and answers.
+"""The server of a live page: one page on the loopback, and a WebSocket for its requests.
 
-Only who knows the token may speak: it is in the address that is opened first, and from then on in a cookie. Host and Origin are
-checked, so that no other page can use a browser that has the cookie.
+A client needs the token: it is in the address that is opened first, and from then on in a cookie. Host and Origin are checked, so
+that no other page can use a browser that has the cookie.
 """
 
 from __future__ import annotations
@@ -22,12 +22,12 @@ from page_desk import Counts, Desk, LiveCounts, LiveLog, Refused
 
 LOOPBACK = "127.0.0.1"
 TOKEN_BYTES = 24
-# the most bytes of a message; how often a live log is shown, and how long a page may be gone, in seconds
-MOST_BYTES = 1 << 17
-EVERY = 0.1
-# how often what came of each message is shown
-COUNTED = 1
-GONE = 5
+# the most bytes of a request
+MAX_BYTES = 1 << 17
+# in seconds: how often a live log and its counts are shown, and how long the last page may be closed before the server ends
+LOG_INTERVAL = 0.1
+COUNTS_INTERVAL = 1
+GRACE = 5
 POLICY = (
     "default-src 'none'; script-src 'nonce-{0}'; style-src 'nonce-{0}'; connect-src 'self'; base-uri 'none'; form-action 'none';"
     " frame-ancestors 'none'"
@@ -39,15 +39,15 @@ HEADERS = {
 
 
 class Server:
-    """A page over a desk, and who looks at it."""
+    """A page on a desk, and its viewers."""
 
     def __init__(self, desk: Desk, page: str, differences: Callable[[], list[str]]) -> None:
         self.desk, self.page, self.differences = desk, page, differences
         self.token = secrets.token_urlsafe(TOKEN_BYTES)
         self.hosts: set[str] = set()
         self.cookie = ""
-        # who looks, and whose page is hidden
-        self.lookers: set[web.WebSocketResponse] = set()
+        # the open pages, and those that are hidden
+        self.viewers: set[web.WebSocketResponse] = set()
         self.hidden: set[web.WebSocketResponse] = set()
         # the edition of the list of messages that each page has
         self.editions: weakref.WeakKeyDictionary[web.WebSocketResponse, int] = weakref.WeakKeyDictionary()
@@ -55,7 +55,7 @@ class Server:
         self.counted_version = -1
         self.later: asyncio.Task[None] | None = None
         self.ended = asyncio.Event()
-        self.wishes: dict[str, Callable[[dict[str, Any]], Any]] = {
+        self.requests: dict[str, Callable[[dict[str, Any]], Any]] = {
             "state": lambda _: desk.state(),
             "message": lambda it: desk.message(int(it["place"])),
             "lines": lambda it: desk.lines(int(it["first"]), int(it["count"])),
@@ -76,13 +76,13 @@ class Server:
 
     def values(self, number: int, is_all: bool) -> list[str]:
         """The last object of a message, if there is one, or all that are kept."""
-        came = self.counts.found.get(number)
-        return [it.decode() for it in (list(came.recent) if is_all else [came.recent[-1]])] if came else []
+        frames = self.counts.found.get(number)
+        return [it.decode() for it in (list(frames.recent) if is_all else [frames.recent[-1]])] if frames else []
 
-    # ---- who may speak
+    # ---- access
 
     def is_here(self, request: web.Request) -> bool:
-        """Whether a request is for this page: its Host is the loopback's, and its Origin, if it has one, the page's own."""
+        """Whether a request is for this page: its Host is the loopback, and its Origin, if it has one, is the page."""
         origin = request.headers.get("Origin")
         return request.headers.get("Host") in self.hosts and (origin is None or origin in {f"http://{it}" for it in self.hosts})
 
@@ -90,7 +90,7 @@ class Server:
         return word is not None and hmac.compare_digest(word.encode(), self.token.encode())
 
     async def open(self, request: web.Request) -> web.StreamResponse:
-        """The page. The address with the token is left at once, for a cookie that no script sees."""
+        """The page. The address with the token redirects at once, and sets a cookie that no script can read."""
         if not self.is_here(request):
             raise web.HTTPForbidden(text="this page is for the loopback alone\n")
         if self.knows(request.query.get("token")):
@@ -106,112 +106,112 @@ class Server:
     async def talk(self, request: web.Request) -> web.StreamResponse:
         if not self.is_here(request) or "Origin" not in request.headers or not self.knows(request.cookies.get(self.cookie)):
             raise web.HTTPForbidden(text="this page is for its own scripts alone\n")
-        socket = web.WebSocketResponse(max_msg_size=MOST_BYTES, heartbeat=20)
+        socket = web.WebSocketResponse(max_msg_size=MAX_BYTES, heartbeat=20)
         await socket.prepare(request)
         state = await self.state_for(socket)
         await self.push(socket, {"state": state, "counts": self.counts.shown(), "log": {"total": self.desk.total}})
-        self.lookers.add(socket)
+        self.viewers.add(socket)
         try:
             if state["version"] != self.desk.version:
                 await self.push(socket, {"state": await self.state_for(socket)})
             async for message in socket:
                 if message.type != WSMsgType.TEXT:
                     break
-                await self.hear(socket, message.data)
+                await self.answer(socket, message.data)
         finally:
-            self.lookers.discard(socket)
+            self.viewers.discard(socket)
             self.hidden.discard(socket)
-            if not self.lookers:
-                asyncio.get_running_loop().call_later(GONE, self.end_unless_seen)
+            if not self.viewers:
+                asyncio.get_running_loop().call_later(GRACE, self.end_unless_viewed)
         return socket
 
-    def end_unless_seen(self) -> None:
-        if not self.lookers:
+    def end_unless_viewed(self) -> None:
+        if not self.viewers:
             self.ended.set()
 
-    # ---- what is asked
+    # ---- requests
 
     async def run(self, call: Callable[[], Any]) -> Any:
         return await asyncio.get_running_loop().run_in_executor(None, call)
 
-    async def push(self, socket: web.WebSocketResponse, told: dict[str, Any]) -> None:
+    async def push(self, socket: web.WebSocketResponse, content: dict[str, Any]) -> None:
         with contextlib.suppress(ConnectionError, RuntimeError):
-            await socket.send_str(json.dumps(told, ensure_ascii=False))
+            await socket.send_str(json.dumps(content, ensure_ascii=False))
 
-    async def push_all(self, told: dict[str, Any]) -> None:
-        for it in list(self.lookers - self.hidden):
-            await self.push(it, told)
+    async def push_all(self, content: dict[str, Any]) -> None:
+        for it in list(self.viewers - self.hidden):
+            await self.push(it, content)
 
-    async def hear(self, socket: web.WebSocketResponse, text: str) -> None:
-        """Answers a wish: an object with its `id`, and `answer` or `refused`."""
-        asked: dict[str, Any] = {}
+    async def answer(self, socket: web.WebSocketResponse, text: str) -> None:
+        """Answers a request with an object of its `id`, and `answer` or `refused`."""
+        request: dict[str, Any] = {}
         try:
-            asked = dict(json.loads(text))
-            wish = str(asked.get("want"))
-            if wish == "hidden":
-                (self.hidden.add if asked.get("hidden") else self.hidden.discard)(socket)
+            request = dict(json.loads(text))
+            want = str(request.get("want"))
+            if want == "hidden":
+                (self.hidden.add if request.get("hidden") else self.hidden.discard)(socket)
                 answer: Any = None
-            elif wish in self.edits:
-                await self.run(lambda: self.edits[wish](asked))
-                answer = await self.looked_at(asked.get("look"), socket)
+            elif want in self.edits:
+                await self.run(lambda: self.edits[want](request))
+                answer = await self.view(request.get("look"), socket)
                 await self.changed(socket)
-            elif wish in self.wishes:
-                answer = await self.run(lambda: self.wishes[wish](asked))
+            elif want in self.requests:
+                answer = await self.run(lambda: self.requests[want](request))
             else:
-                raise Refused(f"there is no wish {wish}")
-            told = {"id": asked.get("id"), "answer": answer}
+                raise Refused(f"there is no request {want}")
+            reply = {"id": request.get("id"), "answer": answer}
         except (Refused, tools.Fault) as error:
-            told = {"id": asked.get("id"), "refused": str(error)}
+            reply = {"id": request.get("id"), "refused": str(error)}
         except (KeyError, TypeError, ValueError) as error:
-            told = {"id": asked.get("id"), "refused": f"a wish that isn't understood: {error}"}
+            reply = {"id": request.get("id"), "refused": f"bad request: {error}"}
         except OSError as error:
-            told = {"id": asked.get("id"), "refused": f"{error.filename or 'a file'}: {error.strerror or error}"}
-        await self.push(socket, told)
+            reply = {"id": request.get("id"), "refused": f"{error.filename or 'a file'}: {error.strerror or error}"}
+        await self.push(socket, reply)
 
     async def state_for(self, socket: web.WebSocketResponse) -> dict[str, Any]:
-        """What a page shows of the database, without what it has already."""
+        """The state of the database for a page, without what the page already has."""
         state: dict[str, Any] = await self.run(lambda: self.desk.glance(self.editions.get(socket, -1)))
         self.editions[socket] = state["edition"]
         return state
 
-    async def looked_at(self, look: Any, socket: web.WebSocketResponse) -> dict[str, Any]:
-        """The state, and what a page looks at: a message and a window of the log."""
+    async def view(self, look: Any, socket: web.WebSocketResponse) -> dict[str, Any]:
+        """The state, and what a page shows: a message and a window of the log."""
         state = await self.state_for(socket)
         calls: dict[str, Callable[[], Any]] = {}
         if isinstance(look, dict):
-            place, first, count = (int(look[it]) for it in ("place", "first", "count"))
+            index, first, count = (int(look[it]) for it in ("place", "first", "count"))
             calls["lines"] = lambda: self.desk.lines(first, count)
-            calls["message"] = lambda: self.desk.message(place)
+            calls["message"] = lambda: self.desk.message(index)
         answers = await asyncio.gather(*map(self.run, calls.values()), return_exceptions=True)
         for it in answers:
-            # (the message that was looked at may have been removed)
+            # (the message that was shown may have been removed)
             if isinstance(it, BaseException) and not isinstance(it, Refused):
                 raise it
         return {"state": state, **{name: it for name, it in zip(calls, answers) if not isinstance(it, Refused)}}
 
     async def changed(self, editor: web.WebSocketResponse) -> None:
-        """After an edit: all others that look see it too. What takes the whole log follows."""
-        for it in self.lookers - self.hidden - {editor}:
+        """Shows an edit to all other viewers, and starts what takes the whole log."""
+        for it in self.viewers - self.hidden - {editor}:
             await self.push(it, {"state": await self.state_for(it), "log": {"total": self.desk.total}})
         await self.push(editor, {"log": {"total": self.desk.total}})
         if self.desk.version != self.counted_version:
             self.later = asyncio.get_running_loop().create_task(self.recount())
 
     async def recount(self) -> None:
-        """Filters and counts the whole log anew."""
+        """Filters and counts the whole log again."""
         await self.refilter()
         await self.push_all({"log": {"total": self.desk.total}})
         if not self.desk.log.is_live:
             await self.count_file()
 
     async def refilter(self) -> None:
-        """Looks anew for the lines that the filter leaves."""
+        """Applies the filter again."""
         if self.desk.filter:
             message, signal = self.desk.filter
             await self.run(lambda: self.desk.set_filter(message, signal))
 
     async def count_file(self) -> None:
-        """Counts what came of each message of a log in a file. An edit in the meantime makes this void."""
+        """Counts the frames of each message of a log in a file. An edit in the meantime makes the counts void."""
         version = self.desk.version
         if version == self.counted_version:
             return
@@ -230,34 +230,34 @@ class Server:
             self.counts = counts
             await self.push_all({"counts": counts.shown()})
 
-    # ---- a log that comes live
+    # ---- a live log
 
     async def follow(self, read: Callable[[], list[bytes] | None]) -> None:
-        """Keeps what comes, and shows it ten times a second at most. `read` gives the next lines, or None at the end."""
+        """Keeps lines as they come, and shows them at most ten times a second. `read` returns lines, or None at the end."""
         log = self.desk.log
         assert isinstance(log, LiveLog)
         counts = LiveCounts(self.desk)
         self.counts = counts
         loop = asyncio.get_running_loop()
-        shown = loop.time() - COUNTED
+        shown = loop.time() - COUNTS_INTERVAL
         try:
             while (lines := await self.run(read)) is not None:
                 log.put(lines)
                 await self.run(lambda: counts.count(lines or []))
-                told: dict[str, Any] = {}
-                if loop.time() >= shown + COUNTED:
-                    shown, told["counts"] = loop.time(), counts.shown()
+                content: dict[str, Any] = {}
+                if loop.time() >= shown + COUNTS_INTERVAL:
+                    shown, content["counts"] = loop.time(), counts.shown()
                     await self.refilter()
-                told["log"] = {"total": self.desk.total}
-                await self.push_all(told)
-                await asyncio.sleep(EVERY)
+                content["log"] = {"total": self.desk.total}
+                await self.push_all(content)
+                await asyncio.sleep(LOG_INTERVAL)
         finally:
             counts.close()
 
 
 async def serve(server: Server, port: int, ready: Callable[[str], None], tasks: list[Callable[[], Awaitable[None]]]) -> None:
-    """Serves until it is cancelled, or nobody looks any more."""
-    app = web.Application(client_max_size=MOST_BYTES)
+    """Serves until it is cancelled, or the last viewer is gone."""
+    app = web.Application(client_max_size=MAX_BYTES)
     app.router.add_get("/", server.open)
     app.router.add_get("/talk", server.talk)
     runner = web.AppRunner(app, access_log=None)

@@ -1,4 +1,4 @@
-"""Tables as Parquet, by pyarrow: texts are strings, numbers doubles; a column with a text among its values is one of strings."""
+"""Tables as Parquet, by pyarrow: texts are strings and numbers doubles. A column with any text is a string column."""
 
 from __future__ import annotations
 
@@ -9,12 +9,12 @@ import candesk_tools as tools
 
 
 def need() -> None:
-    """Refuses where pyarrow isn't at hand."""
+    """Raises a fault if pyarrow isn't installed."""
     tools.need_package("pyarrow", "pip install pyarrow")
 
 
 def number(cell: str) -> float | None:
-    """A cell as a double, or None where it is none."""
+    """A cell as a double, or None if it isn't a number."""
     try:
         return float(cell)
     except ValueError:
@@ -22,7 +22,7 @@ def number(cell: str) -> float | None:
 
 
 class Writer:
-    """A Parquet file. It is written whole at its end, since only then it is known which columns have texts."""
+    """A Parquet file. It is written at its end, when it is known which columns have texts."""
 
     def __init__(self, stream: BinaryIO) -> None:
         self.stream = stream
@@ -39,7 +39,7 @@ class Writer:
             column.append(cell)
 
     def column(self, name: str, cells: list[str]) -> list[Any]:
-        """The values of a column. What the program doesn't decode, `?long` and its kin, is nothing, as is an empty cell."""
+        """The values of a column. Values that the program doesn't decode, such as `?long`, and empty cells are null."""
         if name not in self.texts:
             numbers = [number(it) for it in cells]
             if all(number is not None or not cell or cell.startswith("?") for number, cell in zip(numbers, cells)):

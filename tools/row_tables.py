@@ -1,5 +1,5 @@
-"""Tables of rows: wide for one message, a wide one for each message, or long; as CSV, as lines of JSON, or as Parquet. Texts are
-UTF-8, and values the exact digits."""
+"""Tables of decoded frames: wide for one message, a wide one for each message, or long; as CSV, JSON Lines or Parquet. Texts are
+UTF-8, and values keep their exact digits."""
 
 from __future__ import annotations
 
@@ -21,26 +21,26 @@ from decoded_rows import DECIMAL, Decoded, Plain, Row
 Source = Union[Decoded, Plain]
 
 BEFORE = ["time", "interface", "identifier"]
-# the columns of a long table: as the program writes them, and of plain lines, which don't say how wide an identifier is
+# the columns of a long table: as the program writes them, and of plain lines, which don't distinguish extended identifiers
 LONG = ["time", "interface", "id", "message", "signal", "value", "unit", "name"]
 PLAIN_LONG = ["time", "interface", "identifier", "message", "signal", "value", "unit", "name"]
 CSV, LINES, PARQUET = "csv", "jsonl", "parquet"
 FORMATS = (CSV, LINES, PARQUET)
-# columns that are texts also where they have digits alone
+# columns of text, even if a value has digits alone
 TEXTS = frozenset(("interface", "identifier", "message", "signal", "unit", "name"))
-# how many rows of a folder's tables wait before they are written
-WAITING = 20000
+# how many rows of a folder's tables are collected before they are written
+MAX_WAITING = 20000
 
 
 def member(column: str, cell: str) -> str:
-    """A member of an object: a number as its digits, an empty cell as null."""
+    """A member of a JSON object: a number as its digits, an empty cell as null."""
     is_number = column not in TEXTS and (column == "time" or DECIMAL.fullmatch(cell) is not None)
     value = cell if is_number and cell else json.dumps(cell, ensure_ascii=False) if cell else "null"
     return f"{json.dumps(column, ensure_ascii=False)}:{value}"
 
 
 class Table:
-    """A table on a stream of bytes. What was put is written when it ends, whatever ends it."""
+    """A table on a stream of bytes. The rows put so far are written when it ends, even by an exception."""
 
     def __init__(self, stream: BinaryIO, form: str, is_live: bool = False) -> None:
         self.stream, self.form, self.is_live = stream, form, is_live
@@ -63,7 +63,7 @@ class Table:
             self.text.detach()
 
     def head(self, columns: Sequence[str]) -> None:
-        """Names the columns, once, before the first row."""
+        """Writes the header: the names of the columns. Call it once, before the first row."""
         self.columns = columns
         if self.parquet:
             self.parquet.head(columns, TEXTS)
@@ -86,7 +86,7 @@ class Table:
 
 
 class Choice:
-    """Which signals a table has, by globs of `MESSAGE.SIGNAL`, or of `MESSAGE` for all its signals; all, where there are none."""
+    """The signals of a table, by globs of `MESSAGE.SIGNAL`, or of `MESSAGE` for all its signals; all signals without a glob."""
 
     def __init__(self, globs: Iterable[str]) -> None:
         self.globs = [it if "." in it else it + ".*" for it in globs]
@@ -95,14 +95,14 @@ class Choice:
         return not self.globs or any(fnmatch.fnmatchcase(f"{message}.{signal}", it) for it in self.globs)
 
     def of(self, message: tools.Message) -> list[str]:
-        """The signals of a message that the table has."""
+        """The chosen signals of a message."""
         return [it for it in message.signals if self.has(message.name, it)]
 
 
 def write(source: Source, options: argparse.Namespace) -> None:
     choice = Choice(options.only)
     if choice.globs and isinstance(source, Decoded) and not any(map(choice.of, source.messages)):
-        raise tools.Fault(f"the database has no signal like {' or '.join(options.only)}", tools.REFUSED)
+        raise tools.Fault(f"the database has no signal like {' or '.join(options.only)}", tools.REJECTED)
     if options.long:
         write_long(source, options, choice)
     elif options.message is not None:
@@ -125,7 +125,7 @@ def write_long(source: Source, options: argparse.Namespace, choice: Choice) -> N
 
 
 def write_pieces(source: Decoded, choice: Choice) -> None:
-    """The rows as the program writes them."""
+    """Writes the rows as the program does."""
     pieces = source.rows()
     if choice.globs:
         wanted = {(message.name, it) for message in source.messages for it in choice.of(message)}
@@ -143,23 +143,23 @@ def write_plain_long(source: Plain, options: argparse.Namespace, choice: Choice)
     with Table(sys.stdout.buffer, options.format, source.is_live) as table:
         table.head(PLAIN_LONG)
         for row in source:
-            message = source.messages[row.place].name
+            message = source.messages[row.message_index].name
             for it in row.readings:
                 if choice.has(message, it.signal):
                     table.put([row.time, row.interface, row.identifier, message, it.signal, it.value, it.unit, it.name or ""])
 
 
 def header_of(source: Source, message: tools.Message, options: argparse.Namespace, choice: Choice) -> list[str]:
-    """The columns of a message's table. A unit stands in brackets where it is asked for and there."""
+    """The columns of a message's table, with units in brackets if they are asked for."""
     columns = []
     for name in choice.of(message):
-        unit = source.units.get((message.place, name), "") if options.units else ""
+        unit = source.units.get((message.index, name), "") if options.units else ""
         columns.append(f"{name} [{unit}]" if unit else name)
     return [*BEFORE, *columns]
 
 
 def cells_of(source: Source, row: Row, message: tools.Message, options: argparse.Namespace, choice: Choice) -> list[str]:
-    """A row of a message's table: a signal that isn't shown has an empty cell."""
+    """A row of a message's table. A signal that isn't shown has an empty cell."""
     cells: dict[str, str] = {}
     for it in row.readings:
         shows_name = it.name is not None and (options.names or not source.names_and_numbers)
@@ -168,7 +168,7 @@ def cells_of(source: Source, row: Row, message: tools.Message, options: argparse
 
 
 def chosen(source: Source, given: str) -> tools.Message:
-    """The message of a name, or of a number as it stands in BO_; of an identifier of 29 bits also without its bit 31."""
+    """The message with a name, or with an ID as in `BO_`; bit 31 of a 29-bit identifier may be left out."""
     number: int | None
     try:
         number = int(given, 0)
@@ -178,10 +178,10 @@ def chosen(source: Source, given: str) -> tools.Message:
     if not found and number is not None:
         found = [it for it in source.messages if it.number == number | 1 << 31]
     if not found:
-        raise tools.Fault(f"the database has no message {given}", tools.REFUSED)
+        raise tools.Fault(f"the database has no message {given}", tools.REJECTED)
     if len(found) > 1:
-        numbers = ", ".join(str(it.number) for it in found)
-        raise tools.Fault(f"{given} is the name of several messages: give one of the numbers {numbers}", tools.REFUSED)
+        ids = ", ".join(str(it.number) for it in found)
+        raise tools.Fault(f"{given} is the name of several messages: give one of the IDs {ids}", tools.REJECTED)
     return found[0]
 
 
@@ -190,7 +190,7 @@ def write_message(source: Source, options: argparse.Namespace, choice: Choice) -
         write_plain_message(source, options, choice)
         return
     message = chosen(source, options.message)
-    source.only = message.place
+    source.only = message.index
     with Table(sys.stdout.buffer, options.format, source.is_live) as table:
         table.head(header_of(source, message, options, choice))
         for row in source:
@@ -198,11 +198,11 @@ def write_message(source: Source, options: argparse.Namespace, choice: Choice) -
 
 
 def write_plain_message(source: Source, options: argparse.Namespace, choice: Choice) -> None:
-    """(The columns of a message are known once its last line was read.)"""
-    rows = [it for it in source if source.messages[it.place].name == options.message]
+    """Writes the table of a message of plain lines. (Its columns are known only after its last line.)"""
+    rows = [it for it in source if source.messages[it.message_index].name == options.message]
     if not rows:
-        raise tools.Fault(f"there is no line of a message {options.message}", tools.REFUSED)
-    message = source.messages[rows[0].place]
+        raise tools.Fault(f"there is no line of a message {options.message}", tools.REJECTED)
+    message = source.messages[rows[0].message_index]
     with Table(sys.stdout.buffer, options.format) as table:
         table.head(header_of(source, message, options, choice))
         for row in rows:
@@ -210,39 +210,39 @@ def write_plain_message(source: Source, options: argparse.Namespace, choice: Cho
 
 
 def write_folder(source: Source, options: argparse.Namespace, choice: Choice) -> None:
-    """A table for each message that came. All are put in their places at the end, when each is whole."""
+    """Writes a table for each message in the log. All are renamed into the folder at the end, when they are complete."""
     os.makedirs(options.folder, exist_ok=True)
-    with tools.Folder(prefix=".candesk-", dir=options.folder) as room:
+    with tools.Folder(prefix=".candesk-", dir=options.folder) as folder:
         waiting: dict[int, list[Row]] = {}
-        count, places = 0, set()
+        count, indexes = 0, set()
         for row in source:
-            if choice.globs and not choice.of(source.messages[row.place]):
+            if choice.globs and not choice.of(source.messages[row.message_index]):
                 continue
-            waiting.setdefault(row.place, []).append(row)
-            places.add(row.place)
+            waiting.setdefault(row.message_index, []).append(row)
+            indexes.add(row.message_index)
             count += 1
-            if count % WAITING == 0:
-                append(source, options, choice, room, waiting)
+            if count % MAX_WAITING == 0:
+                append(source, options, choice, folder, waiting)
                 waiting = {}
-        append(source, options, choice, room, waiting)
-        names = names_of(source, places, options.format)
-        for place in sorted(places):
-            with tools.replacing(os.path.join(options.folder, names[place])) as file:
-                put_whole(source, options, choice, place, os.path.join(room, str(place)), file)
+        append(source, options, choice, folder, waiting)
+        names = names_of(source, indexes, options.format)
+        for index in sorted(indexes):
+            with tools.replacing(os.path.join(options.folder, names[index])) as file:
+                put_whole(source, options, choice, index, os.path.join(folder, str(index)), file)
 
 
-def append(source: Source, options: argparse.Namespace, choice: Choice, room: str, waiting: dict[int, list[Row]]) -> None:
-    """Puts rows into files of a temporary folder, a line of JSON for each."""
-    for place, rows in waiting.items():
-        with tools.naming(options.folder), open(os.path.join(room, str(place)), "a", encoding="utf-8") as file:
+def append(source: Source, options: argparse.Namespace, choice: Choice, folder: str, waiting: dict[int, list[Row]]) -> None:
+    """Appends rows to files in a temporary folder, one line of JSON each."""
+    for index, rows in waiting.items():
+        with tools.naming(options.folder), open(os.path.join(folder, str(index)), "a", encoding="utf-8") as file:
             for row in rows:
-                cells = cells_of(source, row, source.messages[place], options, choice)
+                cells = cells_of(source, row, source.messages[index], options, choice)
                 file.write(json.dumps(cells, ensure_ascii=False) + "\n")
 
 
-def put_whole(source: Source, options: argparse.Namespace, choice: Choice, place: int, rows: str, file: BinaryIO) -> None:
-    """A table of the rows that stand in a file. (Of plain lines a message's later columns are known only now.)"""
-    columns = header_of(source, source.messages[place], options, choice)
+def put_whole(source: Source, options: argparse.Namespace, choice: Choice, index: int, rows: str, file: BinaryIO) -> None:
+    """Writes the table of the rows in a file. (With plain lines, a message's later columns are known only now.)"""
+    columns = header_of(source, source.messages[index], options, choice)
     with Table(file, options.format) as table, open(rows, encoding="utf-8") as made:
         table.head(columns)
         for line in made:
@@ -250,13 +250,13 @@ def put_whole(source: Source, options: argparse.Namespace, choice: Choice, place
             table.put(row + [""] * (len(columns) - len(row)))
 
 
-def names_of(source: Source, places: set[int], form: str) -> dict[int, str]:
-    """The name of each message's file; messages of one name have their numbers in it too."""
+def names_of(source: Source, indexes: set[int], form: str) -> dict[int, str]:
+    """The file name of each message's table; it includes the message ID if several messages share a name."""
     count: dict[str, int] = {}
     for it in source.messages:
         count[it.name] = count.get(it.name, 0) + 1
     named = {}
-    for place in places:
-        it = source.messages[place]
-        named[place] = f"{it.name}.{form}" if count[it.name] == 1 else f"{it.name}.{it.number}.{form}"
+    for index in indexes:
+        it = source.messages[index]
+        named[index] = f"{it.name}.{form}" if count[it.name] == 1 else f"{it.name}.{it.number}.{form}"
     return named

@@ -1,4 +1,4 @@
-"""The commands of candesk-shell: those of a session, with messages by name or number, and a few of its own."""
+"""The commands of candesk-shell: those of a session, with messages by name or ID, and a few of its own."""
 
 from __future__ import annotations
 
@@ -18,28 +18,28 @@ import shell_session
 import vector_order
 
 HELP = """\
-MESSAGE is a name, a number as in BO_ (0x.. too; without bit 31 where that is meant), or @P for the place P.
+MESSAGE is a name, an ID as in BO_ (0x.. too; bit 31 may be left out if no other message is meant), or @N for index N.
 
-list                                messages, with place, number, size and signals
+list                                messages, with index, ID, length and signals
 show diagnostics                    what `candesk check` would write
-show layout MESSAGE                 its picture
+show layout MESSAGE                 its layout diagram
 show lines [N]                      the decoded lines that are kept, or the last N
 print                               the database in its canonical form
 log FILE                            keeps the lines of a log
 log (1.0) can0 123#00               keeps this line
-log |COMMAND, log stop              keeps each line of a command such as `candump -L can0` as it comes; ends that
+log |COMMAND, log stop              keeps each line of a command such as `candump -L can0` as it comes; stops the command
 add-message [MESSAGE] BO_ ..        before the message, or last
 remove-message MESSAGE
-change-message MESSAGE NAME SIZE SENDER
-renumber MESSAGE N
+change-message MESSAGE NAME LENGTH SENDER
+renumber MESSAGE ID
 add-signal MESSAGE [SIGNAL] SG_ ..  before the signal, or last
 remove-signal MESSAGE NAME
-change-signal MESSAGE SG_ ..        in place of the signal of its name
+change-signal MESSAGE SG_ ..        replaces the signal of the same name
 rename-signal MESSAGE OLD NEW
 set-values VAL_ ..    set-mux SG_MUL_VAL_ ..    set-table VAL_TABLE_ ..    set-attribute BA_ .. BO_ ..
 drop-values MESSAGE NAME    drop-mux MESSAGE NAME    drop-table NAME    drop-attribute MESSAGE "NAME"
 undo                                the database as it was before the last edit
-save [FILE] [--drop-comments]       writes the database into FILE, or the one that was opened
+save [FILE] [--drop-comments]       writes the database to FILE, by default the file that was opened
 help, quit
 """
 SETTING = ("set-mux", "set-values", "set-table", "set-attribute", "drop-table")
@@ -48,21 +48,21 @@ ON_NUMBER = ("drop-mux", "drop-values", "drop-attribute")
 EDITS = (*SETTING, *ON_MESSAGE, *ON_NUMBER, "add-message", "add-signal", "renumber")
 OWN = ("list", "show", "print", "log", "undo", "save", "help", "quit")
 BIT_31 = 1 << 31
-# the statements kept verbatim that may name signals: groups, and others in which the signal follows its message's number
+# the statements kept verbatim that may name signals: signal groups, and others in which the signal follows its message ID
 GROUPS, NAMING = b"SIG_GROUP_", (b"SIG_TYPE_REF_", b"BA_REL_")
-# the statement of a session's command; and what has to stand before one of a signal
+# the statement in a session command; and what a statement of a signal needs before it
 STATEMENT = re.compile(r"(?<= )(BO_|SG_MUL_VAL_|SG_|VAL_TABLE_|VAL_|BA_) .*")
 MESSAGE_BEFORE = "BO_ 0 M: 8 E\n "
-Say = Callable[[Union[str, bytes]], None]
-# how many databases of before are kept for undo, and how many diagnostics that came or went are shown
-UNDONE = 100
-TOLD = 10
-# how many lines of a file are handed to the session before it is looked whether that was interrupted
+Write = Callable[[Union[str, bytes]], None]
+# how many databases are kept for undo, and how many diagnostics that came or went are shown
+MAX_UNDO = 100
+MAX_SHOWN = 10
+# how many lines of a file are passed to the session between checks for an interrupt
 AT_ONCE = 20000
 
 
 def refused(text: str) -> tools.Fault:
-    return tools.Fault(text, tools.REFUSED)
+    return tools.Fault(text, tools.REJECTED)
 
 
 def whole_number(word: str) -> int | None:
@@ -77,7 +77,7 @@ def raw(text: str) -> bytes:
 
 
 def explained(command: str) -> list[str]:
-    """What `candesk explain` says of the statement of a command: the line with a mark, what was found, and what may stand there."""
+    """The report of `candesk explain` for the statement in a command: the marked line, what was found, and what was expected."""
     found = STATEMENT.search(command)
     if not found:
         return []
@@ -90,20 +90,20 @@ def explained(command: str) -> list[str]:
 
 
 class Shell:
-    """A database that is open, with what was before, and what is written for each command."""
+    """An open database with its earlier versions, and the output of each command."""
 
-    def __init__(self, path: str, is_short: bool, keep: int | None, say: Say) -> None:
+    def __init__(self, path: str, is_short: bool, keep: int | None, write: Write) -> None:
         with open(path, "rb") as file:
             self.read_text = file.read()
-        self.path, self.say = path, say
+        self.path, self.write = path, write
         self.session = shell_session.Session(path, is_short, keep)
-        self.before: collections.deque[bytes] = collections.deque(maxlen=UNDONE)
+        self.before: collections.deque[bytes] = collections.deque(maxlen=MAX_UNDO)
         self.listening: subprocess.Popen[bytes] | None = None
         self.lost = ""
         self.is_interrupted = False
-        # (a session is changed for another, and lines come, one after another)
+        # (held while lines are added, and while the session is replaced by another one)
         self.changing = threading.RLock()
-        self.look()
+        self.read_session()
         self.saved = self.text
         self.found = self.session.diagnostics()
 
@@ -117,8 +117,8 @@ class Shell:
     def is_edited(self) -> bool:
         return self.text != self.saved
 
-    def look(self) -> None:
-        """What the session prints, and the messages in it."""
+    def read_session(self) -> None:
+        """Reads the text that the session prints, and the messages in it."""
         self.text = self.session.text()
         self.messages = tools.messages_of(self.text)
 
@@ -127,8 +127,8 @@ class Shell:
     def message(self, word: str) -> tools.Message:
         number = whole_number(word)
         if word.startswith("@"):
-            place = whole_number(word[1:])
-            found = [it for it in self.messages if it.place == place]
+            index = whole_number(word[1:])
+            found = [it for it in self.messages if it.index == index]
         elif number is not None:
             numbers = [number] if any(it.number == number for it in self.messages) else [number | BIT_31]
             found = [it for it in self.messages if it.number in numbers]
@@ -137,23 +137,23 @@ class Shell:
         if not found:
             raise refused(f"there is no message {word}")
         if len(found) > 1:
-            raise refused(f"{word} is more than one message: give " + " or ".join(f"@{it.place}" for it in found))
+            raise refused(f"{word} is more than one message: give " + " or ".join(f"@{it.index}" for it in found))
         return found[0]
 
     def number(self, word: str) -> int | None:
-        """The number of a message, or a number that no message has."""
+        """The ID of a message, or an ID that no message has."""
         number = whole_number(word)
         return self.message(word).number if number is None or any(it.number == number | BIT_31 for it in self.messages) else number
 
     # ---- commands
 
     def do(self, line: str) -> bool:
-        """Does what a line asks for. False where it asks to end."""
+        """Runs the command in a line. Returns False if it is `quit`."""
         word, _, rest = line.strip().partition(" ")
         rest = rest.strip()
         if self.lost:
             lost, self.lost = self.lost, ""
-            tools.tell(f"log |COMMAND has ended: {lost}")
+            tools.report(f"log |COMMAND has ended: {lost}")
         if word == "rename-signal":
             self.rename(rest)
         elif word in EDITS:
@@ -167,7 +167,7 @@ class Shell:
         return True
 
     def command_of(self, word: str, rest: str) -> str:
-        """The session's own command of an edit: with places and numbers for messages."""
+        """The session command of an edit: with indexes and IDs of messages."""
         first, _, others = rest.partition(" ")
         others = others.strip()
         if not first:
@@ -177,25 +177,26 @@ class Shell:
         if word in ON_NUMBER:
             return f"{word} {self.number(first)} {others}"
         if word == "add-message":
-            place = len(self.messages) if first == "BO_" else self.message(first).place
-            return f"{word} {place} {rest if first == 'BO_' else others}"
+            index = len(self.messages) if first == "BO_" else self.message(first).index
+            return f"{word} {index} {rest if first == 'BO_' else others}"
         message = self.message(first)
         if word == "renumber":
             number = whole_number(others)
-            return f"{word} {message.place} {others if number is None else number}"
+            return f"{word} {message.index} {others if number is None else number}"
         if word == "add-signal":
             return self.added_signal(message, others)
         words = others.split() if word != "change-signal" else [others]
-        return " ".join([word, str(message.place), *words])
+        return " ".join([word, str(message.index), *words])
 
     def added_signal(self, message: tools.Message, rest: str) -> str:
         before, _, statement = rest.partition(" ")
         if before == "SG_":
-            return f"add-signal {message.place} {len(message.signals)} {rest}"
-        place = whole_number(before[1:]) if before.startswith("@") else None
-        if place is None and before not in message.signals:
+            return f"add-signal {message.index} {len(message.signals)} {rest}"
+        index = whole_number(before[1:]) if before.startswith("@") else None
+        if index is None and before not in message.signals:
             raise refused(f"{message.name} has no signal {before}")
-        return f"add-signal {message.place} {message.signals.index(before) if place is None else place} {statement.strip()}"
+        index = message.signals.index(before) if index is None else index
+        return f"add-signal {message.index} {index} {statement.strip()}"
 
     def rename(self, rest: str) -> None:
         """Renames a signal, and reports the lines of the printed database in which statements kept verbatim still use the old name;
@@ -206,60 +207,61 @@ class Shell:
         assert message.number is not None
         if lines := lines_naming(self.text, message.number, old):
             kind = "line" if len(lines) == 1 else "lines"
-            self.say(f"statements kept verbatim still name {old}: {kind} {', '.join(map(str, lines))} of print")
+            self.write(f"statements kept verbatim still name {old}: {kind} {', '.join(map(str, lines))} of print")
 
     def edit(self, command: str) -> None:
         with self.changing:
             reply = self.session.ask(raw(command))[0]
             if reply != b"ok":
-                told = "bad command: a statement has a fault, or a word is none that it takes"
-                raise refused("\n".join([told, *explained(command)]) if reply == b"bad command" else reply.decode())
+                reason = "bad command: a statement has a fault, or a word is none that it takes"
+                raise refused("\n".join([reason, *explained(command)]) if reply == b"bad command" else reply.decode())
             self.before.append(self.text)
-            self.look()
-        self.tell_change("ok")
+            self.read_session()
+        self.report_change("ok")
 
-    def tell_change(self, done: str) -> None:
-        """How many diagnostics there are, and which came and went."""
+    def report_change(self, done: str) -> None:
+        """Writes how many diagnostics there are, and which came and went."""
         old, self.found = self.found, self.session.diagnostics()
         gone = list((collections.Counter(old) - collections.Counter(self.found)).elements())
         came = list((collections.Counter(self.found) - collections.Counter(old)).elements())
         change = f"{len(gone)} went, {len(came)} came" if gone or came else "as before"
-        self.say(f"{done}; {tools.counted(len(self.found), 'diagnostic')}, {change}")
+        self.write(f"{done}; {tools.counted(len(self.found), 'diagnostic')}, {change}")
         lines: list[bytes]
         for sign, lines in ((b"- ", gone), (b"+ ", came)):
-            for line in lines[:TOLD]:
-                self.say(sign + line)
-            if len(lines) > TOLD:
-                self.say(sign.decode() + f"and {len(lines) - TOLD} more")
+            for line in lines[:MAX_SHOWN]:
+                self.write(sign + line)
+            if len(lines) > MAX_SHOWN:
+                self.write(sign.decode() + f"and {len(lines) - MAX_SHOWN} more")
 
     def do_list(self, _: str) -> None:
         for it in self.messages:
             number = it.number or 0
             hexadecimal = f"0x{number & ~BIT_31:X}" + (" (29 bits)" if number & BIT_31 else "")
-            self.say(f"@{it.place} {it.name} {it.number} {hexadecimal}, {tools.counted(it.size, 'byte')}: {' '.join(it.signals)}")
+            length = tools.counted(it.length, "byte")
+            self.write(f"@{it.index} {it.name} {it.number} {hexadecimal}, {length}: {' '.join(it.signals)}")
 
     def do_show(self, rest: str) -> None:
         what, _, word = rest.partition(" ")
         if what == "diagnostics" and not word:
             lines = self.session.diagnostics()
         elif what == "layout" and word:
-            lines = self.session.ask(b"show layout %d" % self.message(word).place)[1]
+            lines = self.session.ask(b"show layout %d" % self.message(word).index)[1]
         elif what == "lines" and (not word or word.isdecimal()):
             lines = self.session.shown_lines()
             lines = lines[max(0, len(lines) - int(word)) :] if word else lines
         else:
             raise refused("show takes diagnostics, layout MESSAGE, or lines [N]")
         for line in lines:
-            self.say(line)
+            self.write(line)
 
     def do_print(self, _: str) -> None:
-        self.say(self.text.removesuffix(b"\n"))
+        self.write(self.text.removesuffix(b"\n"))
 
     def do_help(self, _: str) -> None:
-        self.say(HELP.rstrip("\n"))
+        self.write(HELP.rstrip("\n"))
 
     def do_undo(self, _: str) -> None:
-        """A session of its own on the database of before, with the lines that are kept."""
+        """Opens the previous database in a new session, with the lines that are kept."""
         if not self.before:
             raise refused("there is nothing to undo")
         with tools.temporary_database() as file, self.changing:
@@ -271,8 +273,8 @@ class Shell:
             old, self.session = self.session, opened
             old.close()
         self.before.pop()
-        self.look()
-        self.tell_change("undone")
+        self.read_session()
+        self.report_change("undone")
 
     def do_save(self, rest: str) -> None:
         words = rest.split()
@@ -288,23 +290,23 @@ class Shell:
         if is_own and there != self.read_text:
             raise refused(f"{path} was changed by another since it was read: save to another file")
         if there and not is_own and words and tools.comment_line(there) and not drops:
-            raise refused(f"{path} is there, and has // comments: save to another file, or --drop-comments lets them go")
+            raise refused(f"{path} is there, and has // comments: save to another file, or --drop-comments removes them")
         if is_own and tools.comment_line(there) and not drops:
-            raise refused(f"{path} has // comments, which are not printed: save to another file, or --drop-comments lets them go")
-        # (edits leave statements that are kept verbatim alone, so those of the file are still all that there are)
+            raise refused(f"{path} has // comments, which are not printed: save to another file, or --drop-comments removes them")
+        # (no edit changes statements that are kept verbatim, so those of the file are still all that there are)
         written = vector_order.written_like(self.text, self.read_text) if is_own else self.text
         with tools.replacing(path) as file:
             file.write(written)
         if is_own:
             self.read_text = written
         self.saved = self.text
-        self.say(f"saved {path}")
+        self.write(f"saved {path}")
 
     # ---- logs
 
     def do_log(self, rest: str) -> None:
         if rest.startswith("("):
-            self.tell_log(*self.session.log([raw(rest)]))
+            self.report_log(*self.session.log([raw(rest)]))
         elif rest == "stop":
             if not self.listening:
                 raise refused("nothing is listened to")
@@ -317,7 +319,7 @@ class Shell:
             raise refused("log takes a FILE, a line of a log, |COMMAND, or stop")
 
     def log_file(self, path: str) -> None:
-        """The lines of a file, up to where it is interrupted."""
+        """Adds the lines of a file, until it is interrupted."""
         all_taken, first_refusal = 0, b""
         self.is_interrupted = False
         with tools.naming(path), open(path, "rb") as file:
@@ -329,22 +331,22 @@ class Shell:
                 if self.is_interrupted:
                     first_refusal = first_refusal or b"interrupted"
                     break
-        self.tell_log(all_taken, first_refusal)
+        self.report_log(all_taken, first_refusal)
 
-    def tell_log(self, taken: int, refusal: bytes) -> None:
+    def report_log(self, taken: int, refusal: bytes) -> None:
         text = f"{tools.counted(taken, 'line')}; {len(self.session.kept)} kept"
-        self.say(text + (f"; others: {refusal.decode()}" if refusal else ""))
+        self.write(text + (f"; others: {refusal.decode()}" if refusal else ""))
 
     def listen(self, command: str) -> None:
         """Starts a command, each line of which is kept as it comes."""
         if self.listening:
-            raise refused("log stop ends what is listened to; then another can be")
+            raise refused("a command is listened to already; log stop ends it")
         self.listening = subprocess.Popen(["sh", "-c", command], start_new_session=True,
                                           stdin=subprocess.DEVNULL, stdout=subprocess.PIPE)
         threading.Thread(target=self.take_lines, args=(self.listening,), daemon=True).start()
 
     def take_lines(self, source: subprocess.Popen[bytes]) -> None:
-        """Retains lines as they come. If that fails, the next command reports it."""
+        """Keeps lines as they come. If that fails, the next command reports it."""
         try:
             for line in source.stdout or ():
                 with contextlib.suppress(tools.Fault), self.changing:
@@ -354,20 +356,20 @@ class Shell:
 
     def stop_listening(self) -> None:
         if self.listening:
-            # (the command's own group of processes, as a shell may have started several)
+            # (the whole process group, since a shell may have started several processes)
             with contextlib.suppress(ProcessLookupError):
                 os.killpg(self.listening.pid, signal.SIGTERM)
             self.listening.wait()
             self.listening = None
-            self.say(f"{len(self.session.kept)} kept")
+            self.write(f"{len(self.session.kept)} kept")
 
 
 # ---- statements kept verbatim
 
 
 def lines_naming(canonical: bytes, number: int, signal_name: str) -> list[int]:
-    """The lines of a canonical text in which statements kept verbatim name a signal of a message: after the message's number, or
-    among the signals of one of its groups. Quoted text names none."""
+    """The lines of canonical text in which statements kept verbatim name a signal of a message: after the message ID, or among the
+    signals of one of its signal groups. Quoted text names none."""
     found, at = [], 1
     named = re.compile(rb"\b%d %s(?!\w)" % (number, signal_name.encode()))
     grouped = re.compile(rb"%s %d \w+ [^:]*:(?:.*[ ,])?%s(?!\w)" % (GROUPS, number, signal_name.encode()))
@@ -384,30 +386,30 @@ def lines_naming(canonical: bytes, number: int, signal_name: str) -> list[int]:
 
 
 def statements_of(shell: Shell, message: tools.Message) -> list[str]:
-    """The statements of a message's signals as they are printed, to be changed."""
-    place = -1
+    """The statements of a message's signals as they are printed, to be edited."""
+    index = -1
     found: list[str] = []
     for line in tools.canonical_lines(shell.text):
         head = line[0] if line else b""
-        place += 1 if tools.MESSAGE.match(head) else 0
-        if place == message.place and tools.SIGNAL.match(head):
+        index += 1 if tools.MESSAGE.match(head) else 0
+        if index == message.index and tools.SIGNAL.match(head):
             found.append(b"".join(line).decode("utf-8", "surrogateescape").strip())
     return found
 
 
 def files_at(word: str) -> list[str]:
-    folder, _, begun = word.rpartition("/")
+    folder, _, prefix = word.rpartition("/")
     before = folder + "/" if "/" in word else ""
     with contextlib.suppress(OSError):
         names = sorted(it.name + ("/" if it.is_dir() else "") for it in os.scandir(before or "."))
-        return [before + it for it in names if begun or not it.startswith(".")]
+        return [before + it for it in names if prefix or not it.startswith(".")]
     return []
 
 
 def candidates(shell: Shell, line: str) -> tuple[str, list[str]]:
-    """The beginning of the word that stands last in a line, and what it may come to be."""
+    """The last word of a line so far, and its completions."""
     words = line.split(" ")
-    word, begun, count = words[0], words[-1], len(words)
+    word, prefix, count = words[0], words[-1], len(words)
     names = [it.name for it in shell.messages]
     found: list[str] = []
     if count == 1:
@@ -415,15 +417,15 @@ def candidates(shell: Shell, line: str) -> tuple[str, list[str]]:
     elif word == "show":
         found = ["diagnostics", "layout", "lines"] if count == 2 else names if words[1] == "layout" else []
     elif word in ("log", "save") and count == 2:
-        found = files_at(begun)
+        found = files_at(prefix)
     elif word in EDITS and word not in SETTING and count == 2:
         found = names
     elif word == "change-signal":
-        begun = line.split(" ", 2)[2]
+        prefix = line.split(" ", 2)[2]
         found = of_message(shell, words[1], statements_of)
     elif word in EDITS and word not in SETTING and count == 3:
         found = of_message(shell, words[1], lambda _, message: message.signals)
-    return begun, [it for it in found if it.startswith(begun)]
+    return prefix, [it for it in found if it.startswith(prefix)]
 
 
 def of_message(shell: Shell, word: str, find: Callable[[Shell, tools.Message], list[str]]) -> list[str]:

@@ -1,5 +1,5 @@
-"""The history of a prompt, in the file and the form of prompt_toolkit, whatever bytes a line has. (Its own history takes UTF-8
-alone, but a statement of a database may have any encoding, and its bytes come as surrogates.)"""
+"""The history of a prompt, in the format of prompt_toolkit, for lines of any bytes. (Its own history accepts UTF-8 only, but a
+statement of a database may have any encoding, and its bytes come as surrogates.)"""
 
 from __future__ import annotations
 
@@ -15,7 +15,7 @@ class ByteHistory(FileHistory):  # type: ignore[misc]
     """A history in which each line keeps its bytes."""
 
     def load_history_strings(self) -> Iterable[str]:
-        """The lines that were typed, the latest first. A line of the file that begins with + is one of them, or a part of it."""
+        """The lines that were typed, the latest first. A line of the file that begins with + is such a line, or a part of one."""
         found: list[str] = []
         parts: list[str] = []
         try:

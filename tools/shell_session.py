@@ -1,4 +1,4 @@
-"""The session that a shell talks to: that of the Python package, whose faults end as those of a tool do."""
+"""The session of a shell: that of the Python package, with its exceptions turned into faults of a tool."""
 
 from __future__ import annotations
 
@@ -26,4 +26,4 @@ class Session(candesk.SessionTalk):
         try:
             return super().ask(command)
         except ValueError as error:
-            raise tools.Fault(str(error), tools.REFUSED) from error
+            raise tools.Fault(str(error), tools.REJECTED) from error

@@ -1,4 +1,4 @@
-"""What a tool does first. Import it before all other modules: from then on each standard stream is open, and an interrupt, running
+"""The start of a tool. Import it before all other modules: from then on each standard stream is open, and an interrupt, running
 out of memory and anything unexpected end in one line on standard error and an exit status, also during the other imports.
 
 A stream that was closed when the tool started stays unusable: reading or writing it still fails, under its own name.
@@ -11,26 +11,26 @@ import os
 import sys
 
 # the exit statuses: the database or a line was rejected; bad usage; files or streams can't be read or written; out of memory
-REFUSED, BAD_WORDS, BAD_FILES, NO_MEMORY = 1, 2, 3, 4
+REJECTED, BAD_WORDS, BAD_FILES, NO_MEMORY = 1, 2, 3, 4
 INTERRUPTED = 130
 
 TOOL = os.path.basename(sys.argv[0])
-# (made now: later there may be no memory for it)
+# (built now: later there may be no memory for it)
 OUT_OF_MEMORY = f"{TOOL}: out of memory\n".encode(errors="replace")
 # the descriptor for a tool's own lines
 error_output = 2
 
 
 class Fault(Exception):
-    """What ends a tool: the line for standard error, and the exit status."""
+    """An error that ends a tool: the line for standard error, and the exit status."""
 
     def __init__(self, text: str, status: int) -> None:
         super().__init__(text)
         self.status = status
 
 
-def tell(text: str) -> None:
-    """Writes a line to standard error; if that can't be written, does nothing."""
+def report(text: str) -> None:
+    """Writes a line to standard error; does nothing if it can't be written."""
     write_error(f"{TOOL}: {text}\n".encode("utf-8", "backslashreplace"))
 
 
@@ -43,8 +43,7 @@ def write_error(line: bytes) -> None:
 
 
 def hide_others() -> None:
-    """Hides what is written to standard error by others, such as libraries and child processes. The tool's own lines still go
-    there."""
+    """Hides what others, such as libraries and child processes, write to standard error. The tool's own lines still go there."""
     global error_output
     error_output = os.dup(2)
     null = os.open(os.devnull, os.O_WRONLY)
@@ -53,8 +52,8 @@ def hide_others() -> None:
 
 
 def lacks_memory(error: BaseException | None) -> bool:
-    """Whether an error means out of memory, or was caused by one that does. Threads, processes and libraries that can't start for
-    want of memory raise errors of their own."""
+    """Whether an error means out of memory, or was caused by one that does. Threads, processes and libraries that run out of
+    memory as they start raise errors of their own."""
     if error is None or isinstance(error, (Fault, KeyboardInterrupt)):
         return False
     if isinstance(error, MemoryError) or isinstance(error, OSError) and error.errno == errno.ENOMEM:
@@ -93,7 +92,7 @@ def end_by(error: BaseException) -> None:
     else:
         line, status = line_for(error)
         if line:
-            tell(line)
+            report(line)
     try:
         sys.stdout.flush()
     except (OSError, ValueError, MemoryError):
@@ -114,7 +113,7 @@ def ignore_interrupts() -> None:
 
 
 def interrupt_again(unraisable: "sys.UnraisableHookArgs") -> None:
-    """Repeats an interrupt a moment later that arrived where nothing can be raised, as in a destructor."""
+    """Repeats an interrupt a moment later if it arrived when nothing can be raised, as in a destructor."""
     if isinstance(unraisable.exc_value, KeyboardInterrupt):
         signal.setitimer(signal.ITIMER_REAL, 0.01)
 
@@ -122,12 +121,12 @@ def interrupt_again(unraisable: "sys.UnraisableHookArgs") -> None:
 def fill_streams() -> None:
     """Opens /dev/null for each closed standard stream, so that no other file gets its descriptor. Input is opened for writing only,
     and output for reading only: using them still fails. Standard error is opened for writing, so that its lines are dropped."""
-    for number, way in ((0, os.O_WRONLY), (1, os.O_RDONLY), (2, os.O_WRONLY)):
+    for number, mode in ((0, os.O_WRONLY), (1, os.O_RDONLY), (2, os.O_WRONLY)):
         try:
             os.fstat(number)
         except OSError:
             # (this takes the lowest free descriptor, which is `number`)
-            os.set_inheritable(os.open(os.devnull, way), True)
+            os.set_inheritable(os.open(os.devnull, mode), True)
     if sys.stdin is None:
         sys.stdin = open(0, closefd=False)
     if sys.stdout is None:

@@ -1,7 +1,7 @@
-//! Lines that are decoded.
+//! Decoding of lines.
 
 use crate::frames::{Bytes, Kind, frame};
-use crate::plans::{Decoder, Names, Plan, Row, Show, group_number};
+use crate::plans::{Decoder, Names, Plan, Scaling, SignalPlan, pgn};
 use std::io::Write;
 
 const PAIRS: [u8; 200] = {
@@ -15,18 +15,18 @@ const PAIRS: [u8; 200] = {
     table
 };
 
-const ROOM: usize = 48;
+const DIGITS_SIZE: usize = 48;
 
-/// Digits that are written from the back.
+/// Digits that are written from the end.
 struct Digits {
-    bytes: [u8; ROOM],
+    bytes: [u8; DIGITS_SIZE],
     at: usize,
 }
 
 impl Digits {
     #[inline(always)]
     fn new() -> Digits {
-        Digits { bytes: [0; ROOM], at: ROOM }
+        Digits { bytes: [0; DIGITS_SIZE], at: DIGITS_SIZE }
     }
 
     #[inline(always)]
@@ -60,14 +60,14 @@ impl Digits {
         self.put(value as u64);
     }
 
-    /// Pushes the number with so many decimal places, without zeros at its end.
+    /// Pushes the number with decimal places, without zeros at its end.
     #[inline(always)]
     fn push_decimal(&mut self, out: &mut Vec<u8>, is_negative: bool, mut places: usize) {
         if is_negative {
             out.push(b'-');
         }
         let bytes = &mut self.bytes;
-        let (mut at, mut end) = (self.at, ROOM);
+        let (mut at, mut end) = (self.at, DIGITS_SIZE);
         while places > 0 && bytes[end - 1] == b'0' && end > at {
             end -= 1;
             places -= 1;
@@ -94,9 +94,9 @@ fn push_whole(out: &mut Vec<u8>, value: u64) {
     out.extend_from_slice(&digits.bytes[digits.at..]);
 }
 
-impl Row {
+impl SignalPlan {
     #[inline(always)]
-    fn is_there(&self, data: &Bytes) -> bool {
+    fn is_present(&self, data: &Bytes) -> bool {
         !self.is_never
             && self.chain.iter().all(|(bits, ranges)| {
                 let value = bits.raw(data);
@@ -110,21 +110,21 @@ impl Row {
         match &self.names {
             Names::None => None,
             Names::Table(table) => {
-                let place = if is_signed { signed as u64 } else { raw };
-                table.get(place as usize)?.as_deref()
+                let index = if is_signed { signed as u64 } else { raw };
+                table.get(index as usize)?.as_deref()
             }
             Names::Sorted(sorted) => {
                 let number = if is_signed { signed as i128 } else { raw as i128 };
-                let place = sorted.binary_search_by_key(&number, |value| value.0).ok()?;
-                Some(&sorted[place].1)
+                let index = sorted.binary_search_by_key(&number, |value| value.0).ok()?;
+                Some(&sorted[index].1)
             }
         }
     }
 
-    /// Pushes what the signal says.
+    /// Pushes the value of the signal.
     #[inline(always)]
     fn push(&self, data: &Bytes, out: &mut Vec<u8>) {
-        if let Show::Refused(cause) = self.show {
+        if let Scaling::Undecoded(cause) = self.scaling {
             return out.extend_from_slice(cause);
         }
         let raw = self.bits.raw(data);
@@ -134,25 +134,25 @@ impl Row {
             return out.extend_from_slice(name);
         }
         let mut digits = Digits::new();
-        match self.show {
-            Show::Small { factor, offset } => {
+        match self.scaling {
+            Scaling::Small { factor, offset } => {
                 let value = factor * if is_signed { signed } else { raw as i64 } + offset;
                 digits.put(value.unsigned_abs());
                 digits.push_decimal(out, value < 0, self.places as usize);
             }
-            Show::Big { factor, offset } => {
+            Scaling::Big { factor, offset } => {
                 let value = factor * if is_signed { signed as i128 } else { raw as i128 } + offset;
                 digits.put_wide(value.unsigned_abs());
                 digits.push_decimal(out, value < 0, self.places as usize);
             }
-            Show::Refused(_) => {}
+            Scaling::Undecoded(_) => {}
         }
         out.extend_from_slice(&self.unit);
     }
 }
 
 impl Plan {
-    fn push_group(number: u32, out: &mut Vec<u8>) {
+    fn push_j1939(number: u32, out: &mut Vec<u8>) {
         out.extend_from_slice(b"[p");
         out.push(b'0' + (number >> 26 & 7) as u8);
         out.extend_from_slice(b" s");
@@ -168,15 +168,15 @@ impl Plan {
     fn push(&self, number: u32, data: &Bytes, out: &mut Vec<u8>) {
         out.extend_from_slice(b" :: ");
         out.extend_from_slice(&self.head);
-        if self.is_group {
-            Plan::push_group(number, out);
+        if self.is_j1939 {
+            Plan::push_j1939(number, out);
         }
         let mut is_first = true;
-        for row in &self.rows {
-            if row.is_there(data) {
-                out.extend_from_slice(if is_first { &row.first } else { &row.later });
+        for signal in &self.signals {
+            if signal.is_present(data) {
+                out.extend_from_slice(if is_first { &signal.first } else { &signal.later });
                 is_first = false;
-                row.push(data, out);
+                signal.push(data, out);
             }
         }
         out.push(b')');
@@ -186,14 +186,14 @@ impl Plan {
 impl Decoder {
     #[inline(always)]
     fn plan_of(&self, number: u32) -> Option<&Plan> {
-        let mut found = self.exact.get(&number);
+        let mut found = self.by_id.get(&number);
         if found.is_none() && number >> 31 == 1 {
-            found = self.groups.get(&group_number(number));
+            found = self.by_pgn.get(&pgn(number));
         }
-        found.map(|&place| &self.plans[place as usize])
+        found.map(|&index| &self.plans[index as usize])
     }
 
-    /// Pushes the line and what it says.
+    /// Pushes the line and its decoded frame.
     pub fn line(&self, line: &[u8], data: &mut Bytes, out: &mut Vec<u8>) {
         let line = line.strip_suffix(b"\r").unwrap_or(line);
         out.extend_from_slice(line);
@@ -208,8 +208,8 @@ impl Decoder {
             let _ = write!(out, " :: Unknown frame id {number} ({number:#x})");
             return;
         };
-        if data.length < plan.size {
-            let _ = write!(out, " :: Wrong data size: {} instead of {} bytes", data.length, plan.size);
+        if data.length < plan.length {
+            let _ = write!(out, " :: Wrong data size: {} instead of {} bytes", data.length, plan.length);
             return;
         }
         plan.push(number, data, out);

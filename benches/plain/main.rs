@@ -1,11 +1,11 @@
-//! What a good Rust programmer gets: a plain reader of database texts and a decoder of log lines, by hand, with std alone and no
-//! unsafe code. The benches beside it measure the program against it.
+//! What a good Rust programmer would write: a plain reader of database texts and a decoder of log lines, by hand, with only std and
+//! no unsafe code. The benches compare the program with it.
 //!
 //!     plain decode FILE <LOG      the decoded lines, as `candesk decode` writes them
 //!     plain read FILE             reads and compiles, and prints counts
 //!
-//! Its reader is a quick one: it takes messages, signals, named values, ranges of switches, float types and the attribute
-//! VFrameFormat, passes over every other statement up to its `;`, and refuses nothing but what it can't step over.
+//! Its reader is quick: it reads messages, signals, value descriptions, ranges of multiplexors, float types and the attribute
+//! VFrameFormat, skips every other statement up to its `;`, and rejects only what it can't skip.
 
 mod database;
 mod frames;
@@ -18,7 +18,7 @@ use plans::Decoder;
 use std::io::{self, Read, Write};
 use std::process::exit;
 
-/// The place of the first line feed, looked for eight bytes at a time.
+/// The index of the first line feed, searched eight bytes at a time.
 fn find_line_feed(bytes: &[u8]) -> Option<usize> {
     const ONES: u64 = 0x0101_0101_0101_0101;
     let mut at = 0;
@@ -31,7 +31,7 @@ fn find_line_feed(bytes: &[u8]) -> Option<usize> {
         }
         at += 8;
     }
-    words.remainder().iter().position(|&byte| byte == b'\n').map(|place| at + place)
+    words.remainder().iter().position(|&byte| byte == b'\n').map(|index| at + index)
 }
 
 /// Decodes standard input line by line.
@@ -53,10 +53,10 @@ fn decode(decoder: &Decoder) -> io::Result<()> {
         }
         have += more;
         let mut at = 0;
-        while let Some(place) = find_line_feed(&buffer[at..have]) {
-            decoder.line(&buffer[at..at + place], &mut data, &mut out);
+        while let Some(length) = find_line_feed(&buffer[at..have]) {
+            decoder.line(&buffer[at..at + length], &mut data, &mut out);
             out.push(b'\n');
-            at += place + 1;
+            at += length + 1;
             if out.len() >= PIECE {
                 output.write_all(&out)?;
                 out.clear();
@@ -84,8 +84,8 @@ fn main() {
     });
     let decoder = plans::compile(&database::read(&text));
     if words[1] == "read" {
-        let rows: usize = decoder.plans.iter().map(|plan| plan.rows.len()).sum();
-        println!("{} messages, {} signals, {} groups", decoder.plans.len(), rows, decoder.groups.len());
+        let signals: usize = decoder.plans.iter().map(|plan| plan.signals.len()).sum();
+        println!("{} messages, {} signals, {} groups", decoder.plans.len(), signals, decoder.by_pgn.len());
     } else if decode(&decoder).is_err() {
         exit(3);
     }

@@ -25,7 +25,7 @@
     ("\\<SG_\\s-+\\([A-Za-z_]\\w*\\)" 1 font-lock-variable-name-face)
     ("\\<\\(M\\|m[0-9]+M?\\)\\s-*:" 1 font-lock-builtin-face)
     ("\\<Vector__XXX\\>" . font-lock-constant-face))
-  "What is highlighted in DBC files besides strings and comments.")
+  "Highlighting of DBC files, in addition to strings and comments.")
 
 ;;;###autoload
 (define-derived-mode dbc-mode prog-mode "DBC"

@@ -1,4 +1,4 @@
-"""candesk from Python: databases as objects, exact decoding, tables of pandas, and sessions of edits.
+"""candesk from Python: databases as objects, exact decoding, pandas tables, and sessions of edits.
 
     import candesk
 
@@ -6,7 +6,7 @@
     db.decode_message("EngineSpeed", bytes.fromhex("A00F64800C"))
     db.frame("drive.blf", message="EngineSpeed")
 
-Everything of the format is done by the program candesk, which `CANDESK` names or which is on the PATH.
+The program candesk, which `CANDESK` names or which is on the PATH, does everything about the format.
 """
 
 from ._database import Attribute, Database, Finding, Message, Multiplexor, Signal, load

@@ -1,6 +1,6 @@
 """Raw values and floats from the bytes of a frame, by the positions of a signal's bits.
 
-The program gives the positions, decodes every signal but floats, and gives no raw values; both are this package's own work.
+The program gives the positions and decodes all signals except floats. It gives no raw values. Both are this package's own work.
 """
 
 from __future__ import annotations
@@ -17,12 +17,13 @@ _FLOATS = {32: "<f", 64: "<d"}
 
 
 def bits_of(data: bytes) -> int:
-    """The bytes of a frame as one number, whose bit p is bit p % 8 of byte p // 8."""
+    """The bytes of a frame as one integer, whose bit p is bit p % 8 of byte p // 8."""
     return int.from_bytes(data, "little")
 
 
 def raw_of(bits: int, length: int, positions: Sequence[int], is_signed: bool) -> int | None:
-    """The raw value of a signal whose bits, least significant first, have these positions in `length` bytes."""
+    """The raw value of a signal whose bits, least significant first, have these positions in `length` bytes. None if a bit is past
+    them."""
     if not positions or max(positions) >= 8 * length:
         return None
     raw = 0

@@ -22,7 +22,7 @@ if TYPE_CHECKING:
     import pandas
 
 ByteOrder = str
-# what an attribute of a database holds
+# the value of an attribute
 Attribute = Union[int, Decimal, str]
 BYTE_ORDERS = {"intel": "little_endian", "motorola": "big_endian"}
 # the sender or receiver of a message that has none
@@ -33,14 +33,14 @@ CLASSIC_BYTES, FD_BYTES = 8, 64
 
 
 class Multiplexor(NamedTuple):
-    """A signal that switches another on, where its raw value is in one of these ranges, ends included."""
+    """A multiplexor of a signal: the signal is present if the multiplexor's raw value is in one of these ranges, ends included."""
 
     signal: str
     ranges: tuple[tuple[int, int], ...]
 
 
 class Finding(NamedTuple):
-    """A line of `candesk check`: a code with its word, and what it is about."""
+    """A line of `candesk check`: a code with its word, and its subject."""
 
     code: int
     word: str
@@ -49,7 +49,7 @@ class Finding(NamedTuple):
 
 @dataclass(frozen=True)
 class Signal:
-    """A signal of a message. Numbers are exact: `int`, or `Decimal` where they have a fraction or an exponent."""
+    """A signal of a message. Numbers are exact: `int`, or `Decimal` if they have a fraction or an exponent."""
 
     name: str
     start: int
@@ -69,13 +69,13 @@ class Signal:
     positions: tuple[int, ...]
     # why the program decodes no value of it: outside, float, long or scale
     refused: str | None
-    # its multiplexer indicator (`M`, `m5`, `m5M`), and the multiplexors above it, its own first; None if it is never there
+    # its multiplexer indicator (`M`, `m5`, `m5M`), and its multiplexing chain, lowest first; None if it is never present
     indicator: str | None
     chain: tuple[Multiplexor, ...] | None
 
     @property
     def is_float(self) -> bool:
-        """Whether `SIG_VALTYPE_` says that it is a float."""
+        """Whether it is a float by `SIG_VALTYPE_`."""
         return self.refused == "float"
 
     @property
@@ -91,11 +91,11 @@ class Signal:
         return self.chain[0].ranges if self.chain else None
 
     def raw(self, data: bytes) -> int | None:
-        """The raw value in the bytes of a frame, or None where not all of its bits are there."""
+        """The raw value in the bytes of a frame, or None if not all of its bits are there."""
         return raw_of(bits_of(data), len(data), self.positions, self.is_signed)
 
     def float_value(self, data: bytes) -> float | None:
-        """The value of a float in the bytes of a frame: IEEE 754 of 32 or 64 bits. None where it isn't all there."""
+        """The value of a float in the bytes of a frame: IEEE 754 of 32 or 64 bits. None if not all of its bits are there."""
         if not self.is_float:
             return None
         return float_of(bits_of(data), len(data), self.positions, self.scale, self.offset)
@@ -106,9 +106,9 @@ class Message:
     """A message of a database."""
 
     name: str
-    # as in BO_, with bit 31 for 29 bits
+    # the message ID as in BO_, with bit 31 for an extended identifier
     number: int
-    # the identifier without flags; None if the number stands for none
+    # the identifier without flags; None if the message ID means none
     frame_id: int | None
     is_extended_frame: bool
     length: int
@@ -116,11 +116,11 @@ class Message:
     signals: Sequence[Signal]
     comment: str | None
     attributes: Mapping[str, Attribute]
-    # the parameter group of a J1939 message
+    # the PGN of a J1939 message
     pgn: int | None
     cycle_time: Number | None
     database: Database = field(repr=False, compare=False)
-    # the place among the messages of the database, from 0
+    # the index among the messages of the database, from 0
     index: int = field(repr=False)
 
     @property
@@ -172,16 +172,16 @@ def _signal(name: str, members: dict[str, Any]) -> Signal:
 
 
 class Database:
-    """A database that was read from a file. It is a context manager that ends the programs which it keeps open; so does `close`."""
+    """A database that was read from a file. It keeps programs running, which `close` ends, or the end of a `with` block."""
 
     def __init__(self, path: str | os.PathLike[str]) -> None:
         self.path = os.fspath(path)
-        # (a text may hold what Python takes for an end of a line, but no line feed)
+        # (a text may contain what Python takes for a line end, but no line feed)
         lines = _program.answer(self.path, ["dump", "--json"]).decode().removesuffix("\n").split("\n")
         rest = json.loads(lines[-1], parse_float=Decimal)
         self.version: str = rest["version"]
         self.nodes: list[str] = rest["nodes"]
-        # what no message has: comments, attributes and entries on something that isn't there, and statements kept verbatim
+        # everything outside messages: comments, attributes, entries for objects that don't exist, and statements kept verbatim
         self.rest: dict[str, Any] = rest
         self.comment: str | None = next((it["comment"] for it in rest["comments"] if it.keys() <= {"comment", "comment_hex"}), None)
         defaults = _attributes(rest["defaults"])
@@ -212,7 +212,7 @@ class Database:
         self.close()
 
     def __del__(self) -> None:
-        # (one whose text was rejected has nothing to close)
+        # (a database whose text was rejected has nothing to close)
         with contextlib.suppress(AttributeError):
             self.close()
 
@@ -220,7 +220,7 @@ class Database:
         return f"candesk.load({self.path!r})"
 
     def close(self) -> None:
-        """Ends the programs that are kept open. The next call starts one again."""
+        """Ends the programs that are kept running. The next call starts one again."""
         with self._lock:
             for it in self._decoders.values():
                 it.close()
@@ -229,14 +229,14 @@ class Database:
     # ---- messages
 
     def get_message_by_name(self, name: str) -> Message:
-        """The message of a name; the first, where several have it."""
+        """The message with a name; the first, if several have it."""
         try:
             return self._by_name[name]
         except KeyError:
             raise UnknownMessage(f"{self.path} has no message {name}") from None
 
     def get_message_by_frame_id(self, frame_id: int, extended: bool | None = None) -> Message:
-        """The message with exactly an identifier. If `extended` isn't given, one of 11 bits goes before one of 29 bits."""
+        """The message with exactly this identifier. If `extended` isn't given, a standard identifier is preferred."""
         for is_extended in (False, True) if extended is None else (extended,):
             found = self._by_id.get((frame_id, is_extended))
             if found:
@@ -252,10 +252,10 @@ class Database:
 
         A value is the text of its value description if it has one and `decode_choices` is true; else a number, an `int` if it is
         whole, or the nearest `float`, or with `exact` the `Decimal`. Without `scaling` it is the raw value. A signal that isn't
-        decoded, since it is outside the data, of over 64 bits or of too many digits, is None.
+        decoded, since it is outside the data, has over 64 bits or too many digits, is None.
 
-        Raises `UnknownMessage` where no message has the identifier or name, and `DecodeError` where the data is shorter than the
-        message, except with `allow_truncated`, which shows the signals that are there.
+        Raises `UnknownMessage` if no message has the identifier or name, and `DecodeError` if the data is shorter than the
+        message, except with `allow_truncated`, which decodes the signals that are there.
         """
         if message is None and isinstance(frame_id_or_name, str):
             message = self.get_message_by_name(frame_id_or_name)
@@ -272,20 +272,20 @@ class Database:
         return decoded.values(decode_choices=decode_choices, scaling=scaling, exact=exact)
 
     def _identifier(self, frame_id_or_name: int | str, extended: bool | None, message: Message | None) -> str:
-        """The identifier of a frame as a log has it."""
+        """The identifier of a frame, as in a log."""
         if message is None:
             assert isinstance(frame_id_or_name, int)
             found = self._by_id.get((frame_id_or_name, False)) or self._by_id.get((frame_id_or_name, True))
             is_extended = frame_id_or_name > MAX_STANDARD_ID or bool(found and found.is_extended_frame)
             return _spelled(frame_id_or_name, is_extended if extended is None else extended)
         if message.frame_id is None:
-            raise UnknownMessage(f"no frame has the number {message.number} of message {message.name}")
+            raise UnknownMessage(f"no frame has the ID {message.number} of message {message.name}")
         if self._by_number[message.number] is not message:
             raise UnknownMessage(f"frames of {message.number} go to {self._by_number[message.number].name}, not to {message.name}")
         return _spelled(message.frame_id, message.is_extended_frame)
 
     def _ask(self, line: bytes, short: bool) -> DecodedLine:
-        """What the program decodes of one line, by a program that is kept open."""
+        """One line decoded, by a program that is kept running."""
         with self._lock:
             decoder = self._decoders.get(short)
             if decoder is None:
@@ -298,10 +298,10 @@ class Database:
         return DecodedLine(text, self._by_number)
 
     def decode(self, source: Source, *, short: bool = False) -> Iterator[DecodedLine]:
-        """What each line of a log, or each frame of python-can, shows, in order and one for one.
+        """Each line of a log, or each frame of python-can, decoded, in order and one for one.
 
         `source` is a path of a log as `candump -L` writes it, or of any log that python-can reads (BLF, ASC, TRC and so on); or
-        lines as `bytes` or `str`, or python-can's `Message`s, as they come. A program is kept open for them, and fed by a thread.
+        lines as `bytes` or `str`, or python-can's `Message`s, as they come. A program runs for them, and is fed by a thread.
         """
         with Decoder(self.path, short=short) as decoder:
             for text in decoder.answers(source):
@@ -309,20 +309,20 @@ class Database:
 
     def frame(self, source: Source, message: str | int | None = None, signals: Iterable[str] | None = None, *,
               exact: bool = False, choices: bool = False, short: bool = False) -> pandas.DataFrame:
-        """A `pandas.DataFrame` of a log, with a row for each frame of a message, indexed by its time in seconds.
+        """A `pandas.DataFrame` of a log, with a row for each frame of a message, indexed by time in seconds.
 
         `message` is a name or an identifier; without it all messages are taken, and columns are named `Message.Signal`. `signals`
-        chooses columns. Values are floats, or exact `Decimal`s, as is the index then; with `choices` a value that has a
-        description is its text. Where a frame doesn't show a signal, its cell is NaN, or None.
+        chooses columns. Values are floats, or with `exact` `Decimal`s, and so is the index; with `choices` a value that has a
+        description is its text. The cell of a signal that a frame doesn't show is NaN, or None.
         """
         from ._frames import frame_of
 
         return frame_of(self, source, message, signals, exact, choices, short)
 
-    # ---- what else the program says
+    # ---- other reports of the program
 
     def check(self) -> list[Finding]:
-        """What `candesk check` finds in the database."""
+        """The findings of `candesk check` for the database."""
         text = _program.answer(self.path, ["check"], findings=True).decode(errors="backslashreplace")
         return [Finding(int(code), word, subject) for code, word, subject in
                 ((it.split(" ", 2) + [""])[:3] for it in text.split("\n") if it)]
@@ -339,5 +339,5 @@ def _spelled(identifier: int, is_extended: bool) -> str:
 
 
 def load(path: str | os.PathLike[str]) -> Database:
-    """Reads a database. Raises `Rejected` where it isn't valid, with the line of its first error."""
+    """Reads a database. Raises `Rejected` if it isn't valid, with the line of its first error."""
     return Database(path)

@@ -1,4 +1,4 @@
-"""Lines of a log, decoded by a program that is kept open."""
+"""Lines of a log, decoded by a program that is kept running."""
 
 from __future__ import annotations
 
@@ -16,7 +16,7 @@ from ._logs import Source, pieces_of
 if TYPE_CHECKING:
     from ._database import Message
 
-# what a signal shows: a number, the text of a value description, or None where it isn't decoded
+# the value of a signal: a number, the text of a value description, or None if it isn't decoded
 Value = Union[int, float, Decimal, str, None]
 CHUNK = 1 << 16
 
@@ -31,7 +31,7 @@ class J1939(NamedTuple):
 
 
 class Reading(NamedTuple):
-    """What a frame shows of a signal: its exact value, its unit, and the text of its value description; or why it isn't decoded."""
+    """A signal in a frame: its exact value, its unit, and the text of its value description; or why it isn't decoded."""
 
     value: Number | None
     unit: str | None
@@ -40,14 +40,14 @@ class Reading(NamedTuple):
 
 
 class DecodedLine:
-    """A line of a log, and what its frame shows. A line that is no frame has only `line`."""
+    """A line of a log, with its frame decoded. A line that is no frame has only `line`."""
 
     __slots__ = ("_members", "message")
 
     def __init__(self, text: bytes, by_number: Mapping[int, Message]) -> None:
         self._members: dict[str, Any] = json.loads(text, parse_float=Decimal)
         number = self._members.get("number")
-        # the message that the frame goes to, or None
+        # the message of the frame, or None
         self.message: Message | None = None if number is None else by_number.get(number)
 
     def __repr__(self) -> str:
@@ -55,7 +55,7 @@ class DecodedLine:
 
     @property
     def time(self) -> Decimal | None:
-        """In seconds, exactly as the log has it."""
+        """The time in seconds, exactly as in the log."""
         time = self._members.get("time")
         return None if time is None else Decimal(time)
 
@@ -70,7 +70,7 @@ class DecodedLine:
 
     @property
     def extended(self) -> bool:
-        """Whether the identifier has 29 bits."""
+        """Whether the identifier is extended (29 bits)."""
         return self._members.get("extended", False)
 
     @property
@@ -84,12 +84,12 @@ class DecodedLine:
 
     @property
     def j1939(self) -> J1939 | None:
-        group = self._members.get("j1939")
-        return None if group is None else J1939(group["pgn"], group["priority"], group["source"], group.get("destination"))
+        fields = self._members.get("j1939")
+        return None if fields is None else J1939(fields["pgn"], fields["priority"], fields["source"], fields.get("destination"))
 
     @property
     def readings(self) -> dict[str, Reading]:
-        """The signals that are shown, by their names, in order."""
+        """The signals that the frame shows, by their names, in order."""
         return {name: _reading(it) for name, it in self._members.get("signals", {}).items()}
 
     @property
@@ -99,12 +99,12 @@ class DecodedLine:
 
     @property
     def size(self) -> int | None:
-        """How many bytes the message needs, where the size is wrong."""
+        """The length of the message in bytes, if the length of the frame is wrong."""
         return self._members.get("size")
 
     @property
     def rest(self) -> str | None:
-        """What follows the frame on its line."""
+        """The rest of the line after the frame."""
         return self._members.get("rest")
 
     @property
@@ -113,7 +113,7 @@ class DecodedLine:
         return self._members.get("line")
 
     def values(self, *, decode_choices: bool = True, scaling: bool = True, exact: bool = False) -> dict[str, Value]:
-        """The signals that are shown, by their names; see `Database.decode_message`."""
+        """The values of the signals that the frame shows, by their names; see `Database.decode_message`."""
         if not self.message:
             return {}
         signals = {it.name: it for it in self.message.signals}
@@ -146,13 +146,13 @@ class Decoder:
         with open(path, "rb"):
             pass
         words = [_program.checked_program(), "decode", "--json", *(["--short"] if short else []), "--", path]
-        # (in a session of its own it isn't ended by an interrupt of a terminal)
+        # (in its own process session, an interrupt of a terminal doesn't end it)
         self.running = subprocess.Popen(
             words, start_new_session=True, stdin=subprocess.PIPE, stdout=subprocess.PIPE, stderr=subprocess.PIPE
         )
         assert self.running.stdin and self.running.stdout and self.running.stderr
         self._lines, self._answers, self._errors = self.running.stdin, self.running.stdout, self.running.stderr
-        # how many lines were answered, and what went wrong while the source was read
+        # how many lines were answered, and the error of reading the source
         self._count = 0
         self._failure: BaseException | None = None
 
@@ -194,7 +194,7 @@ class Decoder:
         return answer
 
     def answers(self, source: Source) -> Iterator[bytes]:
-        """The objects of all lines of a source, which is read by a thread. Afterwards the decoder is at its end."""
+        """The objects of all lines of a source, which a thread reads. After them the program has ended."""
         threading.Thread(target=self._feed, args=(source,), daemon=True).start()
         for answer in self._answers:
             if not answer.endswith(b"\n"):
@@ -210,12 +210,12 @@ class Decoder:
         try:
             for piece in pieces_of(source):
                 self._lines.write(piece)
-                # (a frame that comes live is answered at once)
+                # (a live frame is answered at once)
                 if len(piece) < CHUNK:
                     self._lines.flush()
         except (BrokenPipeError, ValueError):
             pass
-        except BaseException as error:  # noqa: BLE001  (it is raised again where the answers are read)
+        except BaseException as error:  # noqa: BLE001  (`answers` raises it again)
             self._failure = error
         finally:
             try:

@@ -4,7 +4,7 @@ from __future__ import annotations
 
 
 class Error(Exception):
-    """The base of all exceptions of this package."""
+    """The base class of all exceptions of this package."""
 
 
 class ProgramMissing(Error):
@@ -25,7 +25,7 @@ class ProgramFailed(Error):
 
 
 class Rejected(Error, ValueError):
-    """A database isn't valid. `line` is the line of its first error, and `code` and `word` say what is wrong there."""
+    """A database isn't valid. `line` is the line of its first error, and `code` and `word` are the kind of error."""
 
     def __init__(self, path: str, line: int, code: int, word: str) -> None:
         super().__init__(f"{path}: line {line}: {code} {word}")
@@ -59,8 +59,8 @@ class DecodeError(Error, ValueError):
 
 
 class EditRefused(Error, ValueError):
-    """A session refused a command, which changed nothing. `code` and `word` say why, as `22 NoSignal`; `code` is 0 for a command
-    that is malformed."""
+    """A session refused a command, which changed nothing. `code` and `word` are the reason, as in `22 NoSignal`; `code` is 0
+    for a malformed command."""
 
     def __init__(self, command: str, code: int, word: str) -> None:
         super().__init__(f"{command}: {code} {word}" if code else f"{command}: {word}")
@@ -68,4 +68,4 @@ class EditRefused(Error, ValueError):
 
 
 class PackageMissing(Error, ImportError):
-    """A call needs a package of Python that isn't installed."""
+    """A call needs a Python package that isn't installed."""

@@ -1,4 +1,4 @@
-"""Tables of pandas from logs."""
+"""pandas tables of logs."""
 
 from __future__ import annotations
 
@@ -20,7 +20,7 @@ if TYPE_CHECKING:
 
 
 class _Columns:
-    """The columns of a table, as they grow by a frame."""
+    """The columns of a table, to which frames are added."""
 
     def __init__(self, message: Message | None, wanted: set[str] | None, exact: bool, choices: bool) -> None:
         self.message, self.wanted, self.exact, self.choices = message, wanted, exact, choices
@@ -32,7 +32,7 @@ class _Columns:
                     self.cells[it.name] = {}
 
     def put(self, members: dict[str, Any], message: Message, signals: dict[str, Signal]) -> None:
-        """A row of a frame. A frame of all messages that has no column of those that are wanted is no row."""
+        """Adds the row of a frame. In a table of all messages, a frame without a wanted column has no row."""
         row, is_row = len(self.times), self.message is not None
         for name, it in members["signals"].items():
             column = name if self.message else f"{message.name}.{name}"
@@ -80,7 +80,7 @@ def frame_of(database: Database, source: Source, message: str | int | None, sign
     columns = _Columns(only, wanted, exact, choices)
     by_number = {it.number: it for it in reversed(database.messages)}
     by_name = {number: {signal.name: signal for signal in it.signals} for number, it in by_number.items()}
-    # (no text of an object can hold this: a quote in it stands after a backslash)
+    # (no string of an object can contain this: a quote in a string follows a backslash)
     mark = b'"number":%d' % only.number if only else b'"number":'
     lines = frames = 0
     with Decoder(database.path, short=short) as decoder:

@@ -1,4 +1,4 @@
-"""Logs as lines of `candump -L`: files of it, files that python-can reads, lines, and python-can's messages."""
+"""Logs as lines of `candump -L`: its files, files that python-can reads, lines, and python-can's messages."""
 
 from __future__ import annotations
 
@@ -13,7 +13,7 @@ from ._errors import PackageMissing
 # python-can's Message has no types that mypy sees without it
 Line = Union[bytes, str, Any]
 Source = Union[str, "os.PathLike[str]", Iterable[Line]]
-# the logs that python-can reads, by the ends of their names; its own reader of candump logs isn't needed
+# the logs that python-can reads, by the suffixes of their names; its reader of candump logs isn't needed
 CAN_SUFFIXES = (".asc", ".blf", ".csv", ".db", ".mf4", ".trc")
 ERROR_FLAG = 0x20000000
 
@@ -62,7 +62,7 @@ def lines_of_file(path: str) -> Iterator[bytes]:
 
 
 def pieces_of(source: Source) -> Iterator[bytes]:
-    """A source as bytes of lines."""
+    """A source as pieces of lines."""
     if isinstance(source, (str, os.PathLike)):
         return lines_of_file(os.fspath(source))
     return map(line_of, source)

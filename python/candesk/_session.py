@@ -15,16 +15,16 @@ from . import _program
 from ._database import Finding
 from ._errors import EditRefused, UnknownMessage
 
-# a message by its place, from 0, or by its name
-Place = Union[int, str]
+# a message by its index, from 0, or by its name
+MessageRef = Union[int, str]
 # the most lines that a session keeps, and the most bytes of a line of a log and of a command
 MAX_LINES = 1048576
 MAX_LINE_BYTES = 4096
 MAX_COMMAND_BYTES = 65536
 LONG_LINE = b"refused 31 LongLine"
-# how many lines of a log are handed in before their replies are read (all these replies have room in a pipe)
+# how many lines of a log are written before their replies are read (all these replies fit in a pipe)
 BATCH = 500
-# how many databases of before an edit are kept
+# how many databases are kept for undo
 MAX_UNDONE = 100
 
 
@@ -41,10 +41,10 @@ def _shown(text: bytes) -> str:
 
 
 class SessionTalk:
-    """A running `candesk session`, by its commands and replies as bytes; `Session` is built on it.
+    """A running `candesk session`, with its commands and replies as bytes; `Session` is built on it.
 
-    A reply ends with `ok`, `bad command` or `refused ..`, and a text may have such a line: so a printed database is read up to the
-    first end outside its quotes, and decoded lines are as many as are kept. Calls may come from several threads.
+    A reply ends with `ok`, `bad command` or `refused ..`, and a text may have such a line. So a printed database is read up to the
+    first such line outside its quotes, and of decoded lines as many are read as are kept. Calls may come from several threads.
     """
 
     def __init__(self, path: str, *, short: bool = False, keep: int | None = None) -> None:
@@ -55,14 +55,14 @@ class SessionTalk:
             pass
         words = [_program.checked_program(), "session", *(["--short"] if short else [])]
         words += ["--keep", str(keep)] if keep else []
-        # (in a session of its own it isn't ended by an interrupt of a terminal)
+        # (in its own process session, an interrupt of a terminal doesn't end it)
         self.running = subprocess.Popen(
             [*words, "--", path], start_new_session=True, stdin=subprocess.PIPE, stdout=subprocess.PIPE, stderr=subprocess.PIPE
         )
         assert self.running.stdin and self.running.stdout and self.running.stderr
         self._commands, self._replies, self._errors = self.running.stdin, self.running.stdout, self.running.stderr
         try:
-            # (it has read the whole database once it answers)
+            # (it has read the whole database when it answers)
             self.diagnostics()
         except BaseException:
             self.close()
@@ -77,7 +77,7 @@ class SessionTalk:
             self._commands.close()
 
     def raise_end(self) -> NoReturn:
-        """Raises why the program ended."""
+        """Raises the exception for the end of the program."""
         with contextlib.suppress(OSError):
             self._commands.close()
         errors = self._errors.read()
@@ -102,7 +102,7 @@ class SessionTalk:
         return line[:-1]
 
     def ask(self, command: bytes) -> tuple[bytes, list[bytes]]:
-        """The last line of a reply, and those before it; none of these may read as an end."""
+        """The last line of a reply, and those before it; none of these may look like a last line."""
         with self._talk:
             self._send(command)
             lines = [self._line()]
@@ -134,7 +134,7 @@ class SessionTalk:
             return lines if _is_end(self._line()) else self.raise_end()
 
     def log(self, lines: Sequence[bytes]) -> tuple[int, bytes]:
-        """Keeps lines of a log. How many were kept, and why the first that wasn't was refused."""
+        """Adds lines of a log. Returns how many were kept, and why the first of the others was refused."""
         taken, refusal = 0, b""
         with self._talk:
             for at in range(0, len(lines), BATCH):
@@ -152,7 +152,7 @@ class SessionTalk:
 
 
 class _Quotes:
-    """Whether a quote is open after some lines. The closing quote is the first that doesn't stand right after a backslash."""
+    """Whether a quote is open after some lines. The closing quote is the first that doesn't directly follow a backslash."""
 
     def __init__(self) -> None:
         self.is_open = False
@@ -167,8 +167,8 @@ class _Quotes:
 class Session:
     """A database that is edited, with the lines of a log. Every answer is what a fresh reading of the edited text would give.
 
-    It is a context manager, which ends the program; so does `close`. An edit that is refused raises `EditRefused` and changes
-    nothing. A message is named by its place, from 0, or by its name. Statements are as in a DBC file.
+    `close`, or the end of a `with` block, ends the program. An edit that is refused raises `EditRefused` and changes nothing. A
+    message is given by its index, from 0, or by its name. Statements are as in a DBC file.
     """
 
     def __init__(self, path: str | os.PathLike[str], *, short: bool = False, keep: int | None = None) -> None:
@@ -186,7 +186,7 @@ class Session:
     def close(self) -> None:
         self._talk.close()
 
-    # ---- what is there
+    # ---- contents
 
     def text(self) -> bytes:
         """The canonical text of the database."""
@@ -208,43 +208,43 @@ class Session:
                 raise
 
     def diagnostics(self) -> list[Finding]:
-        """What `candesk check` finds in the database as it is now."""
+        """The findings of `candesk check` for the database as it is now."""
         lines = map(_shown, self._talk.diagnostics())
         return [Finding(int(code), word, subject) for code, word, subject in ((it.split(" ", 2) + [""])[:3] for it in lines)]
 
-    def layout(self, message: Place) -> str:
+    def layout(self, message: MessageRef) -> str:
         """The layout diagram of a message."""
-        return "".join(_shown(it) + "\n" for it in self._ask(b"show layout %d" % self._place(message)))
+        return "".join(_shown(it) + "\n" for it in self._ask(b"show layout %d" % self._index(message)))
 
     def lines(self) -> list[str]:
         """The lines that are kept, decoded by the database as it is now."""
         return [_shown(it) for it in self._talk.shown_lines()]
 
     def log(self, lines: str | bytes | Iterable[str | bytes]) -> None:
-        """Keeps a line of a log, or several. One that is refused raises `EditRefused`; the others are kept."""
+        """Adds a line of a log, or several. Raises `EditRefused` if one is refused; the others are kept."""
         spelled = [_spelled(it).rstrip(b"\n") for it in ([lines] if isinstance(lines, (str, bytes)) else lines)]
         if any(b"\n" in it for it in spelled):
             raise ValueError("a line of a log has no line feed in it")
         _, refusal = self._talk.log(spelled)
         if refusal:
-            _judge(b"log", refusal)
+            _check_reply(b"log", refusal)
 
     # ---- edits
 
     def _ask(self, command: bytes) -> list[bytes]:
         end, lines = self._talk.ask(command)
-        _judge(command, end)
+        _check_reply(command, end)
         return lines
 
     def edit(self, command: str | bytes) -> None:
-        """Does an edit, as it stands in a script (`candesk session --help`)."""
+        """Does an edit, in the form of a session command (`candesk session --help`)."""
         before = self.text()
         self._ask(_spelled(command))
         self._before.append(before)
         self._names = None
 
     def undo(self) -> bool:
-        """Takes back the last edit: the database of before is opened anew, with the lines that are kept. False if there is none."""
+        """Takes back the last edit: the previous database is opened again, with the lines that are kept. False if there is none."""
         if not self._before:
             return False
         with tempfile.NamedTemporaryFile(prefix="candesk-", suffix=".dbc") as file:
@@ -263,7 +263,7 @@ class Session:
         self._names = None
         return True
 
-    def _place(self, message: Place) -> int:
+    def _index(self, message: MessageRef) -> int:
         if isinstance(message, int):
             return message
         if self._names is None:
@@ -272,35 +272,35 @@ class Session:
             raise UnknownMessage(f"the database has no message {message}")
         return self._names.index(message)
 
-    def add_message(self, statement: str, place: int | None = None) -> None:
-        """Adds a message, `BO_ ..` without signals, at a place, or last."""
-        if place is None:
-            place = sum(1 for _ in _names_in(self._talk.text()))
-        self.edit(f"add-message {place} {statement}")
+    def add_message(self, statement: str, index: int | None = None) -> None:
+        """Adds a message, `BO_ ..` without signals, at an index, or last."""
+        if index is None:
+            index = sum(1 for _ in _names_in(self._talk.text()))
+        self.edit(f"add-message {index} {statement}")
 
-    def remove_message(self, message: Place) -> None:
-        self.edit(f"remove-message {self._place(message)}")
+    def remove_message(self, message: MessageRef) -> None:
+        self.edit(f"remove-message {self._index(message)}")
 
-    def change_message(self, message: Place, name: str, length: int, sender: str) -> None:
-        self.edit(f"change-message {self._place(message)} {name} {length} {sender}")
+    def change_message(self, message: MessageRef, name: str, length: int, sender: str) -> None:
+        self.edit(f"change-message {self._index(message)} {name} {length} {sender}")
 
-    def renumber(self, message: Place, number: int) -> None:
-        """Gives a message another number, as in `BO_`: with bit 31 for 29 bits."""
-        self.edit(f"renumber {self._place(message)} {number}")
+    def renumber(self, message: MessageRef, number: int) -> None:
+        """Gives a message another ID, as in `BO_`: with bit 31 for an extended identifier."""
+        self.edit(f"renumber {self._index(message)} {number}")
 
-    def add_signal(self, message: Place, place: int, statement: str) -> None:
-        """Adds a signal, `SG_ ..`, at a place among those of the message."""
-        self.edit(f"add-signal {self._place(message)} {place} {statement}")
+    def add_signal(self, message: MessageRef, index: int, statement: str) -> None:
+        """Adds a signal, `SG_ ..`, at an index among those of the message."""
+        self.edit(f"add-signal {self._index(message)} {index} {statement}")
 
-    def remove_signal(self, message: Place, name: str) -> None:
-        self.edit(f"remove-signal {self._place(message)} {name}")
+    def remove_signal(self, message: MessageRef, name: str) -> None:
+        self.edit(f"remove-signal {self._index(message)} {name}")
 
-    def change_signal(self, message: Place, statement: str) -> None:
+    def change_signal(self, message: MessageRef, statement: str) -> None:
         """Replaces the signal of the same name with `SG_ ..`."""
-        self.edit(f"change-signal {self._place(message)} {statement}")
+        self.edit(f"change-signal {self._index(message)} {statement}")
 
-    def rename_signal(self, message: Place, old: str, new: str) -> None:
-        self.edit(f"rename-signal {self._place(message)} {old} {new}")
+    def rename_signal(self, message: MessageRef, old: str, new: str) -> None:
+        self.edit(f"rename-signal {self._index(message)} {old} {new}")
 
     def set_values(self, statement: str) -> None:
         """Sets value descriptions, `VAL_ ..`."""
@@ -331,8 +331,8 @@ class Session:
         self.edit(f'drop-attribute {number} "{name}"')
 
 
-def _judge(command: bytes, end: bytes) -> None:
-    """Raises where the end of a reply is a refusal."""
+def _check_reply(command: bytes, end: bytes) -> None:
+    """Raises `EditRefused` if the last line of a reply is a refusal."""
     if end == b"bad command":
         raise EditRefused(_shown(command), 0, "bad command")
     if end != b"ok":
@@ -341,7 +341,7 @@ def _judge(command: bytes, end: bytes) -> None:
 
 
 def _names_in(canonical: bytes) -> Iterator[str]:
-    """The names of the messages of a canonical text, in order."""
+    """The names of the messages of canonical text, in order."""
     quotes = _Quotes()
     for line in canonical.split(b"\n"):
         if not quotes.is_open and line.startswith(b"BO_ "):

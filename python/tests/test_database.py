@@ -1,4 +1,4 @@
-"""Databases as objects, against what their files say."""
+"""Databases as objects, against their files."""
 
 from __future__ import annotations
 

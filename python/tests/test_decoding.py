@@ -139,7 +139,7 @@ class Logs(Case):
         self.assertEqual((lines[-1].line, lines[-1].time, lines[-1].kind), ("engine off, key out", None, None))
 
     def test_lines_as_they_come(self) -> None:
-        """Each is answered before the next is there."""
+        """Each is answered before the next one comes."""
         came: list[str] = []
 
         def live() -> Iterator[str]:

@@ -70,10 +70,10 @@ class Tables(Case):
             self.db.frame([], message="Lights", signals=["Other"])
 
     def test_a_log_without_frames(self) -> None:
-        with warnings.catch_warnings(record=True) as said:
+        with warnings.catch_warnings(record=True) as caught:
             warnings.simplefilter("always")
             self.db.frame(["date Mon", "begin"], message="Lights")
-        self.assertEqual(str(said[0].message), "0 of 2 lines are frames: is this ASC, or candump without -L?")
+        self.assertEqual(str(caught[0].message), "0 of 2 lines are frames: is this ASC, or candump without -L?")
 
 
 if __name__ == "__main__":

@@ -1,4 +1,4 @@
-"""The examples of the pages: each runs, and prints what the comment at its end says."""
+"""The examples of the pages: each runs, and prints what its comments show."""
 
 from __future__ import annotations
 
@@ -23,10 +23,10 @@ class Pages(Case):
                 if ".frame(" in block and not has("pandas"):
                     continue
                 count += 1
-                said = io.StringIO()
-                with self.subTest(f"{page}: {block[:60]}"), contextlib.chdir(ROOT), contextlib.redirect_stdout(said):
+                printed = io.StringIO()
+                with self.subTest(f"{page}: {block[:60]}"), contextlib.chdir(ROOT), contextlib.redirect_stdout(printed):
                     exec(block, {})  # noqa: S102
-                self.assertEqual(said.getvalue().splitlines(), re.findall(r"print\(.*\)  # (.*)$", block, re.MULTILINE))
+                self.assertEqual(printed.getvalue().splitlines(), re.findall(r"print\(.*\)  # (.*)$", block, re.MULTILINE))
         self.assertGreater(count, 1)
 
 

@@ -28,8 +28,8 @@ class Wheel(Case):
         self.assertEqual(name, f"candesk-{candesk.__version__}-py3-none-any.whl")
         python = os.path.join(environment, "bin", "python")
         self.run_all([python, "-m", "pip", "install", "-q", "--no-index", os.path.join(made, name)])
-        asked = f"import candesk; print(candesk.load({CAR!r}).decode_message('Lights', bytes([14]))['Main'])"
-        done = subprocess.run([python, "-I", "-c", asked], capture_output=True, text=True, check=False)
+        code = f"import candesk; print(candesk.load({CAR!r}).decode_message('Lights', bytes([14]))['Main'])"
+        done = subprocess.run([python, "-I", "-c", code], capture_output=True, text=True, check=False)
         self.assertEqual((done.stdout, done.stderr), ("on\n", ""))
 
     def run_all(self, *calls: list[str]) -> None:

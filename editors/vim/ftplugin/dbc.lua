@@ -7,7 +7,7 @@ if vim.lsp.start then
   vim.lsp.start(server)
   return
 end
--- (0.7: one server for all files, that a file which is read again isn't attached to twice)
+-- (0.7: one server for all files; a file that is read again isn't attached twice)
 if not vim.g.candesk_client or not vim.lsp.get_client_by_id(vim.g.candesk_client) then
   vim.g.candesk_client = vim.lsp.start_client(server)
 end
