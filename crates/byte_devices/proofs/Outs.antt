@@ -10,7 +10,7 @@ use Rattle.std.proofs.lemmas.Result.{MatchResult-from_err}
 use Rattle.byte_devices.specs.Device.{Written, Wrote, Broke, Prints}
 use Rattle.byte_devices.specs.declared.sending.Out.{Out}
 use Rattle.byte_devices.specs.Outs.{Took, Lost, Sends}
-use Rattle.byte_devices.proofs.Writes.{Broke-more, Broke-behind, Broke-flush, Passes-nil, Passes-then, Passes-flush}
+use Rattle.byte_devices.proofs.Writes.{Broke-more, Broke-following, Broke-flush, Passes-nil, Passes-then, Passes-flush}
 
 pub Took-nil : {W : Type 0} (written : W → Written) (a : Out W) → Took written a a []
 Took-nil written a = record { same = refl; passes = Passes-nil (written a.sink.now) a.held.items }
@@ -24,11 +24,12 @@ Took-then written a b c xs ys p q = record {
 }
 
 -- of a text after another a beginning
-pub Lost-behind : {W : Type 0} (written : W → Written) (a b c : Out W) (xs ys : List ℕ) → Took written a b xs → Lost written b c ys
+pub Lost-following : {W : Type 0} (written : W → Written) (a b c : Out W) (xs ys : List ℕ) → Took written a b xs → Lost written b c
+    ys
     → Lost written a c (xs ++ ys)
-Lost-behind written a b c xs ys p q = record {
+Lost-following written a b c xs ys p q = record {
   same = q.same ∙ p.same;
-  broke = Broke-behind (written a.sink.now) (written b.sink.now) (written c.sink.now) a.held.items xs b.held.items ys p.passes
+  broke = Broke-following (written a.sink.now) (written b.sink.now) (written c.sink.now) a.held.items xs b.held.items ys p.passes
       q.broke;
 }
 
@@ -47,9 +48,9 @@ Lost-more written a b xs ys p = record {
 pub Sends-after : {W X E : Type 0} (written : W → Written) (a b c : Out W) (r : Result X E) (xs ys : List ℕ) → Took written a b xs
     → Sends written b c r ys → Sends written a c r (xs ++ ys)
 Sends-after written a b c (Ok x) xs ys p q = Took-then written a b c xs ys p q
-Sends-after written a b c (Err e) xs ys p q = Lost-behind written a b c xs ys p q
+Sends-after written a b c (Err e) xs ys p q = Lost-following written a b c xs ys p q
 
--- a failure, which is handed on
+-- a failure, which is passed on
 pub Sends-stop : {W X E : Type 0} (written : W → Written) (a b : Out W) (r : Result X E) (xs ys : List ℕ) → IsErr r
     → Lost written a b xs → Sends written a b r (xs ++ ys)
 Sends-stop written a b r xs ys e p = MatchResult-from_err r _ _ e (λ _. Lost-more written a b xs ys p)
@@ -73,10 +74,10 @@ flat_map-next f xs i d lt = rw (take_more xs i d lt, flat_map-append) (ap (λ (t
 flat_map-parts : {X : Type 0} (f : X → List ℕ) (xs : List X) (i : ℕ) (d : X) → i < length xs
     → flat_map f xs ≡ flat_map f (take i xs) ++ (f (get_or xs i d) ++ flat_map f (drop (i + 1) xs))
 flat_map-parts f xs i d lt =
-    let behind = flat_map f (drop (i + 1) xs) in
+    let following = flat_map f (drop (i + 1) xs) in
     ap (flat_map f) (sym (take-append-drop (i + 1) xs)) ∙ flat_map-append f (take (i + 1) xs) (drop (i + 1) xs)
-    ∙ ap (λ (t : List ℕ). t ++ behind) (flat_map-next f xs i d lt) ∙ append_assoc (flat_map f (take i xs)) (f (get_or xs i d))
-    behind
+    ∙ ap (λ (t : List ℕ). t ++ following) (flat_map-next f xs i d lt) ∙ append_assoc (flat_map f (take i xs)) (f (get_or xs i d))
+    following
 
 -- the items before were sent, and this one
 pub Took-item : {X W : Type 0} (written : W → Written) (f : X → List ℕ) (xs : List X) (i : ℕ) (x d : X) (a b c : Out W)
@@ -91,7 +92,7 @@ pub Lost-item : {X W : Type 0} (written : W → Written) (f : X → List ℕ) (x
     → i < length xs → x ≡ get_or xs i d
     → Took written a b (flat_map f (take i xs)) → Lost written b c (f x) → Lost written a c (flat_map f xs)
 Lost-item written f xs i x d a b c lt is p q =
-    let here = Lost-behind written a b c (flat_map f (take i xs)) (f (get_or xs i d)) p (subst (λ y. Lost written b c (f y)) is
+    let here = Lost-following written a b c (flat_map f (take i xs)) (f (get_or xs i d)) p (subst (λ y. Lost written b c (f y)) is
     q) in
     let more = Lost-more written a c (flat_map f (take i xs) ++ f (get_or xs i d)) (flat_map f (drop (i + 1) xs)) here in
     subst (Lost written a c) (append_assoc (flat_map f (take i xs)) (f (get_or xs i d)) (flat_map f (drop (i + 1) xs))

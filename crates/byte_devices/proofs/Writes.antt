@@ -67,9 +67,9 @@ Passes-then a b c before xs between ys after p q = record {
 }
 
 -- bytes go through, and of others a beginning
-pub Broke-behind : (a b c : Written) (before xs between ys : List ℕ) → Passes a b before xs between → Broke b c (between ++ ys)
+pub Broke-following : (a b c : Written) (before xs between ys : List ℕ) → Passes a b before xs between → Broke b c (between ++ ys)
     → Broke a c (before ++ (xs ++ ys))
-Broke-behind a b c before xs between ys p q =
+Broke-following a b c before xs between ys p q =
     let regrouped : p.out ++ (between ++ ys) ≡ before ++ (xs ++ ys) = sym (append_assoc p.out between ys)
     ∙ ap (λ zs. zs ++ ys) (sym p.parts) ∙ append_assoc before xs ys in
     subst (Broke a c) regrouped (Broke-then a b c p.out (between ++ ys) p.wrote q)
@@ -79,7 +79,7 @@ pub Passes-flush : (a b c : Written) (before xs held : List ℕ) → Passes a b 
     → Wrote a c (before ++ xs)
 Passes-flush a b c before xs held p q = subst (Wrote a c) (sym p.parts) (Wrote-then a b c p.out held p.wrote q)
 
--- a beginning of what is held is written
+-- a prefix of what is held is written
 pub Broke-flush : (a b c : Written) (before xs held : List ℕ) → Passes a b before xs held → Broke b c held
     → Broke a c (before ++ xs)
 Broke-flush a b c before xs held p q = subst (Broke a c) (sym p.parts) (Broke-then a b c p.out held p.wrote q)

@@ -2,14 +2,14 @@
 use Rattle.std.specs.Prelude.{◌≡◌, ℕ, ◌+◌, ◌-◌, ◌^◌, ◌<◌, ◌≤◌, List, ◌++◌, Option, Result, MatchResult}
 use Rattle.std.specs.Io.KnownBytes.{Appends, Consumes}
 
--- The number of failures rose by one. At the highest number nothing is claimed but that it is no lower.
+-- The number of failures rose by one. If it is saturated, nothing is claimed except that it is no lower.
 pub record Rises (old new : ℕ) : Type 0 where
   pub no_lower : old ≤ new
   pub by_one : old < 2 ^ 64 - 1 → new ≡ old + 1
 
 -- ---- sinks
 
--- the bytes written, where they are told, and how often a put has failed
+-- the bytes written, if they are known, and how often a put has failed
 pub record Written : Type 0 where
   pub bytes : Option (List ℕ)
   pub failures : ℕ
@@ -19,7 +19,7 @@ pub record Wrote (old new : Written) (text : List ℕ) : Type 0 where
   pub bytes : Appends old.bytes new.bytes text
   pub failures : new.failures ≡ old.failures
 
--- a beginning of the text was written, and then a put failed
+-- a prefix of the text was written, and then a put failed
 pub record Broke (old new : Written) (text : List ℕ) : Type 0 where
   pub front : List ℕ
   pub back : List ℕ
@@ -27,7 +27,7 @@ pub record Broke (old new : Written) (text : List ℕ) : Type 0 where
   pub bytes : Appends old.bytes new.bytes front
   pub failures : Rises old.failures new.failures
 
--- the text was written, or a beginning of it and then a put failed
+-- the text was written, or a prefix of it and then a put failed
 abbrev pub Prints : {X E : Type 0} → Written → Written → Result X E → List ℕ → Type 0
 Prints old new result text = MatchResult result (λ _. Wrote old new text) (λ _. Broke old new text)
 
@@ -39,7 +39,7 @@ pub record Passes (old new : Written) (before bytes held : List ℕ) : Type 0 wh
 
 -- ---- sources
 
--- The bytes left, where they are told; how often a pull has failed; and a number that each pull with bytes lowers.
+-- The bytes left, if they are known; how often a pull has failed; and a number that each pull with bytes lowers.
 pub record Unread : Type 0 where
   pub bytes : Option (List ℕ)
   pub failures : ℕ

@@ -1,4 +1,4 @@
--- Texts that are sent to a sink, before which bytes wait.
+-- Texts that are sent to a sink, before which bytes are buffered.
 use Rattle.std.specs.Prelude.{◌≡◌, List, ℕ, ◌++◌, Result, MatchResult}
 use Rattle.byte_devices.specs.Device.{Written, Passes, Broke}
 use Rattle.byte_devices.specs.declared.sending.Out.{Out}
@@ -7,12 +7,12 @@ use Rattle.byte_devices.specs.declared.sending.Out.{Out}
 abbrev pub SameSink : {W : Type 0} → Out W → Out W → Type 0
 SameSink old new = new.sink.ghost_name ≡ old.sink.ghost_name
 
--- the text was sent: what doesn't wait was written
+-- the text was sent: what isn't buffered was written
 pub record Took {W : Type 0} (written : W → Written) (old new : Out W) (text : List ℕ) : Type 0 where
   pub same : SameSink old new
   pub passes : Passes (written old.sink.now) (written new.sink.now) old.held.items text new.held.items
 
--- a put failed, and a beginning of what waited before and of the text was written
+-- a put failed, and a prefix of what was buffered before and of the text was written
 pub record Lost {W : Type 0} (written : W → Written) (old new : Out W) (text : List ℕ) : Type 0 where
   pub same : SameSink old new
   pub broke : Broke (written old.sink.now) (written new.sink.now) (old.held.items ++ text)

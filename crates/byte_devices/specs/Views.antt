@@ -16,14 +16,14 @@ writer_of sink = sink.writer
 abbrev pub written_of : {W : Type 0} → (W → Option (List ℕ)) → FromWrite W → Written
 written_of contents sink = record { bytes = contents sink.writer; failures = sink.failures }
 
--- all the bytes of a limping device
+-- all the bytes of a faulty device
 abbrev pub bytes_of : Limp → List ℕ
 bytes_of limp = limp.bytes.items
 
 abbrev pub failures_of : Limp → ℕ
 failures_of limp = limp.failures
 
--- how a limping device limps: how many bytes it moves in a call at most, and how many calls and bytes are left to it
+-- how a device is faulty: how many bytes it moves in a call at most, and how many calls and bytes it has left
 pub record Limping : Type 0 where
   pub most : ℕ
   pub calls : ℕ
@@ -42,9 +42,9 @@ pub record Limped (old new : Limping) (ready count : ℕ) : Type 0 where
   pub moved : count ≡ min ready (min old.most old.bytes)
   pub left : new ≡ record { most = old.most; calls = old.calls - 1; bytes = old.bytes - count }
 
--- the bytes from its place on
+-- the bytes from its position on
 abbrev pub rest_of : Limp → List ℕ
-rest_of limp = drop limp.place limp.bytes.items
+rest_of limp = drop limp.index limp.bytes.items
 
 -- as a source: these are left
 abbrev pub unread_of_limp : Limp → Unread

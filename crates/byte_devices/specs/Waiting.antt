@@ -1,6 +1,6 @@
--- What waits before a sink.
+-- What is buffered before a sink.
 use Rattle.std.specs.Prelude.{ℕ, List}
 
--- the bytes that wait, in their order
+-- the buffered bytes, in order
 pub record Held : Type 0 where
   pub items : List ℕ

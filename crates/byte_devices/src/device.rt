@@ -1,4 +1,4 @@
-//! The devices of the outside: what bytes are pulled from and put to.
+//! The external devices: what bytes are pulled from and put to.
 ghost use Rattle.std.specs.Prelude.{◌≡◌, ◌<◌, ◌≤◌, [], length, take, IfOk, OnErr};
 ghost use Rattle.std.specs.Io.KnownBytes.{IsAtEnd};
 ghost use Rattle.byte_devices.specs.Device.{Unread, Written, Pulled, PullFailed, Wrote, Broke, Prints};
@@ -10,7 +10,7 @@ use thiserror::Error;
 #[error("the device failed")]
 pub struct Broken;
 
-/// A sink failed, and has a beginning of what was to be written: fault 42.
+/// A sink failed, and has a prefix of what was to be written: fault 42.
 #[derive(Clone, Copy, Debug, PartialEq, Eq, Error)]
 #[error("42 Write")]
 pub struct WriteFault;
@@ -26,8 +26,8 @@ pub trait Source {
     // The bytes left, the failures so far, and a number that each pull with bytes lowers.
     ghost unread: { Self → Unread };
 
-    /// Moves the next bytes to the front of the piece, and answers how many. For a piece that isn't empty 0 is the
-    /// end. An `Err` moves none.
+    /// Moves the next bytes to the front of the piece, and returns how many. For a piece that isn't empty, 0 is the end.
+    /// An `Err` moves none.
     fn pull(&mut self, piece: &mut [u8]) -> Result<usize, Broken>
         ensures count { IfOk result (λ n. n ≤ length piece.new) }
         ensures pulled { IfOk result (λ n. Pulled (unread self.old) (unread self.new) (take n piece.new)) }
@@ -41,8 +41,7 @@ pub trait Sink {
     // The bytes written, and the failures so far.
     ghost written: { Self → Written };
 
-    /// Takes bytes from the front of the piece, at least one where there is one, and answers how many. An `Err` takes
-    /// none.
+    /// Takes bytes from the front of the piece, at least one if there is one, and returns how many. An `Err` takes none.
     fn put(&mut self, piece: &[u8]) -> Result<usize, Broken>
         ensures count { IfOk result (λ n. n ≤ length piece.now) }
         ensures moves { 0 < length piece.now → IfOk result (λ n. 0 < n) }
@@ -50,7 +49,7 @@ pub trait Sink {
         ensures broke { OnErr result (Broke (written self.old) (written self.new) []) };
 }
 
-/// Puts all the bytes. At an `Err` a beginning of them was put.
+/// Puts all the bytes. At an `Err` a prefix of them was put.
 pub fn put_all<W: Sink>(sink: &mut W, bytes: &[u8]) -> Result<(), WriteFault>
     ensures { Prints (W.written sink.old) (W.written sink.new) result bytes.now }
 {

@@ -1,16 +1,16 @@
-//! The bytes that wait before a sink.
+//! The bytes that are buffered before a sink.
 ghost use Rattle.std.specs.Prelude.{◌≡◌, ◌==◌, ◌+◌, ◌<◌, ◌≤◌, ◌++◌, [], length, take, true, false};
 
 use std::marker::Model;
 
-const ROOM: usize = 16_384;
+const BUFFER_SIZE: usize = 16_384;
 
-/// Bytes that wait, at most 16,384. Clearing them writes none, so it costs the same however many waited.
+/// Buffered bytes, at most 16,384. Clearing them writes none, so it costs the same however many are buffered.
 #[derive(Drop)]
 pub struct Held {
-    // The bytes that wait, and after them room in which anything may stand.
-    bytes: [u8; ROOM],
-    // How many bytes wait.
+    // The buffered bytes, followed by spare space with arbitrary contents.
+    bytes: [u8; BUFFER_SIZE],
+    // How many bytes are buffered.
     len: usize,
 }
 
@@ -25,14 +25,14 @@ impl Model for Held {
     ghost invariant = { λ h. h.len ≤ length h.bytes };
 }
 
-// Writes bytes at a place.
+// Writes bytes at an offset.
 #[inline(always)]
-fn place_bytes(room: &mut [u8], at: usize, bytes: &[u8])
-    requires { at + length bytes.now ≤ length room.old }
-    ensures bytes { take (at + length bytes.now) room.new ≡ take at room.old ++ bytes.now }
-    ensures len { length room.new ≡ length room.old }
+fn put_bytes(space: &mut [u8], at: usize, bytes: &[u8])
+    requires { at + length bytes.now ≤ length space.old }
+    ensures bytes { take (at + length bytes.now) space.new ≡ take at space.old ++ bytes.now }
+    ensures len { length space.new ≡ length space.old }
 {
-    room[at..at + bytes.len()].copy_from_slice(bytes);
+    space[at..at + bytes.len()].copy_from_slice(bytes);
 }
 
 impl Held {
@@ -41,33 +41,33 @@ impl Held {
         ensures { result.items ≡ [] }
     {
         Held {
-            bytes: [0; ROOM],
+            bytes: [0; BUFFER_SIZE],
             len: 0,
         }
     }
 
-    /// The bytes that wait.
+    /// The buffered bytes.
     pub fn as_slice(&self) -> &[u8]
         ensures { result.now ≡ self.now.items }
     {
         &self.bytes[..self.len]
     }
 
-    /// Whether no bytes wait.
+    /// Whether no bytes are buffered.
     pub fn is_empty(&self) -> bool
         ensures { result ≡ (length self.now.items == 0) }
     {
         self.len == 0
     }
 
-    /// Takes all bytes away.
+    /// Removes all bytes.
     pub fn clear(&mut self)
         ensures { self.new.items ≡ [] }
     {
         self.len = 0;
     }
 
-    /// Appends all of these bytes, or none where there is no room for them, and answers whether there was.
+    /// Appends all of these bytes, or none if there is no space for them, and returns whether there was.
     #[inline(always)]
     pub fn try_push(&mut self, bytes: &[u8]) -> bool
         ensures pushed { result ≡ true → self.new.items ≡ self.old.items ++ bytes.now }
@@ -75,10 +75,10 @@ impl Held {
         ensures same { result ≡ false → self.new ≡ self.old }
         ensures full { result ≡ false → 16384 < length self.old.items + length bytes.now }
     {
-        if ROOM - self.len < bytes.len() {
+        if BUFFER_SIZE - self.len < bytes.len() {
             return false;
         }
-        place_bytes(&mut self.bytes, self.len, bytes);
+        put_bytes(&mut self.bytes, self.len, bytes);
         self.len += bytes.len();
         true
     }

@@ -1,5 +1,5 @@
-//! The devices of the outside: sources that bytes are pulled from and sinks that they are put to, std's readers and writers as
-//! such, a buffer before a sink, and a device over memory that limps, for tests.
+//! The external devices: sources that bytes are pulled from and sinks that they are put to, std's readers and writers as such, a
+//! buffer before a sink, and a faulty device over memory for tests.
 #![tactic(auto)]
 
 mod device;

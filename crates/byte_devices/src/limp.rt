@@ -1,5 +1,4 @@
-//! A device over memory that limps, for the tests of every crate: it moves little at a time, and fails from some call
-//! or byte on.
+//! A faulty device over memory, for the tests of every crate: it moves little at a time, and fails from some call or byte on.
 ghost use Rattle.std.specs.Prelude.{◌≡◌, ◌<◌, ◌≤◌, [], length, take, min, true, IfOk, OnErr, Some, vec_len};
 ghost use Rattle.std.specs.Io.KnownBytes.{IsAtEnd};
 
@@ -9,12 +8,12 @@ use crate::device::{Broken, Sink, Source};
 #[derive(Drop)]
 pub struct Limp {
     bytes: Vec<u8>,
-    place: usize,
+    index: usize,
     most: usize,
     calls_left: u64,
     bytes_left: usize,
     failures: u64,
-    ghost place_in: { place ≤ vec_len bytes },
+    ghost put_in: { index ≤ vec_len bytes },
     ghost moves: { 0 < most },
 }
 
@@ -22,8 +21,8 @@ impl Limp {
     ghost use Rattle.byte_devices.specs.Device.{Rises};
     ghost use Rattle.byte_devices.specs.Views.{bytes_of, failures_of, limping_of, unread_of_limp, written_of_limp};
 
-    /// A device over these bytes that moves at most `most` of them in a call. It fails in each call after the first
-    /// `calls`, and where `limit` bytes have moved.
+    /// A device over these bytes that moves at most `most` of them in a call. It fails in each call after the first `calls`, and
+    /// once `limit` bytes have moved.
     pub fn new(bytes: Vec<u8>, most: usize, calls: u64, limit: usize) -> Self
         requires { 0 < most }
         ensures source { unread_of_limp result ≡ record { bytes = Some bytes.items; failures = 0; patience = calls } }
@@ -32,7 +31,7 @@ impl Limp {
     {
         Limp {
             bytes,
-            place: 0,
+            index: 0,
             most,
             calls_left: calls,
             bytes_left: limit,
@@ -40,7 +39,7 @@ impl Limp {
         }
     }
 
-    /// All the bytes, those that a source has given too.
+    /// All the bytes, including those that a source has given.
     pub fn bytes(&self) -> &[u8]
         ensures { result.now ≡ bytes_of self.now }
     {
@@ -57,7 +56,7 @@ impl Limp {
     // Counts a failure.
     fn fail(&mut self) -> Broken
         ensures bytes { self.new.bytes ≡ self.old.bytes }
-        ensures place { self.new.place ≡ self.old.place }
+        ensures index { self.new.index ≡ self.old.index }
         ensures limping { limping_of self.new ≡ limping_of self.old }
         ensures failures { Rises self.old.failures self.new.failures }
     {
@@ -86,14 +85,14 @@ impl Source for Limp {
         if self.calls_left == 0 || self.bytes_left == 0 {
             return Err(self.fail());
         }
-        let rest = &self.bytes[self.place..];
+        let rest = &self.bytes[self.index..];
         let count = rest
             .len()
             .min(piece.len())
             .min(self.most)
             .min(self.bytes_left);
         piece[..count].copy_from_slice(&rest[..count]);
-        self.place += count;
+        self.index += count;
         self.bytes_left -= count;
         self.calls_left -= 1;
         Ok(count)
@@ -106,7 +105,7 @@ impl Sink for Limp {
 
     ghost written = { written_of_limp };
 
-    // It fails also where the bytes find no memory.
+    // It also fails if memory runs out for the bytes.
     fn put(&mut self, piece: &[u8]) -> Result<usize, Broken>
         ensures count { IfOk result (λ n. n ≤ length piece.now) }
         ensures moves { 0 < length piece.now → IfOk result (λ n. 0 < n) }

@@ -1,4 +1,4 @@
-//! A sink, and the bytes that wait before it.
+//! A sink, and the bytes that are buffered before it.
 ghost use Rattle.std.specs.Prelude.{◌≡◌, [], OnOk};
 ghost use Rattle.std.specs.List.{flat_map};
 ghost use Rattle.byte_devices.specs.Device.{Prints};
@@ -7,13 +7,13 @@ ghost use Rattle.byte_devices.specs.Outs.{SameSink, Sends};
 use crate::device::{Sink, WriteFault, put_all};
 use crate::held::Held;
 
-/// A sink, and the bytes that wait before they are put to it, so that many short texts cost one call. What waits is lost where it
-/// isn't [flushed](Out::flush).
+/// A sink, and the bytes that are buffered before they are put to it, so that many short texts cost one call. What is buffered is
+/// lost if it isn't [flushed](Out::flush).
 #[derive(Drop)]
 pub struct Out<'w, W: Sink> {
     /// The sink.
     pub sink: &'w mut W,
-    /// The bytes that wait.
+    /// The buffered bytes.
     pub held: Held,
 }
 
@@ -30,7 +30,7 @@ impl<'w, W: Sink> Out<'w, W> {
         }
     }
 
-    /// Puts what waits.
+    /// Puts what is buffered.
     pub fn flush(&mut self) -> Result<(), WriteFault>
         ensures prints { Prints (W.written self.old.sink.now) (W.written self.new.sink.now) result self.old.held.items }
         ensures same { SameSink self.old self.new }
@@ -41,7 +41,7 @@ impl<'w, W: Sink> Out<'w, W> {
         Ok(())
     }
 
-    /// Sends these bytes: they wait, and what there is no room for is put to the sink.
+    /// Sends these bytes: they are buffered, and what there is no space for is put to the sink.
     #[inline(always)]
     pub fn send(&mut self, bytes: &[u8]) -> Result<(), WriteFault>
         ensures { Sends W.written self.old self.new result bytes.now }
@@ -49,11 +49,11 @@ impl<'w, W: Sink> Out<'w, W> {
         if self.held.try_push(bytes) {
             return Ok(());
         }
-        self.make_room(bytes)
+        self.make_space(bytes)
     }
 
-    // Puts what waits, and then sends these bytes, which are put too where there is no room for them at all.
-    fn make_room(&mut self, bytes: &[u8]) -> Result<(), WriteFault>
+    // Puts what is buffered, and then sends these bytes, which are put too if there is no space for them at all.
+    fn make_space(&mut self, bytes: &[u8]) -> Result<(), WriteFault>
         ensures { Sends W.written self.old self.new result bytes.now }
     {
         self.flush()?;

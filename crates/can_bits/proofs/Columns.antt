@@ -3,7 +3,7 @@ use Rattle.std.proofs.Common.{◌≡◌, ℕ, ◌+◌, ◌<◌, List, [], ◌∷
 use Rattle.std.proofs.lemmas.Fmt.{decimal_digit}
 use Rattle.can_bits.specs.Grids.{right}
 
-pub digit_column : (old new : List ℕ) (place : ℕ) → new ≡ old ++ (32 ∷ 32 ∷ 32 ∷ (48 + place) ∷ []) → place < 10
-    → new ≡ old ++ right (decimal place)
+pub digit_column : (old new : List ℕ) (index : ℕ) → new ≡ old ++ (32 ∷ 32 ∷ 32 ∷ (48 + index) ∷ []) → index < 10
+    → new ≡ old ++ right (decimal index)
 unfolding right
-digit_column old new place pushed small = rw (decimal_digit place small) pushed
+digit_column old new index pushed small = rw (decimal_digit index small) pushed

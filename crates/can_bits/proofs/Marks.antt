@@ -8,10 +8,10 @@ use Rattle.std.proofs.lemmas.List.FromFn.{length-enumerate_from, get_or-enumerat
 use Rattle.can_bits.specs.declared.field.Field.{Field}
 use Rattle.can_bits.specs.declared.cell.Cell.{Cell}
 use Rattle.can_bits.specs.Bits.{has_position}
-use Rattle.can_bits.specs.Grids.{places_at, cell_text, right, bits_down, byte_line}
-use Rattle.can_bits.specs.Cells.{marked, marked_if, shown, cell_of, places_among, cell_at, cells_text, cells_line, IsTable}
+use Rattle.can_bits.specs.Grids.{indexes_at, cell_text, right, bits_down, byte_line}
+use Rattle.can_bits.specs.Cells.{marked, marked_if, shown, cell_of, indexes_among, cell_at, cells_text, cells_line, IsTable}
 
--- one more element, with its place
+-- one more element, with its index
 pub more_placed : {X : Type 0} (xs : List X) (i : ℕ) (d : X) → i < length xs → take (i + 1) (enumerate_from 0 xs)
     ≡ take i (enumerate_from 0 xs) ++ (i, get_or xs i d) ∷ []
 more_placed xs i d within =
@@ -21,51 +21,51 @@ more_placed xs i d within =
     ∙ ap (λ p. take i (enumerate_from 0 xs) ++ p ∷ []) (get_or-enumerate_from 0 xs i (0, d) within
     ∙ ap (λ (k : ℕ). (k, get_or xs i d)) here)
 
-one_more_place : (places : List ℕ) (place : ℕ) → cell_of (places ++ place ∷ []) ≡ marked (cell_of places) place
-one_more_place [] place = refl
-one_more_place (first ∷ []) place = refl
-one_more_place (first ∷ second ∷ others) place = refl
+one_more_place : (indexes : List ℕ) (index : ℕ) → cell_of (indexes ++ index ∷ []) ≡ marked (cell_of indexes) index
+one_more_place [] index = refl
+one_more_place (first ∷ []) index = refl
+one_more_place (first ∷ second ∷ others) index = refl
 
-more_places : (placed : List (ℕ × Field)) (place : ℕ) (field : Field) (position : ℕ)
-    → places_among (placed ++ (place, field) ∷ []) position ≡ places_among placed position
-    ++ (if has_position field position then place ∷ [] else [])
-more_places placed place field position =
+more_indexes : (placed : List (ℕ × Field)) (index : ℕ) (field : Field) (position : ℕ)
+    → indexes_among (placed ++ (index, field) ∷ []) position ≡ indexes_among placed position
+    ++ (if has_position field position then index ∷ [] else [])
+more_indexes placed index field position =
     let has : ℕ × Field → Bool = λ one. has_position one.1 position in
-    let last : map (λ (one : ℕ × Field). one.0) (filter has ((place, field) ∷ [])) ≡ (if has_position field position then place
+    let last : map (λ (one : ℕ × Field). one.0) (filter has ((index, field) ∷ [])) ≡ (if has_position field position then index
     ∷ [] else []) =
     elim (has_position field position) as (λ b. has_position field position ≡ b
-    → map (λ (one : ℕ × Field). one.0) (filter has ((place, field) ∷ [])) ≡ (if b then place ∷ [] else [])) [
+    → map (λ (one : ℕ × Field). one.0) (filter has ((index, field) ∷ [])) ≡ (if b then index ∷ [] else [])) [
       | true ↦ λ is. rw is refl
       | false ↦ λ is. rw is refl
     ] refl in
-    ap (map (λ (one : ℕ × Field). one.0)) (filter-append has placed ((place, field) ∷ []))
-    ∙ map-append (λ (one : ℕ × Field). one.0) (filter has placed) (filter has ((place, field) ∷ []))
-    ∙ ap (λ (places : List ℕ). places_among placed position ++ places) last
+    ap (map (λ (one : ℕ × Field). one.0)) (filter-append has placed ((index, field) ∷ []))
+    ∙ map-append (λ (one : ℕ × Field). one.0) (filter has placed) (filter has ((index, field) ∷ []))
+    ∙ ap (λ (indexes : List ℕ). indexes_among placed position ++ indexes) last
 
-cell_once_more : (has : Bool) (places : List ℕ) (place : ℕ) → marked_if has (cell_of places) place
-    ≡ cell_of (places ++ (if has then place ∷ [] else []))
-cell_once_more true places place = sym (one_more_place places place)
-cell_once_more false places place = ap cell_of (sym (append-nil places))
+cell_once_more : (has : Bool) (indexes : List ℕ) (index : ℕ) → marked_if has (cell_of indexes) index
+    ≡ cell_of (indexes ++ (if has then index ∷ [] else []))
+cell_once_more true indexes index = sym (one_more_place indexes index)
+cell_once_more false indexes index = ap cell_of (sym (append-nil indexes))
 
-pub marked_table : (size : ℕ) (placed : List (ℕ × Field)) (place : ℕ) (field : Field) (cells after : List Cell)
+pub marked_table : (size : ℕ) (placed : List (ℕ × Field)) (index : ℕ) (field : Field) (cells after : List Cell)
     → IsTable size placed cells → length after ≡ 8 * size
     → ((position : ℕ) → position < 8 * size → cell_at after position ≡ marked_if (has_position field position)
-    (cell_at cells position) place) → IsTable size (placed ++ (place, field) ∷ []) after
-marked_table size placed place field cells after is count marks = record {
+    (cell_at cells position) index) → IsTable size (placed ++ (index, field) ∷ []) after
+marked_table size placed index field cells after is count marks = record {
   count = count;
   each = λ position within.
       marks position within
-      ∙ ap (λ (cell : Cell). marked_if (has_position field position) cell place) (is.each position within)
-      ∙ cell_once_more (has_position field position) (places_among placed position) place
-      ∙ ap cell_of (sym (more_places placed place field position));
+      ∙ ap (λ (cell : Cell). marked_if (has_position field position) cell index) (is.each position within)
+      ∙ cell_once_more (has_position field position) (indexes_among placed position) index
+      ∙ ap cell_of (sym (more_indexes placed index field position));
 }
 
 -- ---- the text
 
-shown_places : (places : List ℕ) → shown (cell_of places) ≡ cell_text places
-shown_places [] = refl
-shown_places (place ∷ []) = refl
-shown_places (place ∷ further ∷ others) = refl
+shown_indexes : (indexes : List ℕ) → shown (cell_of indexes) ≡ cell_text indexes
+shown_indexes [] = refl
+shown_indexes (index ∷ []) = refl
+shown_indexes (index ∷ further ∷ others) = refl
 
 both_after : (x y s t : List ℕ) → x ≡ y → s ≡ t → x ++ s ≡ y ++ t
 both_after x y s t same rest = ap (λ (k : List ℕ). k ++ s) same ∙ ap (λ (k : List ℕ). y ++ k) rest
@@ -83,13 +83,13 @@ each_bit f g same =
 
 pub same_line : (size : ℕ) (fields : List Field) (cells : List Cell) (byte : ℕ) → IsTable size (enumerate_from 0 fields) cells
     → byte < size → cells_line cells byte ≡ byte_line fields byte
-unfolding cells_line byte_line places_at
+unfolding cells_line byte_line indexes_at
 same_line size fields cells byte is within =
-    let bits : cells_text cells byte ≡ flat_map (λ bit. right (cell_text (places_at fields (8 * byte + bit)))) bits_down =
+    let bits : cells_text cells byte ≡ flat_map (λ bit. right (cell_text (indexes_at fields (8 * byte + bit)))) bits_down =
     each_bit _ _ (λ bit small.
     let inside : 8 * byte + bit < 8 * size = omega (arith, within, small) in
     ap right (ap shown (is.each (8 * byte + bit) inside)
-    ∙ shown_places (places_among (enumerate_from 0 fields) (8 * byte + bit)))) in
+    ∙ shown_indexes (indexes_among (enumerate_from 0 fields) (8 * byte + bit)))) in
     ap (λ (text : List ℕ). right (decimal byte) ++ (codes ":" ++ (text ++ codes "\n"))) bits
 
 -- one more item's text after those of the items so far

@@ -44,7 +44,7 @@ moved_down n low run weight down =
     ∙ sym (mul_assoc (n / 2 ^ low % 2 ^ run) (2 ^ weight) (2 ^ (low - weight))) in
     ap (λ (k : ℕ). k / 2 ^ (low - weight)) whole ∙ shl-shr (n / 2 ^ low % 2 ^ run * 2 ^ weight) (low - weight)
 
--- a left shift loses no bit where the top one is within 64
+-- a left shift loses no bit if the top one is within 64
 pub mask_stays : (low run weight : ℕ) → low ≤ weight → weight + run ≤ 64 → 0 < run
     → (2 ^ (run + low) - 2 ^ low) * 2 ^ (weight - low) < 2 ^ 64
 mask_stays low run weight up top some =
@@ -60,9 +60,9 @@ mask_stays low run weight up top some =
 
 -- nor does it lose one of the bits under the mask
 pub fewer_stay : (shift : Shift) (n mask : ℕ) → StaysInWord shift mask → StaysInWord shift (bit_and n mask)
-fewer_stay (Up places) n mask stays = (
+fewer_stay (Up indexes) n mask stays = (
   stays.0,
-  let less : bit_and n mask * 2 ^ places ≤ mask * 2 ^ places = mul-le-mul_right
-      (2 ^ places) (and_le_r n mask) in omega (arith, stays.1),
+  let less : bit_and n mask * 2 ^ indexes ≤ mask * 2 ^ indexes = mul-le-mul_right
+      (2 ^ indexes) (and_le_r n mask) in omega (arith, stays.1),
 )
-fewer_stay (Down places) n mask stays = stays
+fewer_stay (Down indexes) n mask stays = stays

@@ -1,4 +1,4 @@
--- The bit of the greatest weight is 1 exactly where the sum is at least that weight, since the others add up to less.
+-- The most significant bit is 1 exactly when the sum is at least its weight, since the others add up to less.
 use Rattle.std.proofs.Common.{◌≡◌, ℕ, zero, suc, ◌+◌, ◌-◌, ◌*◌, ◌^◌, ◌<◌, ◌≤◌, ◌==◌, ◌&&◌, ◌||◌, nat_le, Bool, true, false, List}
 use Rattle.std.proofs.Common.{[], ◌∷◌, map, length, refl, sym, ap, subst, ◌∙◌, add-one, arith}
 use Rattle.std.specs.List.{list_any, range_with_len, sum_by}
@@ -9,6 +9,7 @@ use Rattle.std.proofs.Math.Nat.{pow-le-pow_right, one-le-pow}
 use Rattle.std.proofs.lemmas.List.Folds.{list_any-append}
 use Rattle.std.proofs.lemmas.List.Sums.{sum_by-cons}
 use Rattle.std.proofs.lemmas.List.FromFn.{length-map-range_with_len, map-range_with_len_more, sum_by-map-range_with_len_more}
+use Rattle.dbc_records.specs.Records.{is_intel}
 use Rattle.can_bits.specs.declared.field.Field.{Field}
 use Rattle.can_bits.specs.Bits.{Bit, bit_at, bits_from, bit_of, counted, unsigned_raw, is_negative}
 use Rattle.can_bits.proofs.Runs.{bit_counts, rising_below, falling_below}
@@ -26,31 +27,31 @@ other_weight weight j m is less =
 same_weight : (weight top : ℕ) → weight ≡ top → (weight == top) ≡ true
 same_weight weight top is = grind arith
 
-top_tells : (others top b : ℕ) → others < top → b < 2 → (b == 1) ≡ nat_le top (others + top * b)
-top_tells others top zero below small = sym (lt-leb top (others + top * 0) (omega arith))
-top_tells others top (suc zero) below small = sym (le-leb top (others + top * 1) (omega arith))
-top_tells others top (suc (suc b)) below small = absurd (omega (arith, small))
+top_decides : (others top b : ℕ) → others < top → b < 2 → (b == 1) ≡ nat_le top (others + top * b)
+top_decides others top zero below small = sym (lt-leb top (others + top * 0) (omega arith))
+top_decides others top (suc zero) below small = sym (le-leb top (others + top * 1) (omega arith))
+top_decides others top (suc (suc b)) below small = absurd (omega (arith, small))
 
 module _ (bytes : List ℕ) (at : ℕ → Bit) (top : ℕ) where
   -- the bit has the top weight, and is 1
   abbrev pub is_top : Bit → Bool
   is_top bit = bit.weight == top && bit_of bytes bit.position == 1
 
-  none_top : (place n : ℕ) → ((j : ℕ) → j < n → ((at (place + j)).weight == top) ≡ false)
-      → list_any is_top (map at (range_with_len place n)) ≡ false
-  none_top place zero each = refl
-  none_top place (suc n) each =
-      let here : place + 0 ≡ place = omega arith in
-      let first : ((at place).weight == top) ≡ false = rw here at (each 0 (omega arith)) in
-      let rest : list_any is_top (map at (range_with_len (place + 1) n)) ≡ false =
-      none_top (place + 1) n (λ j h. let later : place + 1 + j ≡ place + (1 + j) = omega arith in
+  none_top : (index n : ℕ) → ((j : ℕ) → j < n → ((at (index + j)).weight == top) ≡ false)
+      → list_any is_top (map at (range_with_len index n)) ≡ false
+  none_top index zero each = refl
+  none_top index (suc n) each =
+      let here : index + 0 ≡ index = omega arith in
+      let first : ((at index).weight == top) ≡ false = rw here at (each 0 (omega arith)) in
+      let rest : list_any is_top (map at (range_with_len (index + 1) n)) ≡ false =
+      none_top (index + 1) n (λ j h. let later : index + 1 + j ≡ index + (1 + j) = omega arith in
       rw later (each (1 + j) (omega arith))) in
       rw (first, rest) refl
 
-  the_top : (place : ℕ) → (at place).weight ≡ top → is_top (at place) ≡ (bit_of bytes (at place).position == 1)
-  the_top place is = rw (same_weight (at place).weight top is) refl
+  the_top : (index : ℕ) → (at index).weight ≡ top → is_top (at index) ≡ (bit_of bytes (at index).position == 1)
+  the_top index is = rw (same_weight (at index).weight top is) refl
 
--- weights that grow with the place
+-- weights that grow with the index
 rising_sign : (bytes : List ℕ) (at : ℕ → Bit) (m : ℕ) → ((j : ℕ) → j < m + 1 → (at j).weight ≡ 2 ^ j)
     → list_any (is_top bytes at (2 ^ m)) (map at (range_with_len 0 (m + 1)))
     ≡ nat_le (2 ^ m) (sum_by (counted bytes) (map at (range_with_len 0 (m + 1))))
@@ -72,11 +73,11 @@ rising_sign bytes at m weighs =
     ∙ ap (λ (t : Bool). t || (test (at m) || false)) none
     ∙ or-false (test (at m))
     ∙ the_top bytes at (2 ^ m) m (weighs m (omega arith))
-    ∙ top_tells others (2 ^ m) b less (omega arith)
+    ∙ top_decides others (2 ^ m) b less (omega arith)
     ∙ ap (λ (k : ℕ). nat_le (2 ^ m) (others + k)) (sym last)
     ∙ ap (nat_le (2 ^ m)) (sym (sum_by-map-range_with_len_more (counted bytes) at 0 m m end))
 
--- weights that fall with the place
+-- weights that fall with the index
 falling_sign : (bytes : List ℕ) (at : ℕ → Bit) (m : ℕ) → ((j k : ℕ) → j + k ≡ m → (at j).weight ≡ 2 ^ k)
     → list_any (is_top bytes at (2 ^ m)) (map at (range_with_len 0 (suc m)))
     ≡ nat_le (2 ^ m) (sum_by (counted bytes) (map at (range_with_len 0 (suc m))))
@@ -94,7 +95,7 @@ falling_sign bytes at m weighs =
     ap (λ (t : Bool). test (at 0) || t) none
     ∙ or-false (test (at 0))
     ∙ the_top bytes at (2 ^ m) 0 (weighs 0 m (omega arith))
-    ∙ top_tells others (2 ^ m) b less (omega arith)
+    ∙ top_decides others (2 ^ m) b less (omega arith)
     ∙ ap (nat_le (2 ^ m)) (turned ∙ ap (λ (k : ℕ). k + others) (sym first)
     ∙ sym (sum_by-cons (counted bytes) (at 0) (map at (range_with_len 1 m))))
 
@@ -104,8 +105,9 @@ bit_count field = length-map-range_with_len (bit_at field) 0 field.length
 sign_of : (bytes : List ℕ) (field : Field) (m : ℕ) → field.length ≡ m + 1
     → list_any (is_top bytes (bit_at field) (2 ^ m)) (bits_from field 0 (m + 1))
     ≡ nat_le (2 ^ m) (unsigned_raw bytes (bits_from field 0 (m + 1)))
-sign_of bytes field m long = elim field.intel as (λ intel. field.intel ≡ intel → list_any (is_top bytes (bit_at field) (2 ^ m))
-    (bits_from field 0 (m + 1)) ≡ nat_le (2 ^ m) (unsigned_raw bytes (bits_from field 0 (m + 1)))) [
+sign_of bytes field m long = elim (is_intel field.order) as (λ intel. is_intel field.order ≡ intel
+    → list_any (is_top bytes (bit_at field) (2 ^ m)) (bits_from field 0 (m + 1))
+    ≡ nat_le (2 ^ m) (unsigned_raw bytes (bits_from field 0 (m + 1)))) [
       | true ↦ λ intel. rising_sign bytes (bit_at field) m (λ j h. rw intel refl)
       | false ↦ λ motorola.
           subst (λ (n : ℕ). list_any (is_top bytes (bit_at field) (2 ^ m)) (bits_from field 0 n)

@@ -1,7 +1,10 @@
--- How a table of cells changes where fields are marked.
+-- How a table of cells changes when fields are marked.
 use Rattle.std.proofs.Common.{◌≡◌, ℕ, zero, suc, ◌+◌, ◌*◌, ◌<◌, ◌≤◌, ◌==◌, ◌&&◌, ◌||◌, nat_le, nat_lt, min, Bool, true, false}
 use Rattle.std.proofs.Common.{if◌then◌else◌, sym, ap, ◌∙◌, arith}
 use Rattle.std.specs.List.{list_any, range_with_len}
+use Rattle.dbc_records.specs.declared.byte_order.ByteOrder.{ByteOrder}
+use Rattle.dbc_records.specs.declared.byte_order.ByteOrder.TheVariants as orders
+use Rattle.dbc_records.specs.Records.{is_intel}
 use Rattle.can_bits.specs.declared.field.Field.{Field}
 use Rattle.can_bits.specs.Bits.{mirrored, position_of, has_position}
 use Rattle.can_bits.specs.Steps.{passed_at}
@@ -34,43 +37,44 @@ same_test : (a b c d : ℕ) → (a ≡ b → c ≡ d) → (c ≡ d → a ≡ b) 
 same_test a b c d on back = grind arith
 
 -- a run of numbers, found one by one
-any_run : (test : ℕ → Bool) (first n : ℕ) → ((place : ℕ) → test place ≡ (first + place == n)) → (place count : ℕ)
-    → list_any test (range_with_len place count) ≡ covers (first + place) (first + place + count) n
-any_run test first n each place zero =
-    let none : first + place + 0 ≡ first + place = omega arith in
-    rw none (sym (covers_none (first + place) n))
-any_run test first n each place (suc count) =
-    let next : first + (place + 1) ≡ first + place + 1 = omega arith in
-    let end : first + place + 1 + count ≡ first + place + suc count = omega arith in
-    let later : list_any test (range_with_len (place + 1) count) ≡ covers (first + place + 1) (first + place + suc count) n =
-    any_run test first n each (place + 1) count ∙ ap (λ (k : ℕ). covers k (k + count) n) next
-    ∙ ap (λ (k : ℕ). covers (first + place + 1) k n) end in
-    rw (each place, later) (covers_first (first + place) (first + place + suc count) n (omega arith))
+any_run : (test : ℕ → Bool) (first n : ℕ) → ((index : ℕ) → test index ≡ (first + index == n)) → (index count : ℕ)
+    → list_any test (range_with_len index count) ≡ covers (first + index) (first + index + count) n
+any_run test first n each index zero =
+    let none : first + index + 0 ≡ first + index = omega arith in
+    rw none (sym (covers_none (first + index) n))
+any_run test first n each index (suc count) =
+    let next : first + (index + 1) ≡ first + index + 1 = omega arith in
+    let end : first + index + 1 + count ≡ first + index + suc count = omega arith in
+    let later : list_any test (range_with_len (index + 1) count) ≡ covers (first + index + 1) (first + index + suc count) n =
+    any_run test first n each (index + 1) count ∙ ap (λ (k : ℕ). covers k (k + count) n) next
+    ∙ ap (λ (k : ℕ). covers (first + index + 1) k n) end in
+    rw (each index, later) (covers_first (first + index) (first + index + suc count) n (omega arith))
 
 mirrored_twice : (n : ℕ) → mirrored (mirrored n) ≡ n
 mirrored_twice n = omega arith
 
-same_place : (intel : Bool) (start place position : ℕ) → ((if intel then start + place else mirrored (mirrored start + place)) ==
-    position) ≡ ((if intel then start + 0 else mirrored start + 0) + place == numbered intel position)
-same_place true start place position = same_test (start + place) position (start + 0 + place) position (λ h. omega (arith, h))
-    (λ h. omega (arith, h))
-same_place false start place position =
-    same_test (mirrored (mirrored start + place)) position (mirrored start + 0 + place) (mirrored position)
-    (λ h. let back : mirrored (mirrored (mirrored start + place)) ≡ mirrored position = ap mirrored h in
-    let none : mirrored start + 0 + place ≡ mirrored start + place = omega arith in none
-    ∙ sym (mirrored_twice (mirrored start + place)) ∙ back)
-    (λ h. let none : mirrored start + place ≡ mirrored start + 0 + place = omega arith in ap mirrored none ∙ ap mirrored h
+same_index : (order : ByteOrder) (start index position : ℕ)
+    → ((if is_intel order then start + index else mirrored (mirrored start + index)) == position)
+    ≡ ((if is_intel order then start + 0 else mirrored start + 0) + index == numbered order position)
+same_index orders.Intel start index position =
+    same_test (start + index) position (start + 0 + index) position (λ h. omega (arith, h)) (λ h. omega (arith, h))
+same_index orders.Motorola start index position =
+    same_test (mirrored (mirrored start + index)) position (mirrored start + 0 + index) (mirrored position)
+    (λ h. let back : mirrored (mirrored (mirrored start + index)) ≡ mirrored position = ap mirrored h in
+    let none : mirrored start + 0 + index ≡ mirrored start + index = omega arith in none
+    ∙ sym (mirrored_twice (mirrored start + index)) ∙ back)
+    (λ h. let none : mirrored start + index ≡ mirrored start + 0 + index = omega arith in ap mirrored none ∙ ap mirrored h
     ∙ mirrored_twice position)
 
--- a field has the position exactly where its number is one of a run
+-- a field has the position exactly when its number is one of a run
 pub has_position_is : (field : Field) (position : ℕ) → has_position field position ≡ covers (passed_at field 0)
-    (passed_at field 0 + field.length) (numbered field.intel position)
+    (passed_at field 0 + field.length) (numbered field.order position)
 has_position_is field position =
     let none : passed_at field 0 + 0 ≡ passed_at field 0 = omega arith in
-    any_run (λ place. position_of field place == position) (passed_at field 0) (numbered field.intel position)
-    (λ place. same_place field.intel field.start place position) 0 field.length
-    ∙ ap (λ (k : ℕ). covers k (k + field.length) (numbered field.intel position)) none
+    any_run (λ index. position_of field index == position) (passed_at field 0) (numbered field.order position)
+    (λ index. same_index field.order field.start index position) 0 field.length
+    ∙ ap (λ (k : ℕ). covers k (k + field.length) (numbered field.order position)) none
 
-pub numbered_within : (intel : Bool) (position size : ℕ) → position < 8 * size → numbered intel position < 8 * size
-numbered_within true position size within = within
-numbered_within false position size within = omega (arith, within)
+pub numbered_within : (order : ByteOrder) (position size : ℕ) → position < 8 * size → numbered order position < 8 * size
+numbered_within orders.Intel position size within = within
+numbered_within orders.Motorola position size within = omega (arith, within)

@@ -1,13 +1,14 @@
 -- The bits of eight bytes, as those of one word.
 use Rattle.std.proofs.Common.{rules, ◌⊎◌, ◌≡◌, ℕ, zero, suc, ◌+◌, ◌-◌, ◌*◌, ◌/◌, ◌%◌, ◌^◌, ◌<◌, ◌≤◌, List, length, take}
-use Rattle.std.proofs.Common.{slice_index, bit_and, Bool, true, false, inl, inr, refl, sym, ap, ◌∙◌, arith}
+use Rattle.std.proofs.Common.{slice_index, bit_and, Bool, true, false, if◌then◌else◌, inl, inr, refl, sym, ap, ◌∙◌, arith}
 use Rattle.std.specs.Int.{w64, to_le_bytes, to_be_bytes, from_le_bytes, from_be_bytes}
 use Rattle.std.proofs.lemmas.Nat.{shr-shr, and_mask, le_bytes_8, be_bytes_8}
 use Rattle.std.proofs.lemmas.Bool.{cases_lt}
 use Rattle.std.proofs.lemmas.List.{get_or-take, get_or_past}
+use Rattle.dbc_records.specs.Records.{is_intel}
 use Rattle.can_bits.specs.declared.field.Field.{Field}
 use Rattle.can_bits.specs.Bits.{mirrored, bit_of, bit_at, bits_of, counted, unsigned_raw}
-use Rattle.can_bits.specs.Windows.{word_of, bits_in}
+use Rattle.can_bits.specs.Windows.{bits_in}
 use Rattle.can_bits.proofs.Runs.{rising, falling}
 
 -- ---- bytes of a word
@@ -92,7 +93,7 @@ module _ (bytes : List ℕ) (small : (i : ℕ) → slice_index bytes i < 256) (e
   masked word shift length = and_mask (word / 2 ^ shift) length
       ∙ (let one : word / 2 ^ shift % 2 ^ length ≡ word / 2 ^ shift % 2 ^ length * 2 ^ 0 = omega arith in one)
 
-  intel_window : (field : Field) → field.intel ≡ true → field.start + field.length ≤ 64
+  intel_window : (field : Field) → is_intel field.order ≡ true → field.start + field.length ≤ 64
       → bit_and (from_le_bytes w64 (take 8 bytes) / 2 ^ field.start) (2 ^ field.length - 1) ≡ unsigned_raw bytes (bits_of field)
   unfolding bits_of
   intel_window field intel within =
@@ -103,7 +104,7 @@ module _ (bytes : List ℕ) (small : (i : ℕ) → slice_index bytes i < 256) (e
       ∙ intel_bit (field.start + j) (omega arith) in
       rw (intel, bit) refl))
 
-  motorola_window : (field : Field) → field.intel ≡ false → mirrored field.start + field.length ≤ 64
+  motorola_window : (field : Field) → is_intel field.order ≡ false → mirrored field.start + field.length ≤ 64
       → bit_and (from_be_bytes w64 (take 8 bytes) / 2 ^ (64 - (mirrored field.start + field.length))) (2 ^ field.length - 1)
       ≡ unsigned_raw bytes (bits_of field)
   unfolding bits_of
@@ -119,18 +120,21 @@ module _ (bytes : List ℕ) (small : (i : ℕ) → slice_index bytes i < 256) (e
       let weighs : field.length - 1 - (0 + j) ≡ 0 + k = omega arith in
       rw (motorola, bit, weighs) refl))
 
+  abbrev ordered : Bool → ℕ
+  ordered intel = if intel then from_le_bytes w64 (take 8 bytes) else from_be_bytes w64 (take 8 bytes)
+
   pub in_window : (field : Field) (shift mask : ℕ) → mask ≡ 2 ^ field.length - 1
-      → ((field.intel ≡ true) × (shift ≡ field.start) × (field.start + field.length ≤ 64))
-      ⊎ ((field.intel ≡ false) × (shift ≡ 64 - (mirrored field.start + field.length))
+      → ((is_intel field.order ≡ true) × (shift ≡ field.start) × (field.start + field.length ≤ 64))
+      ⊎ ((is_intel field.order ≡ false) × (shift ≡ 64 - (mirrored field.start + field.length))
       × (mirrored field.start + field.length ≤ 64))
-      → bits_in (take 8 bytes) (record { intel = field.intel; shift = shift; mask = mask }) ≡ unsigned_raw bytes (bits_of field)
+      → bits_in (take 8 bytes) (record { order = field.order; shift = shift; mask = mask }) ≡ unsigned_raw bytes (bits_of field)
   in_window field shift mask ones (inl (intel, at, within)) =
-      ap (λ (b : Bool). bit_and (word_of b (take 8 bytes) / 2 ^ shift) mask) intel
+      ap (λ (b : Bool). bit_and (ordered b / 2 ^ shift) mask) intel
       ∙ ap (λ (k : ℕ). bit_and (from_le_bytes w64 (take 8 bytes) / 2 ^ k) mask) at
       ∙ ap (bit_and (from_le_bytes w64 (take 8 bytes) / 2 ^ field.start)) ones
       ∙ intel_window field intel within
   in_window field shift mask ones (inr (motorola, at, within)) =
-      ap (λ (b : Bool). bit_and (word_of b (take 8 bytes) / 2 ^ shift) mask) motorola
+      ap (λ (b : Bool). bit_and (ordered b / 2 ^ shift) mask) motorola
       ∙ ap (λ (k : ℕ). bit_and (from_be_bytes w64 (take 8 bytes) / 2 ^ k) mask) at
       ∙ ap (bit_and (from_be_bytes w64 (take 8 bytes) / 2 ^ (64 - (mirrored field.start + field.length)))) ones
       ∙ motorola_window field motorola within

@@ -2,47 +2,49 @@
 use Rattle.std.specs.Prelude.{◌≡◌, ℕ, ◌+◌, ◌*◌, ◌<◌, Bool, List, [], ◌∷◌, ◌++◌, length, map, filter, slice_index_or, codes, decimal}
 use Rattle.std.specs.Prelude.{if◌then◌else◌}
 use Rattle.std.specs.List.{flat_map}
+use Rattle.dbc_records.specs.declared.byte_order.ByteOrder.{ByteOrder}
+use Rattle.dbc_records.specs.Records.{is_intel}
 use Rattle.can_bits.specs.declared.cell.Cell.{Cell}
 use Rattle.can_bits.specs.declared.cell.Cell.TheVariants.{Free, One, Several}
 use Rattle.can_bits.specs.declared.field.Field.{Field}
 use Rattle.can_bits.specs.Bits.{mirrored, has_position}
 use Rattle.can_bits.specs.Grids.{right, bits_down}
 
--- the bit before which so many others stand, in Intel order or in Motorola order
-abbrev pub numbered : Bool → ℕ → ℕ
-numbered intel passed = if intel then passed else mirrored passed
+-- the bit that comes after this many others in a byte order
+abbrev pub numbered : ByteOrder → ℕ → ℕ
+numbered order passed = if is_intel order then passed else mirrored passed
 
 -- a cell, once another field has it too
 abbrev pub marked : Cell → ℕ → Cell
-marked Free place = One place
-marked (One other) place = Several
-marked Several place = Several
+marked Free index = One index
+marked (One other) index = Several
+marked Several index = Several
 
 abbrev pub marked_if : Bool → Cell → ℕ → Cell
-marked_if has cell place = if has then marked cell place else cell
+marked_if has cell index = if has then marked cell index else cell
 
 abbrev pub shown : Cell → List ℕ
 shown Free = codes "."
-shown (One place) = decimal place
+shown (One index) = decimal index
 shown Several = codes "*"
 
--- the cell of a bit that the fields at these places have
+-- the cell of a bit that the fields at these indexes have
 abbrev pub cell_of : List ℕ → Cell
 cell_of [] = Free
-cell_of (place ∷ []) = One place
-cell_of (place ∷ further) = Several
+cell_of (index ∷ []) = One index
+cell_of (index ∷ further) = Several
 
--- the places, among fields with their places, of those that have a bit at the position
-abbrev pub places_among : List (ℕ × Field) → ℕ → List ℕ
-places_among placed position = map (λ one. one.0) (filter (λ one. has_position one.1 position) placed)
+-- the indexes, among fields with their indexes, of those that have a bit at the position
+abbrev pub indexes_among : List (ℕ × Field) → ℕ → List ℕ
+indexes_among placed position = map (λ one. one.0) (filter (λ one. has_position one.1 position) placed)
 
 abbrev pub cell_at : List Cell → ℕ → Cell
 cell_at cells position = slice_index_or cells position Free
 
--- the table says of each bit which of the fields have it
+-- the table records for each bit which of the fields have it
 pub record IsTable (size : ℕ) (placed : List (ℕ × Field)) (cells : List Cell) : Type 0 where
   pub count : length cells ≡ 8 * size
-  pub each : (position : ℕ) → position < 8 * size → cell_at cells position ≡ cell_of (places_among placed position)
+  pub each : (position : ℕ) → position < 8 * size → cell_at cells position ≡ cell_of (indexes_among placed position)
 
 -- the cells of a byte
 abbrev pub cells_text : List Cell → ℕ → List ℕ

@@ -9,12 +9,12 @@ use crate::table::Table;
 use dbc_values::Memory;
 use itoa::Buffer;
 
-// Shorter words are filled up to this width on the left.
+// Shorter words are padded to this many columns on the left.
 const COLUMNS: usize = 4;
 
 const BITS_DOWN: [u8; 8] = [7, 6, 5, 4, 3, 2, 1, 0];
 
-/// Appends a word to the right of four columns, or as it is where it is longer.
+/// Appends a word, right-aligned to four columns, or as it is if it is longer.
 #[tactic(auto, unfolding(crate::specs::Grids::right))]
 pub fn push_right(text: &mut Vec<u8>, word: &[u8]) -> Result<(), Memory>
     ensures { OnOk result (text.new.items ≡ text.old.items ++ right word.now) }
@@ -35,12 +35,12 @@ fn push_column(text: &mut Vec<u8>, column: [u8; 4]) -> Result<(), Memory>
     Ok(())
 }
 
-// A cell with the place of any field.
-fn push_place(text: &mut Vec<u8>, place: usize) -> Result<(), Memory>
-    ensures { OnOk result (text.new.items ≡ text.old.items ++ right (decimal place)) }
+// A cell with the index of any field.
+fn push_index(text: &mut Vec<u8>, index: usize) -> Result<(), Memory>
+    ensures { OnOk result (text.new.items ≡ text.old.items ++ right (decimal index)) }
 {
     let mut number = Buffer::new();
-    push_right(text, number.format(place).as_bytes())
+    push_right(text, number.format(index).as_bytes())
 }
 
 // Most cells are free or have one of the first ten fields, and are a column that needs no counting of blanks.
@@ -50,10 +50,10 @@ fn push_cell(text: &mut Vec<u8>, cell: Cell) -> Result<(), Memory>
 {
     match cell {
         Cell::Free => push_column(text, *b"   ."),
-        Cell::One(place) if place < 10 => {
-            push_column(text, [b' ', b' ', b' ', b'0' + place as u8])
+        Cell::One(index) if index < 10 => {
+            push_column(text, [b' ', b' ', b' ', b'0' + index as u8])
         }
-        Cell::One(place) => push_place(text, place),
+        Cell::One(index) => push_index(text, index),
         Cell::Several => push_column(text, *b"   *"),
     }
 }
@@ -80,8 +80,8 @@ fn push_byte_line(text: &mut Vec<u8>, byte: u16, table: &Table) -> Result<(), Me
     Ok(())
 }
 
-/// Draws a message of `size` bytes with these fields: a line for each byte, its most significant bit on the left. A cell
-/// names the one field that has the bit by its place among the fields.
+/// Draws a message of `size` bytes with these fields: a line for each byte, its most significant bit on the left. A cell names the
+/// one field that has the bit by its index among the fields.
 pub fn push_grid(text: &mut Vec<u8>, size: u16, fields: &[Field]) -> Result<(), Memory>
     ensures { OnOk result (text.new.items ≡ text.old.items ++ grid_text size fields.now) }
 {

@@ -1,7 +1,7 @@
-//! Where the bits of signals lie in the data of a message, what they are there, and how they are drawn.
+//! Where the bits of signals are in the data of a message, what they mean there, and how they are drawn.
 //!
-//! A [`Field`] is a start bit, a length and a byte order. [`Steps`] finds its raw value a byte at a time; what that value is,
-//! `specs/Bits.antt` says bit by bit.
+//! A [`Field`] is a start bit, a length and a byte order. [`Steps`] finds its raw value a byte at a time; `specs/Bits.antt` defines
+//! that value bit by bit.
 #![tactic(auto)]
 
 mod cell;

@@ -1,14 +1,14 @@
-//! The bits of one byte that count for a signal, and where they count.
+//! The bits of one byte that count for a signal, and what they count.
 ghost use Rattle.std.specs.Prelude.{◌≡◌, ℕ, List, ◌+◌, ◌-◌, ◌*◌, ◌/◌, ◌%◌, ◌^◌, ◌<◌, ◌≤◌, slice_index};
 ghost use Rattle.can_bits.specs.declared.step.Shift.TheVariants.{Up};
 ghost use Rattle.can_bits.specs.Steps.{moved, part_of, StaysInWord, IsStep};
 
-/// How far, and which way, the bits of a byte move to their place in a raw value.
+/// How far, and in which direction, the bits of a byte move to their position in a raw value.
 #[derive(Clone, Copy, Debug, PartialEq, Eq)]
 pub enum Shift {
-    /// To the left, so many bits up.
+    /// To the left, this many bits up.
     Up(u8),
-    /// To the right, so many bits down.
+    /// To the right, this many bits down.
     Down(u8),
 }
 
@@ -18,8 +18,8 @@ impl Shift {
         ensures { result ≡ moved self bits }
     {
         match self {
-            Shift::Up(places) => bits << places,
-            Shift::Down(places) => bits >> places,
+            Shift::Up(indexes) => bits << indexes,
+            Shift::Down(indexes) => bits >> indexes,
         }
     }
 }
@@ -63,7 +63,7 @@ fn mask_of(low: u8, run: u8) -> u8
 }
 
 impl Step {
-    /// The step for the `run` bits of a byte from bit `low` up, the lowest of which is worth `2^weight`.
+    /// The step for the `run` bits of a byte from bit `low` up, the lowest of which has the weight `2^weight`.
     pub(crate) fn of_run(byte: u16, low: u8, run: u8, weight: u8) -> Step
         requires some { 0 < run }
         requires within { low + run ≤ 8 }

@@ -11,7 +11,7 @@ use std::alloc::Global;
 
 /// A cell for each bit of a message, in the order of their positions.
 #[derive(Drop)]
-pub struct Table {
+pub(crate) struct Table {
     size: u16,
     cells: Vec<Cell>,
     ghost covers_bytes: { vec_len cells ≡ 8 * size },
@@ -28,10 +28,10 @@ impl Table {
     }
 
     // Only the bits of the field that are in the message are looked at, each once.
-    fn mark(&mut self, place: usize, field: Field)
+    fn mark(&mut self, index: usize, field: Field)
         ensures size { self.new.size ≡ self.old.size }
         ensures each { (position : ℕ) → position < 8 * self.old.size → cell_at self.new.cells.items position
-            ≡ marked_if (has_position field position) (cell_at self.old.cells.items position) place }
+            ≡ marked_if (has_position field position) (cell_at self.old.cells.items position) index }
     {
         let start = field.passed(0);
         let size = self.size;
@@ -39,7 +39,7 @@ impl Table {
         for passed in start..end {
             let position = field.numbered(passed) as usize;
             let cell = self.cells[position];
-            self.cells[position] = cell.marked(place);
+            self.cells[position] = cell.marked(index);
         }
     }
 
@@ -48,13 +48,13 @@ impl Table {
         ensures { IfOk result (λ table. IsTable size (enumerate_from 0 fields.now) table.cells.items) }
     {
         let mut table = Table::new(alloc, size)?;
-        for (place, field) in fields.iter().enumerate() {
-            table.mark(place, *field);
+        for (index, field) in fields.iter().enumerate() {
+            table.mark(index, *field);
         }
         Ok(table)
     }
 
-    /// The cell at a position; after the message every cell is free.
+    /// The cell at a position; beyond the message every cell is free.
     pub(crate) fn at(&self, position: usize) -> Cell
         ensures { result ≡ cell_at self.now.cells.items position }
     {

@@ -1,8 +1,10 @@
-//! Steps and raw values of two signals, and a grid of two, by hand; and raw values of many fields beside plain sums of their bits.
+//! Steps and raw values of two signals, and a grid of two, by hand; and raw values of many fields compared with plain
+//! sums of their bits.
 use crate::field::Field;
 use crate::grid::push_grid;
 use crate::step::{Shift, Step};
 use crate::steps::Steps;
+use dbc_records::{ByteOrder, ValueType};
 use std::alloc::Global;
 use std::test::Fail;
 
@@ -11,7 +13,7 @@ fn ten_bits_in_motorola_order(rt: HostRuntime) -> Result<(), Fail> {
     let field = Field {
         start: 4,
         length: 10,
-        intel: false,
+        order: ByteOrder::Motorola,
     };
     let steps = Steps::of(rt.alloc(), field);
     let first = Step {
@@ -25,8 +27,8 @@ fn ten_bits_in_motorola_order(rt: HostRuntime) -> Result<(), Fail> {
         shift: Shift::Down(3),
     };
     assert_eq!(rt; steps.as_slice(), [first, second].as_slice());
-    assert_eq!(rt; steps.raw_value(false, &[0x15, 0xA8]), 693);
-    assert_eq!(rt; steps.raw_value(true, &[0x15, 0xA8]), -331);
+    assert_eq!(rt; steps.raw_value(ValueType::Unsigned, &[0x15, 0xA8]), 693);
+    assert_eq!(rt; steps.raw_value(ValueType::Signed, &[0x15, 0xA8]), -331);
     Ok(())
 }
 
@@ -35,7 +37,7 @@ fn a_word_over_nine_bytes(rt: HostRuntime) -> Result<(), Fail> {
     let field = Field {
         start: 4,
         length: 64,
-        intel: true,
+        order: ByteOrder::Intel,
     };
     let steps = Steps::of(rt.alloc(), field);
     let bytes = [0xF0, 0xFF, 0xFF, 0xFF, 0xFF, 0xFF, 0xFF, 0xFF, 0x0F];
@@ -49,12 +51,12 @@ fn two_fields_in_a_byte(rt: HostRuntime) -> Result<(), Fail> {
     let intel = Field {
         start: 1,
         length: 2,
-        intel: true,
+        order: ByteOrder::Intel,
     };
     let motorola = Field {
         start: 3,
         length: 2,
-        intel: false,
+        order: ByteOrder::Motorola,
     };
     let mut text = Vec::new(rt.alloc());
     let drawn = push_grid(&mut text, 1, &[intel, motorola]);
@@ -67,28 +69,27 @@ fn two_fields_in_a_byte(rt: HostRuntime) -> Result<(), Fail> {
 // The sum of the weights of the field's bits that are 1 in data.
 fn plain_sum(field: Field, bytes: &[u8]) -> u64 {
     let mut sum: u64 = 0;
-    for place in 0..field.length {
-        let position = field.position(place);
+    for index in 0..field.length {
+        let position = field.position(index);
         let byte = bytes.get(position as usize / 8).copied().unwrap_or(0);
         let bit = u64::from(byte) / (1 << (position % 8)) % 2;
-        let rank = if field.intel {
-            place
-        } else {
-            field.length - 1 - place
+        let rank = match field.order {
+            ByteOrder::Intel => index,
+            ByteOrder::Motorola => field.length - 1 - index,
         };
         sum = sum.wrapping_add(bit << (rank % 64));
     }
     sum
 }
 
-// Every field of up to 16 bits from the first four bytes on, in one order.
-fn sums_agree(alloc: Global, intel: bool, bytes: &[u8; 6]) -> bool {
+// Every field of up to 16 bits from the first four bytes on, in one byte order.
+fn sums_agree(alloc: Global, order: ByteOrder, bytes: &[u8; 6]) -> bool {
     for start in 0..32 {
         for length in 1..17 {
             let field = Field {
                 start,
                 length,
-                intel,
+                order,
             };
             let raw = Steps::of(alloc, field).raw(bytes);
             if !field.is_outside(6) && raw != plain_sum(field, bytes) {
@@ -103,15 +104,16 @@ fn sums_agree(alloc: Global, intel: bool, bytes: &[u8; 6]) -> bool {
 fn sums_by_bytes_and_by_bits(rt: HostRuntime) {
     for pattern in 0..64u8 {
         let mut bytes = [0x5A; 6];
-        for (place, byte) in bytes.iter_mut().enumerate() {
-            if (pattern >> place) % 2 == 1 {
+        for (index, byte) in bytes.iter_mut().enumerate() {
+            if (pattern >> index) % 2 == 1 {
                 *byte = 0xA5;
             }
         }
-        assert!(rt; sums_agree(rt.alloc(), true, &bytes), "Intel, {pattern}");
-        assert!(rt;
-            sums_agree(rt.alloc(), false, &bytes),
-            "Motorola, {pattern}"
-        );
+        for order in [ByteOrder::Intel, ByteOrder::Motorola] {
+            assert!(rt;
+                sums_agree(rt.alloc(), order, &bytes),
+                "{order:?}, {pattern}"
+            );
+        }
     }
 }

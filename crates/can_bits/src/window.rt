@@ -3,30 +3,30 @@ ghost use Rattle.std.specs.Prelude.{◌≡◌, ℕ, ◌-◌, ◌^◌, ◌<◌, �
 ghost use Rattle.can_bits.specs.Windows.{word_of, bits_in, IsWindow};
 
 use crate::field::Field;
+use dbc_records::ByteOrder;
 
-/// Where the bits of a field lie in the word that the first eight bytes are.
+/// Where the bits of a field are in the word formed by the first eight bytes.
 #[derive(Clone, Copy, Debug, PartialEq, Eq)]
 pub struct Window {
-    /// Whether the first byte is the lowest of the word, and not the highest.
-    pub intel: bool,
-    /// How many bits of the word lie below the field.
+    /// The byte order: the first byte is the lowest of the word in Intel byte order, the highest in Motorola byte order.
+    pub order: ByteOrder,
+    /// How many bits of the word are below the field.
     pub shift: u8,
     /// As many ones as the field has bits.
     pub mask: u64,
 }
 
-// The word that eight bytes are, in one of the two orders.
-fn word_of(intel: bool, first: &[u8; 8]) -> u64
-    ensures { result ≡ word_of intel first.now }
+// The word of eight bytes in a byte order.
+fn word_of(order: ByteOrder, first: &[u8; 8]) -> u64
+    ensures { result ≡ word_of order first.now }
 {
-    if intel {
-        u64::from_le_bytes(*first)
-    } else {
-        u64::from_be_bytes(*first)
+    match order {
+        ByteOrder::Intel => u64::from_le_bytes(*first),
+        ByteOrder::Motorola => u64::from_be_bytes(*first),
     }
 }
 
-// As many ones as a field of some bits has.
+// As many ones as a field of some length has bits.
 fn ones_of(length: u16) -> u64
     requires some { 0 < length }
     requires most { length ≤ 64 }
@@ -46,19 +46,22 @@ impl Window {
         if length == 0 || end > 64 {
             return None;
         }
-        let shift = if field.intel { first } else { 64 - end };
+        let shift = match field.order {
+            ByteOrder::Intel => first,
+            ByteOrder::Motorola => 64 - end,
+        };
         Some(Window {
-            intel: field.intel,
+            order: field.order,
             shift: shift as u8,
             mask: ones_of(length),
         })
     }
 
-    /// What stands in the window.
+    /// The bits in the window.
     pub(crate) fn bits_in(self, first: &[u8; 8]) -> u64
         requires { self.shift < 64 }
         ensures { result ≡ bits_in first.now self }
     {
-        word_of(self.intel, first) >> self.shift & self.mask
+        word_of(self.order, first) >> self.shift & self.mask
     }
 }

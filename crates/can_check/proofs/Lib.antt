@@ -2,4 +2,4 @@ pub mod Counts
 pub mod OwnFaults
 pub mod Parts
 pub mod Placed
-pub mod Told
+pub mod Given

@@ -3,7 +3,7 @@ use Rattle.std.proofs.Common.{◌≡◌, List, [], ◌∷◌, ◌++◌, refl, ap
 use Rattle.std.specs.List.{flat_map}
 use Rattle.dbc_records.specs.Records.{Message}
 use Rattle.dbc_records.specs.Databases.{Database}
-use Rattle.can_rows.specs.Rows.{SignalRows, rows_of}
+use Rattle.can_entries.specs.Rows.{SignalRows, rows_of}
 use Rattle.can_mux.specs.Switches.{walks_of}
 use Rattle.can_mux.specs.declared.walk.Walk.{Walk}
 use Rattle.can_diagnostics.specs.declared.diagnostic.Diagnostic.{Diagnostic}
@@ -45,7 +45,7 @@ all_in_order database =
     ap (λ (found : List Diagnostic). found ++ row_faults database)
     (flat_map-same (message_faults database) (head_then_own database) (message_in_order database) database.messages)
 
--- ---- by the nodes and the entries of a number alone
+-- ---- determined by the nodes and the entries of a CAN identifier alone
 
 others-same : (one other : Database) (rows : SignalRows) (m : Message) (walks : List Walk) → one.nodes ≡ other.nodes
     → other_faults one rows m walks ≡ other_faults other rows m walks

@@ -8,7 +8,7 @@ use Rattle.dbc_records.specs.Records.{Message}
 use Rattle.can_bits.specs.declared.field.Field.{Field}
 use Rattle.can_mux.specs.declared.walk.Walk.{Walk}
 use Rattle.can_diagnostics.specs.declared.diagnostic.Diagnostic.{Diagnostic}
-use Rattle.can_overlap.specs.Occupancy.{Marked}
+use Rattle.can_overlap.specs.inner.Occupancy.{Marked}
 use Rattle.can_overlap.specs.Overlaps.{overlapping, pairs_from}
 use Rattle.can_check.specs.MessageFaults.{pair_at}
 
@@ -38,7 +38,7 @@ module _ {Y : Type 0} (f : ℕ → List Y) where
       ap (flat_map f) (range_parts 0 i n ∙ ap (λ (k : ℕ). range_with_len 0 i ++ range_with_len k n) from)
       ∙ flat_map-append f (range_with_len 0 i) (range_with_len i n)
 
-  -- of one number more
+  -- one index more
   pub of_next : (i : ℕ) → flat_map f (range_with_len 0 (i + 1)) ≡ flat_map f (range_with_len 0 i) ++ f i
   of_next i = of_numbers i 1 ∙ ap (λ (ys : List Y). flat_map f (range_with_len 0 i) ++ ys) (append-nil (f i))
 

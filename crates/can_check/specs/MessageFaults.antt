@@ -1,13 +1,13 @@
 -- The diagnostics of a message and its signals, by ascending code; within a code the message itself, then its signals in order.
--- Source: the DBC file format, "Message Definitions", "Signal Definitions". Which of it is reported is the profile of candesk.
+-- Source: the DBC file format, "Message Definitions", "Signal Definitions". What is reported is the profile of candesk.
 use Rattle.std.specs.Prelude.{ℤ, Bool, false, List, [], ◌∷◌, ◌++◌, Option, Some, None, map, slice_get, if◌then◌else◌}
 use Rattle.std.specs.List.{flat_map, enumerate_from}
 use Rattle.std.specs.Ordering.{int_eq}
 use Rattle.dbc_records.specs.Records.{Head, Signal, Message, Entry}
 use Rattle.dbc_records.specs.Databases.{Database}
 use Rattle.can_bits.specs.Bits.{field_of}
-use Rattle.can_rows.specs.Rows.{SignalRows, rows_of, first_values, first_mux}
-use Rattle.can_rows.specs.Rows.{entries_of}
+use Rattle.can_entries.specs.Rows.{SignalRows, rows_of, first_values, first_mux}
+use Rattle.can_entries.specs.Rows.{entries_of}
 use Rattle.can_mux.specs.Switches.{walks_of}
 use Rattle.can_mux.specs.declared.walk.Walk.{Walk}
 use Rattle.can_overlap.specs.Overlaps.{overlapping}
@@ -16,10 +16,10 @@ use Rattle.can_diagnostics.specs.Diagnostics.{of_signal, of_pair, of_value}
 use Rattle.can_diagnostics.specs.declared.code.Code.{Code}
 use Rattle.can_diagnostics.specs.declared.code.Code.TheVariants as codes
 use Rattle.can_diagnostics.specs.declared.diagnostic.Diagnostic.{Diagnostic}
-use Rattle.can_references.specs.Finding.{where_true, stands_in, each_after}
+use Rattle.can_references.specs.Finding.{where_true, occurs_in, each_after}
 use Rattle.can_references.specs.HeadFaults.{is_pseudo, head_faults, unknown_nodes}
 use Rattle.can_references.specs.RawRanges.{is_out_of_range}
-use Rattle.can_check.specs.SignalRules.{has_no_switch, is_loop, is_bad_row, lies_outside, is_float, is_long, has_no_scale}
+use Rattle.can_check.specs.SignalRules.{has_no_switch, is_loop, is_bad_row, signal_outside, is_float, is_long, has_no_scale}
 
 -- ---- its signals
 
@@ -31,7 +31,7 @@ abbrev pub walk_passes : (Walk → Bool) → Option Walk → Bool
 walk_passes test None = false
 walk_passes test (Some walk) = test walk
 
--- the signals whose multiplexing chains, which stand at their indices, pass a test
+-- the signals whose multiplexing chains, which are at their indices, pass a test
 abbrev pub walks_where : Code → Head → (Walk → Bool) → List Signal → List Walk → List Diagnostic
 walks_where code head test signals walks =
     flat_map (λ placed. where_true (walk_passes test (slice_get walks placed.0)) (of_signal code head placed.1))
@@ -39,7 +39,7 @@ walks_where code head test signals walks =
 
 -- a bit of a signal is not in the message
 unfoldable pub outside : Message → List Diagnostic
-outside m = if is_pseudo m.head then [] else signals_where codes.Outside m.head (lies_outside m.head.size) m.signals
+outside m = if is_pseudo m.head then [] else signals_where codes.Outside m.head (signal_outside m.head.size) m.signals
 
 abbrev pub pair_between : Head → Option Signal → Option Signal → List Diagnostic
 pair_between head (Some first) (Some second) = of_pair codes.Overlap head first second ∷ []
@@ -49,7 +49,7 @@ pair_between head None second = []
 abbrev pub pair_at : Message → Pair → List Diagnostic
 pair_at m pair = pair_between m.head (slice_get m.signals pair.first) (slice_get m.signals pair.second)
 
--- two signals have a bit in common, and can be there together
+-- two signals share a bit and can be active at once
 unfoldable pub overlaps : Message → List Walk → List Diagnostic
 overlaps m walks = if is_pseudo m.head then [] else flat_map (pair_at m) (overlapping (map field_of m.signals) walks)
 
@@ -57,11 +57,11 @@ overlaps m walks = if is_pseudo m.head then [] else flat_map (pair_at m) (overla
 unfoldable pub no_switch : Message → List Walk → List Diagnostic
 no_switch m walks = walks_where codes.NoSwitch m.head has_no_switch m.signals walks
 
--- the first entry of its multiplexing says what can't be
+-- the first entry of its multiplexing states something impossible
 unfoldable pub bad_mux_row : SignalRows → Message → List Diagnostic
 bad_mux_row rows m = signals_where codes.BadMuxRow m.head (λ signal. is_bad_row m.signals (first_mux signal.name rows)) m.signals
 
--- its multiplexors stand in a circle
+-- its multiplexors (switches) form a loop
 unfoldable pub switch_loop : Message → List Walk → List Diagnostic
 switch_loop m walks = walks_where codes.SwitchLoop m.head is_loop m.signals walks
 
@@ -88,7 +88,7 @@ unfoldable pub values_out_of_range : SignalRows → Message → List Diagnostic
 values_out_of_range rows m = flat_map (λ signal. flat_map (out_of_range m.head signal) (named rows signal)) m.signals
 
 abbrev pub repeated_value : Head → Signal → List ℤ → ℤ → List Diagnostic
-repeated_value head signal before number = where_true (stands_in int_eq number before) (of_value codes.RepeatedValue head signal
+repeated_value head signal before number = where_true (occurs_in int_eq number before) (of_value codes.RepeatedValue head signal
     number)
 
 abbrev pub repeated_among : Head → Signal → List Entry → List Diagnostic
@@ -97,11 +97,11 @@ repeated_among head signal entries = each_after (repeated_value head signal) [] 
 abbrev pub repeated_in : SignalRows → Head → Signal → List Diagnostic
 repeated_in rows head signal = repeated_among head signal (named rows signal)
 
--- a value description that stood earlier in its entry
+-- a value description that occurs earlier in its `VAL_` entry
 unfoldable pub repeated_values : SignalRows → Message → List Diagnostic
 repeated_values rows m = flat_map (repeated_in rows m.head) m.signals
 
--- ---- all of it
+-- ---- all of them
 
 -- codes 1 to 5
 unfoldable pub place_faults : Database → Message → List Diagnostic
@@ -142,7 +142,7 @@ own_by database rows m walks = outside m ++ (overlaps m walks ++ other_faults da
 abbrev pub own_with : Database → SignalRows → Message → List Diagnostic
 own_with database rows m = own_by database rows m (walks_of rows m.signals)
 
--- codes 5 to 15: of all the database these read only the message, the entries of its number and the nodes
+-- codes 5 to 15: of the whole database these read only the message, the entries of its CAN identifier and the nodes
 unfoldable pub own_faults : Database → Message → List Diagnostic
 own_faults database m = own_with database (rows_of m.head.number database) m
 

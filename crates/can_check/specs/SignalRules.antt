@@ -9,8 +9,8 @@ use Rattle.dbc_records.specs.declared.tag.Tag.{Tag}
 use Rattle.dbc_records.specs.declared.tag.Tag.TheVariants as tags
 use Rattle.dbc_records.specs.Ranges.{is_empty_range}
 use Rattle.can_bits.specs.Bits.{field_of, is_outside}
-use Rattle.can_rows.specs.Rows.{SignalRows, first_float}
-use Rattle.can_rows.specs.Rows.{is_float_row}
+use Rattle.can_entries.specs.Rows.{SignalRows, first_float}
+use Rattle.can_entries.specs.Rows.{is_float_row}
 use Rattle.can_mux.specs.declared.walk.Walk.{Walk}
 use Rattle.can_mux.specs.declared.walk.Walk.TheVariants as walks
 
@@ -28,7 +28,7 @@ is_loop (walks.Chain links) = false
 is_loop (walks.Absent own) = false
 is_loop walks.Loop = true
 
--- a tag with an `M`
+-- a multiplexer indicator with an `M`
 abbrev pub can_switch : Tag → Bool
 can_switch tags.Plain = false
 can_switch tags.Switch = true
@@ -46,9 +46,9 @@ is_bad_row signals (Some row) = list_any is_empty_range row.ranges || list_any (
 
 -- ---- what keeps a signal from being decoded
 
--- a bit of it is not in so many bytes
-abbrev pub lies_outside : ℕ → Signal → Bool
-lies_outside size signal = is_outside size (field_of signal)
+-- a bit of it is not in this many bytes
+abbrev pub signal_outside : ℕ → Signal → Bool
+signal_outside size signal = is_outside size (field_of signal)
 
 abbrev pub is_float : SignalRows → Signal → Bool
 is_float rows signal = is_float_row (first_float signal.name rows)

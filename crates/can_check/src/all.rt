@@ -1,7 +1,7 @@
 //! All diagnostics of one message and of a whole database.
 ghost use Rattle.std.specs.Prelude.{◌≡◌, ◌++◌, ◌<◌, IfOk, OnOk, Some, length, slice_get, option_map};
 ghost use Rattle.std.specs.List.{flat_map};
-ghost use Rattle.can_rows.specs.Rows.{rows_of};
+ghost use Rattle.can_entries.specs.Rows.{rows_of};
 ghost use Rattle.can_references.specs.RowFaults.{row_faults};
 ghost use Rattle.can_check.specs.MessageFaults.{reading_faults, place_faults, other_faults, faults_by, message_faults};
 ghost use Rattle.can_check.specs.MessageFaults.{floats, long, no_scale};
@@ -15,15 +15,15 @@ use crate::signal_rules::{HasNoScale, IsFloat, IsLong, push_where};
 use crate::value_rules::push_value_faults;
 use crate::walk_rules::walks_in;
 use can_diagnostics::{Code, Diagnostic};
+use can_entries::{Indexed, Lookup};
 use can_mux::{MessageRows, Walk};
 use can_overlap::Occupancy;
 use can_references::{CrossReferences, push_head_faults, push_unknown_nodes, row_faults};
-use can_rows::{Indexed, Lookup};
 use dbc_records::{Database, Message};
 use dbc_values::Memory;
 use std::alloc::Global;
 
-// Adds the signals that can't be decoded for other causes than where they lie: codes 10 to 12.
+// Adds the signals that can't be decoded for reasons other than where their bits are: codes 10 to 12.
 #[tactic(auto, using(can_references::proofs::Pushing::pushed_then), unfolding(crate::specs::MessageFaults::reading_faults, crate::specs::MessageFaults::floats, crate::specs::MessageFaults::long, crate::specs::MessageFaults::no_scale))]
 fn push_reading_faults<L: Lookup>(
     found: &mut Vec<Diagnostic>,
@@ -39,7 +39,7 @@ fn push_reading_faults<L: Lookup>(
     push_where(found, Code::Scale, head, &HasNoScale, signals)
 }
 
-// What stands before the overlaps of a message.
+// The diagnostics before the overlaps of a message.
 fn place_faults_of<'a, L: Lookup>(
     alloc: Global,
     known: &CrossReferences<'a, L>,
@@ -82,7 +82,7 @@ pub(crate) fn push_other_faults<'a, L: Lookup>(
     push_value_faults(found, known, message)
 }
 
-// Reports what stands before the overlaps of a message.
+// Reports the diagnostics before the overlaps of a message.
 fn report_place_faults<'a, L: Lookup, T: Report>(
     to: &mut T,
     alloc: Global,
@@ -97,7 +97,7 @@ fn report_place_faults<'a, L: Lookup, T: Report>(
     }
 }
 
-// Reports what stands after the overlaps of a message.
+// Reports the diagnostics after the overlaps of a message.
 fn report_other_faults<'a, L: Lookup, T: Report>(
     to: &mut T,
     known: &CrossReferences<'a, L>,
@@ -199,8 +199,8 @@ fn report_with<L: Lookup, T: Report>(to: &mut T, alloc: Global, lookup: &L) -> R
     }
 }
 
-/// Reports all diagnostics of a database, in the order of [`all_faults`], each as soon as it is found: of a message, what stands
-/// before its overlaps, the overlaps of each signal with later ones, and what stands after them; and those of the entries at once.
+/// Reports all diagnostics of a database, in the order of [`all_faults`], each as soon as it is found: for a message, those before
+/// its overlaps, the overlaps of each signal with later ones, and those after them; and those of the entries at once.
 pub fn report_all<T: Report>(alloc: Global, database: &Database, to: &mut T) -> Result<(), Stop>
     ensures { Takes T.Took T.Stopped to.old to.new result (all_faults database.now) }
 {
@@ -210,7 +210,7 @@ pub fn report_all<T: Report>(alloc: Global, database: &Database, to: &mut T) -> 
     }
 }
 
-/// All diagnostics of a database, as [`all_faults`] has them, where its entries are already found by `lookup`.
+/// All diagnostics of a database, as [`all_faults`] has them, if its entries are already found by `lookup`.
 pub fn all_faults_with<L: Lookup>(alloc: Global, lookup: &L) -> Result<Vec<Diagnostic>, Memory>
     ensures { IfOk result (λ found. found.items ≡ all_faults (L.whole lookup.now)) }
 {
@@ -222,7 +222,7 @@ pub fn all_faults_with<L: Lookup>(alloc: Global, lookup: &L) -> Result<Vec<Diagn
 }
 
 /// All diagnostics of a database: those of each message in order, and then those of the entries. The time grows about as the
-/// database and the list do, whatever numbers, names and keys stand in it.
+/// database and the list do, whatever CAN identifiers, names and keys are in it.
 pub fn all_faults(alloc: Global, database: &Database) -> Result<Vec<Diagnostic>, Memory>
     ensures { IfOk result (λ found. found.items ≡ all_faults database.now) }
 {
@@ -247,17 +247,17 @@ fn faults_in<'a, L: Lookup>(
     }
 }
 
-// The diagnostics of the message at an index, by what finds the entries of its database.
-fn faults_at(alloc: Global, indexed: &Indexed<'_>, place: usize) -> Result<Vec<Diagnostic>, Memory>
-    requires { place < length indexed.now.messages }
+// The diagnostics of the message at an index, by the index of its database's entries.
+fn faults_at(alloc: Global, indexed: &Indexed<'_>, index: usize) -> Result<Vec<Diagnostic>, Memory>
+    requires { index < length indexed.now.messages }
     ensures { IfOk result (λ found. Some found.items ≡ option_map (message_faults indexed.now) (slice_get indexed.now.messages
-        place)) }
+        index)) }
 {
     match CrossReferences::of(alloc, indexed) {
         Ok(known) => faults_in(
             alloc,
             &known,
-            &indexed.database().messages.as_slice()[place],
+            &indexed.database().messages.as_slice()[index],
         ),
         Err(Memory) => Err(Memory),
     }
@@ -267,14 +267,14 @@ fn faults_at(alloc: Global, indexed: &Indexed<'_>, place: usize) -> Result<Vec<D
 pub fn message_faults(
     alloc: Global,
     database: &Database,
-    place: usize,
+    index: usize,
 ) -> Result<Vec<Diagnostic>, Memory>
-    requires { place < length database.now.messages }
+    requires { index < length database.now.messages }
     ensures { IfOk result (λ found. Some found.items ≡ option_map (message_faults database.now) (slice_get database.now.messages
-        place)) }
+        index)) }
 {
     match Indexed::of(alloc, database) {
-        Ok(indexed) => faults_at(alloc, &indexed, place),
+        Ok(indexed) => faults_at(alloc, &indexed, index),
         Err(Memory) => Err(Memory),
     }
 }

@@ -3,7 +3,7 @@ ghost use Rattle.std.specs.Prelude.{◌≡◌, ◌++◌};
 ghost use Rattle.std.specs.List.{flat_map};
 ghost use Rattle.dbc_records.specs.Records.{Message};
 ghost use Rattle.dbc_records.specs.Databases.{Database};
-ghost use Rattle.can_rows.specs.Rows.{rows_of};
+ghost use Rattle.can_entries.specs.Rows.{rows_of};
 ghost use Rattle.can_references.specs.RowFaults.{row_faults};
 ghost use Rattle.can_check.specs.MessageFaults.{message_faults, own_faults, head_then_own};
 ghost use Rattle.can_check.specs.AllFaults.{all_faults};
@@ -17,7 +17,7 @@ pub fn faults_in_order()
         ++ row_faults database }
 {}
 
-/// A message's own diagnostics are the same by two databases that have the same entries of its number and the same nodes.
+/// A message's own diagnostics are the same in two databases that have the same entries of its CAN identifier and the same nodes.
 pub fn own_rows_and_nodes_alone()
     ensures { (one other : Database) (message : Message) → rows_of message.head.number one ≡ rows_of message.head.number other
         → one.nodes ≡ other.nodes → own_faults one message ≡ own_faults other message }

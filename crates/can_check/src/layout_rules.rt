@@ -1,16 +1,16 @@
-//! Signals that lie outside their message, and what stands above signals.
+//! Signals that are outside their message, and the multiplexing chains of signals.
 ghost use Rattle.std.specs.Prelude.{◌≡◌, ◌++◌, OnOk, slice_get};
 ghost use Rattle.can_diagnostics.specs.Diagnostics.{of_signal};
 ghost use Rattle.can_references.specs.Finding.{where_true};
 ghost use Rattle.can_check.specs.MessageFaults.{walk_passes, walks_where, outside, no_switch, bad_mux_row};
 ghost use Rattle.can_check.specs.MessageFaults.{switch_loop, switch_faults};
 
-use crate::signal_rules::{HasBadRow, LiesOutside, push_where};
+use crate::signal_rules::{HasBadRow, IsOutside, push_where};
 use crate::walk_rules::{HasNoSwitch, IsLoop, WalkTest};
 use can_diagnostics::{Code, Diagnostic};
+use can_entries::Lookup;
 use can_mux::{MessageRows, Walk};
 use can_references::is_pseudo;
-use can_rows::Lookup;
 use dbc_records::{Head, Message, Signal};
 use dbc_values::Memory;
 
@@ -23,7 +23,7 @@ pub(crate) fn push_outside(found: &mut Vec<Diagnostic>, message: &Message) -> Re
     if is_pseudo(head) {
         return Ok(());
     }
-    let test = LiesOutside { size: head.size };
+    let test = IsOutside { size: head.size };
     push_where(
         found,
         Code::Outside,
@@ -34,16 +34,16 @@ pub(crate) fn push_outside(found: &mut Vec<Diagnostic>, message: &Message) -> Re
 }
 
 // The multiplexing chain from a signal at an index passes a test.
-fn passes_at<T: WalkTest>(test: &T, walks: &[Walk], place: usize) -> bool
-    ensures { result ≡ walk_passes (T.passes test.now) (slice_get walks.now place) }
+fn passes_at<T: WalkTest>(test: &T, walks: &[Walk], index: usize) -> bool
+    ensures { result ≡ walk_passes (T.passes test.now) (slice_get walks.now index) }
 {
-    match walks.get(place) {
+    match walks.get(index) {
         Some(walk) => test.is_passed(walk),
         None => false,
     }
 }
 
-// Adds the diagnostic of a signal where there is reason to.
+// Adds the diagnostic of a signal if the test holds.
 fn push_if(
     found: &mut Vec<Diagnostic>,
     test: bool,
@@ -71,8 +71,8 @@ fn push_walks<T: WalkTest>(
     ensures { OnOk result (found.new.items ≡ found.old.items ++ walks_where code head.now (T.passes test.now) signals.now
         walks.now) }
 {
-    for (place, signal) in signals.iter().enumerate() {
-        push_if(found, passes_at(test, walks, place), code, head, signal)?;
+    for (index, signal) in signals.iter().enumerate() {
+        push_if(found, passes_at(test, walks, index), code, head, signal)?;
     }
     Ok(())
 }

@@ -1,9 +1,9 @@
 //! The diagnostics of a database: all of them, in one list and in a fixed order.
 //!
 //! [`all_faults`] looks at the whole of a database, [`message_faults`] at one message, and [`all_faults_with`] finds entries by an
-//! index that is there already. [`report_all`] reports what it finds as it goes, so that no list of all is kept, and
-//! [`report_message`] what it finds of one message. [`push_own_faults`] adds only a message's own diagnostics, which no other
-//! message can change. Nothing that is found keeps a database from being used.
+//! existing index. [`report_all`] reports what it finds as it goes, so that no list of all is kept, and [`report_message`] what it
+//! finds of one message. [`push_own_faults`] adds only a message's own diagnostics, which no other message can change. Nothing that
+//! is found keeps a database from being used.
 #![tactic(auto)]
 
 mod all;

@@ -1,4 +1,4 @@
-//! Signals of a message that have a bit in common and can be there together.
+//! Signals of a message that share a bit and can be active at once.
 ghost use Rattle.std.specs.Prelude.{◌≡◌, ◌++◌, ◌<◌, ◌≤◌, OnOk, IfOk, length, slice_get, option_map};
 ghost use Rattle.std.specs.List.{flat_map, range_with_len};
 ghost use Rattle.can_overlap.specs.Overlaps.{overlapping, pairs_from};
@@ -17,10 +17,10 @@ use dbc_values::Memory;
 use std::alloc::Global;
 
 // The signal at an index.
-fn signal_at(message: &Message, place: usize) -> Option<&Signal>
-    ensures { option_map (λ signal. signal.now) result ≡ slice_get message.now.signals place }
+fn signal_at(message: &Message, index: usize) -> Option<&Signal>
+    ensures { option_map (λ signal. signal.now) result ≡ slice_get message.now.signals index }
 {
-    message.signals.as_slice().get(place)
+    message.signals.as_slice().get(index)
 }
 
 fn push_between(
@@ -109,7 +109,7 @@ fn report_marked<T: Report>(
     Ok(())
 }
 
-// Reports the pairs of signals that lie in these fields. Most lie one after the other, and then there are none.
+// Reports the pairs of signals that are in these fields. Most fields follow one another, and then there are no pairs.
 fn report_laid<T: Report>(
     to: &mut T,
     occupancy: Occupancy,

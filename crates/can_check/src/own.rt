@@ -1,6 +1,6 @@
 //! A message's own diagnostics.
 ghost use Rattle.std.specs.Prelude.{◌≡◌, ◌++◌, OnOk, length};
-ghost use Rattle.can_rows.specs.Rows.{rows_of};
+ghost use Rattle.can_entries.specs.Rows.{rows_of};
 ghost use Rattle.can_check.specs.MessageFaults.{overlaps, own_by, own_faults};
 
 use crate::all::push_other_faults;
@@ -8,10 +8,10 @@ use crate::layout_rules::push_outside;
 use crate::overlap_rules::report_overlaps;
 use crate::walk_rules::walks_in;
 use can_diagnostics::Diagnostic;
+use can_entries::Lookup;
 use can_mux::Walk;
 use can_overlap::Occupancy;
 use can_references::CrossReferences;
-use can_rows::Lookup;
 use dbc_records::Message;
 use dbc_values::Memory;
 

@@ -1,4 +1,4 @@
-//! What takes diagnostics, some at a time.
+//! What takes diagnostics, a few at a time.
 ghost use Rattle.std.specs.Prelude.{◌≡◌};
 ghost use Rattle.can_check.specs.Reports.{Takes};
 
@@ -9,7 +9,7 @@ use thiserror::Error;
 /// Why no more diagnostics are taken.
 #[derive(Clone, Copy, Debug, PartialEq, Eq, Error)]
 pub enum Stop {
-    /// What takes them failed.
+    /// The receiver failed.
     #[error("42 Write")]
     Write,
     /// Out of memory.
@@ -27,7 +27,7 @@ impl From<Memory> for Stop {
     }
 }
 
-/// What takes diagnostics in their order, some at a time, so that not all need be kept.
+/// A receiver of diagnostics in their order, a few at a time, so that they need not all be kept.
 pub trait Report: Drop {
     ghost use Rattle.std.specs.Prelude.{List, [], ◌++◌};
     ghost use Rattle.can_diagnostics.specs.declared.diagnostic.Diagnostic.{Diagnostic as Found};
@@ -37,14 +37,14 @@ pub trait Report: Drop {
     // These were taken.
     ghost Took: { Self → Self → List Found → Type 0 };
 
-    // These were to be taken, and a beginning of them was.
+    // These were to be taken, and a prefix of them was.
     ghost Stopped: { Self → Self → Why → List Found → Type 0 };
 
     /// Takes diagnostics, after those before.
     fn take(&mut self, found: Vec<Diagnostic>) -> Result<(), Stop>
         ensures { Takes Took Stopped self.old self.new result found.items };
 
-    // To take none changes nothing.
+    // Taking none changes nothing.
     ghost took_none: { (here : Self) → Took here here [] };
 
     // One part is taken after another.
@@ -54,7 +54,7 @@ pub trait Report: Drop {
     ghost stopped_after: { (old mid new : Self) (why : Why) (xs ys : List Found) → Took old mid xs → Stopped mid new why ys
         → Stopped old new why (xs ++ ys) };
 
-    // It stops before what else was to be taken.
+    // It stops before the rest of what was to be taken.
     ghost stopped_before: { (old new : Self) (why : Why) (xs ys : List Found) → Stopped old new why xs
         → Stopped old new why (xs ++ ys) };
 
@@ -64,7 +64,7 @@ pub trait Report: Drop {
 
 impl Report for Vec<Diagnostic> {
     ghost use Rattle.std.specs.Prelude.{◌++◌, ⊤};
-    ghost use Rattle.can_check.specs.Reports.{behind_none, after_both};
+    ghost use Rattle.can_check.specs.Reports.{following_none, after_both};
 
     ghost Took = { λ old new found. new.items ≡ old.items ++ found };
 
@@ -78,7 +78,7 @@ impl Report for Vec<Diagnostic> {
         }
     }
 
-    ghost took_none = { λ here. behind_none here.items };
+    ghost took_none = { λ here. following_none here.items };
 
     ghost took_then = { λ old mid new xs ys p q. after_both old.items mid.items new.items xs ys p q };
 

@@ -1,15 +1,15 @@
 //! Tests of signals, and the diagnostics of those that pass.
 ghost use Rattle.std.specs.Prelude.{◌≡◌, ◌++◌, OnOk, option_map};
 ghost use Rattle.std.specs.List.{list_any};
-ghost use Rattle.can_rows.specs.Rows.{is_float_row};
-ghost use Rattle.can_check.specs.SignalRules.{can_switch, is_no_switch, is_bad_row, lies_outside, is_float};
+ghost use Rattle.can_entries.specs.Rows.{is_float_row};
+ghost use Rattle.can_check.specs.SignalRules.{can_switch, is_no_switch, is_bad_row, signal_outside, is_float};
 ghost use Rattle.can_check.specs.SignalRules.{is_long, has_no_scale};
 ghost use Rattle.can_check.specs.MessageFaults.{signals_where};
 
 use can_bits::Field;
 use can_diagnostics::{Code, Diagnostic};
+use can_entries::Lookup;
 use can_mux::MessageRows;
-use can_rows::Lookup;
 use dbc_records::{FloatRow, Head, MuxRow, Signal, Tag};
 use dbc_values::{Memory, Name, Scale, same};
 
@@ -43,15 +43,15 @@ pub(crate) fn push_where<T: SignalTest>(
     Ok(())
 }
 
-/// A bit of the signal is not in so many bytes.
+/// A bit of the signal is not in this many bytes.
 #[derive(Drop)]
-pub(crate) struct LiesOutside {
+pub(crate) struct IsOutside {
     /// The bytes of the message.
     pub size: u16,
 }
 
-impl SignalTest for LiesOutside {
-    ghost passes = { λ test signal. lies_outside test.size signal };
+impl SignalTest for IsOutside {
+    ghost passes = { λ test signal. signal_outside test.size signal };
 
     fn is_passed(&self, signal: &Signal) -> bool {
         Field::of(signal).is_outside(usize::from(self.size))
@@ -88,17 +88,17 @@ fn is_bad_row(signals: &[Signal], row: Option<&MuxRow>) -> bool
     }
 }
 
-/// The first entry of the signal's multiplexing says what can't be.
+/// The first entry of the signal's multiplexing states something impossible.
 #[derive(Drop)]
 pub(crate) struct HasBadRow<'a, L: Lookup> {
-    /// The entries of the message's number.
+    /// The entries of the message's CAN identifier.
     pub rows: &'a MessageRows<'a, L>,
     /// The signals of the message.
     pub signals: &'a [Signal],
 }
 
 impl<'a, L: Lookup> SignalTest for HasBadRow<'a, L> {
-    ghost use Rattle.can_rows.specs.Rows.{first_mux};
+    ghost use Rattle.can_entries.specs.Rows.{first_mux};
 
     ghost passes = { λ test signal. is_bad_row test.signals.now (first_mux signal.name test.rows.now) };
 
@@ -119,7 +119,7 @@ fn is_float_row(row: Option<&FloatRow>) -> bool
 /// The values of the signal are floats.
 #[derive(Drop)]
 pub(crate) struct IsFloat<'a, L: Lookup> {
-    /// The entries of the message's number.
+    /// The entries of the message's CAN identifier.
     pub rows: &'a MessageRows<'a, L>,
 }
 

@@ -2,13 +2,13 @@
 ghost use Rattle.std.specs.Prelude.{◌≡◌, false, [], ◌∷◌, ◌++◌, IfOk, OnOk};
 ghost use Rattle.std.specs.List.{flat_map};
 ghost use Rattle.can_diagnostics.specs.Diagnostics.{of_value};
-ghost use Rattle.can_rows.specs.Rows.{rows_of};
+ghost use Rattle.can_entries.specs.Rows.{rows_of};
 ghost use Rattle.can_check.specs.MessageFaults.{named, out_of_range, repeated_in};
 ghost use Rattle.can_check.specs.MessageFaults.{value_faults};
 
 use can_diagnostics::{Code, Diagnostic};
+use can_entries::Lookup;
 use can_references::CrossReferences;
-use can_rows::Lookup;
 use dbc_records::{Head, Message, Signal};
 use dbc_values::Memory;
 
@@ -29,8 +29,8 @@ fn push_each(
     Ok(())
 }
 
-// Adds the value descriptions that a signal never has, and returns whether one of their numbers may be repeated. They are gathered
-// in `values`, whatever is there before.
+// Adds the value descriptions that a signal never has, and returns whether one of their raw values may be repeated. They are
+// gathered in `values`, whatever is there before.
 #[inline(always)]
 fn push_out_of_range<'a, L: Lookup>(
     found: &mut Vec<Diagnostic>,
@@ -51,7 +51,7 @@ fn push_out_of_range<'a, L: Lookup>(
     Ok(repeats)
 }
 
-// The same of signals, in order.
+// The same for several signals, in order.
 fn push_all_out_of_range<'a, L: Lookup>(
     found: &mut Vec<Diagnostic>,
     known: &CrossReferences<'a, L>,
@@ -73,7 +73,7 @@ fn push_all_out_of_range<'a, L: Lookup>(
     Ok(repeats)
 }
 
-// Adds the value descriptions of a signal whose number is repeated. They are gathered in `values`, whatever is there before.
+// Adds the value descriptions of a signal whose raw value is repeated. They are gathered in `values`, whatever is there before.
 #[inline(always)]
 fn push_repeated<'a, L: Lookup>(
     found: &mut Vec<Diagnostic>,
@@ -91,7 +91,7 @@ fn push_repeated<'a, L: Lookup>(
     Ok(())
 }
 
-// The same of signals, in order.
+// The same for several signals, in order.
 fn push_all_repeated<'a, L: Lookup>(
     found: &mut Vec<Diagnostic>,
     known: &CrossReferences<'a, L>,
@@ -108,8 +108,7 @@ fn push_all_repeated<'a, L: Lookup>(
     Ok(())
 }
 
-/// Adds the diagnostics of value descriptions: codes 14 and 15. Signals are gone through again only if a
-/// number may be repeated.
+/// Adds the diagnostics of value descriptions: codes 14 and 15. Signals are visited again only if a raw value may be repeated.
 pub(crate) fn push_value_faults<'a, L: Lookup>(
     found: &mut Vec<Diagnostic>,
     known: &CrossReferences<'a, L>,

@@ -1,12 +1,12 @@
 //! The multiplexing chains from signals, and tests of them.
 ghost use Rattle.std.specs.Prelude.{◌≡◌, IfOk};
-ghost use Rattle.can_rows.specs.Rows.{rows_of};
+ghost use Rattle.can_entries.specs.Rows.{rows_of};
 ghost use Rattle.can_mux.specs.Switches.{walks_of};
 ghost use Rattle.can_check.specs.SignalRules.{has_no_switch, is_loop};
 
+use can_entries::Lookup;
 use can_mux::{MessageRows, Walk, message_walks};
 use can_references::CrossReferences;
-use can_rows::Lookup;
 use dbc_records::Message;
 use dbc_values::Memory;
 use std::alloc::Global;
@@ -50,7 +50,7 @@ impl WalkTest for HasNoSwitch {
     }
 }
 
-/// The multiplexing chain comes to a signal for the second time.
+/// The multiplexing chain leads to a signal for the second time.
 #[derive(Drop)]
 pub(crate) struct IsLoop;
 

@@ -6,14 +6,14 @@ use Rattle.std.specs.Option.{option_or, option_map, option_and_then}
 use Rattle.std.proofs.lemmas.Bool.{cases_Bool, ltb-true}
 use Rattle.dbc_records.specs.Records.{Message}
 use Rattle.dbc_records.specs.Databases.{Database}
-use Rattle.log_frames.specs.Frames.{Frame, body_of, frame_of, is_data, number_of}
-use Rattle.can_rows.specs.Groups.{is_extended, group_number_of}
-use Rattle.can_choice.specs.Choices.{has_number, in_group, exact_place, group_place, place_of_number, choice_at, choice_of}
-use Rattle.can_choice.specs.Choices.{chosen_place, frame_choice, line_place, line_choice}
+use Rattle.can_frames.specs.Frames.{Frame, body_of, frame_of, is_data, number_of}
+use Rattle.can_entries.specs.Groups.{is_extended, group_number_of}
+use Rattle.can_choice.specs.Choices.{has_number, in_group, exact_index, group_index, index_of_number, choice_at, choice_of}
+use Rattle.can_choice.specs.Choices.{chosen_index, frame_choice, line_index, line_choice}
 use Rattle.can_choice.specs.declared.choosing.Choice.{Choice}
 
 abbrev Within : Database → Option ℕ → Type 0
-Within database place = IfSome place (λ at. at < length database.messages)
+Within database index = IfSome index (λ at. at < length database.messages)
 
 position_within : (database : Database) (p : Message → Bool) → Within database (position p database.messages)
 position_within database p =
@@ -30,25 +30,25 @@ if_within : (database : Database) (test : Bool) (a : Option ℕ) → Within data
 if_within database true a inside = inside
 if_within database false a inside = tt
 
-number_within : (database : Database) (number : ℕ) → Within database (place_of_number database number)
-unfolding place_of_number
+number_within : (database : Database) (number : ℕ) → Within database (index_of_number database number)
+unfolding index_of_number
 number_within database number =
-    either_within database (exact_place database number) (group_place database number)
+    either_within database (exact_index database number) (group_index database number)
     (position_within database (has_number number))
     (if_within database (is_extended number) _ (position_within database (in_group database (group_number_of number))))
 
--- the place of a choice is that of a message
+-- the index of a choice is that of a message
 abbrev HasWithin : Database → Option Choice → Type 0
-HasWithin database choice = IfSome choice (λ one. one.place < length database.messages)
+HasWithin database choice = IfSome choice (λ one. one.index < length database.messages)
 
-made_within : (database : Database) (place : Option ℕ) → Within database place
-    → HasWithin database (option_map (choice_at database) place)
+made_within : (database : Database) (index : Option ℕ) → Within database index
+    → HasWithin database (option_map (choice_at database) index)
 made_within database None inside = tt
 made_within database (Some at) inside = inside
 
 choice_within : (database : Database) (number : ℕ) → HasWithin database (choice_of database number)
 unfolding choice_of
-choice_within database number = made_within database (place_of_number database number) (number_within database number)
+choice_within database number = made_within database (index_of_number database number) (number_within database number)
 
 if_choice_within : (database : Database) (test : Bool) (a : Option Choice) → HasWithin database a
     → HasWithin database (if test then a else None)
@@ -62,14 +62,14 @@ frame_choice_within database None = tt
 frame_choice_within database (Some frame) = if_choice_within database (is_data frame) _ (choice_within database (number_of frame))
 
 pub choice_is_within : (database : Database) (line : List ℕ) → IfSome (line_choice database line)
-    (λ one. one.place < length database.messages)
+    (λ one. one.index < length database.messages)
 choice_is_within database line = frame_choice_within database (frame_of (body_of line))
 
-frame_place_within : (database : Database) (frame : Option Frame) → Within database (option_and_then (chosen_place database) frame)
-unfolding chosen_place
-frame_place_within database None = tt
-frame_place_within database (Some frame) = if_within database (is_data frame) _ (number_within database (number_of frame))
+frame_index_within : (database : Database) (frame : Option Frame) → Within database (option_and_then (chosen_index database) frame)
+unfolding chosen_index
+frame_index_within database None = tt
+frame_index_within database (Some frame) = if_within database (is_data frame) _ (number_within database (number_of frame))
 
-pub place_is_within : (database : Database) (line : List ℕ) → IfSome (line_place database line)
-    (λ place. place < length database.messages)
-place_is_within database line = frame_place_within database (frame_of (body_of line))
+pub index_is_within : (database : Database) (line : List ℕ) → IfSome (line_index database line)
+    (λ index. index < length database.messages)
+index_is_within database line = frame_index_within database (frame_of (body_of line))

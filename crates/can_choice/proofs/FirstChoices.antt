@@ -10,7 +10,7 @@ use Rattle.std.specs.Ordering.{is_lt, nat_cmp}
 use Rattle.std.proofs.lemmas.Grind.{common_steps}
 use Rattle.std.proofs.lemmas.List.Sorted.{IsNonDecreasingBy-drop}
 use Rattle.std.proofs.lemmas.Map.Entries.{lookup-filter-keys}
-use Rattle.can_choice.specs.FirstChoices.{key_of, first_choice, RisesFrom}
+use Rattle.can_choice.specs.inner.FirstChoices.{key_of, first_choice, RisesFrom}
 use Rattle.can_choice.specs.declared.choosing.Choice.{Choice}
 
 -- ---- one more entry

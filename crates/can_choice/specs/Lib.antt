@@ -1,3 +1,3 @@
 pub mod Choices
-pub mod FirstChoices
 pub mod Remembering
+pub mod inner

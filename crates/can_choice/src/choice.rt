@@ -1,10 +1,10 @@
-//! Which message a frame goes to.
+//! Which message a frame belongs to.
 ghost use Rattle.std.specs.Prelude.{◌≡◌, position};
-ghost use Rattle.can_choice.specs.Choices.{has_number, in_group, group_place, place_of_number, chosen_place};
+ghost use Rattle.can_choice.specs.Choices.{has_number, in_group, group_index, index_of_number, chosen_index};
 
-use can_rows::{group_in, group_number};
+use can_entries::{group_in, group_number};
+use can_frames::Frame;
 use dbc_records::{Database, Message};
-use log_frames::Frame;
 
 fn has_number(message: &Message, number: u32) -> bool
     ensures { result ≡ has_number number message.now }
@@ -12,8 +12,8 @@ fn has_number(message: &Message, number: u32) -> bool
     message.head.number == number
 }
 
-// The first message with the number.
-fn exact_place(messages: &[Message], number: u32) -> Option<usize>
+// The first message with the CAN identifier.
+fn exact_index(messages: &[Message], number: u32) -> Option<usize>
     ensures { result ≡ position (has_number number) messages.now }
 {
     messages
@@ -21,7 +21,7 @@ fn exact_place(messages: &[Message], number: u32) -> Option<usize>
         .position(|message| has_number(message, number))
 }
 
-// Whether a message is one of the group. Most are not by their number alone.
+// Whether a message is one of the parameter group. For most, the CAN identifier alone rules it out.
 fn in_group(database: &Database, message: &Message, group: u32) -> bool
     ensures { result ≡ in_group database.now group message.now }
 {
@@ -41,9 +41,9 @@ fn first_in_group(database: &Database, group: u32) -> Option<usize>
         .position(|message| in_group(database, message, group))
 }
 
-// The first message of the group of a number with 29 bits.
-fn group_place(database: &Database, number: u32) -> Option<usize>
-    ensures { result ≡ group_place database.now number }
+// The first message of the parameter group of an extended (29-bit) CAN identifier.
+fn group_index(database: &Database, number: u32) -> Option<usize>
+    ensures { result ≡ group_index database.now number }
 {
     if number >> 31 & 1 == 1 {
         first_in_group(database, group_number(number))
@@ -52,25 +52,25 @@ fn group_place(database: &Database, number: u32) -> Option<usize>
     }
 }
 
-/// The place of the message that a number goes to. It goes through the messages, and takes no memory.
-#[tactic(auto, unfolding(crate::specs::Choices::place_of_number))]
-pub(crate) fn place_of_number(database: &Database, number: u32) -> Option<usize>
-    ensures { result ≡ place_of_number database.now number }
+/// The index of the message that a CAN identifier goes to. It searches the messages, and allocates nothing.
+#[tactic(auto, unfolding(crate::specs::Choices::index_of_number))]
+pub(crate) fn index_of_number(database: &Database, number: u32) -> Option<usize>
+    ensures { result ≡ index_of_number database.now number }
 {
-    match exact_place(database.messages.as_slice(), number) {
-        Some(place) => Some(place),
-        None => group_place(database, number),
+    match exact_index(database.messages.as_slice(), number) {
+        Some(index) => Some(index),
+        None => group_index(database, number),
     }
 }
 
-/// The place of the message that a frame goes to: the first with exactly its number, or else the first group message of
-/// its group. Only data frames go to one. It goes through the messages, and takes no memory.
-#[tactic(auto, unfolding(crate::specs::Choices::chosen_place))]
+/// The index of the message that a frame goes to: the first with exactly its CAN identifier, otherwise the first J1939 message of
+/// its parameter group. Only data frames go to one. It searches the messages, and allocates nothing.
+#[tactic(auto, unfolding(crate::specs::Choices::chosen_index))]
 pub fn choose(database: &Database, frame: &Frame) -> Option<usize>
-    ensures { result ≡ chosen_place database.now frame.now }
+    ensures { result ≡ chosen_index database.now frame.now }
 {
     if frame.is_data() {
-        place_of_number(database, frame.number())
+        index_of_number(database, frame.number())
     } else {
         None
     }

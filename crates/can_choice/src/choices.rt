@@ -1,25 +1,25 @@
-//! The messages of a database, found by their numbers and by their groups.
+//! The messages of a database, found by their CAN identifiers and by their parameter groups.
 ghost use Rattle.std.specs.Prelude.{◌≡◌, None, if◌then◌else◌};
-ghost use Rattle.can_rows.specs.Groups.{is_extended, group_number_of};
+ghost use Rattle.can_entries.specs.Groups.{is_extended, group_number_of};
 ghost use Rattle.can_choice.specs.Choices.{choice_of, frame_choice};
 ghost use Rattle.can_choice.specs.Remembering.{IsIndexOf, first_of_group};
 
-use crate::choosing::{Choice, Choose};
+use crate::choosing::{Choice, MessageSearch};
 use crate::message_index::MessageIndex;
-use can_rows::group_number;
+use can_entries::group_number;
+use can_frames::Frame;
 use dbc_records::Database;
 use dbc_values::Memory;
-use log_frames::Frame;
 use std::marker::Model;
 
-/// What each number goes to in a database, by an index of its messages.
+/// What each CAN identifier goes to in a database, by an index of its messages.
 #[derive(Drop)]
-pub struct Choices<'a> {
+pub struct IndexedMessages<'a> {
     database: &'a Database,
     index: &'a MessageIndex,
 }
 
-impl<'a> Model for Choices<'a> {
+impl<'a> Model for IndexedMessages<'a> {
     ghost use Rattle.dbc_records.specs.Databases.{Database};
     ghost use Rattle.can_choice.specs.Remembering.{IsIndexOf};
 
@@ -30,13 +30,13 @@ impl<'a> Model for Choices<'a> {
     ghost invariant = { λ a. IsIndexOf a.database.now a.index.now };
 }
 
-impl<'a> Choices<'a> {
-    /// Those of a database and the index of its messages.
-    pub fn by(database: &'a Database, index: &'a MessageIndex) -> Choices<'a>
+impl<'a> IndexedMessages<'a> {
+    /// The choices of a database, by the index of its messages.
+    pub fn by(database: &'a Database, index: &'a MessageIndex) -> IndexedMessages<'a>
         requires { IsIndexOf database.now index.now }
         ensures { result ≡ database.now }
     {
-        Choices { database, index }
+        IndexedMessages { database, index }
     }
 
     /// The database.
@@ -46,7 +46,7 @@ impl<'a> Choices<'a> {
         self.database
     }
 
-    // What the group of a number of 29 bits goes to.
+    // What the parameter group of an extended (29-bit) CAN identifier goes to.
     fn of_group(&self, number: u32) -> Option<Choice>
         ensures { result ≡ (if is_extended number then first_of_group self.now self.now.messages (group_number_of number) else
             None) }
@@ -58,8 +58,8 @@ impl<'a> Choices<'a> {
         }
     }
 
-    // What a number goes to.
-    #[tactic(auto, using(crate::proofs::Indexes::either), unfolding(crate::specs::Choices::choice_of, crate::specs::Choices::place_of_number))]
+    // What a CAN identifier goes to.
+    #[tactic(auto, using(crate::proofs::Indexes::either), unfolding(crate::specs::Choices::choice_of, crate::specs::Choices::index_of_number))]
     fn find(&self, number: u32) -> Option<Choice>
         ensures { result ≡ choice_of self.now number }
     {
@@ -69,8 +69,8 @@ impl<'a> Choices<'a> {
         }
     }
 
-    /// What a frame goes to: the message whose place [`choose`](crate::choose) finds, and whether it is a group message. It takes
-    /// no memory.
+    /// What a frame goes to: the message whose index [`choose`](crate::choose) finds, and whether it is a J1939
+    /// message. It allocates nothing.
     #[tactic(auto, unfolding(crate::specs::Choices::frame_choice))]
     pub fn choose(&self, frame: &Frame) -> Option<Choice>
         ensures { result ≡ frame_choice self.now frame.now }
@@ -83,17 +83,10 @@ impl<'a> Choices<'a> {
     }
 }
 
-/// The messages of a database by an index.
-#[derive(Drop)]
-pub struct Finding<'c, 'a> {
-    /// The index.
-    pub choices: &'c Choices<'a>,
-}
-
-impl<'c, 'a> Choose for Finding<'c, 'a> {
-    ghost whole = { λ finding. finding.choices.now };
+impl<'a> MessageSearch for IndexedMessages<'a> {
+    ghost whole = { λ database. database };
 
     fn choice(&mut self, number: u32) -> Result<Option<Choice>, Memory> {
-        Ok(self.choices.find(number))
+        Ok(self.find(number))
     }
 }

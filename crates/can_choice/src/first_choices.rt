@@ -1,14 +1,14 @@
-//! Choices found by their keys, as numbers or groups of messages.
+//! Choices found by their keys, such as CAN identifiers or parameter groups of messages.
 ghost use Rattle.std.specs.Prelude.{◌≡◌, ◌==◌, ℕ, List, IfOk, OnOk, Some, None, if◌then◌else◌};
 ghost use Rattle.std.specs.List.Sorted.{IsNonDecreasingBy};
 ghost use Rattle.std.specs.Option.{option_or};
-ghost use Rattle.can_choice.specs.FirstChoices.{key_of, first_choice, StartsAt};
+ghost use Rattle.can_choice.specs.inner.FirstChoices.{key_of, first_choice, StartsAt};
 
 use crate::choosing::Choice;
 use dbc_values::Memory;
 use std::marker::Model;
 
-/// Keys and their choices, in the order of the keys. Of several with one key the first that was added is found.
+/// Keys and their choices, in the order of the keys. Of several with the same key, the first that was added is found.
 #[derive(Drop)]
 pub(crate) struct FirstChoices {
     entries: Vec<(u32, Choice)>,
@@ -17,7 +17,7 @@ pub(crate) struct FirstChoices {
 impl Model for FirstChoices {
     ghost use Rattle.std.specs.Prelude.{ℕ, List};
     ghost use Rattle.std.specs.List.Sorted.{IsNonDecreasingBy};
-    ghost use Rattle.can_choice.specs.FirstChoices.{key_of};
+    ghost use Rattle.can_choice.specs.inner.FirstChoices.{key_of};
     ghost use Rattle.can_choice.specs.declared.choosing.Choice.{Choice};
 
     ghost Value = { List (ℕ × Choice) };
@@ -57,7 +57,7 @@ fn choice_at_key(entry: (u32, Choice), key: u32) -> Option<Choice>
 }
 
 impl FirstChoices {
-    /// These choices, by a stable sort. If their keys are in order already, none moves, and it takes no memory.
+    /// These choices, by a stable sort. If their keys are in order already, none moves, and it allocates nothing.
     pub(crate) fn of(mut entries: Vec<(u32, Choice)>) -> Result<FirstChoices, Memory>
         ensures { IfOk result (λ choices. (key : ℕ) → first_choice key choices ≡ first_choice key entries.items) }
     {

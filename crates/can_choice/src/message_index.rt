@@ -1,26 +1,26 @@
-//! An index of the messages of a database by their numbers and by their groups.
+//! An index of the messages of a database by their CAN identifiers and by their parameter groups.
 ghost use Rattle.std.specs.Prelude.{◌≡◌, ℕ, IfOk, OnOk, Some, None, if◌then◌else◌};
 ghost use Rattle.std.specs.Option.{option_or, is_some};
 ghost use Rattle.can_choice.specs.Choices.{is_group};
-ghost use Rattle.can_choice.specs.FirstChoices.{first_choice};
+ghost use Rattle.can_choice.specs.inner.FirstChoices.{first_choice};
 ghost use Rattle.can_choice.specs.Remembering.{IsIndexOf};
 
 use crate::choosing::{Choice, number_of};
 use crate::first_choices::{FirstChoices, add_choice};
-use can_rows::{Indexed, Lookup, group_in};
+use can_entries::{Indexed, Lookup, group_in};
 use dbc_records::{Database, Message};
 use dbc_values::Memory;
 use std::alloc::Global;
 
-/// The first message of each number and of each group. Numbers are compared, not hashed, so no database, however it is
-/// chosen, makes it slow.
+/// The first message of each CAN identifier and of each parameter group. CAN identifiers are compared, not hashed, so no database,
+/// however crafted, makes it slow.
 #[derive(Drop)]
 pub struct MessageIndex {
     pub(crate) exact: FirstChoices,
     pub(crate) grouped: FirstChoices,
 }
 
-// Adds a choice with its group, if there is one.
+// Adds a choice with its parameter group, if there is one.
 fn add_choice_of_group(
     choices: &mut Vec<(u32, Choice)>,
     group: Option<u32>,
@@ -35,11 +35,11 @@ fn add_choice_of_group(
     }
 }
 
-fn choice_of_group(place: usize, group: Option<u32>) -> Choice
-    ensures { result ≡ record { place = place; group = is_some group } }
+fn choice_of_group(index: usize, group: Option<u32>) -> Choice
+    ensures { result ≡ record { index = index; group = is_some group } }
 {
     Choice {
-        place,
+        index,
         group: group.is_some(),
     }
 }
@@ -51,17 +51,17 @@ fn messages_by<L: Lookup>(lookup: &L) -> &[Message]
 }
 
 impl MessageIndex {
-    /// That of a database whose rows are found by `lookup`.
+    /// The index of a database whose entries are found by `lookup`.
     pub fn by<L: Lookup>(alloc: Global, lookup: &L) -> Result<MessageIndex, Memory>
         ensures { IfOk result (λ index. IsIndexOf (L.whole lookup.now) index) }
     {
         let messages = messages_by(lookup);
         let mut by_number: Vec<(u32, Choice)> = Vec::with_capacity(alloc, messages.len())?;
         let mut by_group: Vec<(u32, Choice)> = Vec::new(alloc);
-        for (place, message) in messages.iter().enumerate() {
+        for (index, message) in messages.iter().enumerate() {
             let number = number_of(message);
             let group = group_in(lookup, number);
-            let choice = choice_of_group(place, group);
+            let choice = choice_of_group(index, group);
             add_choice(&mut by_number, number, choice)?;
             add_choice_of_group(&mut by_group, group, choice)?;
         }
@@ -70,7 +70,7 @@ impl MessageIndex {
         Ok(MessageIndex { exact, grouped })
     }
 
-    /// That of a database.
+    /// The index of a database.
     pub fn of(alloc: Global, database: &Database) -> Result<MessageIndex, Memory>
         ensures { IfOk result (λ index. IsIndexOf database.now index) }
     {

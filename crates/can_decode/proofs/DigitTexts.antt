@@ -23,9 +23,9 @@ pub all_front : (xs ys : List ℕ) → AllDigits 10 (xs ++ ys) → AllDigits 10 
 all_front [] ys a = tt
 all_front (x ∷ xs) ys a = (a.0, all_front xs ys a.1)
 
-pub all_behind : (xs ys : List ℕ) → AllDigits 10 (xs ++ ys) → AllDigits 10 ys
-all_behind [] ys a = a
-all_behind (x ∷ xs) ys a = all_behind xs ys a.1
+pub all_following : (xs ys : List ℕ) → AllDigits 10 (xs ++ ys) → AllDigits 10 ys
+all_following [] ys a = a
+all_following (x ∷ xs) ys a = all_following xs ys a.1
 
 -- a list that is not empty has a last item
 pub record HasLast (xs : List ℕ) : Type 0 where
@@ -94,7 +94,7 @@ same_digits (x ∷ xs) (y ∷ ys) a b many same =
 
 -- ---- zeros first and last
 
--- no zero stands first but alone
+-- no zero comes first, except alone
 abbrev pub NoZeroFirst : List ℕ → Type 0
 NoZeroFirst ds = (rest : List ℕ) → ds ≡ 48 ∷ rest → rest ≡ []
 
@@ -106,7 +106,7 @@ digit_above_zero c small some =
       | inr none ↦ absurd (some (omega (arith, is, none)))
     ]
 
--- several digits without a zero first are as great as their count tells
+-- several digits without a zero first are as great as their count implies
 large_by_count : (ds : List ℕ) → AllDigits 10 ds → NoZeroFirst ds → 1 < length ds → 10 ^ (length ds - 1) ≤ digits_value 10 ds
 large_by_count [] all first many = absurd (omega arith)
 large_by_count (c ∷ []) all first many = absurd (omega arith)
@@ -132,7 +132,7 @@ not_longer xs ys a b first same = elim (cases_lt (length xs) (length ys)) [
   | inr not_so ↦ omega (arith, not_so)
 ]
 
--- whole numbers without a zero first are the same digits where they are the same number
+-- whole numbers without a zero first have the same digits if they are the same number
 pub same_whole : (xs ys : List ℕ) → IsNumeral 10 xs → IsNumeral 10 ys → NoZeroFirst xs → NoZeroFirst ys → digits_value 10 xs
     ≡ digits_value 10 ys → xs ≡ ys
 same_whole xs ys a b x-first y-first same =
@@ -151,7 +151,7 @@ pub no_zero_last : (whole fraction : List ℕ) → AllDigits 10 fraction → 0 <
 no_zero_last whole [] all some last at_zero = absurd (omega arith)
 no_zero_last whole (d ∷ ds) all some last at_zero =
     let h : HasLast (d ∷ ds) = has_last d ds in
-    let alone : AllDigits 10 (h.last ∷ []) = all_behind h.front (h.last ∷ []) (subst (AllDigits 10) h.is all) in
+    let alone : AllDigits 10 (h.last ∷ []) = all_following h.front (h.last ∷ []) (subst (AllDigits 10) h.is all) in
     let joined : whole ++ (d ∷ ds) ≡ (whole ++ h.front) ++ (h.last ∷ []) = ap (λ (xs : List ℕ). whole ++ xs) h.is
     ∙ sym (append_assoc whole h.front (h.last ∷ [])) in
     let rest : digits_value 10 (whole ++ (d ∷ ds)) % 10 ≡ digit_value h.last = ap (λ (xs : List ℕ). digits_value 10 xs % 10) joined

@@ -1,9 +1,9 @@
--- The number of a frame stands for an identifier.
+-- The CAN identifier of a frame represents an identifier.
 use Rattle.std.proofs.Common.{◌≡◌, ℕ, ◌+◌, ◌^◌, ◌/◌, ◌%◌, ◌<◌, ◌≤◌, false, refl, inl, inr, arith}
 use Rattle.std.proofs.lemmas.Bool.{cases_Bool}
 use Rattle.std.proofs.lemmas.Bool.Decides.{nat_tests}
-use Rattle.log_frames.specs.Frames.{Frame, IsFrame, number_of}
-use Rattle.can_rows.specs.Groups.{is_bad_number}
+use Rattle.can_frames.specs.Frames.{Frame, IsFrame, number_of}
+use Rattle.can_entries.specs.Groups.{is_bad_number}
 
 wide_number : (n : ℕ) → n < 2 ^ 29 → is_bad_number (n + 2 ^ 31) ≡ false
 unfolding is_bad_number

@@ -3,8 +3,8 @@ use Rattle.std.proofs.Common.{◌≡◌, ◌==◌, ◌++◌, ℕ, true, false, L
 use Rattle.std.specs.List.{flat_map}
 use Rattle.std.proofs.lemmas.List.Concat.{flat_map-append}
 use Rattle.dbc_values.specs.Lexical.{line_feed}
-use Rattle.line_stream.specs.Lines.{lines_of}
-use Rattle.line_stream.specs.LineTexts.{line_text}
+use Rattle.can_line_stream.specs.Lines.{lines_of}
+use Rattle.can_line_stream.specs.LineTexts.{line_text}
 use Rattle.can_decode.specs.DecodedLines.{Bus, bus_line, decoded_log}
 
 -- the lines up to a line feed, of which there is one at least

@@ -4,7 +4,7 @@ use Rattle.std.specs.Prelude.{ℤ}
 use Rattle.std.specs.Option.{option_map}
 use Rattle.dbc_records.specs.Records.{Entry}
 use Rattle.can_layout.specs.Decoders.{Decoder, first_entry, name_of}
-use Rattle.ready_texts.specs.Shown.{shown}
+use Rattle.dbc_text_buffer.specs.Shown.{shown}
 use Rattle.can_decode.specs.Values.{named_or_number, number_text, decoder_text}
 
 name_is : (decoder : Decoder) (raw : ℤ) (found : Option Entry) (name : List ℕ) → Some name ≡ option_map (λ entry. shown entry.text)

@@ -1,4 +1,4 @@
--- The text of a scaled value is a decimal of it, with nothing needless in it.
+-- The text of a scaled value is a decimal of it, with nothing superfluous in it.
 use Rattle.std.proofs.Common.{◌≡◌, ◌≢◌, ℕ, ℤ, pos, zero, suc, ◌+◌, ◌-◌, ◌*◌, ◌/◌, ◌%◌, ◌^◌, ◌<◌, ◌≤◌, List, [], ◌∷◌, ◌++◌, length}
 use Rattle.std.proofs.Common.{take, drop, get_or, refl, sym, ap, subst, ◌∙◌, add-one, inl, inr, arith}
 use Rattle.std.specs.Prelude.{◌+ℤ◌, ◌*ℤ◌, unsigned_abs, int_lt, decimal}
@@ -17,9 +17,9 @@ use Rattle.dbc_values.proofs.Powers.{tens_more}
 use Rattle.dbc_values.proofs.Scaling.{product_below}
 use Rattle.can_decode.specs.ScaledTexts.{after_point, IsScaledText}
 use Rattle.can_decode.specs.Values.{Fixed, fewest_places, fixed_text, sign_of, scaled_text, scaled}
-use Rattle.can_decode.proofs.DigitTexts.{all_append, all_front, all_behind, NoZeroFirst}
+use Rattle.can_decode.proofs.DigitTexts.{all_append, all_front, all_following, NoZeroFirst}
 
--- ---- the fewest places
+-- ---- the fewest decimal places
 
 record IsFewest (digits places : ℕ) (fixed : Fixed) : Type 0 where
   same : fixed.digits * 10 ^ places ≡ digits * 10 ^ fixed.places
@@ -128,7 +128,7 @@ at_point digits places small some =
       fraction = drop k padded;
       is = with_point (take k padded) (drop k padded) (omega (arith, count, some));
       numeral = (omega (arith, whole-count, many), all_front (take k padded) (drop k padded) both);
-      all = all_behind (take k padded) (drop k padded) both;
+      all = all_following (take k padded) (drop k padded) both;
       value = ap (digits_value 10) joined ∙ value;
       count = count;
       first = λ rest is. elim (cases_lt places (length ds)) [

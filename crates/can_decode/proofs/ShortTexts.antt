@@ -10,10 +10,10 @@ use Rattle.std.proofs.lemmas.List.{get_or-append-add, nil_from_length}
 use Rattle.dbc_records.specs.Layout.{zeros, sign_text}
 use Rattle.dbc_values.proofs.DigitTexts.{value_append}
 use Rattle.std.proofs.lemmas.Nat.{pow-add}
-use Rattle.ready_texts.specs.EightDigits.{eight_digits, StartsWithZeros, EndsInZeros}
+use Rattle.dbc_text_buffer.specs.EightDigits.{eight_digits, StartsWithZeros, EndsInZeros}
 use Rattle.can_decode.specs.ScaledTexts.{after_point, IsScaledText}
 use Rattle.can_decode.specs.Values.{fewest_places, fixed_text, sign_of, scaled_text}
-use Rattle.can_decode.proofs.DigitTexts.{all_front, all_behind, value_of_both}
+use Rattle.can_decode.proofs.DigitTexts.{all_front, all_following, value_of_both}
 use Rattle.can_decode.proofs.OneText.{one_text}
 use Rattle.can_decode.proofs.Pushing.{pushed_then}
 use Rattle.can_decode.proofs.ScaledTexts.{scaled_text_is, zeros_value}
@@ -83,18 +83,18 @@ module _ {digits : List ℕ} {places first last : ℕ} (cut : IsCut digits place
   after : drop (7 - places + 1) digits ≡ fraction digits places last ++ zeros last
   unfolding fraction
   after =
-      let place : 7 - places + 1 + (places - last) ≡ 8 - last = omega (arith, cut.few, cut.back) in
+      let index : 7 - places + 1 + (places - last) ≡ 8 - last = omega (arith, cut.few, cut.back) in
       let rest : drop (places - last) (drop (7 - places + 1) digits) ≡ zeros last =
-      drop-drop (places - last) (7 - places + 1) digits ∙ ap (λ (k : ℕ). drop k digits) (omega (arith, place)) ∙ cut.zeros_last in
+      drop-drop (places - last) (7 - places + 1) digits ∙ ap (λ (k : ℕ). drop k digits) (omega (arith, index)) ∙ cut.zeros_last in
       sym (take-append-drop (places - last) (drop (7 - places + 1) digits))
       ∙ ap (λ (ds : List ℕ). fraction digits places last ++ ds) rest
 
   parts : digits ≡ zeros first ++ (whole digits places first ++ (fraction digits places last ++ zeros last))
   unfolding whole
   parts =
-      let place : first + (8 - places - first) ≡ 7 - places + 1 = omega (arith, cut.few, cut.front) in
+      let index : first + (8 - places - first) ≡ 7 - places + 1 = omega (arith, cut.few, cut.front) in
       let rest : drop (8 - places - first) (drop first digits) ≡ fraction digits places last ++ zeros last =
-      drop-drop (8 - places - first) first digits ∙ ap (λ (k : ℕ). drop k digits) (omega (arith, place)) ∙ after in
+      drop-drop (8 - places - first) first digits ∙ ap (λ (k : ℕ). drop k digits) (omega (arith, index)) ∙ after in
       sym (take-append-drop first digits)
       ∙ ap (λ (ds : List ℕ). ds ++ drop first digits) cut.zeros_first
       ∙ ap (λ (ds : List ℕ). zeros first ++ ds) (sym (take-append-drop (8 - places - first) (drop first digits))
@@ -187,7 +187,7 @@ cut_text n places first last small cut =
     let w : List ℕ = whole digits places first in
     let f : List ℕ = fraction digits places last in
     let all : AllDigits 10 (zeros first ++ (w ++ (f ++ zeros last))) = subst (AllDigits 10) (parts cut) (are_digits n small) in
-    let written : AllDigits 10 (w ++ (f ++ zeros last)) = all_behind (zeros first) (w ++ (f ++ zeros last)) all in
+    let written : AllDigits 10 (w ++ (f ++ zeros last)) = all_following (zeros first) (w ++ (f ++ zeros last)) all in
     let value : n ≡ digits_value 10 (w ++ f) * 10 ^ last = sym (value_is n small) ∙ value_of_written cut in
     let power : 10 ^ places ≡ 10 ^ last * 10 ^ (places - last) = ap (λ (k : ℕ). 10 ^ k) (omega (arith, cut.back))
     ∙ pow-add 10 last (places - last) in
@@ -197,7 +197,7 @@ cut_text n places first last small cut =
       parts = record {
         is = text_is w f (places - last) (fraction_count cut);
         whole = (omega (arith, whole_count cut, cut.few, cut.front), all_front w (f ++ zeros last) written);
-        fraction = all_front f (zeros last) (all_behind w (f ++ zeros last) written);
+        fraction = all_front f (zeros last) (all_following w (f ++ zeros last) written);
       };
       reads = record {
         sign = sym (le-ltb n 0 (omega arith));

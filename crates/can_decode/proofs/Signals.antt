@@ -57,7 +57,7 @@ module _ (test : Row → Bool) (first further : Row → List ℕ) (rows : List R
       let some : (length (filter test (take (i + 1) rows)) == 0) ≡ false = grind (arith, more) in
       ap not (sym some)
 
--- ---- by the row at a place
+-- ---- by the entry at an index
 
 module _ (test : Row → Bool) (first further : Row → List ℕ) (rows : List Row) (i : ℕ) where
   with_row : (row : Row) → Some row ≡ slice_get rows i → true ≡ option_map_or test (slice_get rows i) false

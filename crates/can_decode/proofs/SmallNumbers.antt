@@ -19,10 +19,10 @@ zero_with : (places : ℕ) → scaled_text (pos 0) places ≡ decimal 0
 unfolding scaled_text fixed_text
 zero_with places = ap fixed_text (fewest_zero places)
 
--- a number without places
+-- a number without decimal places
 pub whole_text : (value : ℤ) (number places : ℕ) → value ≡ pos number → places ≡ 0 → scaled_text value places ≡ decimal number
 whole_text value number places is none = rw (is, none) (whole number)
 
--- zero with any places
+-- zero with any decimal places
 pub zero_text : (value : ℤ) (number places : ℕ) → value ≡ pos number → number ≡ 0 → scaled_text value places ≡ decimal number
 zero_text value number places is none = rw (is, none) (zero_with places)

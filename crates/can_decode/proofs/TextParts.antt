@@ -25,18 +25,18 @@ record SameBody (w v f g : List ℕ) : Type 0 where
   whole : w ≡ v
   fraction : f ≡ g
 
-same_behind : (f g : List ℕ) → after_point f ≡ after_point g → f ≡ g
-same_behind [] [] same = refl
-same_behind [] (y ∷ g) same = absurd (not_empty 46 (y ∷ g) same)
-same_behind (x ∷ f) [] same = absurd (not_empty 46 (x ∷ f) (sym same))
-same_behind (x ∷ f) (y ∷ g) same = same_rest 46 46 (x ∷ f) (y ∷ g) same
+same_following : (f g : List ℕ) → after_point f ≡ after_point g → f ≡ g
+same_following [] [] same = refl
+same_following [] (y ∷ g) same = absurd (not_empty 46 (y ∷ g) same)
+same_following (x ∷ f) [] same = absurd (not_empty 46 (x ∷ f) (sym same))
+same_following (x ∷ f) (y ∷ g) same = same_rest 46 46 (x ∷ f) (y ∷ g) same
 
 no_more : (y : ℕ) (v f g : List ℕ) → digit_value y < 10 → after_point f ≡ y ∷ (v ++ after_point g) → ⊥
 no_more y v [] g small same = not_empty y (v ++ after_point g) same
 no_more y v (d ∷ f) g small same = no_digit 46 y small (same_first 46 y (d ∷ f) (v ++ after_point g) same) (omega arith)
 
 same_body : (w v f g : List ℕ) → AllDigits 10 w → AllDigits 10 v → w ++ after_point f ≡ v ++ after_point g → SameBody w v f g
-same_body [] [] f g a b same = record { whole = refl; fraction = same_behind f g same }
+same_body [] [] f g a b same = record { whole = refl; fraction = same_following f g same }
 same_body [] (y ∷ v) f g a b same = absurd (no_more y v f g b.0 same)
 same_body (x ∷ w) [] f g a b same = absurd (no_more x w g f a.0 (sym same))
 same_body (x ∷ w) (y ∷ v) f g a b same =

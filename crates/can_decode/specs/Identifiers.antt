@@ -1,6 +1,6 @@
 -- The fields of a 29-bit identifier, as one value.
 use Rattle.std.specs.Prelude.{ℕ}
-use Rattle.can_rows.specs.Groups.{priority_of, extended_page_of, page_of, format_of, specific_of, source_of}
+use Rattle.can_entries.specs.Groups.{priority_of, extended_page_of, page_of, format_of, specific_of, source_of}
 use Rattle.can_decode.specs.declared.j1939.J1939.{J1939}
 
 abbrev pub fields_of : ℕ → J1939

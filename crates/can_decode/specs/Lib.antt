@@ -1,6 +1,6 @@
-pub use Rattle.log_frames.specs.Frames
-pub use Rattle.line_stream.specs.Lines
-pub use Rattle.line_stream.specs.LineTexts
+pub use Rattle.can_frames.specs.Frames
+pub use Rattle.can_line_stream.specs.Lines
+pub use Rattle.can_line_stream.specs.LineTexts
 pub mod Values
 pub mod ScaledTexts
 pub mod Identifiers

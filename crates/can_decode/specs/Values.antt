@@ -1,18 +1,17 @@
--- The text of a signal's value.
--- Source: cantools, the single-line form of `decode` (a value and its unit, or the text of a value description); the DBC file
--- format, "Signal Definitions" (physical value) and "Signal Value Descriptions". That values are written exactly is the
--- profile of candesk.
+-- The text of a signal's value. Source: cantools, the single-line form of `decode` (a value and its unit, or the text of a value
+-- description); the DBC file format, "Signal Definitions" (physical value) and "Signal Value Descriptions". That values are written
+-- exactly is the profile of candesk.
 use Rattle.std.specs.Prelude.{ℕ, ℤ, zero, suc, ◌+ℤ◌, ◌*ℤ◌, ◌/◌, ◌%◌, ◌==◌, int_lt, pos, unsigned_abs, List, [], ◌++◌, Option, Some}
 use Rattle.std.specs.Prelude.{None, codes, decimal, if◌then◌else◌}
 use Rattle.dbc_values.specs.Scales.{Scale}
 use Rattle.dbc_records.specs.Layout.{point_before_last, filled}
 use Rattle.dbc_records.specs.Records.{Entry}
 use Rattle.can_bits.specs.Bits.{raw_value}
-use Rattle.can_layout.specs.Pictures.{cause_word}
+use Rattle.can_layout.specs.Diagrams.{cause_word}
 use Rattle.can_layout.specs.declared.row.Reading.{Reading}
 use Rattle.can_layout.specs.declared.row.Reading.TheVariants.{Refused, Read}
 use Rattle.can_layout.specs.Decoders.{Decoder, unit_text, first_entry}
-use Rattle.ready_texts.specs.Shown.{shown}
+use Rattle.dbc_text_buffer.specs.Shown.{shown}
 
 -- ---- exact decimals
 
@@ -21,7 +20,7 @@ pub record Fixed : Type 0 where
   pub digits : ℕ
   pub places : ℕ
 
--- the same number with the fewest places: no zero stands last after the point
+-- the same number with the fewest decimal places: no zero is last after the point
 abbrev pub fewest_places : ℕ → ℕ → Fixed
 fewest_places digits zero = record { digits = digits; places = 0 }
 fewest_places digits (suc places) = if digits % 10 == 0 then fewest_places (digits / 10) places else record {
@@ -29,7 +28,7 @@ fewest_places digits (suc places) = if digits % 10 == 0 then fewest_places (digi
   places = suc places;
 }
 
--- at least one digit stands before the point
+-- at least one digit is before the point
 unfoldable pub fixed_text : Fixed → List ℕ
 fixed_text fixed = if fixed.places == 0 then decimal fixed.digits else point_before_last fixed.places
     (filled fixed.places (decimal fixed.digits))
@@ -37,7 +36,7 @@ fixed_text fixed = if fixed.places == 0 then decimal fixed.digits else point_bef
 abbrev pub sign_of : ℤ → List ℕ
 sign_of value = if int_lt value (pos 0) then codes "-" else []
 
--- the one decimal of `value` over ten to the number of places
+-- the one decimal of `value` over ten to the number of decimal places
 unfoldable pub scaled_text : ℤ → ℕ → List ℕ
 scaled_text value places = sign_of value ++ fixed_text (fewest_places (unsigned_abs value) places)
 

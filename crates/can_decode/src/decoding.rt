@@ -1,4 +1,4 @@
-//! A database with all that decoding its bus needs.
+//! A database with all that is needed to decode its bus.
 ghost use Rattle.std.specs.Prelude.{◌≡◌, IfOk, OnOk, length, map};
 ghost use Rattle.can_layout.specs.Plans.{plan_of};
 ghost use Rattle.can_layout.specs.Meters.{with_plan, repeated, AtMost};
@@ -6,14 +6,14 @@ ghost use Rattle.can_decode.specs.Decodings.{IsDecoding};
 
 use crate::line::Finder;
 use crate::short::Short;
-use can_choice::{Choices, Choose, MessageIndex};
+use can_choice::{IndexedMessages, MessageIndex, MessageSearch};
 use can_layout::{Indexed, Meter, Plan, plans_with};
 use dbc_records::Database;
 use dbc_values::Memory;
 use std::alloc::Global;
 use std::marker::Model;
 
-/// A database with the plans of its messages in order and the index of them, and what is said of truncated frames. Contracts see
+/// A database with the plans of its messages in order and the index of them, and how truncated frames are decoded. Contracts see
 /// the database and that choice.
 #[derive(Drop)]
 pub struct Decoding {
@@ -34,7 +34,7 @@ impl Model for Decoding {
     ghost invariant = { λ a. IsDecoding a.database a.plans.items a.index };
 }
 
-// The plans and the index of a database, by one index of its rows.
+// The plans and the index of a database, by one index of its entries.
 fn parts_of(
     alloc: Global,
     database: &Database,
@@ -51,7 +51,7 @@ fn parts_of(
 }
 
 impl Decoding {
-    /// That of a database. Its rows are indexed once. The meter counts each plan, also where memory is refused.
+    /// The decoding of a database. Its entries are indexed once. The meter counts each plan, even if memory runs out.
     pub fn of(
         alloc: Global,
         database: Database,
@@ -78,7 +78,7 @@ impl Decoding {
         &self.database
     }
 
-    /// What is said of frames that are shorter than their message.
+    /// How truncated frames are decoded.
     pub fn short(&self) -> Short
         ensures { result ≡ self.now.short }
     {
@@ -92,15 +92,15 @@ impl Decoding {
         self.plans.as_slice()
     }
 
-    /// What each number goes to.
-    pub fn choices(&self) -> Choices<'_>
+    /// What each CAN identifier goes to.
+    pub fn choices(&self) -> IndexedMessages<'_>
         ensures { result ≡ self.now.database }
     {
-        Choices::by(&self.database, &self.index)
+        IndexedMessages::by(&self.database, &self.index)
     }
 
-    /// What finds the messages of its frames, by what chooses them.
-    pub fn finder<'a, C: Choose>(&'a self, chooser: C) -> Finder<'a, C>
+    /// What finds the messages of its frames, given what chooses them.
+    pub fn finder<'a, C: MessageSearch>(&'a self, chooser: C) -> Finder<'a, C>
         requires { C.whole chooser ≡ self.now.database }
         ensures { result ≡ self.now }
     {

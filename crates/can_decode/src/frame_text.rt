@@ -1,17 +1,17 @@
-//! What is said of a frame, as text.
+//! The decoded frame, as text.
 ghost use Rattle.std.specs.Prelude.{◌≡◌, ◌++◌, OnOk, codes, option_map};
 ghost use Rattle.std.specs.List.{flat_map};
 ghost use Rattle.can_decode.specs.DecodedLines.{wrong_size_text, unknown_text, data_text, text_of_kind};
 
 use crate::message::push_message;
 use crate::target::Target;
+use can_frames::{Frame, Kind};
+use dbc_text_buffer::{TextBuffer, push_bytes};
 use dbc_values::Memory;
 use itoa::Buffer;
-use log_frames::{Frame, Kind};
-use ready_texts::{TextBuffer, push_bytes};
 use std::alloc::Global;
 
-// Pieces, one after another.
+// Appends the pieces in order.
 fn push_pieces(text: &mut TextBuffer, pieces: &[&[u8]]) -> Result<(), Memory>
     ensures { OnOk result (text.new.items ≡ text.old.items ++ flat_map (λ piece. piece.now) pieces.now) }
 {
@@ -53,7 +53,7 @@ fn push_unknown(alloc: Global, text: &mut TextBuffer, identifier: u32) -> Result
     push_pieces(text, &pieces)
 }
 
-// What is said of a data frame.
+// The text of a data frame.
 fn push_data(
     alloc: Global,
     text: &mut TextBuffer,
@@ -72,7 +72,7 @@ fn push_data(
     }
 }
 
-// What is said of a frame, by what it goes to.
+// The text of a frame, given what it goes to.
 fn push_frame(
     alloc: Global,
     text: &mut TextBuffer,
@@ -89,8 +89,8 @@ fn push_frame(
     }
 }
 
-/// What the frame of a line says, by what it goes to, and what stands before that.
-pub(crate) fn push_known(
+/// The decoded frame of a line, given what it goes to, after ` :: `.
+pub(crate) fn push_decoded(
     alloc: Global,
     text: &mut TextBuffer,
     frame: &Frame,

@@ -2,10 +2,10 @@
 ghost use Rattle.std.specs.Prelude.{◌≡◌};
 ghost use Rattle.can_decode.specs.Identifiers.{fields_of};
 
-/// What SAE J1939-21 reads in a 29-bit identifier ("Protocol Data Unit Fields").
+/// The fields that SAE J1939-21 reads from a 29-bit identifier ("Protocol Data Unit Fields").
 #[derive(Clone, Copy, Debug, PartialEq, Eq)]
 pub struct J1939 {
-    /// The priority, 0 to 7: the lower goes first.
+    /// The priority, 0 to 7: the lower takes precedence.
     pub priority: u8,
     /// The extended data page, 0 or 1.
     pub extended_page: u8,
@@ -13,14 +13,14 @@ pub struct J1939 {
     pub page: u8,
     /// The PDU format.
     pub format: u8,
-    /// The PDU specific: below format 240 the destination address, else a part of the group number.
+    /// The PDU specific: below format 240 the destination address, otherwise a part of the PGN.
     pub specific: u8,
     /// The source address.
     pub source: u8,
 }
 
 impl J1939 {
-    /// The fields of an identifier. Its bits 29 to 31 count for nothing.
+    /// The fields of an identifier. Its bits 29 to 31 are ignored.
     pub fn of(identifier: u32) -> J1939
         ensures { result ≡ fields_of identifier }
     {

@@ -2,19 +2,19 @@
 ghost use Rattle.std.specs.Prelude.{◌≡◌, ◌<◌, ◌≤◌, ◌^◌, ◌++◌, ℕ, ℤ, List, [], ◌∷◌, unsigned_abs, false};
 ghost use Rattle.dbc_values.specs.Lexical.{line_feed};
 ghost use Rattle.dbc_values.specs.Scales.{Scale, IsScale};
-ghost use Rattle.log_frames.specs.Frames.{Frame, IsFrame, number_of};
-ghost use Rattle.can_rows.specs.Groups.{is_bad_number};
+ghost use Rattle.can_frames.specs.Frames.{Frame, IsFrame, number_of};
+ghost use Rattle.can_entries.specs.Groups.{is_bad_number};
 ghost use Rattle.can_decode.specs.DecodedLines.{Bus, decoded_log};
 ghost use Rattle.can_decode.specs.Values.{scaled, scaled_text};
 ghost use Rattle.can_decode.specs.ScaledTexts.{IsScaledText};
 
-/// The number of a frame stands for an identifier.
+/// The CAN identifier of a frame with bit 31 set for an extended (29-bit) one.
 pub fn frame_numbers()
     ensures { (frame : Frame) → IsFrame frame → is_bad_number (number_of frame) ≡ false }
 {}
 
-/// The text of a scaled value is a decimal of it with nothing needless in it. No other text is one, and the text is one of no other
-/// value. Numbers are written with up to 64 digits; the values of a scale have fewer.
+/// The text of a scaled value is a decimal of it with nothing superfluous in it. No other text is one, and the text is one of no
+/// other value. Numbers are written with up to 64 digits; the values of a scale have fewer.
 pub fn one_scaled_text()
     ensures is { (value : ℤ) (places : ℕ) → unsigned_abs value < 10 ^ 64 → IsScaledText value places (scaled_text value places) }
     ensures one { (value : ℤ) (places : ℕ) (a b : List ℕ) → IsScaledText value places a → IsScaledText value places b → a ≡ b }
@@ -23,8 +23,8 @@ pub fn one_scaled_text()
         → IsScaledText (scaled scale raw) scale.places (scaled_text (scaled scale raw) scale.places) }
 {}
 
-/// A log in two parts, of which the first ends in a line feed, is decoded as the first part and then the second: so logs may be cut
-/// at line ends, and the parts decoded apart.
+/// A log in two parts, of which the first ends in a line feed, is decoded as the first part and then the second: so logs may be
+/// split at line ends, and the parts decoded separately.
 #[tactic(auto, using(crate::proofs::LogParts::decoded_parts))]
 pub fn parts_of_a_log()
     ensures { (bus : Bus) (front back : List ℕ) → decoded_log bus (front ++ line_feed ∷ back)

@@ -1,6 +1,6 @@
 //! Log lines in, decoded lines out.
 //!
-//! [`decode_line`] says what the frame of a line is by a database and the plans of its messages; [`choose`] tells which message
+//! [`decode_line`] decodes the frame of a line by a database and the plans of its messages; [`choose`] determines which message
 //! a frame goes to.
 #![tactic(auto)]
 
@@ -18,15 +18,15 @@ mod stream;
 mod target;
 mod value;
 
-pub use can_choice::{Choices, MessageIndex, choose};
-pub use can_rows::group_number;
+pub use can_choice::{IndexedMessages, MessageIndex, choose};
+pub use can_entries::group_number;
+pub use can_frames::{Frame, Kind, read_frame};
+pub use can_line_stream::StreamFault;
 pub use decoding::Decoding;
 pub use j1939::J1939;
 pub use known_line::{Bus, decode_at};
 pub use line::{Finder, decode_line};
-pub use line_stream::StreamFault;
 pub use listing::{SignalText, push_signals};
-pub use log_frames::{Frame, Kind, read_frame};
 pub use message::push_number;
 pub use read_line::ReadLine;
 pub use short::Short;

@@ -2,38 +2,38 @@
 ghost use Rattle.std.specs.Prelude.{◌≡◌, ◌<◌, ◌++◌, OnOk, IfOk, IfSome, Some, length, map, slice_get, option_map};
 ghost use Rattle.can_layout.specs.Plans.{plan_of};
 ghost use Rattle.can_layout.specs.Meters.{with_line};
-ghost use Rattle.can_choice.specs.Choices.{choice_at, frame_choice, line_place};
+ghost use Rattle.can_choice.specs.Choices.{choice_at, frame_choice, line_index};
 ghost use Rattle.can_decode.specs.DecodedLines.{target_of, chosen_target, bus_line, decoded_line};
 
-use crate::frame_text::push_known;
+use crate::frame_text::push_decoded;
 use crate::known_line::decode_at;
 use crate::read_line::ReadLine;
 use crate::short::Short;
 use crate::target::Target;
-use can_choice::{Choice, Choose, choose, message_at};
+use can_choice::{Choice, MessageSearch, choose, message_at};
+use can_frames::{Frame, body_of, fill_frame};
 use can_layout::{Meter, Plan};
 use dbc_records::Database;
+use dbc_text_buffer::{TextBuffer, push_bytes};
 use dbc_values::Memory;
-use log_frames::{Frame, body_of, fill_frame};
-use ready_texts::{TextBuffer, push_bytes};
 use std::alloc::Global;
 use std::marker::Model;
 
-/// Where the messages of frames are looked for: a database, the plans of its messages in order, what is said of truncated frames,
-/// and what finds the message of a number.
+/// Where the messages of frames are looked up: a database, the plans of its messages in order, how truncated frames are decoded,
+/// and what finds the message of a CAN identifier.
 #[derive(Drop)]
-pub struct Finder<'a, C: Choose> {
+pub struct Finder<'a, C: MessageSearch> {
     /// The database.
     pub database: &'a Database,
     /// The plans of its messages.
     pub plans: &'a [Plan],
-    /// What is said of frames that are shorter than their message.
+    /// How truncated frames are decoded.
     pub short: Short,
-    /// What finds the message of a number.
+    /// What finds the message of a CAN identifier.
     pub chooser: C,
 }
 
-impl<'a, C: Choose> Model for Finder<'a, C> {
+impl<'a, C: MessageSearch> Model for Finder<'a, C> {
     ghost use Rattle.can_decode.specs.DecodedLines.{Bus};
     ghost use Rattle.can_decode.specs.Decodings.{DecodesBy};
 
@@ -44,21 +44,21 @@ impl<'a, C: Choose> Model for Finder<'a, C> {
     ghost invariant = { λ a. DecodesBy a.database.now a.plans.now (C.whole a.chooser) };
 }
 
-fn plan_at(plans: &[Plan], place: usize) -> Option<&Plan>
-    ensures { option_map (λ plan. plan.now) result ≡ slice_get plans.now place }
+fn plan_at(plans: &[Plan], index: usize) -> Option<&Plan>
+    ensures { option_map (λ plan. plan.now) result ≡ slice_get plans.now index }
 {
-    plans.get(place)
+    plans.get(index)
 }
 
-impl<'a, C: Choose> Finder<'a, C> {
+impl<'a, C: MessageSearch> Finder<'a, C> {
     /// The message of a choice, with its plan.
     pub fn target_at(&self, choice: Choice) -> Option<Target<'a>>
-        requires { choice ≡ choice_at self.now.database choice.place }
+        requires { choice ≡ choice_at self.now.database choice.index }
         ensures { result ≡ option_map (target_of self.now.short self.now.database) (slice_get self.now.database.messages
-            choice.place) }
+            choice.index) }
     {
-        let message = message_at(self.database, choice.place)?;
-        let plan = plan_at(self.plans, choice.place)?;
+        let message = message_at(self.database, choice.index)?;
+        let plan = plan_at(self.plans, choice.index)?;
         Some(Target {
             message,
             plan,
@@ -67,7 +67,7 @@ impl<'a, C: Choose> Finder<'a, C> {
         })
     }
 
-    /// The choice of a frame, if it is a data frame that goes to a message. Only what remembers takes memory.
+    /// The choice of a frame, if it is a data frame that goes to a message. Only a chooser that caches allocates.
     #[tactic(auto, unfolding(can_choice::specs::Choices::frame_choice))]
     pub fn choose(&mut self, frame: &Frame) -> Result<Option<Choice>, Memory>
         ensures choice { IfOk result (λ choice. choice ≡ frame_choice self.old.database frame.now) }
@@ -81,7 +81,7 @@ impl<'a, C: Choose> Finder<'a, C> {
     }
 
     // What a frame goes to.
-    #[tactic(auto, unfolding(crate::specs::DecodedLines::chosen_target, can_choice::specs::Choices::chosen_place, can_choice::specs::Choices::frame_choice, can_choice::specs::Choices::choice_of))]
+    #[tactic(auto, unfolding(crate::specs::DecodedLines::chosen_target, can_choice::specs::Choices::chosen_index, can_choice::specs::Choices::frame_choice, can_choice::specs::Choices::choice_of))]
     fn target_of(&mut self, frame: &Frame) -> Result<Option<Target<'a>>, Memory>
         ensures target { IfOk result (λ target. target ≡ chosen_target self.old.short self.old.database frame.now) }
         ensures same { self.new ≡ self.old }
@@ -93,9 +93,9 @@ impl<'a, C: Choose> Finder<'a, C> {
     }
 }
 
-/// A line, and what its frame says.
+/// A line, and its decoded frame.
 #[tactic(auto, using(crate::proofs::Pushing::pushed_then), unfolding(crate::specs::DecodedLines::decoded_line))]
-pub(crate) fn push_line<C: Choose>(
+pub(crate) fn push_line<C: MessageSearch>(
     alloc: Global,
     text: &mut TextBuffer,
     finder: &mut Finder<'_, C>,
@@ -110,36 +110,35 @@ pub(crate) fn push_line<C: Choose>(
         return Ok(());
     }
     let target = finder.target_of(&frame)?;
-    push_known(alloc, text, &frame, target.as_ref())
+    push_decoded(alloc, text, &frame, target.as_ref())
 }
 
 // The plan of a message that is there.
-fn known_plan(plans: &[Plan], place: usize) -> &Plan
-    requires { place < length plans.now }
-    ensures { Some result.now ≡ slice_get plans.now place }
+fn known_plan(plans: &[Plan], index: usize) -> &Plan
+    requires { index < length plans.now }
+    ensures { Some result.now ≡ slice_get plans.now index }
 {
-    &plans[place]
+    &plans[index]
 }
 
-// The place of the message that the frame of a line goes to, with the plan of that message.
+// The index of the message that the frame of a line goes to, with the plan of that message.
 fn chosen_of<'a>(
     database: &Database,
     plans: &'a [Plan],
     line: &ReadLine<'_>,
 ) -> Option<(usize, &'a Plan)>
     requires { plans.now ≡ map (plan_of database.now) database.now.messages }
-    ensures place { option_map (λ one. one.0) result ≡ line_place database.now line.now }
+    ensures index { option_map (λ one. one.0) result ≡ line_index database.now line.now }
     ensures plan { IfSome result (λ one. Some one.1.now ≡ option_map (plan_of database.now) (slice_get database.now.messages
         one.0)) }
 {
     let frame = line.frame()?;
-    let place = choose(database, frame)?;
-    Some((place, known_plan(plans, place)))
+    let index = choose(database, frame)?;
+    Some((index, known_plan(plans, index)))
 }
 
-/// The decoded line: the line without a final CR, and after it what its frame says. `plans` are those of the messages
-/// in order, and `short` tells what is said of frames that are shorter than their message. The meter counts it, also where memory
-/// is refused.
+/// The decoded line: the line without a final CR, followed by its decoded frame. `plans` are those of the messages in order, and
+/// `short` determines how truncated frames are decoded. The meter counts it, even if memory runs out.
 pub fn decode_line(
     alloc: Global,
     database: &Database,

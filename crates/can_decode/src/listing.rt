@@ -6,8 +6,8 @@ ghost use Rattle.can_layout.specs.declared.row.Row.{Row as PlainRow};
 ghost use Rattle.can_decode.specs.DecodedLines.{is_shown, shown_rows, listed, IsListedTo};
 
 use can_layout::{Plan, Presence};
+use dbc_text_buffer::TextBuffer;
 use dbc_values::Memory;
-use ready_texts::TextBuffer;
 use std::ops::Range;
 
 /// What is written of the signals of a message.
@@ -25,34 +25,34 @@ pub trait SignalText: Drop {
     fn plan(&self) -> &Plan
         ensures { result.now ≡ plan_of self.now };
 
-    /// Appends what is written of the signal at an index. `some` says whether one is shown before it.
+    /// Appends what is written of the signal at an index. `some` is true if one is shown before it.
     fn push(
         &self,
         text: &mut TextBuffer,
         some: bool,
-        place: usize,
+        index: usize,
         bytes: &[u8],
     ) -> Result<(), Memory>
-        requires { place < length (plan_of self.now).rows }
-        ensures { OnOk result ((row : PlainRow) → Some row ≡ slice_get (plan_of self.now).rows place
+        requires { index < length (plan_of self.now).rows }
+        ensures { OnOk result ((row : PlainRow) → Some row ≡ slice_get (plan_of self.now).rows index
             → text.new.items ≡ text.old.items ++ (if some then further self.now bytes.now row else first self.now bytes.now row)) };
 }
 
-// Whether the signal at a place is shown, where `there` says whether it is in the data.
+// Whether the signal at an index is shown, where `there` is true if it is present.
 #[inline(always)]
-fn is_shown<T: SignalText>(signals: &T, there: bool, place: usize, bytes: &[u8]) -> bool
-    requires place { place < length (T.plan_of signals.now).rows }
-    requires there { there ≡ is_present bytes.now (T.plan_of signals.now).rows (slice_get (T.plan_of signals.now).rows place) }
-    ensures { result ≡ option_map_or (is_shown bytes.now (T.plan_of signals.now)) (slice_get (T.plan_of signals.now).rows place)
+fn is_shown<T: SignalText>(signals: &T, there: bool, index: usize, bytes: &[u8]) -> bool
+    requires index { index < length (T.plan_of signals.now).rows }
+    requires there { there ≡ is_present bytes.now (T.plan_of signals.now).rows (slice_get (T.plan_of signals.now).rows index) }
+    ensures { result ≡ option_map_or (is_shown bytes.now (T.plan_of signals.now)) (slice_get (T.plan_of signals.now).rows index)
         false }
 {
     let plan = signals.plan();
-    let row = plan.row(place);
+    let row = plan.row(index);
     there && (bytes.len() >= usize::from(plan.size()) || row.is_whole(bytes))
 }
 
-// The signals of a run that are shown, after others if `some` says so. All of the run are in the data. It returns whether some
-// signal was shown.
+// The signals of a run that are shown, after others if `some` is true. All of the run are present. It returns whether
+// some signal was shown.
 #[inline(always)]
 fn push_run<T: SignalText>(
     text: &mut TextBuffer,
@@ -63,8 +63,8 @@ fn push_run<T: SignalText>(
 ) -> Result<bool, Memory>
     requires order { run.start ≤ run.end }
     requires within { run.end ≤ length (T.plan_of signals.now).rows }
-    requires there { (place : ℕ) → run.start ≤ place → place < run.end
-        → true ≡ is_present bytes.now (T.plan_of signals.now).rows (slice_get (T.plan_of signals.now).rows place) }
+    requires there { (index : ℕ) → run.start ≤ index → index < run.end
+        → true ≡ is_present bytes.now (T.plan_of signals.now).rows (slice_get (T.plan_of signals.now).rows index) }
     ensures { IfOk result (λ any. (before : List ℕ) → IsListedTo (T.first signals.now) (T.further signals.now) before bytes.now
         (T.plan_of signals.now) run.start text.old.items some
         → IsListedTo (T.first signals.now) (T.further signals.now) before bytes.now (T.plan_of signals.now) run.end text.new.items
@@ -80,7 +80,7 @@ fn push_run<T: SignalText>(
     Ok(any)
 }
 
-// The signals that are shown, where some have a multiplexor. Runs of signals that are not in the data are skipped.
+// The signals that are shown, if some have a multiplexor. Runs of signals that are not present are skipped.
 #[inline(never)]
 fn push_runs<T: SignalText>(text: &mut TextBuffer, signals: &T, bytes: &[u8]) -> Result<(), Memory>
     ensures { OnOk result (text.new.items ≡ text.old.items ++ listed (T.first signals.now bytes.now)
@@ -101,8 +101,8 @@ fn push_runs<T: SignalText>(text: &mut TextBuffer, signals: &T, bytes: &[u8]) ->
     Ok(())
 }
 
-/// Appends what is written of the signals that are shown, in order. It is faster as a function of its own, with all registers for
-/// its loop.
+/// Appends what is written of the signals that are shown, in order. It is faster as a separate function, with all
+/// registers for its loop.
 #[inline(never)]
 pub fn push_signals<T: SignalText>(
     text: &mut TextBuffer,

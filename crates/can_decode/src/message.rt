@@ -1,4 +1,4 @@
-//! What a frame says by its message, as text.
+//! A frame decoded by its message, as text.
 ghost use Rattle.std.specs.Prelude.{◌≡◌, ℕ, List, ◌<◌, ◌≤◌, ◌++◌, true, false, length, slice_get, IfOk, OnOk, codes, decimal};
 ghost use Rattle.std.specs.Prelude.{if◌then◌else◌};
 ghost use Rattle.can_layout.specs.Plans.{label_of};
@@ -9,10 +9,10 @@ use crate::j1939::J1939;
 use crate::listing::{SignalText, push_signals};
 use crate::target::Target;
 use crate::value::push_reading;
+use can_frames::Frame;
 use can_layout::{Plan, Row};
+use dbc_text_buffer::{Digits, ReadyText, TextBuffer, push_bytes, push_small_number};
 use dbc_values::Memory;
-use log_frames::Frame;
-use ready_texts::{Digits, ReadyText, TextBuffer, push_bytes, push_small_number};
 use std::marker::Model;
 
 /// A whole number.
@@ -27,7 +27,7 @@ pub fn push_number(text: &mut TextBuffer, number: u64) -> Result<(), Memory>
     digits.push_first(text, digits.len())
 }
 
-// What stands before the value of a signal, after others where `some` says so.
+// What is before the value of a signal, after others if `some` is true.
 #[inline(always)]
 fn push_label(text: &mut TextBuffer, some: bool, label: &ReadyText, row: &Row) -> Result<(), Memory>
     requires { label.now ≡ label_of row.now }
@@ -40,7 +40,7 @@ fn push_label(text: &mut TextBuffer, some: bool, label: &ReadyText, row: &Row) -
     }
 }
 
-// A signal, after others where `some` says so.
+// A signal, after others if `some` is true.
 #[inline(always)]
 fn push_next(
     text: &mut TextBuffer,
@@ -90,15 +90,15 @@ impl<'a> SignalText for PlainSignals<'a> {
         &self,
         text: &mut TextBuffer,
         some: bool,
-        place: usize,
+        index: usize,
         bytes: &[u8],
     ) -> Result<(), Memory> {
-        let (label, row) = self.plan.labelled(place);
+        let (label, row) = self.plan.labelled(index);
         push_next(text, some, label, row, bytes)
     }
 }
 
-// The signals that are shown, a comma and a blank between them.
+// The signals that are shown, with a comma and a blank between them.
 fn push_plain(text: &mut TextBuffer, plan: &Plan, bytes: &[u8]) -> Result<(), Memory>
     ensures { OnOk result (text.new.items ≡ text.old.items ++ signals_text bytes.now
         (shown_rows bytes.now plan.now plan.now.rows)) }

@@ -1,23 +1,23 @@
 //! Lines that were read.
 ghost use Rattle.std.specs.Prelude.{◌≡◌, Some, None, option_map, if◌then◌else◌};
-ghost use Rattle.log_frames.specs.Frames.{body_of, frame_of};
+ghost use Rattle.can_frames.specs.Frames.{body_of, frame_of};
 ghost use Rattle.can_choice.specs.Choices.{data_number, number_of_data};
 
-use log_frames::{Frame, fill_frame};
+use can_frames::{Frame, fill_frame};
 use std::marker::Model;
 
 /// A line of a log, and the frame that was read in it, if it has one. Contracts see the line.
 #[derive(Drop)]
 pub struct ReadLine<'l> {
     line: &'l [u8],
-    // Whether the line has a frame. Without one, what stands in its place means nothing.
+    // Whether the line has a frame. Without one, what is in its place is meaningless.
     is_frame: bool,
     frame: Frame,
 }
 
 impl<'l> Model for ReadLine<'l> {
     ghost use Rattle.std.specs.Prelude.{◌≡◌, ℕ, List, Some, None, if◌then◌else◌};
-    ghost use Rattle.log_frames.specs.Frames.{body_of, frame_of};
+    ghost use Rattle.can_frames.specs.Frames.{body_of, frame_of};
 
     ghost Value = { List ℕ };
 
@@ -68,7 +68,7 @@ impl<'l> ReadLine<'l> {
         }
     }
 
-    /// The number of its frame, where that is a data frame: what a database knows it by.
+    /// The CAN identifier of its frame, if that is a data frame, as a database has it.
     #[tactic(auto, unfolding(can_choice::specs::Choices::data_number))]
     pub fn number(&self) -> Option<u32>
         ensures { result ≡ data_number self.now }

@@ -3,12 +3,12 @@ ghost use Rattle.std.specs.Prelude.{◌≡◌};
 ghost use Rattle.can_decode.specs.declared.short.Short.TheVariants.{Refuse};
 ghost use Rattle.can_decode.specs.DecodedLines.{is_refused};
 
-/// What is said of a frame that has less data than its message.
+/// How a frame that has less data than its message (a truncated frame) is decoded.
 #[derive(Clone, Copy, Debug, PartialEq, Eq)]
 pub enum Short {
-    /// That its data has the wrong size.
+    /// It is reported as having the wrong data size.
     Refuse,
-    /// The signals that are there and have all their bits in the data.
+    /// The signals that are present and have all their bits in the data.
     Show,
 }
 
@@ -21,7 +21,7 @@ impl Default for Short {
 }
 
 impl Short {
-    /// Whether a frame is refused that has so many bytes of data, where its message has `wanted`.
+    /// Whether a frame with this many bytes of data is refused, if its message has `wanted`.
     pub fn refuses(self, there: usize, wanted: u16) -> bool
         ensures { result ≡ is_refused self there wanted }
     {

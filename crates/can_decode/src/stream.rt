@@ -1,6 +1,6 @@
 //! A log in, its decoded lines out.
 ghost use Rattle.std.specs.Prelude.{◌≡◌, ℕ, List, map};
-ghost use Rattle.line_stream.specs.LineTexts.{StreamsTexts, StreamsLines};
+ghost use Rattle.can_line_stream.specs.LineTexts.{StreamsTexts, StreamsLines};
 ghost use Rattle.can_layout.specs.Plans.{plan_of};
 ghost use Rattle.can_layout.specs.Meters.{with_line, repeated};
 ghost use Rattle.can_decode.specs.Counting.{refused_count, counted};
@@ -10,24 +10,24 @@ use crate::decoding::Decoding;
 use crate::line::{Finder, push_line};
 use crate::short::Short;
 use byte_devices::{Sink, Source};
-use can_choice::{Choose, Finding, Remembered, Walking};
+use can_choice::{CachedSearch, LinearSearch, MessageSearch};
 use can_layout::{Meter, Plan};
+use can_line_stream::{LineText, StreamFault, stream_texts};
 use dbc_records::Database;
+use dbc_text_buffer::TextBuffer;
 use dbc_values::Memory;
-use line_stream::{LineText, StreamFault, stream_texts};
-use ready_texts::TextBuffer;
 use std::alloc::Global;
 use std::mem::swap;
 
-// The decoded lines of a database. What numbers went to is remembered.
+// The decoded lines of a database. The choice for each CAN identifier is cached.
 #[derive(Drop)]
-struct PlainLines<'a, C: Choose> {
-    finder: Finder<'a, Remembered<C>>,
+struct PlainLines<'a, C: MessageSearch> {
+    finder: Finder<'a, CachedSearch<C>>,
 }
 
-impl<'a, C: Choose> LineText for PlainLines<'a, C> {
+impl<'a, C: MessageSearch> LineText for PlainLines<'a, C> {
     ghost use Rattle.std.proofs.Common.{refl};
-    ghost use Rattle.line_stream.specs.LineTexts.{line_text};
+    ghost use Rattle.can_line_stream.specs.LineTexts.{line_text};
     ghost use Rattle.can_decode.specs.DecodedLines.{bus_line};
 
     ghost text_of = { λ lines. line_text (bus_line lines.finder) };
@@ -67,19 +67,22 @@ impl<T: LineText> LineText for Counted<T> {
     ghost same_texts = { λ counted line. T.same_texts counted.texts line };
 }
 
-/// A finder that remembers what numbers went to.
-pub fn remembering<'a, C: Choose>(alloc: Global, finder: Finder<'a, C>) -> Finder<'a, Remembered<C>>
+/// A finder that caches the choice for each CAN identifier.
+pub fn remembering<'a, C: MessageSearch>(
+    alloc: Global,
+    finder: Finder<'a, C>,
+) -> Finder<'a, CachedSearch<C>>
     ensures { result ≡ finder.entry }
 {
     Finder {
         database: finder.database,
         plans: finder.plans,
         short: finder.short,
-        chooser: Remembered::new(alloc, finder.chooser),
+        chooser: CachedSearch::new(alloc, finder.chooser),
     }
 }
 
-// Counts the line that memory was wanting for.
+// Counts the line for which memory ran out.
 fn count_refused(ended: &Result<u64, StreamFault>, meter: &mut Meter)
     ensures { meter.new ≡ repeated (refused_count ended.now) with_line meter.old }
 {
@@ -88,8 +91,8 @@ fn count_refused(ended: &Result<u64, StreamFault>, meter: &mut Meter)
     }
 }
 
-/// Writes what `texts` makes of each line. The meter counts each line whose text was made, and the one that memory was
-/// wanting for.
+/// Writes the text that `texts` makes of each line. The meter counts each line whose text was made, and the one for
+/// which memory ran out.
 pub fn stream_counted<T: LineText, R: Source, W: Sink>(
     alloc: Global,
     texts: T,
@@ -112,8 +115,8 @@ pub fn stream_counted<T: LineText, R: Source, W: Sink>(
     ended
 }
 
-// Decodes by what finds the messages of numbers.
-fn stream_by<'a, C: Choose, R: Source, W: Sink>(
+// Decodes by what finds the messages of CAN identifiers.
+fn stream_by<'a, C: MessageSearch, R: Source, W: Sink>(
     alloc: Global,
     finder: Finder<'a, C>,
     meter: &mut Meter,
@@ -130,14 +133,13 @@ fn stream_by<'a, C: Choose, R: Source, W: Sink>(
     stream_counted(alloc, lines, meter, source, sink)
 }
 
-/// Reads the source to its end, writes the decoded line and an LF for each line, and answers how many lines there are,
-/// up to `u64::MAX`. `plans` are those of the messages in order. A line has at most 4,096 bytes, its CR counted and its
-/// LF not. Before it pulls again, it has written the texts of all lines that were read whole. The meter counts each line whose
-/// text was made, and the one that memory was wanting for. A fault is a longer line, a read or a write that failed, or want of
-/// memory.
-/// `short` tells what is said of frames that are shorter than their message.
+/// Reads the source to its end, writes the decoded line and an LF for each line, and returns how many lines there are, up to
+/// `u64::MAX`. `plans` are those of the messages in order. A line has at most 4,096 bytes, its CR counted and its LF not. Before it
+/// pulls again, it has written the texts of all lines that were read whole. The meter counts each line whose text was made, and the
+/// one for which memory ran out. A fault is a longer line, a read or a write that failed, or running out of memory. `short`
+/// determines how truncated frames are decoded.
 ///
-/// What a number goes to is remembered, and is found by going through the messages. [`decode_stream_by`] has an index.
+/// The choice for each CAN identifier is cached, and is found by searching the messages. [`decode_stream_by`] has an index.
 pub fn decode_stream<R: Source, W: Sink>(
     alloc: Global,
     database: &Database,
@@ -156,12 +158,12 @@ pub fn decode_stream<R: Source, W: Sink>(
         database,
         plans,
         short,
-        chooser: Walking { database },
+        chooser: LinearSearch { database },
     };
     stream_by(alloc, finder, meter, source, sink)
 }
 
-/// As [`decode_stream`], and finds what a number goes to in an index.
+/// Like [`decode_stream`], but finds what a CAN identifier goes to in an index.
 pub fn decode_stream_by<R: Source, W: Sink>(
     alloc: Global,
     decoding: &Decoding,
@@ -173,12 +175,11 @@ pub fn decode_stream_by<R: Source, W: Sink>(
         (W.written sink.old) (W.written sink.new) result lines
         × (meter.new ≡ counted result lines meter.old) }
 {
-    let choices = decoding.choices();
     let finder = Finder {
         database: decoding.database(),
         plans: decoding.plans(),
         short: decoding.short(),
-        chooser: Finding { choices: &choices },
+        chooser: decoding.choices(),
     };
     stream_by(alloc, finder, meter, source, sink)
 }

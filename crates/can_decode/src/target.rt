@@ -12,9 +12,9 @@ pub struct Target<'a> {
     pub message: &'a Message,
     /// Its plan.
     pub plan: &'a Plan,
-    /// Whether it is a group message.
+    /// Whether it is a J1939 message.
     pub group: bool,
-    /// What is said of frames that are shorter than the message.
+    /// How truncated frames are decoded.
     pub short: Short,
 }
 

@@ -3,12 +3,12 @@ ghost use Rattle.std.specs.Prelude.{◌≡◌, ◌<◌, ◌≤◌, ◌++◌, ◌
 ghost use Rattle.dbc_records.specs.Layout.{point_before_last, filled, zeros};
 ghost use Rattle.can_decode.specs.Values.{fewest_places, fixed_text, sign_of, scaled_text, number_text, decoder_text, reading_text};
 
-use can_layout::{Decoder, Reading};
+use can_layout::{CachedName, Decoder, Reading};
+use dbc_text_buffer::{Digits, EightDigits, TextBuffer, push_bytes, push_shown, push_small_number};
 use dbc_values::Memory;
 use itoa::Buffer;
-use ready_texts::{Digits, EightDigits, TextBuffer, push_bytes, push_shown, push_small_number};
 
-// The same number with the fewest places after its point, where it is one of a word, as most are.
+// The same number with the fewest decimal places, if it fits in one word, as most do.
 fn fewest_places_of_word(digits: u64, places: u8) -> (u64, u8)
     ensures digits { result.0 ≡ (fewest_places digits places).digits }
     ensures places { result.1 ≡ (fewest_places digits places).places }
@@ -22,7 +22,7 @@ fn fewest_places_of_word(digits: u64, places: u8) -> (u64, u8)
     (number, after)
 }
 
-// The same of any number.
+// The same for any number.
 fn fewest_places_of_any(digits: u128, places: u8) -> (u128, u8)
     ensures digits { result.0 ≡ (fewest_places digits places).digits }
     ensures places { result.1 ≡ (fewest_places digits places).places }
@@ -45,7 +45,7 @@ fn push_zeros(text: &mut TextBuffer, count: usize) -> Result<(), Memory>
     Ok(())
 }
 
-// Digits with a point before the last of them, and zeros in front where there are too few.
+// Digits with a point before the last of them, padded with zeros in front if there are too few.
 #[tactic(auto, using(crate::proofs::Pushing::pushed_then))]
 fn push_pointed(text: &mut TextBuffer, digits: &[u8], places: usize) -> Result<(), Memory>
     ensures { OnOk result (text.new.items ≡ text.old.items ++ point_before_last places (filled places digits.now)) }
@@ -62,7 +62,7 @@ fn push_pointed(text: &mut TextBuffer, digits: &[u8], places: usize) -> Result<(
     }
 }
 
-// The same where there are more digits than places.
+// The same if there are more digits than decimal places.
 #[tactic(auto, using(crate::proofs::Pushing::pushed_then))]
 fn push_parted(text: &mut TextBuffer, digits: &Digits, places: usize) -> Result<(), Memory>
     requires { places < length digits.now }
@@ -96,8 +96,8 @@ fn push_fixed_word(text: &mut TextBuffer, number: u64, places: u8) -> Result<(),
 fn push_fixed_any(text: &mut TextBuffer, digits: u128, places: u8) -> Result<(), Memory>
     ensures { OnOk result (text.new.items ≡ text.old.items ++ fixed_text (record { digits = digits; places = places })) }
 {
-    let mut room = Buffer::new();
-    let number = room.format(digits).as_bytes();
+    let mut space = Buffer::new();
+    let number = space.format(digits).as_bytes();
     if places == 0 {
         push_bytes(text, number)
     } else {
@@ -111,7 +111,7 @@ fn push_sign(text: &mut TextBuffer, value: i128) -> Result<(), Memory>
     text.push_if(value < 0, b'-')
 }
 
-// A number of at most eight digits over ten to the number of places, by parts of its digits.
+// A number of at most eight digits over ten to the number of decimal places, by parts of its digits.
 #[inline(always)]
 fn push_short(text: &mut TextBuffer, number: u32, places: u8) -> Result<(), Memory>
     requires number { number < 10 ^ 8 }
@@ -126,7 +126,7 @@ fn push_short(text: &mut TextBuffer, number: u32, places: u8) -> Result<(), Memo
     digits.push_fraction(text, 7 - places, places - trailing)
 }
 
-// A number of one word over ten to the number of places. Most values have at most eight digits.
+// A number of one word over ten to the number of decimal places. Most values have at most eight digits.
 #[inline(always)]
 #[tactic(auto, unfolding(crate::specs::Values::fixed_text))]
 fn push_shortest_word(text: &mut TextBuffer, number: u64, places: u8) -> Result<(), Memory>
@@ -142,7 +142,7 @@ fn push_shortest_word(text: &mut TextBuffer, number: u64, places: u8) -> Result<
     push_fixed_word(text, digits, after)
 }
 
-// A number over ten to the number of places.
+// A number over ten to the number of decimal places.
 #[inline(always)]
 #[tactic(auto, unfolding(crate::specs::Values::fixed_text))]
 fn push_shortest(text: &mut TextBuffer, number: u128, places: u8) -> Result<(), Memory>
@@ -170,8 +170,8 @@ fn below_thousand(value: i128) -> Option<u16>
     }
 }
 
-// The number below a thousand that a value over ten to the number of places is, if it has no sign and no point. Switches and states
-// are such numbers, and many values are zero.
+// A value over ten to the number of decimal places, as a number below a thousand, if it is one without a sign and a point.
+// Multiplexors (switches) and states are such numbers, and many values are zero.
 #[inline(always)]
 #[tactic(auto, using(crate::proofs::SmallNumbers::whole_text, crate::proofs::SmallNumbers::zero_text))]
 fn small_number(value: i128, places: u8) -> Option<u16>
@@ -186,7 +186,7 @@ fn small_number(value: i128, places: u8) -> Option<u16>
     }
 }
 
-// A value over ten to the number of places, with its sign.
+// A value over ten to the number of decimal places, with its sign.
 #[inline(always)]
 #[tactic(auto, using(crate::proofs::Pushing::pushed_then), unfolding(crate::specs::Values::scaled_text))]
 fn push_signed(text: &mut TextBuffer, value: i128, places: u8) -> Result<(), Memory>
@@ -196,7 +196,7 @@ fn push_signed(text: &mut TextBuffer, value: i128, places: u8) -> Result<(), Mem
     push_shortest(text, value.unsigned_abs(), places)
 }
 
-/// Appends a value over ten to the number of places, as an exact decimal.
+/// Appends a value over ten to the number of decimal places, as an exact decimal.
 #[inline(always)]
 pub fn push_scaled(text: &mut TextBuffer, value: i128, places: u8) -> Result<(), Memory>
     ensures { OnOk result (text.new.items ≡ text.old.items ++ scaled_text value places) }
@@ -217,7 +217,7 @@ fn push_number(text: &mut TextBuffer, decoder: &Decoder, raw: i128) -> Result<()
     decoder.unit_text().push_to(text)
 }
 
-// A value by its name, which is looked for among the entries, or as a number.
+// A value by its name, which is looked up among the value descriptions, or as a number.
 #[inline(always)]
 fn push_searched(text: &mut TextBuffer, decoder: &Decoder, raw: i128) -> Result<(), Memory>
     requires { unsigned_abs raw ≤ 2 ^ decoder.now.scale.length }
@@ -229,7 +229,7 @@ fn push_searched(text: &mut TextBuffer, decoder: &Decoder, raw: i128) -> Result<
     }
 }
 
-// A value by its name, or as a number. Most names are kept ready.
+// A value by its name, or as a number. Most names are ready-made.
 #[inline(always)]
 #[tactic(auto, using(crate::proofs::Named::with_name, crate::proofs::Named::without_name))]
 fn push_value(text: &mut TextBuffer, decoder: &Decoder, raw: i128) -> Result<(), Memory>
@@ -237,9 +237,9 @@ fn push_value(text: &mut TextBuffer, decoder: &Decoder, raw: i128) -> Result<(),
     ensures { OnOk result (text.new.items ≡ text.old.items ++ decoder_text decoder.now raw) }
 {
     match decoder.cached_name(raw) {
-        Some(Some(name)) => name.push_to(text),
-        Some(None) => push_number(text, decoder, raw),
-        None => push_searched(text, decoder, raw),
+        CachedName::Name(name) => name.push_to(text),
+        CachedName::Unnamed => push_number(text, decoder, raw),
+        CachedName::NotCached => push_searched(text, decoder, raw),
     }
 }
 

@@ -43,7 +43,7 @@ pub Shown-broke : {W X E : Type 0} (written : W → Written) (a b : Out W) (r : 
     → Sends written a b r (shown (xs ++ ys))
 Shown-broke written a b r xs ys e p = rw (shown-append xs ys) (Sends-stop written a b r (shown xs) (shown ys) e p)
 
--- nothing goes out where there is nothing to print
+-- nothing goes out if there is nothing to print
 pub Took-none : {W : Type 0} (written : W → Written) (a : Out W) → Took written a a (shown [])
 Took-none written a = subst (λ (t : List ℕ). Took written a a t) (sym shown-nil) (Took-nil written a)
 

@@ -1,4 +1,4 @@
--- The numbers and words of the codes of diagnostics.
+-- The numbers and names of the codes of diagnostics.
 use Rattle.std.specs.Prelude.{ℕ, List, codes}
 use Rattle.can_diagnostics.specs.declared.code.Code.{Code}
 use Rattle.can_diagnostics.specs.declared.code.Code.TheVariants as variants

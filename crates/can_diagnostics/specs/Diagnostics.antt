@@ -1,4 +1,4 @@
--- Diagnostics as plain data, and what they speak of.
+-- Diagnostics as plain data, and what they are about.
 use Rattle.std.specs.Prelude.{ℕ, ℤ, List}
 use Rattle.dbc_values.specs.Names.{IsName}
 use Rattle.dbc_records.specs.Records.{Head, Signal, IsNumber}

@@ -1,5 +1,5 @@
--- The line of a diagnostic: its number, its word, and what it speaks of.
--- Source: the profile of candesk; a row is named as the DBC file format prints it, up to and with its key.
+-- The line of a diagnostic: its number, its name, and what it is about. Source: the profile of candesk; an entry is named as the
+-- DBC file format prints it, up to and including its key.
 use Rattle.std.specs.Prelude.{ℕ, ◌==◌, ◌||◌, List, [], ◌∷◌, ◌++◌, map, codes, decimal, if◌then◌else◌}
 use Rattle.std.specs.List.{flat_map}
 use Rattle.std.specs.Fmt.{signed_decimal}
@@ -13,7 +13,7 @@ use Rattle.can_diagnostics.specs.declared.subject.Subject.{Subject}
 use Rattle.can_diagnostics.specs.declared.subject.Subject.TheVariants as subjects
 use Rattle.can_diagnostics.specs.declared.diagnostic.Diagnostic.{Diagnostic}
 
--- ---- rows
+-- ---- entries
 
 abbrev pub shown_byte : ℕ → ℕ
 shown_byte b = if (b == carriage_return) || (b == line_feed) then space else b
@@ -25,7 +25,7 @@ blanked text = map shown_byte text
 unfoldable pub shown : Layout → List ℕ
 shown layout = blanked (layout_text layout)
 
--- what is printed of a row up to and with its key, on one line
+-- what is printed of an entry up to and including its key, on one line
 unfoldable pub row_text : EntryKey → List ℕ
 row_text key = shown (key_layout key)
 

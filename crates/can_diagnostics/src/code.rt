@@ -2,26 +2,26 @@
 ghost use Rattle.std.specs.Prelude.{◌≡◌};
 ghost use Rattle.can_diagnostics.specs.Codes.{code_number, code_word};
 
-/// What a diagnostic reports. The numbers, 1 to 18 in this order, and the words don't change.
+/// What a diagnostic reports. The numbers, 1 to 18 in this order, and the names don't change.
 #[derive(Clone, Copy, Debug, PartialEq, Eq)]
 pub enum Code {
-    /// The number of a message is no identifier of 11 or 29 bits.
+    /// The CAN identifier of a message is no standard (11-bit) or extended (29-bit) identifier.
     BadIdentifier,
-    /// Another message has the number.
+    /// Another message has the CAN identifier.
     SharedIdentifier,
     /// Another message has the name.
     SharedName,
-    /// Another group message has the message's group number.
+    /// Another J1939 message has the message's PGN.
     SharedGroup,
-    /// A bit of a signal lies beyond its message's size.
+    /// A bit of a signal is beyond its message's length (DLC).
     Outside,
-    /// Two signals that can be there together have a bit in common.
+    /// Two signals that can be active at once share a bit.
     Overlap,
-    /// The switch of a multiplexed signal isn't there.
+    /// The multiplexor (switch) of a multiplexed signal doesn't exist.
     NoSwitch,
-    /// The row of a signal's multiplexing has a range that ends before it begins, or names a signal that is no switch.
+    /// The entry of a signal's multiplexing has a range that ends before it begins, or names a signal that is no multiplexor.
     BadMuxRow,
-    /// The multiplexing chain from a signal, from switch to switch, leads to a signal twice.
+    /// The multiplexing chain from a signal, from multiplexor to multiplexor, leads to a signal twice.
     SwitchLoop,
     /// The raw bits of a signal are an IEEE 754 float.
     Float,
@@ -31,13 +31,13 @@ pub enum Code {
     Scale,
     /// A sender or a receiver is no node of the database.
     UnknownNode,
-    /// A value description is none that the signal's raw bits can have.
+    /// The signal's raw bits can't have the value of a value description.
     ValueOutOfRange,
-    /// An earlier entry of the row names the value.
+    /// An earlier value description of the `VAL_` entry has the value.
     RepeatedValue,
-    /// A row is for a message, a signal or a node that isn't there.
+    /// An entry is for a message, a signal or a node that doesn't exist.
     DanglingRow,
-    /// An earlier row of the kind has the key.
+    /// An earlier entry of the kind has the key.
     RepeatedRow,
     /// A default or a value is of an attribute without a definition.
     UnknownAttribute,
@@ -70,7 +70,7 @@ impl Code {
         }
     }
 
-    /// The code's name, as it stands above.
+    /// The code's name, as above.
     pub fn word(self) -> &'static [u8]
         ensures { result.now ≡ code_word self }
     {

@@ -17,7 +17,7 @@ pub struct Diagnostic {
 }
 
 impl Diagnostic {
-    /// That of a message.
+    /// The diagnostic of a message.
     pub fn of_message(code: Code, head: &Head) -> Result<Diagnostic, Memory>
         ensures { IfOk result (λ made. made ≡ of_message code head.now) }
     {
@@ -25,7 +25,7 @@ impl Diagnostic {
         Ok(Diagnostic { code, subject })
     }
 
-    /// That of the sender of a message.
+    /// The diagnostic of the sender of a message.
     pub fn of_sender(code: Code, head: &Head) -> Result<Diagnostic, Memory>
         ensures { IfOk result (λ made. made ≡ of_sender code head.now) }
     {
@@ -34,7 +34,7 @@ impl Diagnostic {
         Ok(Diagnostic { code, subject })
     }
 
-    /// That of a signal of the message.
+    /// The diagnostic of a signal of the message.
     pub fn of_signal(code: Code, head: &Head, signal: &Signal) -> Result<Diagnostic, Memory>
         ensures { IfOk result (λ made. made ≡ of_signal code head.now signal.now) }
     {
@@ -43,7 +43,7 @@ impl Diagnostic {
         Ok(Diagnostic { code, subject })
     }
 
-    /// That of two signals of the message.
+    /// The diagnostic of two signals of the message.
     pub fn of_pair(
         code: Code,
         head: &Head,
@@ -58,7 +58,7 @@ impl Diagnostic {
         Ok(Diagnostic { code, subject })
     }
 
-    /// That of a receiver of a signal of the message.
+    /// The diagnostic of a receiver of a signal of the message.
     pub fn of_receiver(
         code: Code,
         head: &Head,
@@ -73,7 +73,7 @@ impl Diagnostic {
         Ok(Diagnostic { code, subject })
     }
 
-    /// That of a value description of a signal of the message.
+    /// The diagnostic of a value description of a signal of the message.
     pub fn of_value(
         code: Code,
         head: &Head,
@@ -87,7 +87,7 @@ impl Diagnostic {
         Ok(Diagnostic { code, subject })
     }
 
-    /// That of a row.
+    /// The diagnostic of an entry.
     pub fn of_row(code: Code, key: EntryKey) -> Diagnostic
         ensures { result ≡ of_row code key }
     {

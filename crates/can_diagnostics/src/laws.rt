@@ -8,7 +8,7 @@ ghost use Rattle.dbc_records.specs.CanonicalText.{float_key, mux_key};
 ghost use Rattle.dbc_records.specs.EntryKeys.{key_layout, key_of_table, key_of_comment, key_of_definition, key_of_default};
 ghost use Rattle.dbc_records.specs.EntryKeys.{key_of_attribute, key_of_values, key_of_float, key_of_mux};
 
-/// The layout of a row's key is what the row is printed as, up to and with its key.
+/// The layout of an entry's key is what the entry is printed as, up to and including its key.
 #[tactic(auto, unfolding(dbc_records::specs::EntryKeys::key_layout, dbc_records::specs::CanonicalText::table_key, dbc_records::specs::CanonicalText::comment_key, dbc_records::specs::CanonicalText::definition_key, dbc_records::specs::CanonicalText::default_key, dbc_records::specs::CanonicalText::attribute_key, dbc_records::specs::CanonicalText::values_key, dbc_records::specs::CanonicalText::float_key, dbc_records::specs::CanonicalText::mux_key))]
 pub fn keys_as_printed()
     ensures table { (row : TableRow) → key_layout (key_of_table row) ≡ table_key row }

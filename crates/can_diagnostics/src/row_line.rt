@@ -1,4 +1,4 @@
-//! Rows, named by what is printed of them up to and with their keys.
+//! Entries, named by what is printed of them up to and including their keys.
 ghost use Rattle.std.specs.Prelude.{◌≡◌, ◌++◌, codes};
 ghost use Rattle.byte_devices.specs.Outs.{Sends};
 ghost use Rattle.dbc_records.specs.CanonicalText.{word_layout, spaced_name, spaced_text, spaced_word, target_layout, object_word};
@@ -154,7 +154,7 @@ fn send_attribute<W: Sink>(
     send_target(out, target)
 }
 
-// A row of a signal.
+// An entry of a signal.
 #[tactic(auto, using(crate::proofs::Shown::layouts))]
 fn send_signal_row<W: Sink>(
     out: &mut Out<'_, W>,
@@ -168,9 +168,9 @@ fn send_signal_row<W: Sink>(
     send_signal_key(out, number, signal)
 }
 
-/// Holds what is printed of a row up to and with its key, on one line.
+/// Holds what is printed of an entry up to and including its key, on one line.
 #[tactic(auto, unfolding(crate::specs::Lines::row_text, dbc_records::specs::EntryKeys::key_layout))]
-pub fn send_row<W: Sink>(out: &mut Out<'_, W>, key: &EntryKey) -> Result<(), WriteFault>
+pub(crate) fn send_row<W: Sink>(out: &mut Out<'_, W>, key: &EntryKey) -> Result<(), WriteFault>
     ensures { Sends W.written out.old out.new result (row_text key.now) }
 {
     match key {

@@ -46,7 +46,7 @@ fn send_each<W: Sink>(out: &mut Out<'_, W>, pieces: &[&[u8]]) -> Result<(), Writ
 
 /// Holds the pieces, one after another, with a blank for each CR and each LF.
 #[tactic(auto, using(crate::proofs::Shown::blanked_pieces))]
-pub fn send_shown<W: Sink>(out: &mut Out<'_, W>, pieces: &[&[u8]]) -> Result<(), WriteFault>
+pub(crate) fn send_shown<W: Sink>(out: &mut Out<'_, W>, pieces: &[&[u8]]) -> Result<(), WriteFault>
     ensures { Sends W.written out.old out.new result (blanked (flat_map (λ piece. piece.now) pieces.now)) }
 {
     send_each(out, pieces)

@@ -1,10 +1,10 @@
-//! What diagnostics speak of.
+//! What diagnostics are about.
 
 use dbc_records::EntryKey;
 use dbc_values::{Checked, Copied, Memory, Name};
 
-/// What a diagnostic speaks of. A message is named by its number, with bit 31 set where the identifier has 29 bits, and its
-/// name.
+/// What a diagnostic is about. A message is identified by its CAN identifier, with bit 31 set if it is extended
+/// (29-bit), and its name.
 #[derive(Drop)]
 pub enum Subject {
     /// A message.

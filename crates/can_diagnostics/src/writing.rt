@@ -26,7 +26,7 @@ fn send_code<W: Sink>(out: &mut Out<'_, W>, code: Code) -> Result<(), WriteFault
     out.send_pieces(&pieces)
 }
 
-// The number of a message, and pieces after it.
+// The CAN identifier of a message, and pieces after it.
 #[tactic(auto, using(byte_devices::proofs::Outs::sends))]
 fn send_after<W: Sink>(
     out: &mut Out<'_, W>,
@@ -90,8 +90,8 @@ pub fn send_diagnostic<W: Sink>(
     send_subject(out, &diagnostic.subject)
 }
 
-/// Writes its line, without a line end: `6 Overlap 256 Motor.Speed Motor.Torque`. It takes no memory. Where the sink fails a
-/// beginning of the line was written.
+/// Writes its line, without a line end: `6 Overlap 256 Motor.Speed Motor.Torque`. It allocates nothing. If the sink fails, a prefix
+/// of the line was written.
 #[tactic(auto, using(byte_devices::proofs::Outs::flushes))]
 pub fn write_diagnostic<W: Sink>(diagnostic: &Diagnostic, sink: &mut W) -> Result<(), WriteFault>
     ensures { Prints (W.written sink.old) (W.written sink.new) result (line_text diagnostic.now) }
@@ -119,8 +119,8 @@ pub fn send_lines<W: Sink>(out: &mut Out<'_, W>, found: &[Diagnostic]) -> Result
     Ok(())
 }
 
-/// Writes the line of each and an LF. It takes no memory. Where the sink fails a beginning of the lines was written. They go
-/// out in pieces of up to 16 KiB.
+/// Writes the line of each and an LF. It allocates nothing. If the sink fails, a prefix of the lines was written. They go out in
+/// pieces of up to 16 KiB.
 #[tactic(auto, using(byte_devices::proofs::Outs::flushes))]
 pub fn write_lines<W: Sink>(found: &[Diagnostic], sink: &mut W) -> Result<(), WriteFault>
     ensures { Prints (W.written sink.old) (W.written sink.new) result (flat_map (λ diagnostic. line_text diagnostic ++ codes "\n")

@@ -1,8 +1,8 @@
--- The first entry of a key, found among the entries of its number, begins where the first of the keys does.
+-- The first entry of a key, found among the entries of its CAN identifier, begins where the first of the keys does.
 use Rattle.std.proofs.Common.{◌≡◌, ◌==◌, ◌&&◌, ℕ, true, false, List, [], ◌∷◌, Some, cond, filter, map, bytes_eq, refl}
 use Rattle.std.specs.List.{find}
 use Rattle.std.specs.Option.{option_map}
-use Rattle.can_rows.specs.Rows.{first_named}
+use Rattle.can_entries.specs.Rows.{first_named}
 use Rattle.can_findings.specs.declared.row_starts.RowStart.{RowStart}
 use Rattle.can_findings.specs.RowStarts.{key_start, start_of_key}
 

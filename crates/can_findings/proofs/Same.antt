@@ -41,10 +41,10 @@ bare-messages : (d : Database) (rows : RowStarts) (messages : List Message) (hea
     → bare (message_findings d rows messages heads starts) ≡ flat_map (message_faults d) messages
 bare-messages d rows [] heads starts = refl
 bare-messages d rows (m ∷ messages) heads starts =
-    let behind = message_findings d rows messages (after_first heads) (drop (length m.signals) starts) in
+    let following = message_findings d rows messages (after_first heads) (drop (length m.signals) starts) in
     let own = take (length m.signals) starts in
-    bare-append (map (findings_in rows m.signals (first_start heads) own) (message_faults d m)) behind
-    ∙ ap (λ (r : List Diagnostic). r ++ bare behind) (bare-in rows m.signals (first_start heads) own (message_faults d m))
+    bare-append (map (findings_in rows m.signals (first_start heads) own) (message_faults d m)) following
+    ∙ ap (λ (r : List Diagnostic). r ++ bare following) (bare-in rows m.signals (first_start heads) own (message_faults d m))
     ∙ ap (λ (r : List Diagnostic). message_faults d m ++ r)
     (bare-messages d rows messages (after_first heads) (drop (length m.signals) starts))
 
@@ -52,9 +52,9 @@ bare-after : (d : Database) (before : List EntryKey) (rows : List (EntryKey × S
     ≡ each_after (row_fault d) before (keys_in rows)
 bare-after d before [] = refl
 bare-after d before (row ∷ rows) =
-    let behind = findings_after d (before ++ row.0 ∷ []) rows in
-    bare-append (map (findings_at row.1) (row_fault d before row.0)) behind
-    ∙ ap (λ (r : List Diagnostic). r ++ bare behind) (bare-at row.1 (row_fault d before row.0))
+    let following = findings_after d (before ++ row.0 ∷ []) rows in
+    bare-append (map (findings_at row.1) (row_fault d before row.0)) following
+    ∙ ap (λ (r : List Diagnostic). r ++ bare following) (bare-at row.1 (row_fault d before row.0))
     ∙ ap (λ (r : List Diagnostic). row_fault d before row.0 ++ r) (bare-after d (before ++ row.0 ∷ []) rows)
 
 -- ---- keys
@@ -80,7 +80,7 @@ keys-all : (d : Database) (starts : Starts) → keys_in (all_rows d starts) ≡ 
 unfolding all_rows entry_keys
 keys-all d starts = keys-of d starts entry_kinds
 
--- ---- all of it
+-- ---- the whole list
 
 pub same_faults : (d : Database) (starts : Starts) → map (λ (p : Finding). p.diagnostic) (all_findings d starts) ≡ all_faults d
 unfolding all_findings all_faults row_faults

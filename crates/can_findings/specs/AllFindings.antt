@@ -1,4 +1,4 @@
--- All diagnostics of a database, and where in the text they are about.
+-- All diagnostics of a database, and the locations in the text that they are about.
 use Rattle.std.specs.Prelude.{List, [], ◌++◌}
 use Rattle.dbc_records.specs.Databases.{Database}
 use Rattle.can_findings.specs.declared.finding.Finding.{Finding}

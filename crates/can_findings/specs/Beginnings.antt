@@ -1,4 +1,4 @@
--- Things of a database, each with where it begins in the text.
+-- Records of a database, each with where it begins in the text.
 use Rattle.std.specs.Prelude.{List, [], ◌∷◌, take, drop, length}
 use Rattle.dbc_records.specs.Records.{Message}
 use Rattle.dbc_reader.specs.declared.start.Start.{Start}
@@ -16,7 +16,7 @@ abbrev pub after_first : List Start → List Start
 after_first [] = []
 after_first (start ∷ starts) = starts
 
--- things, each with where it begins
+-- records, each with where it begins
 abbrev pub at_starts : {X : Type 0} → List X → List Start → List (X × Start)
 at_starts [] starts = []
 at_starts (thing ∷ things) starts = (thing, first_start starts) ∷ at_starts things (after_first starts)

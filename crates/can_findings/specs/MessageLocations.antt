@@ -17,7 +17,7 @@ use Rattle.dbc_reader.specs.declared.start.Start.{Start}
 use Rattle.can_findings.specs.Beginnings.{no_start, at_starts, messages_at}
 use Rattle.can_findings.specs.RowStarts.{KeyStart, RowStarts, key_starts, start_of_key}
 
--- where the entry begins, if there is one, or else the signal
+-- where the entry begins, if there is one, otherwise the signal
 abbrev pub start_or : Option Start → Start → Start
 start_or None start = start
 start_or (Some row_start) start = row_start
@@ -27,11 +27,11 @@ abbrev pub signal_start : List ℕ → List Signal → List Start → Start
 signal_start name signals starts =
     start_or (option_map (λ signal. signal.1) (find (λ signal. bytes_eq signal.0.name name) (at_starts signals starts))) no_start
 
--- the names of a message's signals, each with where the signal begins; its number is left out
+-- the names of a message's signals, each with where the signal begins; its CAN identifier is left out
 abbrev pub signal_starts : List Signal → List Start → List KeyStart
 signal_starts signals starts = key_starts (λ _. 0) (λ signal. signal.name) signals starts
 
--- The entries of which one is at fault if the code is reported of a signal: its multiplexing entry names its multiplexor, and its
+-- The entries one of which is at fault if the code is reported of a signal: its multiplexing entry names its multiplexor, and its
 -- float entry makes its values floats.
 abbrev pub rows_at_fault : Code → RowStarts → List KeyStart
 rows_at_fault codes.NoSwitch rows = rows.muxes
@@ -40,8 +40,8 @@ rows_at_fault codes.SwitchLoop rows = rows.muxes
 rows_at_fault codes.Float rows = rows.floats
 rows_at_fault code rows = []
 
--- Where the message, the signal or the signal's entry begins that it is about, or both signals. A value description
--- is in the first entry of its signal.
+-- Where the message, the signal or the signal's entry that it is about begins, or both signals. A value description is in the first
+-- entry of its signal.
 abbrev pub location_of : RowStarts → List Signal → Start → List Start → Code → Subject → Location
 location_of rows signals start starts code (subjects.Message number name) = locations.One start
 location_of rows signals start starts code (subjects.Sender number name node) = locations.One start

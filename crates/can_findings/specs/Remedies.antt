@@ -37,12 +37,12 @@ remedy_line code = join (codes "\n  remedy: " ∷ remedy code ∷ codes "\n" ∷
 unfoldable pub number_text : List ℕ → ℕ → List ℕ → List ℕ
 number_text before number after = join (before ∷ decimal number ∷ after ∷ [])
 
--- the line, or the two lines, in which what it speaks of begins
+-- the line, or the two lines, in which that which it is about begins
 unfoldable pub location_text : Location → List ℕ
 location_text (locations.One start) = number_text (codes "line ") start.line (codes ": ")
 location_text (locations.Both first second) = number_text (codes "lines ") first.line (codes " and ")
     ++ number_text [] second.line (codes ": ")
 
--- a diagnostic after its lines, and before its remedy
+-- a diagnostic preceded by its lines and followed by its remedy
 unfoldable pub explained_text : Finding → List ℕ
 explained_text finding = location_text finding.location ++ (line_text finding.diagnostic ++ remedy_line finding.diagnostic.code)

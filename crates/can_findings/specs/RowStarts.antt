@@ -8,13 +8,13 @@ use Rattle.dbc_reader.specs.declared.start.Starts.{Starts}
 use Rattle.can_findings.specs.declared.row_starts.RowStart.{RowStart}
 use Rattle.can_findings.specs.Beginnings.{at_starts}
 
--- a message number and the name of a signal, and where an entry of them begins
+-- a message ID and the name of a signal, and where an entry for them begins
 pub record KeyStart : Type 0 where
   pub number : ℕ
   pub signal : List ℕ
   pub start : Start
 
--- without where the name lies in memory
+-- without the name's location in memory
 abbrev pub key_start : RowStart → KeyStart
 key_start row = record { number = row.number; signal = row.signal.now; start = row.start }
 

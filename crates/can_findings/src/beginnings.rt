@@ -1,10 +1,10 @@
-//! Where things of a database begin, one after another.
+//! Where the records of a database begin, one after another.
 ghost use Rattle.std.specs.Prelude.{◌≡◌, take, drop};
 ghost use Rattle.can_findings.specs.Beginnings.{no_start, first_start, after_first};
 
 use dbc_reader::Start;
 
-/// Where nothing begins. By [`all_have_starts`](dbc_reader::laws::all_have_starts) no finding has it.
+/// The start of nothing. By [`all_have_starts`](dbc_reader::laws::all_have_starts) no finding has it.
 pub(crate) fn no_start() -> Start
     ensures { result ≡ no_start }
 {
@@ -31,7 +31,7 @@ pub fn after_first(starts: &[Start]) -> &[Start]
     }
 }
 
-/// The first ones, at most so many, and the others.
+/// The first ones, at most this many, and the others.
 pub fn parted(starts: &[Start], count: usize) -> (&[Start], &[Start])
     ensures first { result.0.now ≡ take count starts.now }
     ensures others { result.1.now ≡ drop count starts.now }

@@ -7,14 +7,14 @@ use crate::finding::Finding;
 use crate::message_locations::push_messages;
 use crate::row_locations::with_entry_findings;
 use crate::row_starts::{KeyedStarts, SignalRowStarts};
+use can_entries::{Indexed, Lookup};
 use can_references::CrossReferences;
-use can_rows::{Indexed, Lookup};
 use dbc_reader::Starts;
 use dbc_records::Database;
 use dbc_values::Memory;
 use std::alloc::Global;
 
-// By what is known of the database, and where its entries begin.
+// The findings, given what is known of the database and where its entries begin.
 #[tactic(auto, using(crate::proofs::Rows::pushed_then), unfolding(crate::specs::AllFindings::all_findings))]
 fn findings_by<'a, L: Lookup>(
     alloc: Global,
@@ -37,7 +37,7 @@ fn findings_by<'a, L: Lookup>(
     with_entry_findings(findings, known, starts)
 }
 
-// By what is known of the database, and the keys of its entries.
+// The findings, given what is known of the database and the keys of its entries.
 fn findings_by_keys<'a, L: Lookup>(
     alloc: Global,
     known: CrossReferences<'a, L>,
@@ -53,7 +53,7 @@ fn findings_by_keys<'a, L: Lookup>(
     }
 }
 
-// By what is known of the database.
+// The findings, given what is known of the database.
 fn findings_known<'a, L: Lookup>(
     alloc: Global,
     known: CrossReferences<'a, L>,

@@ -39,8 +39,8 @@ fn write_all<W: Sink>(out: &mut Out<'_, W>, found: &[Finding]) -> Result<(), Wri
     Ok(())
 }
 
-/// Writes the line of each, as `check` does, after the lines in which the statements that it is about begin, and then a line with
-/// its remedy. It takes no memory. If the sink fails, a beginning of the lines was written.
+/// Writes the line of each, as `check` does, preceded by the lines in which the statements that it is about begin, and then a line
+/// with its remedy. It allocates nothing. If the sink fails, a prefix of the lines was written.
 #[tactic(auto, using(byte_devices::proofs::Outs::flushes))]
 pub fn write_explained<W: Sink>(found: &[Finding], sink: &mut W) -> Result<(), WriteFault>
     ensures { Prints (W.written sink.old) (W.written sink.new) result (flat_map explained_text found.now) }

@@ -7,7 +7,7 @@ use can_diagnostics::Diagnostic;
 use dbc_reader::Start;
 use itoa::Buffer;
 
-/// Where the statements that a diagnostic is about begin, or their signals.
+/// Where the statements, or signals, that a diagnostic is about begin.
 #[derive(Clone, Copy, Debug, PartialEq, Eq)]
 pub enum Location {
     /// One begins there.
@@ -16,16 +16,16 @@ pub enum Location {
     Both(Start, Start),
 }
 
-/// A diagnostic, and where in the text of the database it is about.
+/// A diagnostic, and the location in the text of the database that it is about.
 #[derive(Drop)]
 pub struct Finding {
-    /// Where.
+    /// The location.
     pub location: Location,
     /// The diagnostic.
     pub diagnostic: Diagnostic,
 }
 
-// The words before a number of a line, it, and those after it.
+// The words before a line number, the number, and the words after it.
 #[tactic(auto, using(byte_devices::proofs::Outs::sends), unfolding(crate::specs::Remedies::number_text))]
 fn write_number<W: Sink>(
     out: &mut Out<'_, W>,

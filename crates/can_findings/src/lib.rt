@@ -1,8 +1,8 @@
 //! The diagnostics of a database, each with where the statements that it is about begin, and with its remedy.
 //!
 //! [`all_findings`] finds what `can_check` finds, message by message and entry by entry, so it knows the index of each in the
-//! database; where they begin is what `dbc_reader` reports of the statements that it read. [`remedy`] is what to do about a code,
-//! and [`write_explained`] writes findings with their remedies.
+//! database; `dbc_reader` reports where the statements that it read begin. [`remedy`] is what to do about a code, and
+//! [`write_explained`] writes findings with their remedies.
 #![tactic(auto)]
 
 mod beginnings;

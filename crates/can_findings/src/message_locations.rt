@@ -11,8 +11,8 @@ use crate::beginnings::{after_first, first_start, no_start, parted};
 use crate::finding::{Finding, Location};
 use crate::row_starts::{KeyedStarts, RowStart, start_in};
 use can_check::{Code, Diagnostic, Occupancy, Subject, report_message};
+use can_entries::{Index, Lookup};
 use can_references::CrossReferences;
-use can_rows::{Index, Lookup};
 use dbc_reader::{Start, Starts};
 use dbc_records::{Message, Signal};
 use dbc_values::{Memory, Name};
@@ -26,7 +26,7 @@ struct LocatedMessage<'m, 'l> {
     signals: &'l [Start],
 }
 
-// The same, and where its signals begin is found by their names.
+// The same, with an index of where its signals begin by their names.
 #[derive(Drop)]
 struct Named<'a> {
     message: &'a Message,
@@ -67,7 +67,7 @@ fn signal_start(name: &Name, here: &Named<'_>) -> Start
     }
 }
 
-// Where the entry at fault begins, if the code is reported of a signal and means one.
+// Where the entry at fault begins, if the code is reported of a signal and is about an entry.
 fn start_at_fault(rows: &KeyedStarts<'_>, code: Code, number: u32, signal: &Name) -> Option<Start>
     ensures { result ≡ start_of_key number signal.now (rows_at_fault code rows.now) }
 {
@@ -78,7 +78,7 @@ fn start_at_fault(rows: &KeyedStarts<'_>, code: Code, number: u32, signal: &Name
     }
 }
 
-// Where the entry begins, if there is one, or else the signal.
+// Where the entry begins, if there is one, otherwise the signal.
 fn start_or(row_start: Option<Start>, here: &Named<'_>, signal: &Name) -> Location
     ensures { result ≡ locations.One (start_or row_start (signal_start signal.now here.now.message.now.signals
         here.now.signals.now)) }
@@ -97,7 +97,7 @@ fn both_of(here: &Named<'_>, first: &Name, second: &Name) -> Location
     Location::Both(signal_start(first, here), signal_start(second, here))
 }
 
-// Where what a diagnostic of a message speaks of begins.
+// Where that which a diagnostic of a message is about begins.
 fn location_of(code: Code, subject: &Subject, here: &Named<'_>, rows: &KeyedStarts<'_>) -> Location
     ensures { result ≡ location_of rows.now here.now.message.now.signals here.now.start here.now.signals.now code subject.now }
 {
@@ -114,7 +114,7 @@ fn location_of(code: Code, subject: &Subject, here: &Named<'_>, rows: &KeyedStar
     }
 }
 
-// Adds diagnostics of a message, each with its place.
+// Adds diagnostics of a message, each with its location.
 fn push_findings(
     findings: &mut Vec<Finding>,
     here: &Named<'_>,

@@ -4,7 +4,7 @@ ghost use Rattle.can_findings.specs.Remedies.{remedy};
 
 use can_diagnostics::Code;
 
-/// The usual remedy of what a code says.
+/// The usual remedy for a code.
 #[tactic(auto, unfolding(crate::specs::Remedies::remedy))]
 pub fn remedy(code: Code) -> &'static [u8]
     ensures { result.now ≡ remedy code }

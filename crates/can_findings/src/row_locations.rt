@@ -7,9 +7,8 @@ ghost use Rattle.can_findings.specs.RowLocations.{findings_at, keys_in, findings
 use crate::beginnings::{after_first, first_start};
 use crate::finding::{Finding, Location};
 use can_check::Diagnostic;
-use can_keys::EntryKeys;
-use can_references::{CrossReferences, push_row};
-use can_rows::Lookup;
+use can_entries::Lookup;
+use can_references::{CrossReferences, EntryKeys, push_row};
 use dbc_reader::{Start, Starts};
 use dbc_records::{DatabaseEntry, EntryKind, EntryVisitor};
 use dbc_values::Memory;
@@ -66,7 +65,7 @@ fn push_rows_at<'a, L: Lookup, R: DatabaseEntry>(
     Ok(())
 }
 
-// The findings about the entries seen so far, and before them others.
+// The findings about the entries seen so far, preceded by others.
 #[derive(Drop)]
 struct EntryFindings<'a, L: Lookup> {
     known: CrossReferences<'a, L>,

@@ -3,7 +3,7 @@ ghost use Rattle.std.specs.Prelude.{◌≡◌, IfOk, map};
 ghost use Rattle.can_findings.specs.RowStarts.{key_start, key_starts, start_of_key, row_starts_of};
 
 use crate::beginnings::{after_first, first_start};
-use can_rows::{Index, Keyed};
+use can_entries::{Index, Keyed};
 use dbc_reader::{Start, Starts};
 use dbc_records::Database;
 use dbc_values::{Checked, Memory, Name};
@@ -12,8 +12,8 @@ use std::marker::Model;
 
 /// The key of an entry, and where it begins.
 #[derive(Drop)]
-pub struct RowStart<'a> {
-    /// The number of the message.
+pub(crate) struct RowStart<'a> {
+    /// The CAN identifier of the message.
     pub number: u32,
     /// The name of the signal.
     pub signal: &'a [u8],
@@ -84,7 +84,7 @@ impl<'a> Model for SignalRowStarts<'a> {
 }
 
 impl<'a> SignalRowStarts<'a> {
-    /// Those of a database whose entries begin there.
+    /// The starts of the entries of a database.
     pub(crate) fn of(
         alloc: Global,
         database: &'a Database,
@@ -152,7 +152,7 @@ impl<'a> KeyedStarts<'a> {
         })
     }
 
-    /// Where the first entry of value descriptions of a signal begins.
+    /// Where the first `VAL_` entry of a signal begins.
     pub(crate) fn values(&self, number: u32, signal: &Name) -> Option<Start>
         ensures { result ≡ start_of_key number signal.now self.now.values }
     {

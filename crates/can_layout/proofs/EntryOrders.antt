@@ -12,10 +12,10 @@ use Rattle.dbc_records.specs.declared.order.EntryOrder.{EntryOrder}
 use Rattle.dbc_records.specs.declared.order.EntryOrder.TheVariants as orders
 use Rattle.dbc_records.specs.Orders.{precedes, are_in_order}
 use Rattle.dbc_records.proofs.InOrder.{precedes-trans, precedes-differs, precedes-differs_back, earlier_precedes}
-use Rattle.can_rows.proofs.SortedRows.{find_one, find_none}
+use Rattle.can_entries.proofs.SortedRows.{find_one, find_none}
 use Rattle.can_layout.specs.Decoders.{first_entry}
 
--- ---- numbers
+-- ---- raw values
 
 int_above : (a b : ℤ) → int_lt a b ≡ false → int_eq a b ≡ false → int_lt b a ≡ true
 int_above a b least other = grind (arith, ints)
@@ -39,30 +39,30 @@ module _ (order : EntryOrder) (entries : List Entry) (raw : ℤ) (are : are_in_o
       (λ after. let same : i ≡ j = omega arith in ap (λ k. precedes order (get_or entries k d).number raw) same ∙ less)
       (cases_lt i j)
 
-  -- all entries up to a place precede the raw value
-  module _ (place : ℕ) (ahead : AllWithin (λ entry. precedes order entry.number raw ≡ true) entries 0 place) where
-    others : AllWithin (λ entry. int_eq entry.number raw ≡ false) entries 0 place
+  -- all entries up to an index precede the raw value
+  module _ (index : ℕ) (ahead : AllWithin (λ entry. precedes order entry.number raw ≡ true) entries 0 index) where
+    others : AllWithin (λ entry. int_eq entry.number raw ≡ false) entries 0 index
     others k d least below = precedes-differs order (get_or entries k d).number raw (ahead k d least below)
 
-    pub entry_there : (d : Entry) → place < length entries → int_eq (get_or entries place d).number raw ≡ true
-        → first_entry raw entries ≡ Some (get_or entries place d)
-    entry_there d below here = find_one (λ entry. int_eq entry.number raw) entries place d below others here
+    pub entry_there : (d : Entry) → index < length entries → int_eq (get_or entries index d).number raw ≡ true
+        → first_entry raw entries ≡ Some (get_or entries index d)
+    entry_there d below here = find_one (λ entry. int_eq entry.number raw) entries index d below others here
 
-    pub none_at_end : length entries ≤ place → first_entry raw entries ≡ None
+    pub none_at_end : length entries ≤ index → first_entry raw entries ≡ None
     none_at_end end =
         find_none (λ entry. int_eq entry.number raw) entries (λ k d below. others k d (omega arith) (omega arith))
 
-    module _ (d : Entry) (below : place < length entries) (least : precedes order (get_or entries place d).number raw ≡ false)
-        (other : int_eq (get_or entries place d).number raw ≡ false) where
-      later : (k : ℕ) (e : Entry) → place < k → k < length entries → int_eq (get_or entries k e).number raw ≡ false
+    module _ (d : Entry) (below : index < length entries) (least : precedes order (get_or entries index d).number raw ≡ false)
+        (other : int_eq (get_or entries index d).number raw ≡ false) where
+      later : (k : ℕ) (e : Entry) → index < k → k < length entries → int_eq (get_or entries k e).number raw ≡ false
       later k e after within =
-          let first : get_or entries place e ≡ get_or entries place d = get_or_default entries place e d below in
-          let above : precedes order raw (get_or entries place d).number ≡ true =
-          precedes_back order (get_or entries place d).number raw least other in
+          let first : get_or entries index e ≡ get_or entries index d = get_or_default entries index e d below in
+          let mux_parent : precedes order raw (get_or entries index d).number ≡ true =
+          precedes_back order (get_or entries index d).number raw least other in
           precedes-differs_back order raw (get_or entries k e).number
-          (precedes-trans order raw (get_or entries place e).number (get_or entries k e).number
-          (ap (λ (entry : Entry). precedes order raw entry.number) first ∙ above)
-          (earlier_precedes order entries place k e are after within))
+          (precedes-trans order raw (get_or entries index e).number (get_or entries k e).number
+          (ap (λ (entry : Entry). precedes order raw entry.number) first ∙ mux_parent)
+          (earlier_precedes order entries index k e are after within))
 
       pub none_there : first_entry raw entries ≡ None
       none_there =
@@ -70,5 +70,5 @@ module _ (order : EntryOrder) (entries : List Entry) (raw : ℤ) (are : are_in_o
           (λ before. others k e (omega arith) before)
           (λ after. ⊎_elim
           (λ same. ap (λ i. int_eq (get_or entries i e).number raw) same
-          ∙ ap (λ (entry : Entry). int_eq entry.number raw) (get_or_default entries place e d below) ∙ other)
-          (λ differ. later k e (omega arith) within) (cases_eq k place)) (cases_lt k place))
+          ∙ ap (λ (entry : Entry). int_eq entry.number raw) (get_or_default entries index e d below) ∙ other)
+          (λ differ. later k e (omega arith) within) (cases_eq k index)) (cases_lt k index))

@@ -1,7 +1,7 @@
 pub mod Chains
 pub mod Decoders
 pub mod EntryOrders
-pub mod EntryPlaces
+pub mod EntryIndexes
 pub mod Layouts
 pub mod Meters
 pub mod Names

@@ -11,7 +11,7 @@ use Rattle.std.proofs.lemmas.List.FromFn.{map-range_with_len_more, get_or-map-ra
 use Rattle.dbc_records.specs.Records.{Entry}
 use Rattle.can_layout.specs.Decoders.{name_of, AreNames}
 
--- one more name, found by a number of 128 bits
+-- one more name, found by a 128-bit number
 pub more_names : (entries : List Entry) (before after : List (Option (List ℕ))) (raw : ℕ) (value : ℤ) (name : Option (List ℕ))
     → raw < 2 ^ 8 → after ≡ before ++ name ∷ []
     → name ≡ name_of (to_z w128 (of_z w128 value)) entries → value ≡ pos raw
@@ -27,23 +27,23 @@ more_names entries before after raw value name small pushed is at so_far =
     ∙ sym (map-range_with_len_more names 0 raw raw (omega arith))
 
 -- the raw value that is found among those from 0 on
-place_is : {E : Type 0} (found : Result ℕ E) (place : ℕ) (raw : ℤ) → OkIff found (FitsUnsigned w64 raw) (unsigned_abs raw)
-    → found ≡ Ok place → raw ≡ pos place
-place_is (Ok other) place raw (fits, is) same =
-    let at : other ≡ place = cc in
+index_is : {E : Type 0} (found : Result ℕ E) (index : ℕ) (raw : ℤ) → OkIff found (FitsUnsigned w64 raw) (unsigned_abs raw)
+    → found ≡ Ok index → raw ≡ pos index
+index_is (Ok other) index raw (fits, is) same =
+    let at : other ≡ index = cc in
     omega (arith, ints, fits.0, is, at)
-place_is (Err e) place raw wrong same = absurd (let no : Err e ≡ Ok place = same in cc)
+index_is (Err e) index raw wrong same = absurd (let no : Err e ≡ Ok index = same in cc)
 
 -- a name that is found among them
-pub found_name : {E : Type 0} (entries : List Entry) (names : List (Option (List ℕ))) (raw : ℤ) (found : Result ℕ E) (place : ℕ)
+pub found_name : {E : Type 0} (entries : List Entry) (names : List (Option (List ℕ))) (raw : ℤ) (found : Result ℕ E) (index : ℕ)
     (name : Option (List ℕ)) → AreNames entries names
-    → OkIff found (FitsUnsigned w64 raw) (unsigned_abs raw) → found ≡ Ok place → true ≡ nat_lt place (length names)
-    → name ≡ get_or names place name → name ≡ name_of raw entries
-found_name entries names raw found place name are number same within is =
-    let at : raw ≡ pos place = place_is found place raw number same in
-    let few : place < length names = grind (arith, within) in
+    → OkIff found (FitsUnsigned w64 raw) (unsigned_abs raw) → found ≡ Ok index → true ≡ nat_lt index (length names)
+    → name ≡ get_or names index name → name ≡ name_of raw entries
+found_name entries names raw found index name are number same within is =
+    let at : raw ≡ pos index = index_is found index raw number same in
+    let few : index < length names = grind (arith, within) in
     let all : ℕ → Option (List ℕ) = λ raw. name_of (pos raw) entries in
     is
-    ∙ ap (λ (names : List (Option (List ℕ))). get_or names place name) are
-    ∙ get_or-map-range_with_len all 0 (length names) place place name few (omega arith)
+    ∙ ap (λ (names : List (Option (List ℕ))). get_or names index name) are
+    ∙ get_or-map-range_with_len all 0 (length names) index index name few (omega arith)
     ∙ ap (λ (z : ℤ). name_of z entries) (sym at)

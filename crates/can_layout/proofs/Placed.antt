@@ -1,4 +1,4 @@
--- Loops over the elements of a list, each with its place.
+-- Loops over the elements of a list, each with its index.
 use Rattle.std.proofs.Common.{◌≡◌, ℕ, ◌+◌, ◌<◌, List, [], ◌∷◌, ◌++◌, map, take, length, get_or, take_all, ap, sym, ◌∙◌, arith}
 use Rattle.std.proofs.Math.Nat.{le_refl}
 use Rattle.std.specs.List.{enumerate_from, flat_map}

@@ -1,4 +1,4 @@
--- A row that plans share is the first of its key.
+-- An entry that plans share is the first of its key.
 use Rattle.std.proofs.Common.{◌≡◌, ◌==◌, ℕ, true, false, List, [], ◌∷◌, Option, Some, None, map, filter, bytes_eq, length}
 use Rattle.std.proofs.Common.{refl, sym, ap, ◌∙◌, inl, inr, Bor, arith}
 use Rattle.std.specs.Prelude.{IfSome}
@@ -6,7 +6,7 @@ use Rattle.std.specs.Option.{option_map}
 use Rattle.std.proofs.lemmas.Bool.{cases_Bool, eqb-true}
 use Rattle.dbc_records.specs.Records.{ValueRow}
 use Rattle.dbc_records.specs.Databases.{Database}
-use Rattle.can_rows.specs.Rows.{rows_of, first_named, first_values}
+use Rattle.can_entries.specs.Rows.{rows_of, first_named, first_values}
 use Rattle.can_layout.specs.declared.shared_row.SharedNumber.{SharedNumber}
 use Rattle.can_layout.specs.declared.shared_row.NamedRow.{NamedRow}
 use Rattle.can_layout.specs.Shares.{row_of, is_shared, AreShared}
@@ -20,7 +20,7 @@ shared_of numbers rows = filter (λ (row : ValueRow). is_shared numbers row.numb
 abbrev first_row_of : List ℕ → List ValueRow → Option ValueRow
 first_row_of name rows = first_named (λ (row : ValueRow). row.signal) name rows
 
--- the first of a key, found among what is shared, is that of the rows
+-- the first of a key, found among what is shared, is that of the entries
 first_mapped : (number : ℕ) (name : List ℕ) (named : List NamedRow) → option_map row_of
     (first_named (λ (one : NamedRow). one.row.now.signal) name (filter (λ (one : NamedRow). one.row.now.number == number) named))
     ≡ first_row_of name (of_number number (map row_of named))
@@ -34,7 +34,7 @@ first_mapped number name (one ∷ named) =
       | inr other ↦ rw other (first_mapped number name named)
     ]
 
--- all rows of a number are shared
+-- all entries of a CAN identifier are shared
 all_shared : (numbers : List SharedNumber) (number : ℕ) (rows : List ValueRow) → is_shared numbers number ≡ true
     → of_number number (shared_of numbers rows) ≡ of_number number rows
 all_shared numbers number [] has = refl
@@ -94,7 +94,7 @@ pub shared_there : (database : Database) (numbers : List SharedNumber) (named : 
 shared_there database numbers named number name None are is = tt
 shared_there database numbers named number name (Some one) are is = shared_first database numbers named number name one.now are is
 
--- without numbers no row is shared
+-- without CAN identifiers no entry is shared
 none_without_numbers : (rows : List ValueRow) → shared_of [] rows ≡ []
 none_without_numbers [] = refl
 none_without_numbers (row ∷ rows) = none_without_numbers rows

@@ -5,7 +5,7 @@ use Rattle.std.specs.List.{find, range_with_len}
 use Rattle.std.specs.Option.{option_map}
 use Rattle.std.specs.Ordering.{int_eq, int_cmp}
 use Rattle.std.specs.BTreeMap.{BTreeMap, get}
-use Rattle.ready_texts.specs.Shown.{shown}
+use Rattle.dbc_text_buffer.specs.Shown.{shown}
 use Rattle.dbc_values.specs.Scales.{Scale}
 use Rattle.dbc_records.specs.Records.{Entry}
 use Rattle.can_bits.specs.Bits.{Bit}
@@ -22,14 +22,14 @@ pub record Decoder : Type 0 where
 pub record IsDecoder (decoder : Decoder) : Type 0 where
   pub fits : decoder.scale.length ≡ length decoder.bits
 
--- ---- what is written of values
+-- ---- the text of values
 
--- a blank and the unit, where there is one
+-- a blank and the unit, if there is one
 abbrev pub unit_text : List ℕ → List ℕ
 unit_text [] = []
 unit_text (b ∷ unit) = codes " " ++ shown (b ∷ unit)
 
--- the value descriptions, none where there is no row of them
+-- the value descriptions, none if there is no entry of them
 abbrev pub entries_in : Option (List Entry) → List Entry
 entries_in None = []
 entries_in (Some entries) = entries
@@ -38,15 +38,15 @@ entries_in (Some entries) = entries
 abbrev pub first_entry : ℤ → List Entry → Option Entry
 first_entry raw entries = find (λ entry. int_eq entry.number raw) entries
 
--- the place is that of the first entry of a raw value in a front of entries, or there is none
-abbrev pub IsPlace : List Entry → List Entry → ℤ → Option ℕ → Type 0
-IsPlace entries front raw None = first_entry raw front ≡ None
-IsPlace entries front raw (Some place) = (entry : Entry) × (slice_get entries place ≡ Some entry)
+-- the index is that of the first entry of a raw value in a prefix of entries, or there is none
+abbrev pub IsIndexOf : List Entry → List Entry → ℤ → Option ℕ → Type 0
+IsIndexOf entries front raw None = first_entry raw front ≡ None
+IsIndexOf entries front raw (Some index) = (entry : Entry) × (slice_get entries index ≡ Some entry)
     × (first_entry raw front ≡ Some entry)
 
--- each number has the place of its first entry
+-- each raw value has the index of its first entry
 abbrev pub IsEntryIndex : BTreeMap ℤ ℕ → List Entry → Type 0
-IsEntryIndex places entries = (raw : ℤ) → IsPlace entries entries raw (get int_cmp places raw)
+IsEntryIndex indexes entries = (raw : ℤ) → IsIndexOf entries entries raw (get int_cmp indexes raw)
 
 -- the name of a raw value
 abbrev pub name_of : ℤ → List Entry → Option (List ℕ)

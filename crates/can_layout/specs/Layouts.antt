@@ -1,14 +1,14 @@
--- How a message is laid out: what its plan and its diagram are both made of.
+-- The layout of a message, from which both its plan and its diagram are made.
 use Rattle.std.specs.Prelude.{◌≡◌, ℕ, List, map, Option, Some, None, Result, Ok, Err}
 use Rattle.dbc_values.specs.Scales.{Scale}
 use Rattle.dbc_records.specs.Records.{Signal, Message}
 use Rattle.can_bits.specs.Bits.{field_of}
-use Rattle.can_rows.specs.Rows.{SignalRows}
+use Rattle.can_entries.specs.Rows.{SignalRows}
 use Rattle.can_mux.specs.Walks.{walk_of}
-use Rattle.can_mux.specs.Switches.{aboves_of}
+use Rattle.can_mux.specs.Switches.{mux_parents_of}
 use Rattle.can_mux.specs.declared.mux_parent.MuxParent.{MuxParent}
 use Rattle.can_layout.specs.Plans.{cause_of, chain_of, reading_unless}
-use Rattle.can_layout.specs.Pictures.{legend_line}
+use Rattle.can_layout.specs.Diagrams.{legend_line}
 use Rattle.can_layout.specs.declared.refusal.Cause.{Cause}
 use Rattle.can_layout.specs.declared.row.Row.{Row}
 
@@ -25,26 +25,26 @@ abbrev pub cause_in : Result Scale Cause → Option Cause
 cause_in (Ok scale) = None
 cause_in (Err cause) = Some cause
 
--- a message with the rows of its number
+-- a message with the entries of its CAN identifier
 pub record Layout : Type 0 where
   pub rows : SignalRows
   pub message : Message
 
--- what is kept of it
+-- what is kept of a message's layout
 abbrev pub IsLayout : Layout → List MuxParent → List SignalLayout → Type 0
-IsLayout layout aboves signals = (aboves ≡ aboves_of layout.rows layout.message.signals)
+IsLayout layout mux_parents signals = (mux_parents ≡ mux_parents_of layout.rows layout.message.signals)
     × (signals ≡ map (layout_of layout.rows layout.message.head.size) layout.message.signals)
 
--- the row of the signal at a place
+-- the row of the signal at an index
 abbrev pub row_by : SignalRows → List MuxParent → ℕ → SignalLayout → Row
-row_by rows aboves place layout =
+row_by rows mux_parents index layout =
     record {
       name = layout.signal.name;
       field = field_of layout.signal;
-      chain = chain_of (walk_of aboves place);
+      chain = chain_of (walk_of mux_parents index);
       reading = reading_unless layout.cause rows layout.signal;
     }
 
 -- its line of the legend
 abbrev pub legend_by : List Signal → List MuxParent → ℕ → SignalLayout → List ℕ
-legend_by signals aboves place layout = legend_line signals place layout.signal layout.cause (walk_of aboves place)
+legend_by signals mux_parents index layout = legend_line signals index layout.signal layout.cause (walk_of mux_parents index)

@@ -1,12 +1,13 @@
 pub use Rattle.can_bits.specs.Bits
 pub use Rattle.can_bits.specs.Grids
-pub use Rattle.can_rows.specs.Rows
-pub use Rattle.can_rows.specs.Groups
+pub use Rattle.can_entries.specs.Rows
+pub use Rattle.can_entries.specs.Groups
 pub mod Decoders
+pub mod CachedNames
 pub mod Shares
-pub mod Searches
 pub mod Plans
 pub mod Presence
-pub mod Pictures
+pub mod Diagrams
 pub mod Layouts
 pub mod Meters
+pub mod inner

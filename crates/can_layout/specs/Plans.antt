@@ -1,8 +1,7 @@
--- Decode plans: how each signal of a message is read, and with which numbers of its switches it is there. They read only
--- the message and the rows of its number.
--- Source: the DBC file format, "Signal Definitions", "Signal Extended Value Type Definitions", "Signal Value Descriptions",
--- "Extended Multiplexing"; that a signal is read once its switches have their numbers is the decoding of cantools. Which
--- signals are refused is the profile of candesk.
+-- Decode plans: how each signal of a message is read, and for which raw values of its multiplexors (switches) it is present. They
+-- read only the message and the entries of its CAN identifier. Source: the DBC file format, "Signal Definitions", "Signal Extended
+-- Value Type Definitions", "Signal Value Descriptions", "Extended Multiplexing"; that a signal is read once its multiplexors have
+-- their raw values is the decoding of cantools. Which signals are refused is the profile of candesk.
 use Rattle.std.specs.Prelude.{ℕ, ℤ, pos, nat_lt, Bool, false, not, ◌&&◌, List, ◌++◌, length, codes, map, Option}
 use Rattle.std.specs.Prelude.{Some, None, slice_get, if◌then◌else◌}
 use Rattle.std.specs.List.{list_any, list_all, enumerate_from}
@@ -12,11 +11,11 @@ use Rattle.dbc_records.specs.Records.{Signal, Message}
 use Rattle.dbc_records.specs.Databases.{Database}
 use Rattle.dbc_records.specs.declared.mux_row.Range.{Range}
 use Rattle.can_bits.specs.Bits.{field_of, is_outside, bits_of, unsigned_raw, raw_value}
-use Rattle.can_rows.specs.Rows.{SignalRows, rows_of, first_values, first_float, is_float_row, entries_of}
+use Rattle.can_entries.specs.Rows.{SignalRows, rows_of, first_values, first_float, is_float_row, entries_of}
 use Rattle.can_mux.specs.Links.{Link}
 use Rattle.dbc_records.specs.Ranges.{in_range}
 use Rattle.can_mux.specs.Walks.{walk_of}
-use Rattle.can_mux.specs.Switches.{aboves_of}
+use Rattle.can_mux.specs.Switches.{mux_parents_of}
 use Rattle.can_mux.specs.declared.mux_parent.MuxParent.{MuxParent}
 use Rattle.can_layout.specs.declared.refusal.Cause.{Cause}
 use Rattle.can_layout.specs.declared.refusal.Cause.TheVariants as causes
@@ -59,47 +58,47 @@ chain_of (walks.Chain links) = Some links
 chain_of (walks.Absent own) = None
 chain_of walks.Loop = None
 
--- the row of the signal at a place, where `aboves` stand above the signals of its message
+-- the row that a plan has for the signal at an index, where `mux_parents` are the multiplexing parents of its message's signals
 abbrev pub row_of : SignalRows → List MuxParent → ℕ → ℕ → Signal → Row
-row_of rows aboves size place signal =
+row_of rows mux_parents size index signal =
     record {
       name = signal.name;
       field = field_of signal;
-      chain = chain_of (walk_of aboves place);
+      chain = chain_of (walk_of mux_parents index);
       reading = reading_of rows size signal;
     }
 
 -- a row for each signal, in order
 abbrev pub plan_rows : SignalRows → List MuxParent → ℕ → List Signal → List Row
-plan_rows rows aboves size signals = map (λ placed. row_of rows aboves size placed.0 placed.1) (enumerate_from 0 signals)
+plan_rows rows mux_parents size signals = map (λ placed. row_of rows mux_parents size placed.0 placed.1) (enumerate_from 0 signals)
 
 pub record Plan : Type 0 where
   pub size : ℕ
   pub rows : List Row
 
--- what stands between the value of a signal and that of the one before
+-- what is between the value of a signal and that of the one before
 abbrev pub label_of : Row → List ℕ
 label_of row = codes ", " ++ (row.name ++ codes ": ")
 
 unfoldable pub plan_in : SignalRows → Message → Plan
 plan_in rows message = record {
   size = message.head.size;
-  rows = plan_rows rows (aboves_of rows message.signals) message.head.size
+  rows = plan_rows rows (mux_parents_of rows message.signals) message.head.size
       message.signals;
 }
 
 abbrev pub plan_of : Database → Message → Plan
 plan_of database message = plan_in (rows_of message.head.number database) message
 
--- the signal at a place of the message at a place, with that message
+-- the signal at an index of the message at an index, with that message
 unfoldable pub signal_at : Database → ℕ → ℕ → Option (Message × Signal)
-signal_at database place signal =
+signal_at database index signal =
     option_and_then (λ message. option_map (λ s. (message, s)) (slice_get message.signals signal))
-    (slice_get database.messages place)
+    (slice_get database.messages index)
 
 -- ---- what a plan finds in data
 
--- the bits of a signal; one that is refused has no value
+-- the bits of a signal as a number; a signal that can't be decoded counts as 0
 abbrev pub raw_in : List ℕ → Reading → ℕ
 raw_in bytes (Refused cause) = 0
 raw_in bytes (Read decoder) = unsigned_raw bytes decoder.bits
@@ -116,7 +115,7 @@ abbrev pub raw_value_at : List ℕ → Option Row → ℤ
 raw_value_at bytes None = pos 0
 raw_value_at bytes (Some row) = raw_value_in bytes row.reading
 
--- a switch has one of the numbers, as an unsigned number; one that is refused has none
+-- a multiplexor has one of the raw values, as an unsigned number; one that is refused has none
 abbrev pub has_number : List ℕ → List Range → Reading → Bool
 has_number bytes ranges (Refused cause) = false
 has_number bytes ranges (Read decoder) = list_any (in_range (unsigned_raw bytes decoder.bits)) ranges
@@ -125,7 +124,7 @@ has_number bytes ranges (Read decoder) = list_any (in_range (unsigned_raw bytes 
 abbrev pub is_whole : List ℕ → Row → Bool
 is_whole bytes row = not (is_outside (length bytes) row.field)
 
--- a switch of which a bit is not in the data has no number
+-- a multiplexor with a bit that is not in the data has no raw value
 abbrev pub switch_has_number : List ℕ → List Range → Option Row → Bool
 switch_has_number bytes ranges None = false
 switch_has_number bytes ranges (Some row) = is_whole bytes row && has_number bytes ranges row.reading
@@ -137,7 +136,7 @@ abbrev pub are_met : List ℕ → List Row → Option (List Link) → Bool
 are_met bytes rows None = false
 are_met bytes rows (Some links) = list_all (is_met bytes rows) links
 
--- a signal is there where it has a chain, and each switch in it has one of the numbers beside it
+-- a signal is present if it has a chain, and each multiplexor in it has one of the raw values of its link
 abbrev pub is_present : List ℕ → List Row → Option Row → Bool
 is_present bytes rows None = false
 is_present bytes rows (Some row) = are_met bytes rows row.chain

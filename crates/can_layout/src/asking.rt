@@ -1,26 +1,26 @@
-//! What is asked of one signal: why it is refused, and which switches stand above it.
+//! Questions about one signal: why it is refused, and what its multiplexing chain is.
 ghost use Rattle.std.specs.Prelude.{◌≡◌, IfOk, IsSome, Some};
 ghost use Rattle.std.specs.Option.{option_map};
-ghost use Rattle.can_rows.specs.Rows.{rows_of};
+ghost use Rattle.can_entries.specs.Rows.{rows_of};
 ghost use Rattle.can_mux.specs.Walks.{walk_of};
-ghost use Rattle.can_mux.specs.Switches.{aboves_of};
+ghost use Rattle.can_mux.specs.Switches.{mux_parents_of};
 ghost use Rattle.can_layout.specs.Plans.{cause_of, signal_at};
 
 use crate::refusal::{Cause, cause_of};
-use can_mux::{MessageRows, Walk, aboves_of, walk_of};
-use can_rows::Lookup;
+use can_entries::Lookup;
+use can_mux::{MessageRows, Walk, mux_parents_of, walk_of};
 use dbc_records::{Database, Signal};
 use dbc_values::Memory;
 use std::alloc::Global;
 
-/// Why a signal can't be decoded, by its place in a message, or `None` where it can.
+/// Why a signal can't be decoded, by its index in a message, or `None` if it can.
 #[tactic(auto, unfolding(crate::specs::Plans::signal_at))]
-pub fn cause(database: &Database, place: usize, signal: usize) -> Option<Cause>
-    requires { IsSome (signal_at database.now place signal) }
+pub fn cause(database: &Database, index: usize, signal: usize) -> Option<Cause>
+    requires { IsSome (signal_at database.now index signal) }
     ensures { Some result ≡ option_map (λ placed. cause_of (rows_of placed.0.head.number database.now) placed.0.head.size placed.1)
-        (signal_at database.now place signal) }
+        (signal_at database.now index signal) }
 {
-    let message = &database.messages.as_slice()[place];
+    let message = &database.messages.as_slice()[index];
     let rows = MessageRows::of(database, message.head.number);
     cause_of(
         &rows,
@@ -29,20 +29,21 @@ pub fn cause(database: &Database, place: usize, signal: usize) -> Option<Cause>
     )
 }
 
-/// The multiplexing chain from a signal, by its place in a message, from switch to switch.
+/// The multiplexing chain from a signal, by its index in a message, from multiplexor to multiplexor.
 #[tactic(auto, unfolding(crate::specs::Plans::signal_at))]
 pub fn chain(
     alloc: Global,
     database: &Database,
-    place: usize,
+    index: usize,
     signal: usize,
 ) -> Result<Walk, Memory>
-    requires { IsSome (signal_at database.now place signal) }
-    ensures { IfOk result (λ walk. Some walk ≡ option_map (λ placed. walk_of (aboves_of (rows_of placed.0.head.number database.now)
-        placed.0.signals) signal) (signal_at database.now place signal)) }
+    requires { IsSome (signal_at database.now index signal) }
+    ensures { IfOk result (λ walk. Some walk ≡ option_map (λ placed. walk_of (mux_parents_of (rows_of placed.0.head.number
+        database.now)
+        placed.0.signals) signal) (signal_at database.now index signal)) }
 {
-    let message = &database.messages.as_slice()[place];
+    let message = &database.messages.as_slice()[index];
     let rows = MessageRows::of(database, message.head.number);
-    let aboves = aboves_of(alloc, &rows, message.signals.as_slice())?;
-    walk_of(alloc, aboves.as_slice(), signal)
+    let mux_parents = mux_parents_of(alloc, &rows, message.signals.as_slice())?;
+    walk_of(alloc, mux_parents.as_slice(), signal)
 }

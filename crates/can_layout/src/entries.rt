@@ -1,4 +1,4 @@
-//! Entries found by their numbers.
+//! Value descriptions found by their raw values.
 ghost use Rattle.std.specs.Prelude.{◌≡◌, ◌≤◌, ℤ, true, false, IsTrue, OnOk, IfOk, IfSome, Some, None, length, option_map};
 ghost use Rattle.std.specs.Prelude.{slice_get, if◌then◌else◌};
 ghost use Rattle.std.specs.BTreeMap.{get};
@@ -7,7 +7,7 @@ ghost use Rattle.std.specs.Option.{option_or};
 ghost use Rattle.std.specs.Ordering.{int_eq, int_cmp};
 ghost use Rattle.dbc_records.specs.Orders.{precedes, are_in_order};
 ghost use Rattle.can_layout.specs.Decoders.{first_entry, IsEntryIndex};
-ghost use Rattle.can_layout.specs.Searches.{IsEntrySearch};
+ghost use Rattle.can_layout.specs.inner.Searches.{IsEntrySearch};
 
 use crate::naming::first_entry;
 use dbc_records::{Entries, Entry, EntryOrder};
@@ -15,41 +15,41 @@ use dbc_values::Memory;
 use std::alloc::Global;
 use std::collections::BTreeMap;
 
-// At most so many entries are gone through.
+// Up to this many entries are searched one by one.
 const LINEAR_SEARCH_LIMIT: usize = 16;
 
-// For each number the place of the first entry that has it.
-type Places = BTreeMap<i128, usize>;
+// For each raw value the index of the first entry that has it.
+type Indexes = BTreeMap<i128, usize>;
 
-/// How entries are found by their numbers, where there are many.
+/// How entries are found by their raw values, if there are many.
 #[derive(Drop)]
 pub(crate) enum EntrySearch {
-    /// By binary search: the numbers are in an order.
+    /// By binary search: the raw values are ordered.
     Ordered(EntryOrder),
-    /// By their places.
-    Indexed(Places),
+    /// By their indexes.
+    Indexed(Indexes),
 }
 
-// Puts the place of an entry at its number, unless one is there.
-fn keep_first(places: &mut Places, entry: &Entry, place: usize) -> Result<(), Memory>
-    ensures { OnOk result ((raw : ℤ) → get int_cmp places.new raw ≡ option_or (get int_cmp places.old raw)
-        (if int_eq entry.now.number raw then Some place else None)) }
+// Records the index of an entry for its raw value, unless one is there.
+fn keep_first(indexes: &mut Indexes, entry: &Entry, index: usize) -> Result<(), Memory>
+    ensures { OnOk result ((raw : ℤ) → get int_cmp indexes.new raw ≡ option_or (get int_cmp indexes.old raw)
+        (if int_eq entry.now.number raw then Some index else None)) }
 {
-    places.entry(entry.number)?.or_insert(place);
+    indexes.entry(entry.number)?.or_insert(index);
     Ok(())
 }
 
-fn places_of(alloc: Global, entries: &[Entry]) -> Result<Places, Memory>
-    ensures { IfOk result (λ places. IsEntryIndex places entries.now) }
+fn indexes_of(alloc: Global, entries: &[Entry]) -> Result<Indexes, Memory>
+    ensures { IfOk result (λ indexes. IsEntryIndex indexes entries.now) }
 {
-    let mut places: Places = BTreeMap::new(alloc);
-    for (place, entry) in entries.iter().enumerate() {
-        keep_first(&mut places, entry, place)?;
+    let mut indexes: Indexes = BTreeMap::new(alloc);
+    for (index, entry) in entries.iter().enumerate() {
+        keep_first(&mut indexes, entry, index)?;
     }
-    Ok(places)
+    Ok(indexes)
 }
 
-/// How entries are found by their numbers, where there are many.
+/// How entries are found by their raw values, if there are many.
 pub(crate) fn search_of_many(
     alloc: Global,
     entries: &Entries,
@@ -62,12 +62,12 @@ pub(crate) fn search_of_many(
     if let Some(order) = entries.order() {
         return Ok(Some(EntrySearch::Ordered(order)));
     }
-    let places = places_of(alloc, entries.as_slice())?;
-    Ok(Some(EntrySearch::Indexed(places)))
+    let indexes = indexes_of(alloc, entries.as_slice())?;
+    Ok(Some(EntrySearch::Indexed(indexes)))
 }
 
 // How many entries precede a raw value in their order.
-fn place_of(order: EntryOrder, entries: &[Entry], raw: i128) -> usize
+fn index_of(order: EntryOrder, entries: &[Entry], raw: i128) -> usize
     requires { IsTrue (are_in_order order entries.now) }
     ensures bound { result ≤ length entries.now }
     ensures parted { IsPartitionPoint (λ entry. precedes order entry.number raw ≡ true)
@@ -90,8 +90,8 @@ fn ordered_entry(order: EntryOrder, entries: &[Entry], raw: i128) -> Option<&Ent
     requires { IsTrue (are_in_order order entries.now) }
     ensures { option_map (λ entry. entry.now) result ≡ first_entry raw entries.now }
 {
-    let place = place_of(order, entries, raw);
-    let Some(entry) = entries.get(place) else {
+    let index = index_of(order, entries, raw);
+    let Some(entry) = entries.get(index) else {
         return None;
     };
     if has_number(entry, raw) {
@@ -101,41 +101,41 @@ fn ordered_entry(order: EntryOrder, entries: &[Entry], raw: i128) -> Option<&Ent
     }
 }
 
-fn place_at(places: &Places, raw: i128) -> Option<usize>
-    ensures { result ≡ get int_cmp places.now raw }
+fn index_at(indexes: &Indexes, raw: i128) -> Option<usize>
+    ensures { result ≡ get int_cmp indexes.now raw }
 {
-    places.get(&raw).copied()
+    indexes.get(&raw).copied()
 }
 
-fn entry_at(entries: &[Entry], place: usize) -> Option<&Entry>
-    ensures { option_map (λ entry. entry.now) result ≡ slice_get entries.now place }
+fn entry_at(entries: &[Entry], index: usize) -> Option<&Entry>
+    ensures { option_map (λ entry. entry.now) result ≡ slice_get entries.now index }
 {
-    entries.get(place)
+    entries.get(index)
 }
 
-// The first entry for a raw value, by the places.
-fn indexed_entry<'a>(places: &Places, entries: &'a [Entry], raw: i128) -> Option<&'a Entry>
-    requires { IsEntryIndex places.now entries.now }
+// The first entry for a raw value, by the indexes.
+fn indexed_entry<'a>(indexes: &Indexes, entries: &'a [Entry], raw: i128) -> Option<&'a Entry>
+    requires { IsEntryIndex indexes.now entries.now }
     ensures { option_map (λ entry. entry.now) result ≡ first_entry raw entries.now }
 {
-    match place_at(places, raw) {
-        Some(place) => entry_at(entries, place),
+    match index_at(indexes, raw) {
+        Some(index) => entry_at(entries, index),
         None => None,
     }
 }
 
-// The first entry for a raw value, where there are many.
+// The first entry for a raw value, if there are many.
 fn searched_entry<'a>(search: &EntrySearch, entries: &'a [Entry], raw: i128) -> Option<&'a Entry>
     requires { IsEntrySearch search.now entries.now }
     ensures { option_map (λ entry. entry.now) result ≡ first_entry raw entries.now }
 {
     match search {
         EntrySearch::Ordered(order) => ordered_entry(*order, entries, raw),
-        EntrySearch::Indexed(places) => indexed_entry(places, entries, raw),
+        EntrySearch::Indexed(indexes) => indexed_entry(indexes, entries, raw),
     }
 }
 
-/// The first entry for a raw value. Of many, it is found in time with the logarithm of how many there are.
+/// The first entry for a raw value. If there are many entries, it takes time logarithmic in their count.
 pub(crate) fn entry_of<'a>(
     search: &Option<EntrySearch>,
     entries: &'a [Entry],

@@ -2,11 +2,11 @@
 ghost use Rattle.std.specs.Prelude.{◌≡◌};
 ghost use Rattle.dbc_records.specs.Records.{Message};
 ghost use Rattle.dbc_records.specs.Databases.{Database};
-ghost use Rattle.can_rows.specs.Rows.{rows_of};
+ghost use Rattle.can_entries.specs.Rows.{rows_of};
 ghost use Rattle.can_layout.specs.Plans.{plan_of};
-ghost use Rattle.can_layout.specs.Pictures.{picture_of};
+ghost use Rattle.can_layout.specs.Diagrams.{picture_of};
 
-/// The plan and the diagram of a message read only the message and the rows of its number, so they are the same by two
+/// The plan and the diagram of a message read only the message and the entries of its CAN identifier, so they are the same in two
 /// databases that agree in these.
 pub fn own_rows_alone()
     ensures plan { (a b : Database) (message : Message) → rows_of message.head.number a ≡ rows_of message.head.number b

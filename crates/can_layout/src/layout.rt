@@ -1,13 +1,13 @@
-//! How a message is laid out: what its plan and its diagram are both made of.
+//! The layout of a message, from which both its plan and its diagram are made.
 ghost use Rattle.std.specs.Prelude.{◌≡◌, IfOk, map};
-ghost use Rattle.can_rows.specs.Rows.{rows_of};
-ghost use Rattle.can_mux.specs.Switches.{aboves_of};
+ghost use Rattle.can_entries.specs.Rows.{rows_of};
+ghost use Rattle.can_mux.specs.Switches.{mux_parents_of};
 ghost use Rattle.can_layout.specs.Layouts.{layout_of};
 
 use crate::refusal::{Cause, scale_of};
 use crate::sharing::{PlanRows, Sharing};
-use can_mux::{MessageRows, MuxParent, aboves_of};
-use can_rows::Lookup;
+use can_entries::Lookup;
+use can_mux::{MessageRows, MuxParent, mux_parents_of};
 use dbc_records::{Message, Signal};
 use dbc_values::{List, Memory, Scale};
 use std::alloc::Global;
@@ -37,7 +37,7 @@ impl<'a> Model for SignalLayout<'a> {
 }
 
 impl<'a> SignalLayout<'a> {
-    // That of a signal in a message of that many bytes.
+    // The layout of a signal in a message of that many bytes.
     fn of<L: Lookup>(rows: &MessageRows<'_, L>, size: u16, signal: &'a Signal) -> SignalLayout<'a>
         ensures { result ≡ layout_of rows.now size signal.now }
     {
@@ -65,7 +65,7 @@ impl<'a> SignalLayout<'a> {
     }
 }
 
-// Those of signals, in order.
+// The layouts of signals, in order.
 fn signals_of<'a, L: Lookup>(
     alloc: Global,
     rows: &MessageRows<'_, L>,
@@ -81,12 +81,13 @@ fn signals_of<'a, L: Lookup>(
     Ok(all)
 }
 
-/// How a message is laid out, by the rows of its number: what stands above each of its signals, and by which scale it is read.
+/// The layout of a message, by the entries of its CAN identifier: the multiplexing parent of each of its signals, and the scale by
+/// which each is read.
 #[derive(Drop)]
 pub(crate) struct Layout<'a, L: Lookup> {
     rows: PlanRows<'a, L>,
     message: &'a Message,
-    aboves: Rc<List<MuxParent>>,
+    mux_parents: Rc<List<MuxParent>>,
     signals: Vec<SignalLayout<'a>>,
 }
 
@@ -97,11 +98,12 @@ impl<'a, L: Lookup> Model for Layout<'a, L> {
 
     ghost view = { λ a. record { rows = a.rows; message = a.message.now } };
 
-    ghost invariant = { λ a. layouts.IsLayout (record { rows = a.rows; message = a.message.now }) a.aboves.value a.signals.items };
+    ghost invariant = { λ a. layouts.IsLayout (record { rows = a.rows; message = a.message.now }) a.mux_parents.value
+        a.signals.items };
 }
 
 impl<'a, L: Lookup> Layout<'a, L> {
-    /// That of a message.
+    /// The layout of a message.
     pub(crate) fn of(
         alloc: Global,
         sharing: &'a Sharing<'a, L>,
@@ -114,13 +116,13 @@ impl<'a, L: Lookup> Layout<'a, L> {
     {
         let rows = PlanRows::of(sharing, message.head.number);
         let signals = message.signals.as_slice();
-        let aboves = aboves_of(alloc, &rows.rows(), signals)?;
-        let aboves = Rc::new(alloc, aboves)?;
+        let mux_parents = mux_parents_of(alloc, &rows.rows(), signals)?;
+        let mux_parents = Rc::new(alloc, mux_parents)?;
         let signals = signals_of(alloc, &rows.rows(), message.head.size, signals)?;
         Ok(Layout {
             rows,
             message,
-            aboves,
+            mux_parents,
             signals,
         })
     }
@@ -132,26 +134,26 @@ impl<'a, L: Lookup> Layout<'a, L> {
         self.message
     }
 
-    /// The rows of its number.
+    /// The entries of its CAN identifier.
     pub(crate) fn rows(&self) -> &PlanRows<'a, L>
         ensures { result.now ≡ self.now.rows }
     {
         &self.rows
     }
 
-    /// What stands above each of its signals.
-    pub(crate) fn aboves(&self) -> &[MuxParent]
-        ensures { result.now ≡ aboves_of self.now.rows self.now.message.signals }
+    /// The multiplexing parent of each of its signals.
+    pub(crate) fn mux_parents(&self) -> &[MuxParent]
+        ensures { result.now ≡ mux_parents_of self.now.rows self.now.message.signals }
     {
-        self.aboves.as_ref().as_slice()
+        self.mux_parents.as_ref().as_slice()
     }
 
     /// The same, shared.
-    pub(crate) fn shared_aboves(&self) -> Result<Rc<List<MuxParent>>, Memory>
-        ensures { IfOk result (λ aboves. aboves.value ≡ aboves_of self.now.rows self.now.message.signals) }
+    pub(crate) fn shared_mux_parents(&self) -> Result<Rc<List<MuxParent>>, Memory>
+        ensures { IfOk result (λ mux_parents. mux_parents.value ≡ mux_parents_of self.now.rows self.now.message.signals) }
     {
-        let aboves = self.aboves.clone()?;
-        Ok(aboves)
+        let mux_parents = self.mux_parents.clone()?;
+        Ok(mux_parents)
     }
 
     /// Its signals with their scales.

@@ -1,13 +1,14 @@
-//! What the data of a message says of its signals: decode plans, multiplexing, and diagrams of messages.
+//! What the data of a message means for its signals: decode plans, multiplexing, and diagrams of messages.
 //!
-//! A [`Plan`] says how each signal of a message is read and when it is there. Plans and diagrams read only their message and the
-//! rows of its number.
+//! A [`Plan`] describes how each signal of a message is read and when it is present. Plans and diagrams read only their message and
+//! the entries of its CAN identifier.
 #![tactic(auto)]
 
-mod asked;
 mod asking;
+mod cached;
+mod cached_name;
 mod decoder;
-mod drawing;
+mod diagram;
 mod entries;
 pub mod laws;
 mod layout;
@@ -28,11 +29,12 @@ mod switch_chain;
 mod text;
 
 pub use asking::{cause, chain};
+pub use cached_name::CachedName;
 pub use can_bits::{Field, Steps, position};
+pub use can_entries::{Indexed, Lookup, group_in, group_number, group_of, is_bad_number};
 pub use can_mux::{Link, Walk};
-pub use can_rows::{Indexed, Lookup, group_in, group_number, group_of, is_bad_number};
 pub use decoder::Decoder;
-pub use drawing::{picture, picture_with, pictures};
+pub use diagram::{picture, picture_with, pictures};
 pub use making::{make_plan, make_plans, plan_and_picture, plan_sharing, plan_with, plans_with};
 pub use meter::Meter;
 pub use naming::first_entry;

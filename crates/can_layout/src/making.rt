@@ -1,9 +1,9 @@
 //! Plans of one message, and of all.
 ghost use Rattle.std.specs.Prelude.{◌≡◌, ◌<◌, IfOk, OnOk, Some, length, map, slice_get};
 ghost use Rattle.std.specs.Option.{option_map};
-ghost use Rattle.can_rows.specs.Rows.{rows_of};
+ghost use Rattle.can_entries.specs.Rows.{rows_of};
 ghost use Rattle.can_layout.specs.Plans.{plan_of};
-ghost use Rattle.can_layout.specs.Pictures.{picture_of};
+ghost use Rattle.can_layout.specs.Diagrams.{picture_of};
 ghost use Rattle.can_layout.specs.Meters.{with_plan, with_picture, repeated, AtMost};
 
 use crate::layout::Layout;
@@ -11,12 +11,12 @@ use crate::legend::picture_in;
 use crate::meter::Meter;
 use crate::plan::{Plan, plan_in};
 use crate::sharing::{SharedRows, Sharing};
-use can_rows::{Indexed, Lookup};
+use can_entries::{Indexed, Lookup};
 use dbc_records::{Database, Message};
 use dbc_values::Memory;
 use std::alloc::Global;
 
-// How a message is laid out, for a plan, which is counted.
+// The layout of a message, for a plan, which is counted.
 fn layout_for_plan<'a, L: Lookup>(
     alloc: Global,
     sharing: &'a Sharing<'a, L>,
@@ -33,8 +33,8 @@ fn layout_for_plan<'a, L: Lookup>(
     Layout::of(alloc, sharing, message)
 }
 
-/// The plan of a message, by the rows of a database: a [`Database`] goes through them for each signal, an [`Indexed`] one
-/// finds them. The meter counts it, also where memory is refused.
+/// The plan of a message, by the entries of a database: a [`Database`] searches them for each signal, an [`Indexed`] one finds
+/// them. The meter counts it, even if memory runs out.
 pub fn plan_with<L: Lookup>(
     alloc: Global,
     lookup: &L,
@@ -47,7 +47,7 @@ pub fn plan_with<L: Lookup>(
     plan_sharing(alloc, &Sharing::none(lookup), message, meter)
 }
 
-/// As [`plan_with`], where rows that plans share are not made anew. The meter counts it, also where memory is refused.
+/// Like [`plan_with`], but entries that plans share are not made again. The meter counts it, even if memory runs out.
 pub fn plan_sharing<L: Lookup>(
     alloc: Global,
     sharing: &Sharing<'_, L>,
@@ -61,7 +61,7 @@ pub fn plan_sharing<L: Lookup>(
     plan_in(alloc, &layout)
 }
 
-/// The plan and the diagram of a message, made of one layout of it. The meter counts both, also where memory is refused.
+/// The plan and the diagram of a message, made of one layout of it. The meter counts both, even if memory runs out.
 pub fn plan_and_picture<L: Lookup>(
     alloc: Global,
     sharing: &Sharing<'_, L>,
@@ -79,19 +79,19 @@ pub fn plan_and_picture<L: Lookup>(
     Ok((plan, picture))
 }
 
-/// The plan of the message at a place. It goes through the rows of the database for each signal. The meter counts it, also
-/// where memory is refused.
+/// The plan of the message at an index. It searches the entries of the database for each signal. The meter counts it, even
+/// if memory runs out.
 pub fn make_plan(
     alloc: Global,
     database: &Database,
-    place: usize,
+    index: usize,
     meter: &mut Meter,
 ) -> Result<Plan, Memory>
-    requires { place < length database.now.messages }
-    ensures plan { IfOk result (λ plan. Some plan ≡ option_map (plan_of database.now) (slice_get database.now.messages place)) }
+    requires { index < length database.now.messages }
+    ensures plan { IfOk result (λ plan. Some plan ≡ option_map (plan_of database.now) (slice_get database.now.messages index)) }
     ensures counted { meter.new ≡ with_plan meter.old }
 {
-    plan_with(alloc, database, &database.messages.as_slice()[place], meter)
+    plan_with(alloc, database, &database.messages.as_slice()[index], meter)
 }
 
 // The plans of messages, in order.
@@ -112,7 +112,7 @@ fn plans_of<L: Lookup>(
     Ok(plans)
 }
 
-// The plans of all messages, which share these rows.
+// The plans of all messages, which share these entries.
 fn plans_by<L: Lookup>(
     alloc: Global,
     lookup: &L,
@@ -133,8 +133,8 @@ fn plans_by<L: Lookup>(
     )
 }
 
-/// The plans of all messages of a database whose rows are found by `lookup`, in order. Those of one number share their named
-/// values. The meter counts each.
+/// The plans of all messages of a database whose entries are found by `lookup`, in order. Those of one CAN identifier share their
+/// value descriptions. The meter counts each.
 pub fn plans_with<L: Lookup>(
     alloc: Global,
     lookup: &L,
@@ -148,7 +148,7 @@ pub fn plans_with<L: Lookup>(
     plans_by(alloc, lookup, &rows, meter)
 }
 
-/// The plans of all messages, in order, by an index of the rows. The meter counts each.
+/// The plans of all messages, in order, by an index of the entries. The meter counts each.
 pub fn make_plans(
     alloc: Global,
     database: &Database,

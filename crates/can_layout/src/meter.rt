@@ -4,8 +4,7 @@ ghost use Rattle.can_layout.specs.Meters.{with_plan, with_picture, with_line};
 
 use std::marker::Model;
 
-/// How often a plan or a diagram was made, and a line decoded. The counts begin at 0 and only rise; at `u64::MAX` they
-/// stay.
+/// How often a plan or a diagram was made, and a line decoded. The counts begin at 0 and only rise; they saturate at `u64::MAX`.
 #[derive(Drop)]
 pub struct Meter {
     plans: u64,

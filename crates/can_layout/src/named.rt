@@ -1,21 +1,23 @@
 //! The value descriptions of a signal.
 ghost use Rattle.std.specs.Prelude.{◌≡◌, IfOk, IfSome, option_map};
 ghost use Rattle.can_layout.specs.Decoders.{first_entry, name_of};
+ghost use Rattle.can_layout.specs.CachedNames.{IsCachedName};
 
+use crate::cached_name::CachedName;
 use crate::entries::{EntrySearch, entry_of, search_of_many};
 use crate::naming::ready_names;
 use dbc_records::{Entries, Entry};
+use dbc_text_buffer::{ReadyText, TextBuffer};
 use dbc_values::Memory;
-use ready_texts::{ReadyText, TextBuffer};
 use std::marker::Model;
 
 /// The value descriptions of a signal, found by their raw values.
 #[derive(Drop)]
-pub struct Named {
+pub(crate) struct Named {
     // The names of the first raw values.
     names: Vec<Option<ReadyText>>,
     entries: Entries,
-    // Where the entries are many, how they are found by their numbers.
+    // If there are many entries, how they are found by their raw values.
     search: Option<EntrySearch>,
 }
 
@@ -23,7 +25,7 @@ impl Model for Named {
     ghost use Rattle.std.specs.Prelude.{List as Items, IfSome};
     ghost use Rattle.dbc_records.specs.Records.{Entry as PlainEntry};
     ghost use Rattle.can_layout.specs.Decoders.{AreNames};
-    ghost use Rattle.can_layout.specs.Searches.{IsEntrySearch};
+    ghost use Rattle.can_layout.specs.inner.Searches.{IsEntrySearch};
 
     ghost Value = { Items PlainEntry };
 
@@ -33,7 +35,7 @@ impl Model for Named {
 }
 
 impl Named {
-    /// These value descriptions. Their texts are made in the draft.
+    /// These value descriptions. Their texts are made in the buffer.
     pub(crate) fn of(buffer: &mut TextBuffer, entries: Entries) -> Result<Named, Memory>
         ensures { IfOk result (λ named. named ≡ entries) }
     {
@@ -53,15 +55,26 @@ impl Named {
         self.entries.as_slice()
     }
 
-    /// The name of a raw value, or that it has none, if that is kept ready. Else it has to be looked for among the entries.
-    pub(crate) fn cached_name(&self, raw: i128) -> Option<Option<&ReadyText>>
-        ensures { IfSome result (λ name. option_map (λ ready. ready.now) name ≡ name_of raw self.now) }
+    // The name of a raw value, or that it has none, if it is one of the first raw values.
+    fn name_at(&self, raw: i128) -> Option<&Option<ReadyText>>
+        ensures { IfSome result (λ name. name.now ≡ name_of raw self.now) }
     {
-        let Ok(place) = usize::try_from(raw) else {
+        let Ok(index) = usize::try_from(raw) else {
             return None;
         };
-        let name = self.names.as_slice().get(place)?;
-        Some(name.as_ref())
+        let name = self.names.as_slice().get(index)?;
+        Some(name)
+    }
+
+    /// What is cached of the name of a raw value.
+    pub(crate) fn cached_name(&self, raw: i128) -> CachedName<'_>
+        ensures { IsCachedName result (name_of raw self.now) }
+    {
+        match self.name_at(raw) {
+            Some(Some(name)) => CachedName::Name(name),
+            Some(None) => CachedName::Unnamed,
+            None => CachedName::NotCached,
+        }
     }
 
     /// The first entry for a raw value.

@@ -1,17 +1,17 @@
-//! What is written beside numbers, or in their place: units and the names of raw values.
+//! Text after numbers, or in their place: units and the names of raw values.
 ghost use Rattle.std.specs.Prelude.{◌≡◌, ◌++◌, OnOk, IfOk, IfSome, option_map};
 ghost use Rattle.can_layout.specs.Decoders.{unit_text, first_entry, name_of, AreNames};
-ghost use Rattle.can_layout.specs.Searches.{IsEntrySearch};
+ghost use Rattle.can_layout.specs.inner.Searches.{IsEntrySearch};
 
 use crate::entries::{EntrySearch, entry_of};
 use dbc_records::Entry;
+use dbc_text_buffer::{ReadyText, TextBuffer, push_bytes, push_shown};
 use dbc_values::Memory;
-use ready_texts::{ReadyText, TextBuffer, push_bytes, push_shown};
 
-// At most so many raw values have their names kept ready.
-const MOST: usize = 64;
+// At most this many raw values have cached names.
+const MAX_CACHED_NAMES: usize = 64;
 
-// A blank and a unit, where there is one.
+// A blank and a unit, if there is one.
 #[tactic(auto, using(crate::proofs::Pushing::pushed_then))]
 fn push_unit(text: &mut TextBuffer, unit: &[u8]) -> Result<(), Memory>
     ensures { OnOk result (text.new.items ≡ text.old.items ++ unit_text unit.now) }
@@ -25,7 +25,7 @@ fn push_unit(text: &mut TextBuffer, unit: &[u8]) -> Result<(), Memory>
     }
 }
 
-/// What is written of a unit, kept ready.
+/// The text of a unit, cached.
 pub(crate) fn ready_unit(buffer: &mut TextBuffer, unit: &[u8]) -> Result<ReadyText, Memory>
     ensures { IfOk result (λ ready. ready ≡ unit_text unit.now) }
 {
@@ -46,7 +46,7 @@ pub fn first_entry(entries: &[Entry], raw: i128) -> Option<&Entry>
     None
 }
 
-// The name of a raw value, kept ready.
+// The name of a raw value, cached.
 fn ready_name(
     buffer: &mut TextBuffer,
     search: &Option<EntrySearch>,
@@ -65,7 +65,7 @@ fn ready_name(
     Ok(Some(ready))
 }
 
-/// The names of the first raw values, kept ready. There are as many of them as entries, but not more than a few.
+/// The names of the first raw values, cached. There are as many of them as entries, but only a few at most.
 pub(crate) fn ready_names(
     buffer: &mut TextBuffer,
     search: &Option<EntrySearch>,
@@ -74,7 +74,7 @@ pub(crate) fn ready_names(
     requires { IfSome search.now (λ search. IsEntrySearch search entries.now) }
     ensures { IfOk result (λ names. AreNames entries.now names.items) }
 {
-    let count = entries.len().min(MOST);
+    let count = entries.len().min(MAX_CACHED_NAMES);
     let mut names = Vec::with_capacity(buffer.allocator(), count)?;
     for raw in 0..count as u8 {
         names.push(ready_name(buffer, search, entries, i128::from(raw))?)?;

@@ -1,4 +1,4 @@
-//! In which order the runs of a message are looked for in data.
+//! The order in which the runs of a message are looked up in data.
 
 use crate::runs::Run;
 use can_mux::MuxParent;
@@ -28,13 +28,13 @@ fn is_deep(runs: &[Run], run: &Run) -> bool {
     }
 }
 
-// Puts the run that begins at an index before those that are under the same multiplexor.
-fn put_under(under: &mut [Under], place: usize, switch: usize) {
-    if place >= under.len() || switch >= under.len() {
+// Puts the run that begins at an index before those under the same multiplexor.
+fn put_under(under: &mut [Under], index: usize, switch: usize) {
+    if index >= under.len() || switch >= under.len() {
         return;
     }
-    under[place].next = under[switch].first;
-    under[switch].first = place;
+    under[index].next = under[switch].first;
+    under[switch].first = index;
 }
 
 // For each signal the runs under it.
@@ -45,11 +45,11 @@ fn under_of(alloc: Global, runs: &[Run]) -> Result<Vec<Under>, Memory> {
     };
     let mut under = vec![in alloc; none; runs.len()]?;
     for passed in 0..runs.len() {
-        let place = runs.len() - 1 - passed;
-        let run = &runs[place];
+        let index = runs.len() - 1 - passed;
+        let run = &runs[index];
         if let MuxParent::Switch(link) = &run.parent {
-            if run.first == place {
-                put_under(&mut under, place, link.switch);
+            if run.first == index {
+                put_under(&mut under, index, link.switch);
             }
         }
     }
@@ -69,7 +69,7 @@ fn has_under(runs: &[Run], under: &[Under], first: usize) -> bool {
     false
 }
 
-// Adds the runs under a signal: those alone that have runs under them, or those alone that have none.
+// Adds the runs under a signal: only those that have runs under them, or only those that have none.
 fn push_under(
     order: &mut Vec<usize>,
     runs: &[Run],
@@ -80,15 +80,15 @@ fn push_under(
     let Some(of) = under.get(signal) else {
         return Ok(());
     };
-    let mut place = of.first;
+    let mut index = of.first;
     for _passed in 0..under.len() {
-        let Some(of) = under.get(place) else {
+        let Some(of) = under.get(index) else {
             return Ok(());
         };
-        if has_under(runs, under, place) == parents {
-            order.push(place)?;
+        if has_under(runs, under, index) == parents {
+            order.push(index)?;
         }
-        place = of.next;
+        index = of.next;
     }
     Ok(())
 }
@@ -112,11 +112,11 @@ fn push_parents(order: &mut Vec<usize>, runs: &[Run], under: &[Under]) -> Result
     Ok(())
 }
 
-/// In which order runs are looked for, by their first signals. It doesn't change what is found, but how often the same multiplexor
-/// is looked for.
+/// The order in which runs are looked up, by their first signals. It doesn't change what is found, but how often the same
+/// multiplexor is looked up.
 #[derive(Drop)]
 pub(crate) struct Order {
-    /// If some multiplexor has a parent: the runs that have one, each after the run of that. Else none.
+    /// If some multiplexor has a parent: the runs that have one, each after the run of that. Otherwise none.
     pub(crate) runs: Vec<usize>,
     /// How many of them, at the front, have runs under them.
     pub(crate) parents: usize,
@@ -146,23 +146,23 @@ pub(crate) fn order_of(alloc: Global, runs: &[Run]) -> Result<Order, Memory> {
 // No run under the signal was seen.
 const UNSEEN: usize = usize::MAX;
 
-// One was, or some in a row.
+// One was, or several in a row.
 const SEEN: usize = usize::MAX - 1;
 
 // The multiplexor of a run that begins at an index.
-fn switch_of(run: &Run, place: usize) -> Option<usize> {
+fn switch_of(run: &Run, index: usize) -> Option<usize> {
     match &run.parent {
-        MuxParent::Switch(link) if run.first == place => Some(link.switch),
+        MuxParent::Switch(link) if run.first == index => Some(link.switch),
         _ => None,
     }
 }
 
-// How often a run has another multiplexor than the one before that has one.
+// How often a run has another multiplexor than the previous run that has one.
 fn changes(runs: &[Run]) -> usize {
     let mut last = None;
     let mut count: usize = 0;
-    for (place, run) in runs.iter().enumerate() {
-        let switch = switch_of(run, place);
+    for (index, run) in runs.iter().enumerate() {
+        let switch = switch_of(run, index);
         if switch.is_some() && switch != last {
             last = switch;
             count = count.saturating_add(1);
@@ -189,13 +189,13 @@ fn see(slots: &mut [usize], switch: usize, next: usize) -> usize {
     }
 }
 
-// For each multiplexor that runs have again after another one a slot, from 0 on.
+// A slot, from 0 on, for each multiplexor that runs have again after another one.
 fn slots_of(alloc: Global, runs: &[Run]) -> Result<Vec<usize>, Memory> {
     let mut slots = vec![in alloc; UNSEEN; runs.len()]?;
     let mut last = None;
     let mut next = 0;
-    for (place, run) in runs.iter().enumerate() {
-        let found = switch_of(run, place);
+    for (index, run) in runs.iter().enumerate() {
+        let found = switch_of(run, index);
         if let Some(switch) = found
             && found != last
         {
@@ -206,8 +206,8 @@ fn slots_of(alloc: Global, runs: &[Run]) -> Result<Vec<usize>, Memory> {
     Ok(slots)
 }
 
-/// If runs have some multiplexor again after another one: a slot for each such multiplexor, by its index. It doesn't change what is
-/// found, but how often the same multiplexor is looked for.
+/// A slot, by its index, for each multiplexor that runs have again after another one, if there is such a multiplexor. It doesn't
+/// change what is found, but how often the same multiplexor is looked up.
 pub(crate) fn slots_unless_in_row(alloc: Global, runs: &[Run]) -> Result<Vec<usize>, Memory> {
     if changes(runs) > 2 {
         slots_of(alloc, runs)

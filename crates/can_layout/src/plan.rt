@@ -3,15 +3,15 @@ ghost use Rattle.std.specs.Prelude.{◌≡◌, ℕ, List, [], ◌<◌, ◌≤◌
 ghost use Rattle.can_layout.specs.Plans.{reading_unless, chain_of, plan_rows, label_of, plan_in, raw_at};
 ghost use Rattle.can_layout.specs.Layouts.{row_by};
 ghost use Rattle.can_layout.specs.Plans.{raw_value_at, has_number, is_met, are_met, is_present};
-ghost use Rattle.can_layout.specs.Presence.{AreKnown, ArePlain, AreChained, AreRuns, IsRunOf, IsLongestRun, IsAsked, chain_at};
-ghost use Rattle.can_layout.specs.Presence.{AreAsked, AreAllAsked, raw_of, switch_raw, is_among, is_top, are_plain};
+ghost use Rattle.can_layout.specs.Presence.{AreKnown, ArePlain, AreChained, AreRuns, IsRunOf, IsLongestRun, IsCached, chain_at};
+ghost use Rattle.can_layout.specs.Presence.{AreCached, AreAllCached, raw_of, switch_raw, is_among, is_top, are_plain};
 ghost use Rattle.can_layout.specs.declared.runs.Run.{Run as PlainRun};
 ghost use Rattle.std.specs.List.{list_any, enumerate_from};
 ghost use Rattle.dbc_records.specs.Ranges.{in_range};
 ghost use Rattle.can_mux.specs.Walks.{walk_of};
 ghost use Rattle.can_mux.specs.declared.mux_parent.MuxParent.{MuxParent as PlainAbove};
 
-use crate::asked::{Asked, MAX_KEPT, Switches};
+use crate::cached::{CachedMultiplexor, MAX_KEPT, Switches};
 use crate::decoder::Decoder;
 use crate::layout::{Layout, SignalLayout};
 use crate::order::{Order, order_of, slots_unless_in_row};
@@ -21,31 +21,31 @@ use crate::runs::{Run, runs_of};
 use crate::sharing::PlanRows;
 use crate::switch_chain::Chain;
 use can_bits::Field;
-use can_mux::{Link, MuxParent, above_at};
-use can_rows::Lookup;
+use can_entries::Lookup;
+use can_mux::{Link, MuxParent, mux_parent_at};
 use dbc_records::Range;
+use dbc_text_buffer::{ReadyText, TextBuffer, push_bytes};
 use dbc_values::{Copied, List, Memory};
-use ready_texts::{ReadyText, TextBuffer, push_bytes};
 use std::alloc::Global;
 use std::marker::Model;
 use std::rc::Rc;
 
-/// How the data of a message is decoded: its size, and a row for each signal.
+/// How the data of a message is decoded: its length, and a row for each signal.
 #[derive(Drop)]
 pub struct Plan {
     size: u16,
     rows: List<Row>,
-    // What stands between the value of each signal and that of the one before.
+    // What is between the value of each signal and that of the one before.
     labels: Vec<ReadyText>,
-    // What stands above the signals.
-    aboves: Rc<List<MuxParent>>,
-    // In which order runs are looked for, if some chain has more links than one.
+    // The multiplexing parents of the signals.
+    mux_parents: Rc<List<MuxParent>>,
+    // The order in which runs are looked up, if some chain has more than one link.
     order: Order,
-    // If signals have multiplexors in turn: for each such multiplexor where what was found of it is kept.
+    // If signals alternate between multiplexors (switches): for each such multiplexor, the slot in which its bits are cached.
     slots: Vec<usize>,
-    // Whether no signal has a switch above it, as in most messages.
+    // Whether no signal has a parent multiplexor, as in most messages.
     plain: bool,
-    // If some have one: for each signal the run that it is in.
+    // If some signals have one: for each signal the run that it is in.
     runs: Vec<Run>,
 }
 
@@ -58,7 +58,7 @@ impl Model for Plan {
 
     ghost view = { λ a. record { size = a.size; rows = a.rows } };
 
-    ghost invariant = { λ a. (a.labels.items ≡ map plans.label_of a.rows) × AreChained a.rows a.aboves.value
+    ghost invariant = { λ a. (a.labels.items ≡ map plans.label_of a.rows) × AreChained a.rows a.mux_parents.value
         × (a.plain ≡ true → ArePlain a.rows) × AreRuns a.rows a.runs.items
         × (length a.runs.items < length a.rows → ArePlain a.rows) × (a.plain ≡ are_plain a.rows) };
 }
@@ -87,8 +87,8 @@ fn row_of<L: Lookup>(
     chain: Option<Chain>,
     layout: &SignalLayout<'_>,
 ) -> Result<Row, Memory>
-    ensures { IfOk result (λ row. (aboves : List PlainAbove) (place : ℕ) → chain ≡ chain_of (walk_of aboves place)
-        → row ≡ row_by rows.now aboves place layout.now) }
+    ensures { IfOk result (λ row. (mux_parents : List PlainAbove) (index : ℕ) → chain ≡ chain_of (walk_of mux_parents index)
+        → row ≡ row_by rows.now mux_parents index layout.now) }
 {
     let signal = layout.signal;
     let name = signal.name.copy()?;
@@ -101,34 +101,34 @@ fn row_of<L: Lookup>(
     })
 }
 
-// A row for each signal. Texts are made in the draft.
+// A row for each signal. Texts are made in the buffer.
 fn rows_by<L: Lookup>(
     buffer: &mut TextBuffer,
     rows: &PlanRows<'_, L>,
-    aboves: &Rc<List<MuxParent>>,
+    mux_parents: &Rc<List<MuxParent>>,
     signals: &[SignalLayout<'_>],
 ) -> Result<List<Row>, Memory>
-    ensures { IfOk result (λ made. made ≡ map (λ placed. row_by rows.now aboves.now.value placed.0 placed.1)
+    ensures { IfOk result (λ made. made ≡ map (λ placed. row_by rows.now mux_parents.now.value placed.0 placed.1)
         (enumerate_from 0 signals.now)) }
 {
     let mut made = List::with_capacity(buffer.allocator(), signals.len())?;
-    for (place, layout) in signals.iter().enumerate() {
-        let chain = Chain::of(aboves, place)?;
+    for (index, layout) in signals.iter().enumerate() {
+        let chain = Chain::of(mux_parents, index)?;
         made.push(row_of(buffer, rows, chain, layout)?)?;
     }
     Ok(made)
 }
 
-// The same of a message that is laid out so.
+// The same for a message of this layout.
 fn plan_rows<L: Lookup>(
     buffer: &mut TextBuffer,
     layout: &Layout<'_, L>,
-    aboves: &Rc<List<MuxParent>>,
+    mux_parents: &Rc<List<MuxParent>>,
 ) -> Result<List<Row>, Memory>
-    ensures { IfOk result (λ made. made ≡ plan_rows layout.now.rows aboves.now.value layout.now.message.head.size
+    ensures { IfOk result (λ made. made ≡ plan_rows layout.now.rows mux_parents.now.value layout.now.message.head.size
         layout.now.message.signals) }
 {
-    let made = rows_by(buffer, layout.rows(), aboves, layout.signals())?;
+    let made = rows_by(buffer, layout.rows(), mux_parents, layout.signals())?;
     Ok(made)
 }
 
@@ -152,7 +152,7 @@ fn labels_of(buffer: &mut TextBuffer, rows: &[Row]) -> Result<Vec<ReadyText>, Me
     Ok(labels)
 }
 
-// Whether a signal has no switch above it.
+// Whether a signal has no parent multiplexor.
 fn is_plain(row: &Row) -> bool
     ensures { result ≡ is_top row.now.chain }
 {
@@ -162,7 +162,7 @@ fn is_plain(row: &Row) -> bool
     }
 }
 
-// Whether no signal has a switch above it.
+// Whether no signal has a parent multiplexor.
 #[tactic(auto, unfolding(crate::specs::Presence::are_plain))]
 fn are_plain(rows: &[Row]) -> bool
     ensures { result ≡ are_plain rows.now }
@@ -175,9 +175,9 @@ fn runs_unless(
     alloc: Global,
     plain: bool,
     rows: &[Row],
-    aboves: &[MuxParent],
+    mux_parents: &[MuxParent],
 ) -> Result<Vec<Run>, Memory>
-    requires chained { AreChained rows.now aboves.now }
+    requires chained { AreChained rows.now mux_parents.now }
     requires plain { plain ≡ true → ArePlain rows.now }
     ensures runs { IfOk result (λ runs. AreRuns rows.now runs.items) }
     ensures plain { IfOk result (λ runs. length runs.items < length rows.now → ArePlain rows.now) }
@@ -185,28 +185,33 @@ fn runs_unless(
     if plain {
         Ok(Vec::new(alloc))
     } else {
-        runs_of(alloc, rows, aboves)
+        runs_of(alloc, rows, mux_parents)
     }
 }
 
-/// The plan of a message that is laid out so.
+/// The plan of a message of this layout.
 #[tactic(auto, unfolding(crate::specs::Plans::plan_in))]
 pub(crate) fn plan_in<L: Lookup>(alloc: Global, layout: &Layout<'_, L>) -> Result<Plan, Memory>
     ensures { IfOk result (λ plan. plan ≡ plan_in layout.now.rows layout.now.message) }
 {
     let mut buffer = TextBuffer::new(alloc);
-    let aboves = layout.shared_aboves()?;
-    let made = plan_rows(&mut buffer, layout, &aboves)?;
+    let mux_parents = layout.shared_mux_parents()?;
+    let made = plan_rows(&mut buffer, layout, &mux_parents)?;
     let labels = labels_of(&mut buffer, made.as_slice())?;
     let plain = are_plain(made.as_slice());
-    let runs = runs_unless(alloc, plain, made.as_slice(), aboves.as_ref().as_slice())?;
+    let runs = runs_unless(
+        alloc,
+        plain,
+        made.as_slice(),
+        mux_parents.as_ref().as_slice(),
+    )?;
     let order = order_of(alloc, &runs)?;
     let slots = slots_unless_in_row(alloc, &runs)?;
     Ok(Plan {
         size: layout.message().head.size,
         rows: made,
         labels,
-        aboves,
+        mux_parents,
         order,
         slots,
         plain,
@@ -214,7 +219,7 @@ pub(crate) fn plan_in<L: Lookup>(alloc: Global, layout: &Layout<'_, L>) -> Resul
     })
 }
 
-// Whether a switch has one of the numbers.
+// Whether the raw value of a multiplexor is one of the link's.
 fn has_number(reading: &Reading, link: &Link, bytes: &[u8]) -> bool
     ensures { result ≡ has_number bytes.now link.now.ranges reading.now }
 {
@@ -224,7 +229,7 @@ fn has_number(reading: &Reading, link: &Link, bytes: &[u8]) -> bool
     }
 }
 
-// Whether the switch of a link has one of its numbers.
+// Whether the multiplexor of a link has one of its raw values.
 fn is_met(rows: &[Row], link: &Link, bytes: &[u8]) -> bool
     ensures { result ≡ is_met bytes.now rows.now link.now }
 {
@@ -234,7 +239,7 @@ fn is_met(rows: &[Row], link: &Link, bytes: &[u8]) -> bool
     }
 }
 
-// The raw bits of a switch, where it isn't refused.
+// The raw bits of a multiplexor, if it isn't refused.
 fn raw_of(reading: &Reading, bytes: &[u8]) -> Option<u64>
     ensures { result ≡ raw_of bytes.now reading.now }
 {
@@ -258,7 +263,7 @@ fn is_in(range: Range, raw: u64) -> bool
     range.first <= raw && raw <= range.last
 }
 
-// Whether the raw bits are one of the numbers. Most links have one range.
+// Whether the raw bits are one of the link's raw values. Most links have one range.
 fn is_in_ranges(link: &Link, raw: u64) -> bool
     ensures { result ≡ list_any (in_range raw) link.now.ranges }
 {
@@ -268,7 +273,7 @@ fn is_in_ranges(link: &Link, raw: u64) -> bool
     }
 }
 
-// Whether the raw bits of a switch are one of the numbers.
+// Whether the raw bits of a multiplexor are one of the link's raw values.
 fn is_among(link: &Link, raw: Option<u64>) -> bool
     ensures { result ≡ is_among link.now.ranges raw }
 {
@@ -278,14 +283,14 @@ fn is_among(link: &Link, raw: Option<u64>) -> bool
     }
 }
 
-// Whether the multiplexing chain from a place is a chain of which each switch has one of its numbers.
+// Whether the multiplexing chain from an index is a chain in which each multiplexor has one of its raw values.
 #[inline(never)]
-fn are_met(rows: &[Row], aboves: &[MuxParent], place: usize, bytes: &[u8]) -> bool
-    ensures { result ≡ are_met bytes.now rows.now (chain_of (walk_of aboves.now place)) }
+fn are_met(rows: &[Row], mux_parents: &[MuxParent], index: usize, bytes: &[u8]) -> bool
+    ensures { result ≡ are_met bytes.now rows.now (chain_of (walk_of mux_parents.now index)) }
 {
-    let mut current = place;
-    for _passed in 0..aboves.len() + 1 {
-        match above_at(aboves, current) {
+    let mut current = index;
+    for _passed in 0..mux_parents.len() + 1 {
+        match mux_parent_at(mux_parents, current) {
             Some(MuxParent::Nothing) => return true,
             Some(MuxParent::Switch(link)) if is_met(rows, link, bytes) => current = link.switch,
             _ => return false,
@@ -309,14 +314,14 @@ impl Plan {
         self.rows.len()
     }
 
-    /// Whether no signal has a multiplexor, as in most messages: then all of them are in any data.
+    /// Whether no signal has a multiplexor, as in most messages: then all of them are present in any data.
     pub fn is_plain(&self) -> bool
         ensures { result ≡ are_plain self.now.rows }
     {
         self.plain
     }
 
-    /// What the plan says of the signal at a place.
+    /// The plan's row for the signal at an index.
     pub fn row(&self, signal: usize) -> &Row
         requires { signal < length self.now.rows }
         ensures { Some result.now ≡ slice_get self.now.rows signal }
@@ -324,8 +329,8 @@ impl Plan {
         &self.rows.as_slice()[signal]
     }
 
-    /// What the plan says of the signal at a place, and what is written between its value and that of the signal before:
-    /// a comma, a blank, its name, a colon and a blank.
+    /// The plan's row for the signal at an index, and the text between its value and that of the signal before: a comma, a blank,
+    /// its name, a colon and a blank.
     pub fn labelled(&self, signal: usize) -> (&ReadyText, &Row)
         requires { signal < length self.now.rows }
         ensures row { Some result.1.now ≡ slice_get self.now.rows signal }
@@ -334,8 +339,8 @@ impl Plan {
         (&self.labels[signal], &self.rows.as_slice()[signal])
     }
 
-    /// Whether the signal at a place is there in data: each switch above it has one of the numbers that stand beside it. A
-    /// switch that can't be decoded has none, nor has one of which a bit is not in the data.
+    /// Whether the signal at an index is present in data: each multiplexor in its chain has one of the raw values of its link. A
+    /// multiplexor that can't be decoded has none, nor has one with a bit that is not in the data.
     pub fn present(&self, signal: usize, bytes: &[u8]) -> bool
         requires { signal < length self.now.rows }
         ensures { result ≡ is_present bytes.now self.now.rows (slice_get self.now.rows signal) }
@@ -345,13 +350,13 @@ impl Plan {
         }
         are_met(
             self.rows.as_slice(),
-            self.aboves.as_ref().as_slice(),
+            self.mux_parents.as_ref().as_slice(),
             signal,
             bytes,
         )
     }
 
-    /// The run that the signal at a place is in, if some signal has a switch above it.
+    /// The run that the signal at an index is in, if some signal has a parent multiplexor.
     fn run_at(&self, signal: usize) -> Option<&Run>
         requires { signal < length self.now.rows }
         ensures run { (run : PlainRun) → option_map (λ run. run.now) result ≡ Some run → IsRunOf self.now.rows signal run }
@@ -360,8 +365,8 @@ impl Plan {
         run_in(self.runs.as_slice(), signal)
     }
 
-    /// If some chain has more links than one: the first signals of the runs with a parent multiplexor, each after the run of that.
-    /// Else it is empty.
+    /// If some chain has more than one link: the first signals of the runs with a parent multiplexor, each after the run of that.
+    /// Otherwise it is empty.
     pub(crate) fn order(&self) -> &[usize] {
         self.order.runs.as_slice()
     }
@@ -372,16 +377,16 @@ impl Plan {
         &order[..self.order.parents.min(order.len())]
     }
 
-    /// Whether the signal at a place is there, if its run is known, or else by its chain.
+    /// Whether the signal at an index is present, by its run if that is known, otherwise by its chain.
     #[inline(always)]
-    pub(crate) fn known_or_found(&self, known: &[Option<bool>], place: usize, bytes: &[u8]) -> bool
+    pub(crate) fn known_or_found(&self, known: &[Option<bool>], index: usize, bytes: &[u8]) -> bool
         requires { AreKnown bytes.now self.now.rows known.now }
-        ensures { result ≡ is_present bytes.now self.now.rows (slice_get self.now.rows place) }
+        ensures { result ≡ is_present bytes.now self.now.rows (slice_get self.now.rows index) }
     {
-        if place >= self.rows.len() {
+        if index >= self.rows.len() {
             return false;
         }
-        let Some(run) = self.run_at(place) else {
+        let Some(run) = self.run_at(index) else {
             return true;
         };
         match &run.parent {
@@ -389,192 +394,194 @@ impl Plan {
             MuxParent::Missing => false,
             MuxParent::Switch(_) => match known_at(known, run.first) {
                 Some(there) => there,
-                None => self.present(place, bytes),
+                None => self.present(index, bytes),
             },
         }
     }
 
-    // The raw bits of the switch at an index, if it is there in data with all its bits.
+    // The raw bits of the multiplexor at an index, if it is present in data with all its bits.
     #[inline(always)]
-    fn switch_raw(&self, known: &[Option<bool>], place: usize, bytes: &[u8]) -> Option<u64>
+    fn switch_raw(&self, known: &[Option<bool>], index: usize, bytes: &[u8]) -> Option<u64>
         requires { AreKnown bytes.now self.now.rows known.now }
-        ensures { result ≡ switch_raw bytes.now self.now.rows (slice_get self.now.rows place) }
+        ensures { result ≡ switch_raw bytes.now self.now.rows (slice_get self.now.rows index) }
     {
-        let row = self.rows.as_slice().get(place)?;
-        if row.is_whole(bytes) && self.known_or_found(known, place, bytes) {
+        let row = self.rows.as_slice().get(index)?;
+        if row.is_whole(bytes) && self.known_or_found(known, index, bytes) {
             raw_of(&row.reading, bytes)
         } else {
             None
         }
     }
 
-    // The same, which is looked for only if another switch was asked before.
+    // These raw bits, which are looked up only if another multiplexor was looked up before.
     #[inline(always)]
     fn last_raw(
         &self,
         known: &[Option<bool>],
-        asked: &mut Asked,
-        place: usize,
+        cached: &mut CachedMultiplexor,
+        index: usize,
         bytes: &[u8],
     ) -> Option<u64>
         requires known { AreKnown bytes.now self.now.rows known.now }
-        requires asked { IsAsked bytes.now self.now.rows asked.old.switch asked.old.raw }
-        ensures raw { result ≡ switch_raw bytes.now self.now.rows (slice_get self.now.rows place) }
-        ensures asked { IsAsked bytes.now self.now.rows asked.new.switch asked.new.raw }
+        requires cached { IsCached bytes.now self.now.rows cached.old.switch cached.old.raw }
+        ensures raw { result ≡ switch_raw bytes.now self.now.rows (slice_get self.now.rows index) }
+        ensures cached { IsCached bytes.now self.now.rows cached.new.switch cached.new.raw }
     {
-        if asked.switch != place {
-            *asked = Asked {
-                switch: place,
-                raw: self.switch_raw(known, place, bytes),
+        if cached.switch != index {
+            *cached = CachedMultiplexor {
+                switch: index,
+                raw: self.switch_raw(known, index, bytes),
             };
         }
-        asked.raw
+        cached.raw
     }
 
-    /// Whether the signal at a place is there in data, by what is known of others and what was found of the switch asked last.
+    /// Whether the signal at an index is present in data, by what is known of others and what was found of the
+    /// multiplexor looked up last.
     #[inline(always)]
     pub(crate) fn present_by(
         &self,
         known: &[Option<bool>],
-        asked: &mut Asked,
-        place: usize,
+        cached: &mut CachedMultiplexor,
+        index: usize,
         bytes: &[u8],
     ) -> bool
         requires known { AreKnown bytes.now self.now.rows known.now }
-        requires asked { IsAsked bytes.now self.now.rows asked.old.switch asked.old.raw }
-        requires place { place < length self.now.rows }
-        ensures there { result ≡ is_present bytes.now self.now.rows (slice_get self.now.rows place) }
-        ensures asked { IsAsked bytes.now self.now.rows asked.new.switch asked.new.raw }
+        requires cached { IsCached bytes.now self.now.rows cached.old.switch cached.old.raw }
+        requires index { index < length self.now.rows }
+        ensures there { result ≡ is_present bytes.now self.now.rows (slice_get self.now.rows index) }
+        ensures cached { IsCached bytes.now self.now.rows cached.new.switch cached.new.raw }
     {
-        let Some(run) = self.run_at(place) else {
+        let Some(run) = self.run_at(index) else {
             return true;
         };
         match &run.parent {
             MuxParent::Nothing => true,
             MuxParent::Missing => false,
             MuxParent::Switch(link) => {
-                let raw = self.last_raw(known, asked, link.switch, bytes);
+                let raw = self.last_raw(known, cached, link.switch, bytes);
                 is_among(link, raw)
             }
         }
     }
 
-    // The raw bits of a switch. It isn't inlined, so that what is kept is found with few registers.
+    // The raw bits of a multiplexor. It isn't inlined, so that cached bits are found with few registers.
     #[inline(never)]
-    fn found_raw(&self, known: &[Option<bool>], place: usize, bytes: &[u8]) -> Option<u64>
+    fn found_raw(&self, known: &[Option<bool>], index: usize, bytes: &[u8]) -> Option<u64>
         requires { AreKnown bytes.now self.now.rows known.now }
-        ensures { result ≡ switch_raw bytes.now self.now.rows (slice_get self.now.rows place) }
+        ensures { result ≡ switch_raw bytes.now self.now.rows (slice_get self.now.rows index) }
     {
-        self.switch_raw(known, place, bytes)
+        self.switch_raw(known, index, bytes)
     }
 
-    // The same, which is looked for only if another one was asked for the slot.
+    // The raw bits of a multiplexor, which are looked up only if its slot has those of another one.
     fn slot_raw(
         &self,
         known: &[Option<bool>],
-        kept: &mut [Asked],
+        kept: &mut [CachedMultiplexor],
         slot: usize,
-        place: usize,
+        index: usize,
         bytes: &[u8],
     ) -> Option<u64>
         requires known { AreKnown bytes.now self.now.rows known.now }
-        requires kept { AreAllAsked bytes.now self.now.rows kept.old }
+        requires kept { AreAllCached bytes.now self.now.rows kept.old }
         requires slot { slot < length kept.old }
-        ensures raw { result ≡ switch_raw bytes.now self.now.rows (slice_get self.now.rows place) }
-        ensures kept { AreAllAsked bytes.now self.now.rows kept.new }
+        ensures raw { result ≡ switch_raw bytes.now self.now.rows (slice_get self.now.rows index) }
+        ensures kept { AreAllCached bytes.now self.now.rows kept.new }
     {
-        let asked = kept[slot];
-        if asked.switch == place {
-            return asked.raw;
+        let cached = kept[slot];
+        if cached.switch == index {
+            return cached.raw;
         }
-        let raw = self.found_raw(known, place, bytes);
-        kept[slot] = Asked { switch: place, raw };
+        let raw = self.found_raw(known, index, bytes);
+        kept[slot] = CachedMultiplexor { switch: index, raw };
         raw
     }
 
-    // The same, where there may be no slots yet.
+    // The raw bits of a multiplexor by its slot; the slots are made for the first one.
     fn kept_raw(
         &self,
         known: &[Option<bool>],
-        kept: &mut Option<[Asked; MAX_KEPT]>,
+        kept: &mut Option<[CachedMultiplexor; MAX_KEPT]>,
         slot: usize,
-        place: usize,
+        index: usize,
         bytes: &[u8],
     ) -> Option<u64>
         requires known { AreKnown bytes.now self.now.rows known.now }
-        requires kept { IfSome kept.old (AreAllAsked bytes.now self.now.rows) }
+        requires kept { IfSome kept.old (AreAllCached bytes.now self.now.rows) }
         requires slot { slot < 8 }
-        ensures raw { result ≡ switch_raw bytes.now self.now.rows (slice_get self.now.rows place) }
-        ensures kept { IfSome kept.new (AreAllAsked bytes.now self.now.rows) }
+        ensures raw { result ≡ switch_raw bytes.now self.now.rows (slice_get self.now.rows index) }
+        ensures kept { IfSome kept.new (AreAllCached bytes.now self.now.rows) }
     {
         match kept {
-            Some(all) => self.slot_raw(known, all, slot, place, bytes),
+            Some(all) => self.slot_raw(known, all, slot, index, bytes),
             None => {
-                let mut all = [self.nothing_asked(); MAX_KEPT];
-                let raw = self.slot_raw(known, &mut all, slot, place, bytes);
+                let mut all = [self.nothing_cached(); MAX_KEPT];
+                let raw = self.slot_raw(known, &mut all, slot, index, bytes);
                 *kept = Some(all);
                 raw
             }
         }
     }
 
-    // The same, by its slot if it has one. It isn't inlined, so that the loop over runs of signals keeps its registers.
+    // The raw bits of a multiplexor that wasn't looked up last, by its slot if it has one. It isn't inlined, so that the loop over
+    // runs of signals keeps its registers.
     #[inline(never)]
     fn raw_anew(
         &self,
         known: &[Option<bool>],
-        kept: &mut Option<[Asked; MAX_KEPT]>,
-        place: usize,
+        kept: &mut Option<[CachedMultiplexor; MAX_KEPT]>,
+        index: usize,
         bytes: &[u8],
     ) -> Option<u64>
         requires known { AreKnown bytes.now self.now.rows known.now }
-        requires kept { IfSome kept.old (AreAllAsked bytes.now self.now.rows) }
-        ensures raw { result ≡ switch_raw bytes.now self.now.rows (slice_get self.now.rows place) }
-        ensures kept { IfSome kept.new (AreAllAsked bytes.now self.now.rows) }
+        requires kept { IfSome kept.old (AreAllCached bytes.now self.now.rows) }
+        ensures raw { result ≡ switch_raw bytes.now self.now.rows (slice_get self.now.rows index) }
+        ensures kept { IfSome kept.new (AreAllCached bytes.now self.now.rows) }
     {
-        match self.slots.get(place) {
-            Some(slot) if *slot < MAX_KEPT => self.kept_raw(known, kept, *slot, place, bytes),
-            _ => self.found_raw(known, place, bytes),
+        match self.slots.get(index) {
+            Some(slot) if *slot < MAX_KEPT => self.kept_raw(known, kept, *slot, index, bytes),
+            _ => self.found_raw(known, index, bytes),
         }
     }
 
-    // The same, which is looked for only if another switch was asked last.
-    fn asked_raw(
+    // The raw bits of a multiplexor, which are looked up only if another one was looked up last.
+    fn cached_raw(
         &self,
         known: &[Option<bool>],
-        asked: &mut Switches,
-        place: usize,
+        cached: &mut Switches,
+        index: usize,
         bytes: &[u8],
     ) -> Option<u64>
         requires known { AreKnown bytes.now self.now.rows known.now }
-        requires asked { AreAsked bytes.now self.now.rows asked.old }
-        ensures raw { result ≡ switch_raw bytes.now self.now.rows (slice_get self.now.rows place) }
-        ensures asked { AreAsked bytes.now self.now.rows asked.new }
+        requires cached { AreCached bytes.now self.now.rows cached.old }
+        ensures raw { result ≡ switch_raw bytes.now self.now.rows (slice_get self.now.rows index) }
+        ensures cached { AreCached bytes.now self.now.rows cached.new }
     {
-        if asked.last.switch != place {
-            let raw = self.raw_anew(known, &mut asked.kept, place, bytes);
-            asked.last = Asked { switch: place, raw };
+        if cached.last.switch != index {
+            let raw = self.raw_anew(known, &mut cached.kept, index, bytes);
+            cached.last = CachedMultiplexor { switch: index, raw };
         }
-        asked.last.raw
+        cached.last.raw
     }
 
-    /// Whether the signal at a place is there in data, and up to where the same goes for those from it on: as far as they have the
-    /// same chain. It goes by what is known of the run, or else by the switch, of which the bits are kept that were asked last.
+    /// Whether the signal at an index is present in data, and up to where the same holds for those from it on: as far as they have
+    /// the same chain. It uses what is known of the run, otherwise the multiplexor, whose bits are cached once looked up.
     #[inline(always)]
     pub(crate) fn run_from(
         &self,
         known: &[Option<bool>],
-        asked: &mut Switches,
+        cached: &mut Switches,
         signal: usize,
         bytes: &[u8],
     ) -> (bool, usize)
         requires known { AreKnown bytes.now self.now.rows known.now }
-        requires asked { AreAsked bytes.now self.now.rows asked.old }
+        requires cached { AreCached bytes.now self.now.rows cached.old }
         requires signal { signal < length self.now.rows }
-        ensures there { (place : ℕ) → signal ≤ place → place < result.1
-            → result.0 ≡ is_present bytes.now self.now.rows (slice_get self.now.rows place) }
+        ensures there { (index : ℕ) → signal ≤ index → index < result.1
+            → result.0 ≡ is_present bytes.now self.now.rows (slice_get self.now.rows index) }
         ensures longest { IsLongestRun (chain_at self.now.rows) (length self.now.rows) signal result.1 }
-        ensures asked { AreAsked bytes.now self.now.rows asked.new }
+        ensures cached { AreCached bytes.now self.now.rows cached.new }
     {
         let Some(run) = self.run_at(signal) else {
             return (true, self.rows.len());
@@ -586,34 +593,33 @@ impl Plan {
                 if let Some(there) = known_at(known, run.first) {
                     return (there, run.end);
                 }
-                let raw = self.asked_raw(known, asked, link.switch, bytes);
+                let raw = self.cached_raw(known, cached, link.switch, bytes);
                 (is_among(link, raw), run.end)
             }
         }
     }
 
-    /// Nothing was asked of a switch.
-    pub(crate) fn nothing_asked(&self) -> Asked
-        ensures { (bytes : List ℕ) → IsAsked bytes self.now.rows result.switch result.raw }
+    /// No multiplexor was looked up last.
+    pub(crate) fn nothing_cached(&self) -> CachedMultiplexor
+        ensures { (bytes : List ℕ) → IsCached bytes self.now.rows result.switch result.raw }
     {
-        Asked {
+        CachedMultiplexor {
             switch: self.rows.len(),
             raw: None,
         }
     }
 
-    /// Nothing was asked of switches yet.
-    pub(crate) fn none_asked(&self) -> Switches
-        ensures { (bytes : List ℕ) → AreAsked bytes self.now.rows result }
+    /// No multiplexors were looked up yet.
+    pub(crate) fn none_cached(&self) -> Switches
+        ensures { (bytes : List ℕ) → AreCached bytes self.now.rows result }
     {
         Switches {
-            last: self.nothing_asked(),
+            last: self.nothing_cached(),
             kept: None,
         }
     }
 
-    /// The raw bits of the signal at a place, without sign, and 0 where it is refused. Bits after the end of the data
-    /// are 0.
+    /// The raw bits of the signal at an index, unsigned, and 0 if it is refused. Bits after the end of the data are 0.
     pub fn raw(&self, signal: usize, bytes: &[u8]) -> u64
         requires { signal < length self.now.rows }
         ensures { result ≡ raw_at bytes.now (slice_get self.now.rows signal) }
@@ -624,8 +630,8 @@ impl Plan {
         }
     }
 
-    /// The raw value of the signal at a place: in two's complement where it is signed, and 0 where it is refused. Bits
-    /// after the end of the data are 0.
+    /// The raw value of the signal at an index: in two's complement if it is signed, and 0 if it is refused. Bits after the end of
+    /// the data are 0.
     pub fn raw_value(&self, signal: usize, bytes: &[u8]) -> i128
         requires { signal < length self.now.rows }
         ensures { result ≡ raw_value_at bytes.now (slice_get self.now.rows signal) }

@@ -1,24 +1,24 @@
-//! Which signals of a message are there in data.
+//! Which signals of a message are present in data.
 ghost use Rattle.std.specs.Prelude.{◌≡◌, ℕ, ◌<◌, ◌≤◌, None, IfOk, length, slice_get};
 ghost use Rattle.can_layout.specs.Plans.{is_present};
-ghost use Rattle.can_layout.specs.Presence.{AreKnown, IsAsked, IsLongestRun, chain_at, known_at};
+ghost use Rattle.can_layout.specs.Presence.{AreKnown, IsCached, IsLongestRun, chain_at, known_at};
 
-use crate::asked::{Asked, Switches};
+use crate::cached::{CachedMultiplexor, Switches};
 use crate::plan::Plan;
 use dbc_values::Memory;
 use std::alloc::Global;
 use std::marker::Model;
 
-/// Which signals of a message are there in data. Where multiplexors have parents, each run of signals is looked for once, so the
-/// work is that of one link a run, and a signal is looked up.
+/// Which signals of a message are present in data. If multiplexors (switches) have parents, each run of signals is looked up once,
+/// at the cost of one link; what is asked of its other signals then is known.
 #[derive(Drop)]
 pub struct Presence<'a> {
     plan: &'a Plan,
     bytes: &'a [u8],
-    // Of the runs that were looked for, at their first signals.
+    // Which runs that were looked up are present, at their first signals.
     known: Vec<Option<bool>>,
-    // What was found of switches.
-    asked: Switches,
+    // What was found of multiplexors.
+    cached: Switches,
 }
 
 impl<'a> Model for Presence<'a> {
@@ -29,42 +29,48 @@ impl<'a> Model for Presence<'a> {
     ghost view = { λ a. record { bytes = a.bytes.now; rows = a.plan.now.rows } };
 
     ghost invariant = { λ a. plain.AreKnown a.bytes.now a.plan.now.rows a.known.items
-        × plain.AreAsked a.bytes.now a.plan.now.rows a.asked };
+        × plain.AreCached a.bytes.now a.plan.now.rows a.cached };
 }
 
-/// What is known of the signal at a place.
-pub(crate) fn known_at(known: &[Option<bool>], place: usize) -> Option<bool>
-    ensures { result ≡ known_at known.now place }
+/// What is known of the signal at an index.
+pub(crate) fn known_at(known: &[Option<bool>], index: usize) -> Option<bool>
+    ensures { result ≡ known_at known.now index }
 {
-    match known.get(place) {
+    match known.get(index) {
         Some(there) => *there,
         None => None,
     }
 }
 
-// Nothing is known of the signals at so many places.
+// Nothing is known of the signals at this many indexes.
 fn none_known(alloc: Global, count: usize) -> Result<Vec<Option<bool>>, Memory>
-    ensures { IfOk result (λ known. (place : ℕ) → known_at known.items place ≡ None) }
+    ensures { IfOk result (λ known. (index : ℕ) → known_at known.items index ≡ None) }
 {
     let known = vec![in alloc; None; count]?;
     Ok(known)
 }
 
-// Looks for the run that begins at a place, by what is known of others.
+// Looks up the run that begins at an index, by what is known of others.
 #[inline(always)]
-fn look_for(known: &mut [Option<bool>], asked: &mut Asked, plan: &Plan, place: usize, bytes: &[u8])
+fn look_for(
+    known: &mut [Option<bool>],
+    cached: &mut CachedMultiplexor,
+    plan: &Plan,
+    index: usize,
+    bytes: &[u8],
+)
     requires known { AreKnown bytes.now plan.now.rows known.old }
-    requires asked { IsAsked bytes.now plan.now.rows asked.old.switch asked.old.raw }
+    requires cached { IsCached bytes.now plan.now.rows cached.old.switch cached.old.raw }
     ensures known { AreKnown bytes.now plan.now.rows known.new }
-    ensures asked { IsAsked bytes.now plan.now.rows asked.new.switch asked.new.raw }
+    ensures cached { IsCached bytes.now plan.now.rows cached.new.switch cached.new.raw }
 {
-    if place < known.len() && place < plan.signals() {
-        let there = plan.present_by(known, asked, place, bytes);
-        known[place] = Some(there);
+    if index < known.len() && index < plan.signals() {
+        let there = plan.present_by(known, cached, index, bytes);
+        known[index] = Some(there);
     }
 }
 
-// Looks for runs in this order. It isn't inlined, since few plans have an order.
+// Looks up runs in this order. It isn't inlined, since few plans have an order.
 #[cold]
 #[inline(never)]
 fn known_of(
@@ -76,15 +82,15 @@ fn known_of(
     ensures { IfOk result (λ known. AreKnown bytes.now plan.now.rows known.items) }
 {
     let mut known = none_known(alloc, plan.signals())?;
-    let mut asked = plan.nothing_asked();
-    for place in order {
-        look_for(&mut known, &mut asked, plan, *place, bytes);
+    let mut cached = plan.nothing_cached();
+    for index in order {
+        look_for(&mut known, &mut cached, plan, *index, bytes);
     }
     Ok(known)
 }
 
 impl<'a> Presence<'a> {
-    // Which signals are there, once the runs of an order have been looked for.
+    // Which signals are present, once the runs of an order have been looked up.
     #[inline(always)]
     fn by_order(
         alloc: Global,
@@ -99,16 +105,16 @@ impl<'a> Presence<'a> {
         } else {
             known_of(alloc, plan, order, bytes)?
         };
-        let asked = plan.none_asked();
+        let cached = plan.none_cached();
         Ok(Presence {
             plan,
             bytes,
             known,
-            asked,
+            cached,
         })
     }
 
-    /// Which signals of a plan are there in data. It takes memory if a multiplexor has a parent.
+    /// Which signals of a plan are present in data. It allocates if a multiplexor has a parent.
     pub fn of(alloc: Global, plan: &'a Plan, bytes: &'a [u8]) -> Result<Presence<'a>, Memory>
         ensures { IfOk result (λ presence. presence ≡ record { bytes = bytes.now; rows = plan.now.rows }) }
     {
@@ -116,7 +122,7 @@ impl<'a> Presence<'a> {
     }
 
     /// The same for a caller of [`Presence::run_from`] that asks for each run once. It is faster, since only runs with multiplexors
-    /// of other signals are looked for at first. [`Presence::has`] is slower after it, since it follows a signal's chain.
+    /// of other signals are looked up at first. [`Presence::has`] is slower after it, since it follows a signal's chain.
     #[inline(always)]
     pub fn for_runs(alloc: Global, plan: &'a Plan, bytes: &'a [u8]) -> Result<Presence<'a>, Memory>
         ensures { IfOk result (λ presence. presence ≡ record { bytes = bytes.now; rows = plan.now.rows }) }
@@ -124,7 +130,7 @@ impl<'a> Presence<'a> {
         Presence::by_order(alloc, plan, plan.order_of_parents(), bytes)
     }
 
-    /// Whether the signal at a place is there, as [`Plan::present`] says.
+    /// Whether the signal at an index is present, as [`Plan::present`] defines it.
     pub fn has(&self, signal: usize) -> bool
         requires { signal < length self.now.rows }
         ensures { result ≡ is_present self.now.bytes self.now.rows (slice_get self.now.rows signal) }
@@ -133,19 +139,18 @@ impl<'a> Presence<'a> {
             .known_or_found(self.known.as_slice(), signal, self.bytes)
     }
 
-    /// Whether the signal at a place is there, as [`Plan::present`] says, and up to where the same goes for those from it on:
-    /// as far as they have the same chain.
+    /// Whether the signal at an index is present, as [`Plan::present`] defines it, and up to where the same holds for those from it
+    /// on: as far as they have the same chain.
     #[inline(always)]
     pub fn run_from(&mut self, signal: usize) -> (bool, usize)
         requires { signal < length self.old.rows }
         ensures some { signal < result.1 }
         ensures within { result.1 ≤ length self.old.rows }
-        ensures there { (place : ℕ) → signal ≤ place → place < result.1
-            → result.0 ≡ is_present self.old.bytes self.old.rows (slice_get self.old.rows place) }
+        ensures there { (index : ℕ) → signal ≤ index → index < result.1
+            → result.0 ≡ is_present self.old.bytes self.old.rows (slice_get self.old.rows index) }
         ensures longest { IsLongestRun (chain_at self.old.rows) (length self.old.rows) signal result.1 }
         ensures same { self.new ≡ self.old }
     {
-        self.plan
-            .run_from(self.known.as_slice(), &mut self.asked, signal, self.bytes)
+        self.plan.run_from(self.known.as_slice(), &mut self.cached, signal, self.bytes)
     }
 }

@@ -1,14 +1,14 @@
 //! Why a signal can't be decoded.
 ghost use Rattle.std.specs.Prelude.{◌≡◌, IfOk};
-ghost use Rattle.can_rows.specs.Rows.{first_float, is_float_row};
+ghost use Rattle.can_entries.specs.Rows.{first_float, is_float_row};
 ghost use Rattle.dbc_values.specs.Scales.{scale_of};
 ghost use Rattle.can_layout.specs.Plans.{cause_of};
 ghost use Rattle.can_layout.specs.Layouts.{cause_in};
-ghost use Rattle.can_layout.specs.Pictures.{cause_word};
+ghost use Rattle.can_layout.specs.Diagrams.{cause_word};
 
 use can_bits::Field;
+use can_entries::Lookup;
 use can_mux::MessageRows;
-use can_rows::Lookup;
 use dbc_records::Signal;
 use dbc_values::Scale;
 

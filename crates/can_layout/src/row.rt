@@ -1,4 +1,4 @@
-//! What a plan says of a signal.
+//! A plan's row for a signal.
 ghost use Rattle.std.specs.Prelude.{◌≡◌};
 ghost use Rattle.can_layout.specs.Plans.{is_whole};
 
@@ -20,13 +20,13 @@ pub enum Reading {
 /// A signal of a plan.
 #[derive(Drop)]
 pub struct Row {
-    /// The switches above it, from its own up, where the multiplexing chain is a chain.
+    /// Its multiplexors (switches), from its own up, if its multiplexing chain is a chain.
     pub chain: Option<Chain>,
     /// How it is read.
     pub reading: Reading,
     /// The signal's name.
     pub name: Name,
-    /// Where its bits lie, also where it can't be decoded.
+    /// Where its bits are, even if it can't be decoded.
     pub field: Field,
 }
 

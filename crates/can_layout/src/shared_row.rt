@@ -1,16 +1,16 @@
-//! Rows that plans of messages of one number share.
+//! Entries that plans of messages of one CAN identifier share.
 ghost use Rattle.std.specs.Prelude.{◌≡◌};
 
 use crate::named::Named;
-use can_rows::Keyed;
+use can_entries::Keyed;
 use dbc_records::ValueRow;
 use dbc_values::Checked;
 use std::rc::Rc;
 
-/// A message number of which plans share the value descriptions.
+/// A message ID whose plans share value descriptions.
 #[derive(Drop)]
 pub(crate) struct SharedNumber {
-    /// The number.
+    /// The message ID.
     pub number: u32,
 }
 
@@ -36,10 +36,10 @@ impl Keyed for SharedNumber {
     }
 }
 
-/// An entry of value descriptions, and these as plans share them.
+/// A `VAL_` entry, and its value descriptions as plans share them.
 #[derive(Drop)]
 pub(crate) struct NamedRow<'a> {
-    /// The row.
+    /// The entry.
     pub row: &'a ValueRow,
     /// Its value descriptions.
     pub named: Rc<Named>,

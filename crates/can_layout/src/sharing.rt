@@ -1,21 +1,21 @@
-//! What plans of messages of one number share.
+//! What plans of messages of one CAN identifier share.
 ghost use Rattle.std.specs.Prelude.{◌≡◌, IfOk, IfSome, Some, map, filter, option_map};
-ghost use Rattle.can_rows.specs.Rows.{rows_of, first_values, entries_of};
+ghost use Rattle.can_entries.specs.Rows.{rows_of, first_values, entries_of};
 ghost use Rattle.can_layout.specs.Decoders.{entries_in};
 ghost use Rattle.can_layout.specs.Shares.{row_of, is_shared};
 
 use crate::named::Named;
 use crate::shared_row::{NamedRow, SharedNumber};
+use can_entries::{Index, Lookup};
 use can_mux::MessageRows;
-use can_rows::{Index, Lookup};
 use dbc_records::{Database, Message, ValueRow};
+use dbc_text_buffer::TextBuffer;
 use dbc_values::{Copied, Memory, Name};
-use ready_texts::TextBuffer;
 use std::alloc::Global;
 use std::marker::Model;
 use std::rc::Rc;
 
-// The value descriptions of a row.
+// The value descriptions of an entry.
 fn named_in(buffer: &mut TextBuffer, row: &ValueRow) -> Result<Rc<Named>, Memory>
     ensures { IfOk result (λ named. named.value ≡ row.now.entries) }
 {
@@ -25,7 +25,7 @@ fn named_in(buffer: &mut TextBuffer, row: &ValueRow) -> Result<Rc<Named>, Memory
     Ok(named)
 }
 
-// The same, where there is a row.
+// The same, if there is an entry.
 fn named_of(buffer: &mut TextBuffer, row: Option<&ValueRow>) -> Result<Option<Rc<Named>>, Memory>
     ensures { IfOk result (λ named. entries_in (option_map (λ one. one.value) named) ≡ entries_of (option_map (λ row. row.now)
         row.entry)) }
@@ -36,7 +36,7 @@ fn named_of(buffer: &mut TextBuffer, row: Option<&ValueRow>) -> Result<Option<Rc
     }
 }
 
-// The numbers that several messages have. Without value descriptions there is no need to look for them.
+// The CAN identifiers that several messages have. Without value descriptions there is no need to look for them.
 fn shared_numbers(alloc: Global, database: &Database) -> Result<Vec<SharedNumber>, Memory> {
     if database.values.is_empty() {
         return Ok(Vec::new(alloc));
@@ -58,7 +58,7 @@ fn shared_numbers(alloc: Global, database: &Database) -> Result<Vec<SharedNumber
     Ok(shared)
 }
 
-// Whether several messages have a number.
+// Whether several messages have a CAN identifier.
 fn have_several(messages: &[Message], number: u32) -> bool {
     let mut has_one = false;
     for message in messages {
@@ -72,7 +72,7 @@ fn have_several(messages: &[Message], number: u32) -> bool {
     false
 }
 
-// Those of the numbers that several messages have.
+// The CAN identifiers among these that several messages have.
 fn shared_among(
     alloc: Global,
     messages: &[Message],
@@ -87,7 +87,7 @@ fn shared_among(
     Ok(shared)
 }
 
-// Whether a number is one of them.
+// Whether a CAN identifier is one of them.
 fn is_shared(numbers: &Index<'_, SharedNumber>, number: u32) -> bool
     ensures { result ≡ is_shared numbers.now number }
 {
@@ -97,7 +97,7 @@ fn is_shared(numbers: &Index<'_, SharedNumber>, number: u32) -> bool
     }
 }
 
-// The rows that have one of the numbers, found by an index, and what plans share of them.
+// The entries that have one of the CAN identifiers, found by an index, and what plans share of them.
 fn named_by<'a>(
     alloc: Global,
     rows: &'a [ValueRow],
@@ -116,7 +116,7 @@ fn named_by<'a>(
     Ok(all)
 }
 
-// The rows that have one of the numbers, and what plans share of them.
+// The entries that have one of the CAN identifiers, and what plans share of them.
 fn named_rows<'a>(
     alloc: Global,
     rows: &'a [ValueRow],
@@ -131,8 +131,8 @@ fn named_rows<'a>(
     named_by(alloc, rows, &index)
 }
 
-/// The rows of a database that plans share, with what they share of these: those of the numbers that several messages have, so that
-/// their plans take no more memory than the text in which these rows stand. Contracts see the database.
+/// The entries of a database that plans share, with what they share of these: those of the CAN identifiers that several messages
+/// have, so that their plans take no more memory than the text of these entries. Contracts see the database.
 #[derive(Drop)]
 pub struct SharedRows<'a> {
     database: &'a Database,
@@ -152,7 +152,7 @@ impl<'a> Model for SharedRows<'a> {
 }
 
 impl<'a> SharedRows<'a> {
-    // Those of some numbers.
+    // The shared entries of some CAN identifiers.
     fn by(
         alloc: Global,
         database: &'a Database,
@@ -168,7 +168,7 @@ impl<'a> SharedRows<'a> {
         })
     }
 
-    /// Those of a database.
+    /// The shared entries of a database.
     pub fn of(alloc: Global, database: &'a Database) -> Result<SharedRows<'a>, Memory>
         ensures { IfOk result (λ shared. shared ≡ database.now) }
     {
@@ -176,7 +176,8 @@ impl<'a> SharedRows<'a> {
         SharedRows::by(alloc, database, numbers)
     }
 
-    /// Those of a database for plans of messages with these numbers. It goes through all messages for each number.
+    /// The shared entries of a database for plans of messages with these CAN identifiers. It searches all messages
+    /// for each CAN identifier.
     pub fn among(
         alloc: Global,
         database: &'a Database,
@@ -189,14 +190,14 @@ impl<'a> SharedRows<'a> {
     }
 }
 
-// Shared rows by their keys.
+// Shared entries by their keys.
 #[derive(Drop)]
 struct SharedIndex<'a> {
     numbers: &'a [SharedNumber],
     values: Index<'a, NamedRow<'a>>,
 }
 
-/// A database whose rows are found by their keys, and of which plans share rows. Contracts see the database.
+/// A database whose entries are found by their keys, and of which plans share entries. Contracts see the database.
 #[derive(Drop)]
 pub struct Sharing<'a, L: Lookup> {
     lookup: &'a L,
@@ -217,7 +218,7 @@ impl<'a, L: Lookup> Model for Sharing<'a, L> {
 }
 
 impl<'a, L: Lookup> Sharing<'a, L> {
-    /// One of which no rows are shared.
+    /// One of which no entries are shared.
     pub(crate) fn none(lookup: &'a L) -> Sharing<'a, L>
         ensures { result ≡ L.whole lookup.now }
     {
@@ -227,7 +228,7 @@ impl<'a, L: Lookup> Sharing<'a, L> {
         }
     }
 
-    /// One of which these rows are shared.
+    /// One of which these entries are shared.
     pub fn of(
         alloc: Global,
         lookup: &'a L,
@@ -246,14 +247,14 @@ impl<'a, L: Lookup> Sharing<'a, L> {
         })
     }
 
-    /// What finds the rows.
+    /// What finds the entries.
     pub fn lookup(&self) -> &'a L
         ensures { L.whole result.now ≡ self.now }
     {
         self.lookup
     }
 
-    // The entry of a signal's value descriptions, if plans share it.
+    // The `VAL_` entry of a signal, if plans share it.
     fn shared_row(&self, number: u32, signal: &Name) -> Option<&'a NamedRow<'a>>
         ensures { IfSome result (λ named. first_values signal.now (rows_of number self.now) ≡ Some (row_of named.now)) }
     {
@@ -278,7 +279,7 @@ impl<'a, L: Lookup> Sharing<'a, L> {
     }
 }
 
-/// The rows of one message number, of which plans share some.
+/// The entries of one message ID, of which plans share some.
 #[derive(Drop)]
 pub(crate) struct PlanRows<'a, L: Lookup> {
     sharing: &'a Sharing<'a, L>,
@@ -286,7 +287,7 @@ pub(crate) struct PlanRows<'a, L: Lookup> {
 }
 
 impl<'a, L: Lookup> Model for PlanRows<'a, L> {
-    ghost use Rattle.can_rows.specs.Rows.{SignalRows, rows_of};
+    ghost use Rattle.can_entries.specs.Rows.{SignalRows, rows_of};
 
     ghost Value = { SignalRows };
 
@@ -294,21 +295,21 @@ impl<'a, L: Lookup> Model for PlanRows<'a, L> {
 }
 
 impl<'a, L: Lookup> PlanRows<'a, L> {
-    /// Those of a number.
+    /// The entries of a CAN identifier.
     pub(crate) fn of(sharing: &'a Sharing<'a, L>, number: u32) -> PlanRows<'a, L>
         ensures { result ≡ rows_of number sharing.now }
     {
         PlanRows { sharing, number }
     }
 
-    /// The rows themselves.
+    /// The entries themselves.
     pub(crate) fn rows(&self) -> MessageRows<'a, L>
         ensures { result ≡ self.now }
     {
         MessageRows::of(self.sharing.lookup(), self.number)
     }
 
-    /// The value descriptions of a signal. Their texts are made in the draft.
+    /// The value descriptions of a signal. Their texts are made in the buffer.
     pub(crate) fn named(
         &self,
         buffer: &mut TextBuffer,

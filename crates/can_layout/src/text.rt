@@ -1,8 +1,8 @@
 //! Parts of diagrams, appended to a text.
 ghost use Rattle.std.specs.Prelude.{◌≡◌, ◌++◌, OnOk, decimal, codes, slice_get, if◌then◌else◌};
 ghost use Rattle.std.specs.List.{flat_map};
-ghost use Rattle.can_layout.specs.Pictures.{title_line, span_text, cause_text, range_text, further_range, ranges_text, name_of};
-ghost use Rattle.can_layout.specs.Pictures.{link_text, walk_text};
+ghost use Rattle.can_layout.specs.Diagrams.{title_line, span_text, cause_text, range_text, further_range, ranges_text, name_of};
+ghost use Rattle.can_layout.specs.Diagrams.{link_text, walk_text};
 
 use crate::refusal::Cause;
 use can_mux::{Link, Walk};
@@ -21,12 +21,12 @@ pub(crate) fn push_bytes(text: &mut Vec<u8>, bytes: &[u8]) -> Result<(), Memory>
 fn push_number(text: &mut Vec<u8>, number: u64) -> Result<(), Memory>
     ensures { OnOk result (text.new.items ≡ text.old.items ++ decimal number) }
 {
-    let mut room = itoa::Buffer::new();
-    push_bytes(text, room.format(number).as_bytes())
+    let mut space = itoa::Buffer::new();
+    push_bytes(text, space.format(number).as_bytes())
 }
 
 /// The title of a diagram.
-#[tactic(auto, unfolding(crate::specs::Pictures::title_line))]
+#[tactic(auto, unfolding(crate::specs::Diagrams::title_line))]
 pub(crate) fn push_title(text: &mut Vec<u8>, head: &Head) -> Result<(), Memory>
     ensures { OnOk result (text.new.items ≡ text.old.items ++ title_line head.now) }
 {
@@ -51,8 +51,8 @@ fn sign_text(signed: bool) -> &'static [u8]
     if signed { b"-" } else { b"+" }
 }
 
-/// Where a signal lies, and its sign.
-#[tactic(auto, unfolding(crate::specs::Pictures::span_text))]
+/// Where the bits of a signal are, and its sign.
+#[tactic(auto, unfolding(crate::specs::Diagrams::span_text))]
 pub(crate) fn push_span(text: &mut Vec<u8>, signal: &Signal) -> Result<(), Memory>
     ensures { OnOk result (text.new.items ≡ text.old.items ++ span_text signal.now) }
 {
@@ -77,7 +77,7 @@ pub(crate) fn push_cause(text: &mut Vec<u8>, cause: Option<Cause>) -> Result<(),
     }
 }
 
-#[tactic(auto, unfolding(crate::specs::Pictures::range_text))]
+#[tactic(auto, unfolding(crate::specs::Diagrams::range_text))]
 fn push_range(text: &mut Vec<u8>, range: Range) -> Result<(), Memory>
     ensures { OnOk result (text.new.items ≡ text.old.items ++ range_text range) }
 {
@@ -86,7 +86,7 @@ fn push_range(text: &mut Vec<u8>, range: Range) -> Result<(), Memory>
     push_number(text, range.last)
 }
 
-#[tactic(auto, unfolding(crate::specs::Pictures::further_range))]
+#[tactic(auto, unfolding(crate::specs::Diagrams::further_range))]
 fn push_further(text: &mut Vec<u8>, range: Range) -> Result<(), Memory>
     ensures { OnOk result (text.new.items ≡ text.old.items ++ further_range range) }
 {
@@ -115,16 +115,16 @@ fn push_ranges(text: &mut Vec<u8>, ranges: &[Range]) -> Result<(), Memory>
     }
 }
 
-fn push_name_at(text: &mut Vec<u8>, signals: &[Signal], place: usize) -> Result<(), Memory>
-    ensures { OnOk result (text.new.items ≡ text.old.items ++ name_of (slice_get signals.now place)) }
+fn push_name_at(text: &mut Vec<u8>, signals: &[Signal], index: usize) -> Result<(), Memory>
+    ensures { OnOk result (text.new.items ≡ text.old.items ++ name_of (slice_get signals.now index)) }
 {
-    match signals.get(place) {
+    match signals.get(index) {
         Some(signal) => push_bytes(text, signal.name.as_bytes()),
         None => Ok(()),
     }
 }
 
-#[tactic(auto, unfolding(crate::specs::Pictures::link_text))]
+#[tactic(auto, unfolding(crate::specs::Diagrams::link_text))]
 fn push_link(text: &mut Vec<u8>, signals: &[Signal], link: &Link) -> Result<(), Memory>
     ensures { OnOk result (text.new.items ≡ text.old.items ++ link_text signals.now link.now) }
 {
@@ -143,7 +143,7 @@ fn push_links(text: &mut Vec<u8>, signals: &[Signal], links: &[Link]) -> Result<
     Ok(())
 }
 
-/// The switches above a signal, or that it is never there.
+/// The multiplexing chain of a signal, or that it is never present.
 pub(crate) fn push_walk(text: &mut Vec<u8>, signals: &[Signal], walk: &Walk) -> Result<(), Memory>
     ensures { OnOk result (text.new.items ≡ text.old.items ++ walk_text signals.now walk.now) }
 {

@@ -1,4 +1,4 @@
-pub use Rattle.can_rows.specs.Rows
+pub use Rattle.can_entries.specs.Rows
 pub mod Links
 pub mod Walks
 pub mod Switches

@@ -4,8 +4,9 @@ ghost use Rattle.can_mux.specs.Walks.{walk_of, IsWalk};
 ghost use Rattle.can_mux.specs.declared.mux_parent.MuxParent.{MuxParent};
 ghost use Rattle.can_mux.specs.declared.walk.Walk.{Walk};
 
-/// The multiplexing chain from a signal is exactly one of these: a chain of switches up to a signal that is not multiplexed, a way
-/// to a signal whose switch is not there, or a way that leads back to a signal.
+/// The multiplexing chain from a signal is exactly one of these: a chain of multiplexors (switches) up to a signal that is not
+/// multiplexed, a walk to a signal whose multiplexor doesn't exist, or a walk that leads back to a signal.
 pub fn one_walk()
-    ensures { (aboves : List MuxParent) (place : ℕ) (walk : Walk) → (walk_of aboves place ≡ walk) ↔ IsWalk aboves place walk }
+    ensures { (mux_parents : List MuxParent) (index : ℕ) (walk : Walk) → (walk_of mux_parents index ≡ walk) ↔ IsWalk mux_parents
+        index walk }
 {}

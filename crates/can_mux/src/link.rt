@@ -1,4 +1,4 @@
-//! Switches above signals.
+//! Parent multiplexors of signals.
 ghost use Rattle.std.specs.Prelude.{◌≡◌};
 ghost use Rattle.std.specs.List.{list_any};
 ghost use Rattle.dbc_records.specs.Ranges.{in_range};
@@ -7,10 +7,10 @@ use dbc_records::{Numbers, Range};
 use dbc_values::{Checked, Copied, Memory};
 use std::marker::Model;
 
-/// A switch above a signal, and the numbers of it with which the signal is there. Copies share the numbers.
+/// A signal's parent multiplexor (switch), and its raw values for which the signal is present. Copies share the raw values.
 #[derive(Drop)]
 pub struct Link {
-    /// The place of the switch in its message.
+    /// The index of the multiplexor in its message.
     pub switch: usize,
     numbers: Numbers,
 }
@@ -42,22 +42,22 @@ impl Copied for Link {
 }
 
 impl Link {
-    /// A switch at a place, and the numbers.
+    /// A multiplexor at an index, and the raw values.
     pub fn new(switch: usize, numbers: Numbers) -> Link
         ensures { result ≡ record { switch = switch; ranges = numbers } }
     {
         Link { switch, numbers }
     }
 
-    /// The numbers.
+    /// The raw values.
     pub fn ranges(&self) -> &[Range]
         ensures { result.now ≡ self.now.ranges }
     {
         self.numbers.as_slice()
     }
 
-    /// Whether the switch's raw bits, as an unsigned number, are one of the numbers. Of many ranges it is found in time with
-    /// the logarithm of how many there are.
+    /// Whether the multiplexor's raw bits, as an unsigned number, are one of the raw values. If there are many ranges, this takes
+    /// time logarithmic in their count.
     pub fn has(&self, raw: u64) -> bool
         ensures { result ≡ list_any (in_range raw) self.now.ranges }
     {

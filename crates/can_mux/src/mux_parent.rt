@@ -15,5 +15,5 @@ pub enum MuxParent {
 }
 
 impl Checked for MuxParent {
-    ghost IsValid = { λ above. Unit {0} };
+    ghost IsValid = { λ mux_parent. Unit {0} };
 }

@@ -1,14 +1,14 @@
-//! The rows of one message.
+//! The entries of one message.
 ghost use Rattle.std.specs.Prelude.{◌≡◌};
 ghost use Rattle.std.specs.Option.{option_map};
-ghost use Rattle.can_rows.specs.Rows.{rows_of, first_values, first_float, first_mux};
+ghost use Rattle.can_entries.specs.Rows.{rows_of, first_values, first_float, first_mux};
 
-use can_rows::Lookup;
+use can_entries::Lookup;
 use dbc_records::{FloatRow, MuxRow, ValueRow};
 use dbc_values::Name;
 use std::marker::Model;
 
-/// The rows of one message number, by a signal's name: the first of each kind.
+/// The entries of one message ID, by a signal's name: the first of each kind.
 #[derive(Drop)]
 pub struct MessageRows<'a, L: Lookup> {
     lookup: &'a L,
@@ -16,7 +16,7 @@ pub struct MessageRows<'a, L: Lookup> {
 }
 
 impl<'a, L: Lookup> Model for MessageRows<'a, L> {
-    ghost use Rattle.can_rows.specs.Rows.{SignalRows, rows_of};
+    ghost use Rattle.can_entries.specs.Rows.{SignalRows, rows_of};
 
     ghost Value = { SignalRows };
 
@@ -24,7 +24,7 @@ impl<'a, L: Lookup> Model for MessageRows<'a, L> {
 }
 
 impl<'a, L: Lookup> MessageRows<'a, L> {
-    /// The rows of a number.
+    /// The entries of a CAN identifier.
     pub fn of(lookup: &'a L, number: u32) -> MessageRows<'a, L>
         ensures { result ≡ rows_of number (L.whole lookup.now) }
     {
@@ -45,7 +45,7 @@ impl<'a, L: Lookup> MessageRows<'a, L> {
         self.lookup.float(self.number, signal)
     }
 
-    /// The switch of a signal.
+    /// The multiplexor (switch) of a signal.
     pub fn mux(&self, signal: &Name) -> Option<&MuxRow>
         ensures { option_map (λ row. row.now) result ≡ first_mux signal.now self.now }
     {

@@ -1,18 +1,18 @@
-//! What stands right above each signal of a message.
+//! The multiplexing parent of each signal of a message.
 ghost use Rattle.std.specs.Prelude.{◌≡◌, IfOk, count_by, position};
-ghost use Rattle.can_mux.specs.Switches.{place_named, only_switch, is_switch, above_of, aboves_of, under, just, by_tag};
+ghost use Rattle.can_mux.specs.Switches.{index_named, only_switch, is_switch, mux_parent_of, mux_parents_of, under, just, by_tag};
 
 use crate::link::Link;
 use crate::mux_parent::MuxParent;
 use crate::rows::MessageRows;
-use can_rows::Lookup;
+use can_entries::Lookup;
 use dbc_records::{Numbers, Range, Signal, Tag};
 use dbc_values::{Copied, List, Memory, same};
 use std::alloc::Global;
 
-// The place of the signal of a name.
-fn place_named(name: &[u8], signals: &[Signal]) -> Option<usize>
-    ensures { result ≡ place_named name.now signals.now }
+// The index of the signal of a name.
+fn index_named(name: &[u8], signals: &[Signal]) -> Option<usize>
+    ensures { result ≡ index_named name.now signals.now }
 {
     signals
         .iter()
@@ -43,7 +43,7 @@ fn first_switch(signals: &[Signal]) -> Option<usize>
     signals.iter().position(|signal| is_switch(signal.tag))
 }
 
-// The place of the only signal with the tag `M`.
+// The index of the only signal with the multiplexer indicator `M`.
 #[tactic(auto, unfolding(crate::specs::Switches::only_switch))]
 fn only_switch(signals: &[Signal]) -> Option<usize>
     ensures { result ≡ only_switch signals.now }
@@ -76,7 +76,7 @@ fn just(alloc: Global, number: u64) -> Result<Numbers, Memory>
 }
 
 fn by_tag(alloc: Global, only: Option<usize>, tag: Tag) -> Result<MuxParent, Memory>
-    ensures { IfOk result (λ above. above ≡ by_tag only tag) }
+    ensures { IfOk result (λ mux_parent. mux_parent ≡ by_tag only tag) }
 {
     match tag {
         Tag::Plain | Tag::Switch => Ok(MuxParent::Nothing),
@@ -84,9 +84,9 @@ fn by_tag(alloc: Global, only: Option<usize>, tag: Tag) -> Result<MuxParent, Mem
     }
 }
 
-// What stands above a signal, where `only` is the only switch of its message.
-#[tactic(auto, unfolding(crate::specs::Switches::above_of))]
-fn above_of<L: Lookup>(
+// The multiplexing parent of a signal, if `only` is the only multiplexor (switch) of its message.
+#[tactic(auto, unfolding(crate::specs::Switches::mux_parent_of))]
+fn mux_parent_of<L: Lookup>(
     alloc: Global,
     rows: &MessageRows<'_, L>,
     signals: &[Signal],
@@ -94,29 +94,29 @@ fn above_of<L: Lookup>(
     signal: &Signal,
 ) -> Result<MuxParent, Memory>
     requires { only ≡ only_switch signals.now }
-    ensures { IfOk result (λ above. above ≡ above_of rows.now signals.now signal.now) }
+    ensures { IfOk result (λ mux_parent. mux_parent ≡ mux_parent_of rows.now signals.now signal.now) }
 {
     match rows.mux(&signal.name) {
         Some(row) => {
             let numbers = row.ranges.copy()?;
-            Ok(under(place_named(row.switch.as_bytes(), signals), numbers))
+            Ok(under(index_named(row.switch.as_bytes(), signals), numbers))
         }
         None => by_tag(alloc, only, signal.tag),
     }
 }
 
-/// What stands above each signal of a message, in order.
-pub fn aboves_of<L: Lookup>(
+/// The multiplexing parent of each signal of a message, in order.
+pub fn mux_parents_of<L: Lookup>(
     alloc: Global,
     rows: &MessageRows<'_, L>,
     signals: &[Signal],
 ) -> Result<List<MuxParent>, Memory>
-    ensures { IfOk result (λ aboves. aboves ≡ aboves_of rows.now signals.now) }
+    ensures { IfOk result (λ mux_parents. mux_parents ≡ mux_parents_of rows.now signals.now) }
 {
     let only = only_switch(signals);
-    let mut aboves = List::with_capacity(alloc, signals.len())?;
+    let mut mux_parents = List::with_capacity(alloc, signals.len())?;
     for signal in signals {
-        aboves.push(above_of(alloc, rows, signals, only, signal)?)?;
+        mux_parents.push(mux_parent_of(alloc, rows, signals, only, signal)?)?;
     }
-    Ok(aboves)
+    Ok(mux_parents)
 }

@@ -9,29 +9,29 @@ use crate::mux_parent::MuxParent;
 use dbc_values::{Copied, List, Memory};
 use std::alloc::Global;
 
-/// The multiplexing chain from a signal, from switch to switch.
+/// The multiplexing chain from a signal, from multiplexor to multiplexor.
 #[derive(Drop)]
 pub enum Walk {
-    /// It comes to a signal that is not multiplexed, by way of these switches. A signal that is not multiplexed itself has
-    /// none.
+    /// It leads to a signal that is not multiplexed, through these multiplexors. The chain of a signal that is not
+    /// multiplexed itself is empty.
     Chain(List<Link>),
-    /// It comes to a signal whose switch is not in the message.
+    /// It leads to a signal whose multiplexor is not in the message.
     Absent {
-        /// Whether it is the signal's own switch that is not there.
+        /// Whether it is the signal's own multiplexor that doesn't exist.
         own: bool,
     },
-    /// It comes to a signal for the second time.
+    /// It leads to a signal for the second time.
     Loop,
 }
 
-// What stands right above the signal at a place, where there is one.
-pub fn above_at<'a>(aboves: &'a [MuxParent], place: usize) -> Option<&'a MuxParent>
-    ensures { option_map (λ above. above.now) result ≡ slice_get aboves.now place }
+// The multiplexing parent of the signal at an index, if there is one.
+pub fn mux_parent_at<'a>(mux_parents: &'a [MuxParent], index: usize) -> Option<&'a MuxParent>
+    ensures { option_map (λ mux_parent. mux_parent.now) result ≡ slice_get mux_parents.now index }
 {
-    aboves.get(place)
+    mux_parents.get(index)
 }
 
-// The way after these links comes to a signal whose switch is not there.
+// The walk after these links leads to a signal whose multiplexor doesn't exist.
 fn absent(links: &List<Link>) -> Walk
     ensures { result ≡ Absent (length links.now == 0) }
 {
@@ -40,17 +40,18 @@ fn absent(links: &List<Link>) -> Walk
     }
 }
 
-/// The multiplexing chain from the signal at a place, where `aboves` says what stands right above each signal of the message.
-pub fn walk_of(alloc: Global, aboves: &[MuxParent], place: usize) -> Result<Walk, Memory>
-    ensures { IfOk result (λ walk. walk ≡ walk_of aboves.now place) }
+/// The multiplexing chain from the signal at an index, where `mux_parents` has the multiplexing parent of each signal of the
+/// message.
+pub fn walk_of(alloc: Global, mux_parents: &[MuxParent], index: usize) -> Result<Walk, Memory>
+    ensures { IfOk result (λ walk. walk ≡ walk_of mux_parents.now index) }
 {
     let mut links = List::new(alloc);
-    let mut current = place;
-    for _passed in 0..aboves.len() + 1 {
-        let Some(above) = above_at(aboves, current) else {
+    let mut current = index;
+    for _passed in 0..mux_parents.len() + 1 {
+        let Some(mux_parent) = mux_parent_at(mux_parents, current) else {
             return Ok(absent(&links));
         };
-        match above {
+        match mux_parent {
             MuxParent::Nothing => return Ok(Walk::Chain(links)),
             MuxParent::Missing => return Ok(absent(&links)),
             MuxParent::Switch(link) => {

@@ -8,14 +8,14 @@ use Rattle.std.proofs.lemmas.List.Folds.{list_any_at}
 use Rattle.std.proofs.lemmas.Grind.{common_steps}
 use Rattle.can_bits.specs.declared.field.Field.{Field}
 use Rattle.can_bits.specs.Bits.{has_position}
-use Rattle.can_overlap.specs.Occupancy.{is_marked, IsOccupancy}
-use Rattle.can_overlap.specs.declared.places.Places.{Places}
+use Rattle.can_overlap.specs.inner.Occupancy.{is_marked, IsOccupancy}
+use Rattle.can_overlap.specs.declared.indexes.IndexSet.{IndexSet}
 
 is_after : (n m : ℕ) → m ≤ n → ltb n m ≡ false
 is_after n m h = grind (arith, common_steps)
 
 -- a row is marked only by a field that has the position, and those rows are emptied
-pub none_left : (fields : List Field) (rows : List Places) (d : Field) → IsOccupancy fields rows → (position other : ℕ)
+pub none_left : (fields : List Field) (rows : List IndexSet) (d : Field) → IsOccupancy fields rows → (position other : ℕ)
     → (is_marked rows position other && not (list_any (λ field. has_position field position) fields)) ≡ false
 none_left fields rows d marked position other =
     let has : Field → Bool = λ field. has_position field position in

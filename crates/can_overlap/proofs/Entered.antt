@@ -1,4 +1,4 @@
--- One more link of a chain in the table of its switches.
+-- One more link of a chain in the table of its multiplexors (switches).
 use Rattle.std.proofs.Common.{◌≡◌, ℕ, zero, suc, ◌+◌, ◌<◌, Bool, true, false, not, ◌||◌, ◌&&◌, List, [], ◌∷◌, Option, Some, None}
 use Rattle.std.proofs.Common.{length, get_or, set, take, drop, drop-cons, arith, refl, ap, ◌∙◌, sym, ⊎_elim}
 use Rattle.std.specs.List.{slice_get}
@@ -9,7 +9,7 @@ use Rattle.can_mux.specs.Links.{Link}
 use Rattle.can_mux.specs.declared.walk.Walk.{Walk}
 use Rattle.can_mux.specs.declared.walk.Walk.TheVariants.{Chain, Absent, Loop}
 use Rattle.can_overlap.specs.Overlaps.{agree, agrees_with, ranges_meet}
-use Rattle.can_overlap.specs.MuxPaths.{IsStep, own_at, of_switch, agrees_if_there, AreEntered}
+use Rattle.can_overlap.specs.inner.MuxPaths.{IsStep, own_at, of_switch, agrees_if_there, AreEntered}
 use Rattle.can_overlap.proofs.Words.{eqb-apart}
 
 other_switch : (x link : Link) → (x.switch ≡ link.switch → ⊥) → agree x link ≡ true
@@ -64,7 +64,7 @@ module _ (walks : List Walk) (own : List (Option Link)) (owners : List ℕ) (lin
 
   pub one_entered : link.switch < length owners → of_switch own owners link.switch ≡ None → AreEntered own owners (take i links)
       → AreEntered own (set owners link.switch owner) (take (i + 1) links)
-  one_entered room free before = λ other.
+  one_entered space free before = λ other.
       let more : agrees_with (take (i + 1) links) other ≡ (agrees_with (take i links) other && agree link other) =
       list_all_more (λ x. agree x other) links i link within ∙ ap (λ x. agrees_with (take i links) other && agree x other)
       is_link in
@@ -74,7 +74,7 @@ module _ (walks : List Walk) (own : List (Option Link)) (owners : List ℕ) (lin
       ap (λ (one : Option Link). agrees_if_there one other) (sym free ∙ ap (of_switch own owners) (sym same)) ∙ before other in
       let here : of_switch own (set owners link.switch owner) other.switch ≡ Some link =
       ap (of_switch own (set owners link.switch owner)) same
-      ∙ ap (λ (one : Option ℕ). option_and_then (λ owner. own_at own owner) one) (set_same owners link.switch owner room)
+      ∙ ap (λ (one : Option ℕ). option_and_then (λ owner. own_at own owner) one) (set_same owners link.switch owner space)
       ∙ kept in
       ap (λ (one : Option Link). agrees_if_there one other) here
       ∙ ap (λ b. b && agree link other) none

@@ -1,9 +1,9 @@
-pub mod Behind
+pub mod Following
 pub mod Cleared
 pub mod Entered
 pub mod Gone
 pub mod Marks
-pub mod Meeting
+pub mod Sharing
 pub mod Ordered
 pub mod Reach
 pub mod Skips

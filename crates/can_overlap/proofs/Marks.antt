@@ -8,9 +8,9 @@ use Rattle.std.proofs.lemmas.List.Folds.{list_any-append}
 use Rattle.can_bits.specs.declared.field.Field.{Field}
 use Rattle.can_bits.specs.Bits.{position_of}
 use Rattle.can_bits.proofs.Marks.{range_more}
-use Rattle.can_overlap.specs.Occupancy.{is_marked}
-use Rattle.can_overlap.specs.Places.{has}
-use Rattle.can_overlap.specs.declared.places.Places.{Places}
+use Rattle.can_overlap.specs.inner.Occupancy.{is_marked}
+use Rattle.can_overlap.specs.inner.IndexSet.{has}
+use Rattle.can_overlap.specs.declared.indexes.IndexSet.{IndexSet}
 use Rattle.can_overlap.proofs.Words.{or_false, eqb-apart}
 
 -- one more number
@@ -24,9 +24,9 @@ any_more test n =
 
 -- whether one of a field's first bits is at a position
 abbrev pub has_below : Field → ℕ → ℕ → Bool
-has_below field n position = list_any (λ place. eqb (position_of field place) position) (range_with_len 0 n)
+has_below field n position = list_any (λ index. eqb (position_of field index) position) (range_with_len 0 n)
 
-abbrev none : Places
+abbrev none : IndexSet
 none = record { words = [] }
 
 here : (before held e : Bool) → ((before || (held && e)) || e) ≡ (before || ((held || true) && e))
@@ -40,20 +40,20 @@ apart true held e = refl
 apart false true e = refl
 apart false false e = refl
 
--- a row in which one more place is marked
-pub is_marked-insert : (rows : List Places) (q place : ℕ) (row : Places) → q < length rows
-    → ((other : ℕ) → has row.words other ≡ (has (get_or rows q none).words other || eqb other place))
-    → (before held : Bool) (p other : ℕ) → is_marked rows p other ≡ (before || (held && eqb other place))
-    → is_marked (set rows q row) p other ≡ (before || ((held || eqb q p) && eqb other place))
-is_marked-insert rows q place row within inserted before held p other known =
+-- a row in which one more index is marked
+pub is_marked-insert : (rows : List IndexSet) (q index : ℕ) (row : IndexSet) → q < length rows
+    → ((other : ℕ) → has row.words other ≡ (has (get_or rows q none).words other || eqb other index))
+    → (before held : Bool) (p other : ℕ) → is_marked rows p other ≡ (before || (held && eqb other index))
+    → is_marked (set rows q row) p other ≡ (before || ((held || eqb q p) && eqb other index))
+is_marked-insert rows q index row within inserted before held p other known =
     ⊎_elim
     (λ (e : p ≡ q).
-    let old : is_marked rows q other ≡ (before || (held && eqb other place)) =
-    subst (λ (k : ℕ). is_marked rows k other ≡ (before || (held && eqb other place))) e known in
-    rw (e, get_or-set_same rows q row none within, inserted other, old, eq-eqb q q refl) (here before held (eqb other place)))
+    let old : is_marked rows q other ≡ (before || (held && eqb other index)) =
+    subst (λ (k : ℕ). is_marked rows k other ≡ (before || (held && eqb other index))) e known in
+    rw (e, get_or-set_same rows q row none within, inserted other, old, eq-eqb q q refl) (here before held (eqb other index)))
     (λ (ne : p ≡ q → ⊥).
     let other_way : q ≡ p → ⊥ = λ e. ne (sym e) in
-    rw (get_or-set_other rows q p row none ne, known, eqb-apart q p other_way) (apart before held (eqb other place)))
+    rw (get_or-set_other rows q p row none ne, known, eqb-apart q p other_way) (apart before held (eqb other index)))
     (cases_eq p q)
 
 emptied : (before held : Bool) → false ≡ (before && not (held || true))
@@ -66,7 +66,8 @@ kept before true = refl
 kept before false = refl
 
 -- a row that is emptied
-pub is_marked-empty : (rows : List Places) (q : ℕ) (row : Places) → q < length rows → ((other : ℕ) → has row.words other ≡ false)
+pub is_marked-empty : (rows : List IndexSet) (q : ℕ) (row : IndexSet) → q < length rows → ((other : ℕ) → has row.words other ≡
+    false)
     → (before held : Bool) (p other : ℕ) → is_marked rows p other ≡ (before && not held)
     → is_marked (set rows q row) p other ≡ (before && not (held || eqb q p))
 is_marked-empty rows q row within empty before held p other known =

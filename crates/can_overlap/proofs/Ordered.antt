@@ -1,4 +1,4 @@
--- Ranges in order: which one of two lists can be left aside, and what stands for what.
+-- Ranges in order: which one of two lists can be skipped, and what can replace what.
 use Rattle.std.proofs.Common.{◌≡◌, ℕ, zero, suc, ◌+◌, ◌<◌, ◌≤◌, Bool, true, false, ◌||◌, max, min, List, [], ◌∷◌, ◌++◌, length}
 use Rattle.std.proofs.Common.{get_or, take, drop, drop-cons, arith, refl, subst, ap, ◌∙◌, sym}
 use Rattle.std.specs.List.{list_any, All}
@@ -10,7 +10,7 @@ use Rattle.std.proofs.lemmas.List.Folds.{list_any-append, list_any_more, list_an
 use Rattle.std.proofs.lemmas.Grind.{common_steps}
 use Rattle.dbc_records.specs.declared.mux_row.Range.{Range}
 use Rattle.can_overlap.specs.Overlaps.{have_common, ranges_meet}
-use Rattle.can_overlap.specs.Ordered.{holds_some, IsOrdered, AreWhole, StandFor}
+use Rattle.can_overlap.specs.inner.Ordered.{holds_some, IsOrdered, AreWhole, StandFor}
 use Rattle.can_overlap.proofs.Words.{or_false}
 
 -- ---- two ranges
@@ -85,7 +85,7 @@ pub none_meet : (xs : List Range) → ranges_meet xs [] ≡ false
 none_meet [] = refl
 none_meet (x ∷ xs) = none_meet xs
 
--- ---- from places on
+-- ---- from indexes on
 
 ordered_from : (n : ℕ) (xs : List Range) → IsOrdered xs → IsOrdered (drop n xs)
 ordered_from zero xs order = order
@@ -132,7 +132,7 @@ first_ended xs ys i h = rw (drop_all i xs h) refl
 pub second_ended : (xs ys : List Range) (j : ℕ) → length ys ≤ j → ranges_meet xs (drop j ys) ≡ false
 second_ended xs ys j h = ap (λ zs. ranges_meet xs zs) (drop_all j ys h) ∙ none_meet xs
 
--- ---- what stands for what
+-- ---- what can replace what
 
 any_alike : (p q : Range → Bool) (xs : List Range) → ((x : Range) → p x ≡ q x) → list_any p xs ≡ list_any q xs
 any_alike p q [] same = refl

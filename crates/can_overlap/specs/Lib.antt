@@ -1,6 +1,2 @@
-pub mod Apart
-pub mod Occupancy
-pub mod Ordered
 pub mod Overlaps
-pub mod Places
-pub mod MuxPaths
+pub mod inner

@@ -1,6 +1,6 @@
--- Signals of a message that have a bit in common and can be there together.
--- Source: the DBC file format, "Signal Definitions" (where bits lie) and "Extended Multiplexing" (a signal is there with the
--- numbers of its switch that lie in its ranges, and only where its switch is there itself).
+-- Signals of a message that share a bit and can be active at once. Source: the DBC file format, "Signal Definitions" (where bits
+-- are) and "Extended Multiplexing" (a signal is present for the raw values of its multiplexor that are in its ranges, and only if
+-- its multiplexor is present itself).
 use Rattle.std.specs.Prelude.{ℕ, ◌+◌, ◌==◌, ◌&&◌, ◌||◌, ◌++◌, nat_le, min, max, Bool, false, not, List, [], ◌∷◌, drop}
 use Rattle.std.specs.Prelude.{if◌then◌else◌}
 use Rattle.std.specs.List.{range_with_len, list_any, list_all, flat_map}
@@ -12,7 +12,7 @@ use Rattle.can_mux.specs.declared.walk.Walk.{Walk}
 use Rattle.can_mux.specs.declared.walk.Walk.TheVariants.{Chain, Absent, Loop}
 use Rattle.can_overlap.specs.declared.pair.Pair.{Pair}
 
--- ---- there together
+-- ---- present together
 
 -- whether a number is in both ranges; a range whose first number is over its last holds none
 abbrev pub have_common : Range → Range → Bool
@@ -22,7 +22,7 @@ have_common a b = nat_le (max a.first b.first) (min a.last b.last)
 abbrev pub ranges_meet : List Range → List Range → Bool
 ranges_meet a b = list_any (λ x. list_any (λ y. have_common x y) b) a
 
--- links of one switch have a number of it in common
+-- links of one multiplexor (switch) have a raw value of it in common
 abbrev pub agree : Link → Link → Bool
 agree a b = not (a.switch == b.switch) || ranges_meet a.ranges b.ranges
 
@@ -34,7 +34,7 @@ agrees_with chain link = list_all (λ x. agree x link) chain
 abbrev pub all_agree : List Link → List Link → Bool
 all_agree a b = list_all (λ y. agrees_with a y) b
 
--- whether both have a chain, and no switch that is in both chains has ranges there without a common number
+-- whether both have a chain, and no multiplexor that is in both chains has ranges there without a common raw value
 abbrev pub together : Walk → Walk → Bool
 together (Chain a) (Chain b) = all_agree a b
 together (Chain a) (Absent own) = false
@@ -42,26 +42,26 @@ together (Chain a) Loop = false
 together (Absent own) b = false
 together Loop b = false
 
--- ---- a bit in common
+-- ---- a shared bit
 
 -- whether some position is in both
 abbrev pub share : Field → Field → Bool
-share a b = list_any (λ place. has_position b (position_of a place)) (range_with_len 0 a.length)
+share a b = list_any (λ index. has_position b (position_of a index)) (range_with_len 0 a.length)
 
 -- ---- overlaps
 
--- a signal of a message: its place, where it lies, what stands above it
+-- a signal of a message: its index, its field, its multiplexing chain
 pub record Laid : Type 0 where
-  pub place : ℕ
+  pub index : ℕ
   pub field : Field
   pub walk : Walk
 
--- the signals of a message, from a place on
+-- the signals of a message, from an index on
 abbrev pub laid_from : ℕ → List Field → List Walk → List Laid
-laid_from place (field ∷ fields) (walk ∷ walks) = record { place = place; field = field; walk = walk } ∷ laid_from (place + 1)
+laid_from index (field ∷ fields) (walk ∷ walks) = record { index = index; field = field; walk = walk } ∷ laid_from (index + 1)
     fields walks
-laid_from place (field ∷ fields) [] = []
-laid_from place [] walks = []
+laid_from index (field ∷ fields) [] = []
+laid_from index [] walks = []
 
 abbrev pub overlap : Laid → Laid → Bool
 overlap a b = share a.field b.field && together a.walk b.walk
@@ -69,16 +69,16 @@ overlap a b = share a.field b.field && together a.walk b.walk
 abbrev pub pair_where : Bool → ℕ → ℕ → List Pair
 pair_where test first second = if test then record { first = first; second = second } ∷ [] else []
 
--- their places, where they overlap
+-- their indexes, if they overlap
 abbrev pub pair_of : Laid → Laid → List Pair
-pair_of a b = pair_where (overlap a b) a.place b.place
+pair_of a b = pair_where (overlap a b) a.index b.index
 
 -- what is found of each item and each later one, by the first and then by the second
 abbrev pub for_pairs : {X Y : Type 0} → (X → X → List Y) → List X → List Y
 for_pairs f [] = []
 for_pairs f (first ∷ later) = flat_map (f first) later ++ for_pairs f later
 
--- the places of the signals that overlap
+-- the indexes of the signals that overlap
 unfoldable pub overlapping : List Field → List Walk → List Pair
 overlapping fields walks = for_pairs pair_of (laid_from 0 fields walks)
 
@@ -87,6 +87,6 @@ abbrev pub pairs_of_first : List Laid → List Pair
 pairs_of_first [] = []
 pairs_of_first (first ∷ later) = flat_map (pair_of first) later
 
--- the pairs of the signal at a place with later ones
+-- the pairs of the signal at an index with later ones
 unfoldable pub pairs_from : List Field → List Walk → ℕ → List Pair
 pairs_from fields walks first = pairs_of_first (laid_from first (drop first fields) (drop first walks))

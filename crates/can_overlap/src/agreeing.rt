@@ -1,4 +1,4 @@
-//! Whether two signals can be there together.
+//! Whether two signals can be active at once.
 ghost use Rattle.std.specs.Prelude.{◌≡◌};
 ghost use Rattle.std.specs.List.{list_any};
 ghost use Rattle.can_overlap.specs.Overlaps.{have_common, ranges_meet, agree, agrees_with, all_agree, together};
@@ -24,7 +24,7 @@ fn ranges_meet(a: &[Range], b: &[Range]) -> bool
     a.iter().any(|x| meets_one(x, b))
 }
 
-/// Whether the links are of different switches, or have a number in common.
+/// Whether the links are of different multiplexors (switches), or have a raw value in common.
 pub(crate) fn agree(a: &Link, b: &Link) -> bool
     ensures { result ≡ agree a.now b.now }
 {
@@ -45,8 +45,8 @@ pub(crate) fn all_agree(a: &[Link], b: &[Link]) -> bool
     b.iter().all(|y| agrees_with(a, y))
 }
 
-/// Whether signals with these multiplexing chains can be there together. It compares each link with each, which
-/// [`crate::Marked::push_pairs`] doesn't.
+/// Whether signals with these multiplexing chains can be active at once. It compares each link with
+/// each, which [`crate::Marked::push_pairs`] doesn't.
 pub fn together(first: &Walk, second: &Walk) -> bool
     ensures { result ≡ together first.now second.now }
 {

@@ -1,9 +1,9 @@
-//! The links of one multiplexing chain, indexed by their multiplexors.
+//! The links of one multiplexing chain, indexed by their multiplexors (switches).
 ghost use Rattle.std.specs.Prelude.{◌≡◌, ℕ, Some, None, IsTrue, IfOk, length, slice_get};
 ghost use Rattle.std.specs.Option.{option_map};
 ghost use Rattle.can_mux.specs.declared.walk.Walk.TheVariants.{Chain};
 ghost use Rattle.can_overlap.specs.Overlaps.{agrees_with};
-ghost use Rattle.can_overlap.specs.MuxPaths.{of_switch, noted_if, goes_at, AreEntered, AreNoted};
+ghost use Rattle.can_overlap.specs.inner.MuxPaths.{of_switch, noted_if, goes_at, AreEntered, AreNoted};
 
 use crate::agreeing::{agrees_with, all_agree};
 use crate::mux_paths::MuxPaths;
@@ -14,7 +14,7 @@ use std::alloc::Global;
 use std::marker::Model;
 
 /// A multiplexing chain, compared with the paths of its message, with a table of its links by their multiplexors. The table is used
-/// if each multiplexor is there once and each link is kept.
+/// if each multiplexor occurs once and each link is kept.
 #[derive(Drop)]
 pub(crate) struct ChainIndex<'a> {
     paths: &'a MuxPaths<'a>,
@@ -25,7 +25,7 @@ pub(crate) struct ChainIndex<'a> {
 
 impl<'a> Model for ChainIndex<'a> {
     ghost use Rattle.std.specs.Prelude.{IsTrue};
-    ghost use Rattle.can_overlap.specs.MuxPaths.{ChainIndex as Plain, AreEntered};
+    ghost use Rattle.can_overlap.specs.inner.MuxPaths.{ChainIndex as Plain, AreEntered};
 
     ghost Value = { Plain };
 
@@ -41,7 +41,7 @@ fn owner_at(owners: &[usize], switch: usize) -> Option<usize>
     owners.get(switch).copied()
 }
 
-// The link of a switch.
+// The link of a multiplexor.
 fn of_switch<'b, 'a>(
     paths: &'b MuxPaths<'a>,
     owners: &[usize],
@@ -61,13 +61,13 @@ fn is_free(paths: &MuxPaths<'_>, owners: &[usize], switch: usize) -> bool
     of_switch(paths, owners, switch).is_none()
 }
 
-// Enters the links of the way at a place into an empty table. It is false where a link isn't kept or a switch stands twice.
-fn enter_all(paths: &MuxPaths<'_>, owners: &mut [usize], links: &[Link], place: usize) -> bool
+// Enters the links of the walk at an index into an empty table. It is false if a link isn't kept or a multiplexor occurs twice.
+fn enter_all(paths: &MuxPaths<'_>, owners: &mut [usize], links: &[Link], index: usize) -> bool
     requires empty { (switch : ℕ) → of_switch paths.now.own owners.old switch ≡ None }
-    requires chain { slice_get paths.now.walks place ≡ Some (Chain links.now) }
+    requires chain { slice_get paths.now.walks index ≡ Some (Chain links.now) }
     ensures { IsTrue result → AreEntered paths.now.own owners.new links.now }
 {
-    let mut owner = place;
+    let mut owner = index;
     for _passed in 0..links.len() {
         let Some(own) = paths.own_at(owner) else {
             return false;
@@ -91,18 +91,18 @@ fn none_entered(alloc: Global, paths: &MuxPaths<'_>, count: usize) -> Result<Vec
 }
 
 impl<'a> ChainIndex<'a> {
-    /// The chain of the signal at a place.
+    /// The chain of the signal at an index.
     pub(crate) fn of(
         alloc: Global,
         paths: &'a MuxPaths<'a>,
         links: &'a [Link],
-        place: usize,
+        index: usize,
     ) -> Result<ChainIndex<'a>, Memory>
-        requires { slice_get paths.now.walks place ≡ Some (Chain links.now) }
+        requires { slice_get paths.now.walks index ≡ Some (Chain links.now) }
         ensures { IfOk result (λ indexed. indexed ≡ record { links = links.now; walks = paths.now.walks }) }
     {
         let mut owners = none_entered(alloc, paths, paths.count())?;
-        let entered = enter_all(paths, &mut owners, links, place);
+        let entered = enter_all(paths, &mut owners, links, index);
         Ok(ChainIndex {
             paths,
             links,
@@ -111,7 +111,7 @@ impl<'a> ChainIndex<'a> {
         })
     }
 
-    /// How many ways there are.
+    /// How many walks there are.
     pub(crate) fn count(&self) -> usize
         ensures { result ≡ length self.now.walks }
     {
@@ -133,17 +133,17 @@ impl<'a> ChainIndex<'a> {
     }
 
     // Compares each link with each.
-    fn goes_slowly(&self, place: usize) -> bool
-        ensures { result ≡ goes_at self.now.links self.now.walks place }
+    fn goes_slowly(&self, index: usize) -> bool
+        ensures { result ≡ goes_at self.now.links self.now.walks index }
     {
-        match self.paths.chain_at(place) {
+        match self.paths.chain_at(index) {
             Some(links) => all_agree(self.links, links),
             None => false,
         }
     }
 }
 
-/// Nothing is noted of any way.
+/// Nothing is memoized for any walk.
 pub(crate) fn none_noted(
     alloc: Global,
     indexed: &ChainIndex<'_>,
@@ -154,32 +154,32 @@ pub(crate) fn none_noted(
     Ok(noted)
 }
 
-fn noted_at(noted: &[Option<bool>], place: usize) -> Option<bool>
-    ensures { result ≡ noted_if (slice_get noted.now place) }
+fn noted_at(noted: &[Option<bool>], index: usize) -> Option<bool>
+    ensures { result ≡ noted_if (slice_get noted.now index) }
 {
-    match noted.get(place) {
+    match noted.get(index) {
         Some(noted) => *noted,
         None => None,
     }
 }
 
-fn note(noted: &mut [Option<bool>], indexed: &ChainIndex<'_>, place: usize, goes: bool)
+fn note(noted: &mut [Option<bool>], indexed: &ChainIndex<'_>, index: usize, goes: bool)
     requires noted { AreNoted indexed.now noted.old }
-    requires goes { goes ≡ goes_at indexed.now.links indexed.now.walks place }
+    requires goes { goes ≡ goes_at indexed.now.links indexed.now.walks index }
     ensures { AreNoted indexed.now noted.new }
 {
-    if place < noted.len() {
-        noted[place] = Some(goes);
+    if index < noted.len() {
+        noted[index] = Some(goes);
     }
 }
 
-// Whether a signal with that chain and the one at a place can be there together: up from there, link by link, to one of which it
-// is known. It takes no memory, and the stack of one call, however many links there are.
-fn goes_up(indexed: &ChainIndex<'_>, noted: &[Option<bool>], place: usize) -> bool
+// Whether a signal with that chain and the one at an index can be active at once: up from there, link by link, to one for which it
+// is known. It allocates nothing, and uses the stack of one call, however many links there are.
+fn goes_up(indexed: &ChainIndex<'_>, noted: &[Option<bool>], index: usize) -> bool
     requires { AreNoted indexed.now noted.now }
-    ensures { result ≡ goes_at indexed.now.links indexed.now.walks place }
+    ensures { result ≡ goes_at indexed.now.links indexed.now.walks index }
 {
-    let mut current = place;
+    let mut current = index;
     for _passed in 0..indexed.count() {
         if let Some(goes) = noted_at(noted, current) {
             return goes;
@@ -193,13 +193,13 @@ fn goes_up(indexed: &ChainIndex<'_>, noted: &[Option<bool>], place: usize) -> bo
     indexed.goes_slowly(current)
 }
 
-// Notes what was found of the signal at a place, and so of all on its multiplexing chain for which that decided it.
-fn note_up(noted: &mut [Option<bool>], indexed: &ChainIndex<'_>, place: usize, goes: bool)
+// Memoizes what was found for the signal at an index, and so for all on its multiplexing chain for which that decided it.
+fn note_up(noted: &mut [Option<bool>], indexed: &ChainIndex<'_>, index: usize, goes: bool)
     requires noted { AreNoted indexed.now noted.old }
-    requires goes { goes ≡ goes_at indexed.now.links indexed.now.walks place }
+    requires goes { goes ≡ goes_at indexed.now.links indexed.now.walks index }
     ensures { AreNoted indexed.now noted.new }
 {
-    let mut current = place;
+    let mut current = index;
     for _passed in 0..indexed.count() {
         if noted_at(noted, current).is_some() {
             return;
@@ -212,17 +212,18 @@ fn note_up(noted: &mut [Option<bool>], indexed: &ChainIndex<'_>, place: usize, g
     }
 }
 
-/// Whether a signal with that chain and the one at a place can be there together. What is found on the multiplexing chain is noted.
+/// Whether a signal with that chain and the one at an index can be active at once. What is found on the
+/// multiplexing chain is memoized.
 pub(crate) fn can_coexist(
     indexed: &ChainIndex<'_>,
     noted: &mut [Option<bool>],
-    place: usize,
+    index: usize,
 ) -> bool
     requires { AreNoted indexed.now noted.old }
-    ensures goes { result ≡ goes_at indexed.now.links indexed.now.walks place }
+    ensures goes { result ≡ goes_at indexed.now.links indexed.now.walks index }
     ensures noted { AreNoted indexed.now noted.new }
 {
-    let goes = goes_up(indexed, noted, place);
-    note_up(noted, indexed, place, goes);
+    let goes = goes_up(indexed, noted, index);
+    note_up(noted, indexed, index, goes);
     goes
 }

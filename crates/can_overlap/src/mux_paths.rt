@@ -1,9 +1,9 @@
-//! The multiplexing paths of a message's signals, each by its own link and the path of its multiplexor.
+//! The multiplexing paths of a message's signals, each by its own link and the path of its multiplexor (switch).
 ghost use Rattle.std.specs.Prelude.{◌≡◌, List, ◌∷◌, Some, None, IsTrue, IfOk, IfSome, length, slice_get};
 ghost use Rattle.std.specs.Option.{option_map};
 ghost use Rattle.can_mux.specs.Links.{Link as PlainLink};
 ghost use Rattle.can_mux.specs.declared.walk.Walk.TheVariants.{Chain};
-ghost use Rattle.can_overlap.specs.MuxPaths.{IsStep, own_at, chain_if};
+ghost use Rattle.can_overlap.specs.inner.MuxPaths.{IsStep, own_at, chain_if};
 
 use crate::sorted_link::SortedLink;
 use can_mux::{Link, Walk};
@@ -21,7 +21,7 @@ pub(crate) struct MuxPaths<'a> {
 }
 
 impl<'a> Model for MuxPaths<'a> {
-    ghost use Rattle.can_overlap.specs.MuxPaths.{MuxPaths as Plain, AreOwn};
+    ghost use Rattle.can_overlap.specs.inner.MuxPaths.{MuxPaths as Plain, AreOwn};
 
     ghost Value = { Plain };
 
@@ -36,8 +36,8 @@ fn same_ranges(these: &[Range], those: &[Range]) -> bool
     if these.len() != those.len() {
         return false;
     }
-    for (place, this) in these.iter().enumerate() {
-        let that = &those[place];
+    for (index, this) in these.iter().enumerate() {
+        let that = &those[index];
         if this.first != that.first || this.last != that.last {
             return false;
         }
@@ -57,25 +57,25 @@ fn are_same(these: &[Link], those: &[Link]) -> bool
     if these.len() != those.len() {
         return false;
     }
-    for (place, this) in these.iter().enumerate() {
-        if !is_same(this, &those[place]) {
+    for (index, this) in these.iter().enumerate() {
+        if !is_same(this, &those[index]) {
             return false;
         }
     }
     true
 }
 
-// The links of the way at a place, where it is a chain.
-fn chain_at(walks: &[Walk], place: usize) -> Option<&[Link]>
-    ensures { option_map (λ links. links.now) result ≡ chain_if (slice_get walks.now place) }
+// The links of the walk at an index, if it is a chain.
+fn chain_at(walks: &[Walk], index: usize) -> Option<&[Link]>
+    ensures { option_map (λ links. links.now) result ≡ chain_if (slice_get walks.now index) }
 {
-    match walks.get(place) {
+    match walks.get(index) {
         Some(Walk::Chain(links)) => Some(links.as_slice()),
         _ => None,
     }
 }
 
-// The first link of a chain that goes on as the way of the link's switch.
+// The first link of a chain that continues as the walk of the link's multiplexor.
 fn first_step<'a>(walks: &[Walk], links: &'a [Link]) -> Option<&'a Link>
     ensures { IfSome result (λ link. (above : List PlainLink) × (links.now ≡ link.now ∷ above)
         × (slice_get walks.now link.now.switch ≡ Some (Chain above))) }
@@ -91,11 +91,11 @@ fn first_step<'a>(walks: &[Walk], links: &'a [Link]) -> Option<&'a Link>
     }
 }
 
-// The first link of the way at a place, where the way goes on as that of the link's switch.
-fn step_at(walks: &[Walk], place: usize) -> Option<&Link>
-    ensures { IfSome result (λ link. IsStep walks.now place link.now) }
+// The first link of the walk at an index, if the walk continues as that of the link's multiplexor.
+fn step_at(walks: &[Walk], index: usize) -> Option<&Link>
+    ensures { IfSome result (λ link. IsStep walks.now index link.now) }
 {
-    match chain_at(walks, place) {
+    match chain_at(walks, index) {
         Some(links) => first_step(walks, links),
         None => None,
     }
@@ -110,25 +110,25 @@ fn tidied<'a>(alloc: Global, link: Option<&'a Link>) -> Result<Option<SortedLink
     }
 }
 
-// What is kept of the way at a place.
+// What is kept of the walk at an index.
 fn own_step<'a>(
     alloc: Global,
     walks: &'a [Walk],
-    place: usize,
+    index: usize,
 ) -> Result<Option<SortedLink<'a>>, Memory>
-    ensures { IfOk result (λ own. IfSome own (λ link. IsStep walks.now place link)) }
+    ensures { IfOk result (λ own. IfSome own (λ link. IsStep walks.now index link)) }
 {
-    tidied(alloc, step_at(walks, place))
+    tidied(alloc, step_at(walks, index))
 }
 
 impl<'a> MuxPaths<'a> {
-    /// These ways.
+    /// The paths of these walks.
     pub(crate) fn of(alloc: Global, walks: &'a [Walk]) -> Result<MuxPaths<'a>, Memory>
         ensures { IfOk result (λ paths. paths.walks ≡ walks.now) }
     {
         let mut own = Vec::with_capacity(alloc, walks.len())?;
-        for place in 0..walks.len() {
-            own.push(own_step(alloc, walks, place)?)?;
+        for index in 0..walks.len() {
+            own.push(own_step(alloc, walks, index)?)?;
         }
         Ok(MuxPaths { walks, own })
     }
@@ -140,26 +140,26 @@ impl<'a> MuxPaths<'a> {
         self.walks.len()
     }
 
-    /// The links of the way at a place, where it is a chain.
-    pub(crate) fn chain_at(&self, place: usize) -> Option<&[Link]>
-        ensures { option_map (λ links. links.now) result ≡ chain_if (slice_get self.now.walks place) }
+    /// The links of the walk at an index, if it is a chain.
+    pub(crate) fn chain_at(&self, index: usize) -> Option<&[Link]>
+        ensures { option_map (λ links. links.now) result ≡ chain_if (slice_get self.now.walks index) }
     {
-        chain_at(self.walks, place)
+        chain_at(self.walks, index)
     }
 
-    /// A place at which no link is kept.
+    /// An index at which no link is kept.
     pub(crate) fn nowhere(&self) -> usize
         ensures { own_at self.now.own result ≡ None }
     {
         self.own.len()
     }
 
-    /// The link that is kept at a place.
-    pub(crate) fn own_at(&self, place: usize) -> Option<&SortedLink<'a>>
-        ensures value { option_map (λ sorted_link. sorted_link.now) result ≡ own_at self.now.own place }
-        ensures step { IfSome result (λ sorted_link. IsStep self.now.walks place sorted_link.now) }
+    /// The link that is kept at an index.
+    pub(crate) fn own_at(&self, index: usize) -> Option<&SortedLink<'a>>
+        ensures value { option_map (λ sorted_link. sorted_link.now) result ≡ own_at self.now.own index }
+        ensures step { IfSome result (λ sorted_link. IsStep self.now.walks index sorted_link.now) }
     {
-        match self.own.get(place) {
+        match self.own.get(index) {
             Some(Some(sorted_link)) => Some(sorted_link),
             _ => None,
         }

@@ -1,12 +1,12 @@
 //! Which signals of a message overlap, one signal after another.
 ghost use Rattle.std.specs.Prelude.{◌≡◌, ◌++◌, ◌≤◌, ◌<◌, length, IfOk, OnOk};
 ghost use Rattle.can_overlap.specs.Overlaps.{pairs_from};
-ghost use Rattle.can_overlap.specs.Occupancy.{IsClear};
+ghost use Rattle.can_overlap.specs.inner.Occupancy.{IsClear};
 
+use crate::indexes::IndexSet;
 use crate::mux_paths::MuxPaths;
 use crate::pair::Pair;
 use crate::pairing::push_pairs;
-use crate::places::Places;
 use crate::table::{clear_all, empty, grow, mark_all};
 use can_bits::Field;
 use can_mux::Walk;
@@ -18,22 +18,22 @@ use std::marker::Model;
 /// greatest that a message had.
 #[derive(Drop)]
 pub struct Occupancy {
-    rows: Vec<Places>,
+    rows: Vec<IndexSet>,
     ghost clear: { IsClear rows.items },
 }
 
 impl Occupancy {
-    /// An empty table. It takes no memory.
+    /// An empty table. It allocates nothing.
     pub fn new(alloc: Global) -> Occupancy {
         Occupancy { rows: empty(alloc) }
     }
 
-    /// What it takes memory from.
+    /// The allocator that it uses.
     pub fn allocator(&self) -> Global {
         *self.rows.allocator()
     }
 
-    /// The signals of a message, marked in the table. They lie in these fields and have these multiplexing chains.
+    /// The signals of a message, marked in the table. They are in these fields and have these multiplexing chains.
     pub fn marked<'a>(self, fields: &'a [Field], walks: &'a [Walk]) -> Result<Marked<'a>, Memory>
         requires lengths { length walks.now ≡ length fields.now }
         requires few { length fields.now ≤ 999 }
@@ -54,13 +54,13 @@ impl Occupancy {
 /// The signals of a message, each marked in a table at the positions of its bits.
 #[derive(Drop)]
 pub struct Marked<'a> {
-    rows: Vec<Places>,
+    rows: Vec<IndexSet>,
     fields: &'a [Field],
     paths: MuxPaths<'a>,
 }
 
 impl<'a> Model for Marked<'a> {
-    ghost use Rattle.can_overlap.specs.Occupancy.{Marked as Plain, AreMarked};
+    ghost use Rattle.can_overlap.specs.inner.Occupancy.{Marked as Plain, AreMarked};
 
     ghost Value = { Plain };
 
@@ -70,8 +70,8 @@ impl<'a> Model for Marked<'a> {
 }
 
 impl<'a> Marked<'a> {
-    /// Adds the signal at a place with each later one that has a bit in common with it, in the message or after its end, and can
-    /// be there together with it.
+    /// Adds the signal at an index with each later one that shares a bit with it, in the message or after its end, and can be
+    /// active at the same time.
     pub fn push_pairs(&self, found: &mut Vec<Pair>, first: usize) -> Result<(), Memory>
         requires { first < length self.now.fields }
         ensures { OnOk result (found.new.items ≡ found.old.items ++ pairs_from self.now.fields self.now.walks first) }

@@ -1,10 +1,10 @@
 //! Two signals that overlap.
 
-/// Two signals of a message that overlap, by their places. The first is the lower one.
+/// Two signals of a message that overlap, by their indexes. The first is the lower one.
 #[derive(Clone, Copy, Debug, PartialEq, Eq)]
 pub struct Pair {
-    /// The place of the one.
+    /// The index of the one.
     pub first: usize,
-    /// The place of the other, which is later.
+    /// The index of the other, which is later.
     pub second: usize,
 }

@@ -1,7 +1,7 @@
 //! Ranges in order, and whether two lists of them have a number in common.
 ghost use Rattle.std.specs.Prelude.{◌≡◌, IfOk, nat_le};
 ghost use Rattle.can_overlap.specs.Overlaps.{ranges_meet};
-ghost use Rattle.can_overlap.specs.Ordered.{holds_some, IsOrdered, AreWhole, StandFor};
+ghost use Rattle.can_overlap.specs.inner.Ordered.{holds_some, IsOrdered, AreWhole, StandFor};
 
 use dbc_records::Range;
 use dbc_values::Memory;
@@ -35,7 +35,7 @@ pub(crate) fn in_order(alloc: Global, ranges: &[Range]) -> Result<Vec<Range>, Me
     Ok(ordered)
 }
 
-/// Whether ordered ranges have a number in common. It goes over each of both once.
+/// Whether ordered ranges have a number in common. It visits each range of both once.
 pub(crate) fn meet(first: &[Range], second: &[Range]) -> bool
     requires first { IsOrdered first.now }
     requires second { IsOrdered second.now }

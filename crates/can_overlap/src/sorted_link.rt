@@ -18,7 +18,7 @@ pub(crate) struct SortedLink<'a> {
 
 impl<'a> Model for SortedLink<'a> {
     ghost use Rattle.can_mux.specs.Links.{Link as Plain};
-    ghost use Rattle.can_overlap.specs.Ordered.{StandFor};
+    ghost use Rattle.can_overlap.specs.inner.Ordered.{StandFor};
 
     ghost Value = { Plain };
 
@@ -36,14 +36,14 @@ impl<'a> SortedLink<'a> {
         Ok(SortedLink { link, ranges })
     }
 
-    /// The link as it was.
+    /// The link itself.
     pub(crate) fn link(&self) -> &Link
         ensures { result.now ≡ self.now }
     {
         self.link
     }
 
-    /// The place of the switch.
+    /// The index of the multiplexor.
     pub(crate) fn switch(&self) -> usize
         ensures { result ≡ self.now.switch }
     {
@@ -51,7 +51,7 @@ impl<'a> SortedLink<'a> {
         link.switch
     }
 
-    /// Whether the links are of different switches, or have a number in common.
+    /// Whether the links are of different multiplexors (switches), or have a raw value in common.
     pub(crate) fn agrees(&self, other: &SortedLink<'_>) -> bool
         ensures { result ≡ agree self.now other.now }
     {

@@ -1,25 +1,25 @@
-//! A row for each position, with the places of the signals that have a bit there.
+//! A row for each bit position, with the indexes of the signals that have a bit there.
 ghost use Rattle.std.specs.Prelude.{◌≡◌, ℕ, ◌<◌, ◌≤◌, ◌||◌, ◌&&◌, ◌==◌, not, length, OnOk, All};
 ghost use Rattle.std.specs.List.{list_any, range_with_len};
 ghost use Rattle.can_bits.specs.Bits.{position_of, has_position};
-ghost use Rattle.can_overlap.specs.Places.{has};
-ghost use Rattle.can_overlap.specs.Occupancy.{is_marked, reach, IsClear, IsOccupancy};
+ghost use Rattle.can_overlap.specs.inner.IndexSet.{has};
+ghost use Rattle.can_overlap.specs.inner.Occupancy.{is_marked, reach, IsClear, IsOccupancy};
 
-use crate::places::Places;
+use crate::indexes::IndexSet;
 use can_bits::Field;
 use dbc_values::Memory;
 use std::alloc::Global;
 
 /// No rows.
-pub(crate) fn empty(alloc: Global) -> Vec<Places>
+pub(crate) fn empty(alloc: Global) -> Vec<IndexSet>
     ensures { IsClear result.items }
 {
     Vec::new(alloc)
 }
 
-// More than each position of a field. The positions of each byte are counted from either end, so that the greatest may be up to
-// 14 further on than start and length tell.
-#[tactic(auto, unfolding(crate::specs::Occupancy::reach))]
+// More than each position of a field. The positions of each byte are counted from either end, so the greatest may be up to 14
+// beyond what start and length imply.
+#[tactic(auto, unfolding(crate::specs::inner::Occupancy::reach))]
 fn reach_of(field: Field) -> usize
     ensures { result ≡ reach field }
 {
@@ -37,69 +37,69 @@ fn furthest(fields: &[Field]) -> usize
 }
 
 /// Adds empty rows, until there is one for each position of the fields.
-pub(crate) fn grow(rows: &mut Vec<Places>, fields: &[Field]) -> Result<(), Memory>
+pub(crate) fn grow(rows: &mut Vec<IndexSet>, fields: &[Field]) -> Result<(), Memory>
     requires { IsClear rows.old.items }
     ensures clear { IsClear rows.new.items }
-    ensures room { OnOk result (All (λ field. reach field ≤ length rows.new.items) fields.now) }
+    ensures space { OnOk result (All (λ field. reach field ≤ length rows.new.items) fields.now) }
 {
     let reach = furthest(fields);
     if rows.len() < reach {
-        rows.resize(reach, Places::new())?;
+        rows.resize(reach, IndexSet::new())?;
     }
     Ok(())
 }
 
-// Puts a place into the row of each position of a field.
-fn mark(rows: &mut [Places], field: Field, place: usize)
-    requires room { reach field ≤ length rows.old }
-    requires few { place < 1024 }
+// Adds an index to the row of each position of a field.
+fn mark(rows: &mut [IndexSet], field: Field, index: usize)
+    requires space { reach field ≤ length rows.old }
+    requires few { index < 1024 }
     ensures { (position other : ℕ) → is_marked rows.new position other
-        ≡ (is_marked rows.old position other || (has_position field position && other == place)) }
+        ≡ (is_marked rows.old position other || (has_position field position && other == index)) }
 {
     for bit in 0..field.length {
-        rows[field.position(bit) as usize].insert(place);
+        rows[field.position(bit) as usize].insert(index);
     }
 }
 
-/// Puts the place of each field into the rows of its positions.
-pub(crate) fn mark_all(rows: &mut [Places], fields: &[Field])
+/// Adds the index of each field to the rows of its positions.
+pub(crate) fn mark_all(rows: &mut [IndexSet], fields: &[Field])
     requires clear { IsClear rows.old }
-    requires room { All (λ field. reach field ≤ length rows.old) fields.now }
+    requires space { All (λ field. reach field ≤ length rows.old) fields.now }
     requires few { length fields.now ≤ 999 }
     ensures { IsOccupancy fields.now rows.new }
 {
-    for (place, field) in fields.iter().enumerate() {
-        mark(rows, *field, place);
+    for (index, field) in fields.iter().enumerate() {
+        mark(rows, *field, index);
     }
 }
 
-/// The places that stand in the rows of a field's positions.
-pub(crate) fn met_by(rows: &[Places], field: Field) -> Places
+/// The indexes that are in the rows of a field's positions.
+pub(crate) fn shared_by(rows: &[IndexSet], field: Field) -> IndexSet
     requires { reach field ≤ length rows.now }
-    ensures { (place : ℕ) → has result.words place ≡ list_any (λ bit. is_marked rows.now (position_of field bit) place)
+    ensures { (index : ℕ) → has result.words index ≡ list_any (λ bit. is_marked rows.now (position_of field bit) index)
         (range_with_len 0 field.length) }
 {
-    let mut met = Places::new();
+    let mut shared = IndexSet::new();
     for bit in 0..field.length {
-        met.insert_all(&rows[field.position(bit) as usize]);
+        shared.insert_all(&rows[field.position(bit) as usize]);
     }
-    met
+    shared
 }
 
 // Empties the row of each position of a field.
-fn clear(rows: &mut [Places], field: Field)
+fn clear(rows: &mut [IndexSet], field: Field)
     requires { reach field ≤ length rows.old }
     ensures { (position other : ℕ) → is_marked rows.new position other
         ≡ (is_marked rows.old position other && not (has_position field position)) }
 {
     for bit in 0..field.length {
-        rows[field.position(bit) as usize] = Places::new();
+        rows[field.position(bit) as usize] = IndexSet::new();
     }
 }
 
 /// Empties the rows that these fields have marked.
-pub(crate) fn clear_all(rows: &mut [Places], fields: &[Field])
-    requires room { All (λ field. reach field ≤ length rows.old) fields.now }
+pub(crate) fn clear_all(rows: &mut [IndexSet], fields: &[Field])
+    requires space { All (λ field. reach field ≤ length rows.old) fields.now }
     requires marked { IsOccupancy fields.now rows.old }
     ensures { IsClear rows.new }
 {

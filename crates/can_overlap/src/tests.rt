@@ -3,19 +3,19 @@ ghost use Rattle.std.specs.Prelude.{◌≡◌, ◌≤◌, length};
 
 use crate::agreeing::together;
 use crate::apart::are_disjoint_in_sequence;
+use crate::indexes::IndexSet;
 use crate::occupancy::Occupancy;
 use crate::pair::Pair;
-use crate::places::Places;
 use crate::ranges::{in_order, meet};
 use crate::table::{empty, grow, mark_all};
 use can_bits::Field;
 use can_mux::{Link, Walk};
-use dbc_records::{Numbers, Range};
+use dbc_records::{ByteOrder, Numbers, Range};
 use dbc_values::{List, Memory};
 use std::alloc::Global;
 use std::test::Fail;
 
-// The multiplexing chain from a signal that is there with the numbers from `first` to `last` of the signal at place 0.
+// The multiplexing chain from a signal that is present for the raw values from `first` to `last` of the signal at index 0.
 fn switched(alloc: Global, first: u64, last: u64) -> Result<Walk, Memory> {
     let mut ranges = List::new(alloc);
     ranges.push(Range { first, last })?;
@@ -32,7 +32,7 @@ const fn intel(start: u16, length: u16) -> Field {
     Field {
         start,
         length,
-        intel: true,
+        order: ByteOrder::Intel,
     }
 }
 
@@ -41,15 +41,15 @@ const fn pair(first: usize, second: usize) -> Pair {
 }
 
 // The table of two fields.
-fn rows_of(alloc: Global, fields: &[Field; 2]) -> Result<Vec<Places>, Memory> {
+fn rows_of(alloc: Global, fields: &[Field; 2]) -> Result<Vec<IndexSet>, Memory> {
     let mut rows = empty(alloc);
     grow(&mut rows, fields)?;
     mark_all(&mut rows, fields);
     Ok(rows)
 }
 
-// Whether the row of a position has both of the places 0 and 1.
-fn has_both(rows: &[Places], position: usize) -> bool {
+// Whether the row of a position has both of the indexes 0 and 1.
+fn has_both(rows: &[IndexSet], position: usize) -> bool {
     match rows.get(position) {
         Some(row) => row.next_from(0) == 0 && row.next_from(1) == 1,
         None => false,
@@ -102,7 +102,7 @@ fn on_one_switch(rt: HostRuntime) -> Result<(), Fail> {
 }
 
 #[test]
-fn ways_up(rt: HostRuntime) -> Result<(), Fail> {
+fn multiplexing_chains(rt: HostRuntime) -> Result<(), Fail> {
     let zero = switched(rt.alloc(), 0, 0)?;
     let one = switched(rt.alloc(), 1, 1)?;
     assert!(rt; !together(&zero, &one));
@@ -111,8 +111,8 @@ fn ways_up(rt: HostRuntime) -> Result<(), Fail> {
     Ok(())
 }
 
-// The link below a switch of a chain. That below the one at place 2 has the numbers from 7 to `last`, between ranges that have
-// none.
+// The link below a multiplexor (switch) of a chain. The link below the one at index 2 has the raw values from 7 to `last`, between
+// ranges that have none.
 fn link_below(alloc: Global, switch: usize, last: u64) -> Result<Link, Memory> {
     let mut ranges = List::new(alloc);
     ranges.push(Range { first: 9, last: 0 })?;
@@ -121,10 +121,10 @@ fn link_below(alloc: Global, switch: usize, last: u64) -> Result<Link, Memory> {
     Ok(Link::new(switch, Numbers::of(alloc, ranges)?))
 }
 
-// The multiplexing chain from the signal at a place, where each is under the one before.
-fn way_of(alloc: Global, place: usize, last: u64) -> Result<Walk, Memory> {
+// The multiplexing chain from the signal at an index, where each is under the one before.
+fn way_of(alloc: Global, index: usize, last: u64) -> Result<Walk, Memory> {
     let mut links = List::new(alloc);
-    for switch in (0..place).rev() {
+    for switch in (0..index).rev() {
         links.push(link_below(alloc, switch, last)?)?;
     }
     Ok(Walk::Chain(links))
@@ -179,13 +179,13 @@ fn ranges_in_any_order(rt: HostRuntime) -> Result<(), Fail> {
     Ok(())
 }
 
-// Four signals of 16 bits, one after the other in either order of bytes, and one that shares a bit with the first.
+// Four signals of 16 bits, one after the other in either byte order, and one that shares a bit with the first.
 #[test]
 fn signals_after_each_other(rt: HostRuntime) -> Result<(), Fail> {
     let motorola = |start| Field {
         start,
         length: 16,
-        intel: false,
+        order: ByteOrder::Motorola,
     };
     assert_eq!(rt;
         are_disjoint_in_sequence(&[intel(48, 16), intel(0, 16), intel(16, 16), intel(32, 16)]),

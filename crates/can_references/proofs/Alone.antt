@@ -1,4 +1,4 @@
--- What is found of rows whose keys no row before them has.
+-- What is found of entries whose keys no earlier entry has.
 use Rattle.std.proofs.Common.{◌≡◌, Bool, false, ◌||◌, eqb, List, [], ◌∷◌, ◌++◌, map, refl, sym, ap, ◌∙◌, append_assoc, arith}
 use Rattle.std.proofs.Common.{append-nil}
 use Rattle.std.proofs.lemmas.Grind.{common_steps}
@@ -8,17 +8,17 @@ use Rattle.dbc_records.specs.Databases.{Database}
 use Rattle.dbc_records.specs.EntryKeys.{same_key}
 use Rattle.can_diagnostics.specs.declared.diagnostic.Diagnostic.{Diagnostic}
 use Rattle.dbc_records.specs.declared.entry_key.EntryKey.{EntryKey}
-use Rattle.can_keys.specs.Hashes.{entry_hash}
-use Rattle.can_keys.proofs.HashedKeys.{same_rows}
-use Rattle.can_references.specs.Finding.{each_after, stands_in}
+use Rattle.can_references.specs.Hashes.{entry_hash}
+use Rattle.can_references.proofs.HashedKeys.{same_rows}
+use Rattle.can_references.specs.Finding.{each_after, occurs_in}
 use Rattle.can_references.specs.RowFaults.{faults_of_row, row_fault}
 use Rattle.can_references.proofs.Rows.{each_after-append}
 
--- none of the keys stands in front
+-- none of the keys is in the prefix
 abbrev pub AreApart : List EntryKey → List EntryKey → Type 0
-AreApart front keys = AllByRecursion (λ key. stands_in same_key key front ≡ false) keys
+AreApart front keys = AllByRecursion (λ key. occurs_in same_key key front ≡ false) keys
 
--- keys that stand in no front need no look there
+-- keys that are in no prefix need no lookup there
 after_apart : (d : Database) (front before keys : List EntryKey) → AreApart front keys
     → each_after (row_fault d) (front ++ before) keys ≡ each_after (row_fault d) before keys
 unfolding row_fault
@@ -38,7 +38,7 @@ parts_apart d xs ys apart =
     ∙ ap (λ (r : List Diagnostic). each_after (row_fault d) [] xs ++ r)
     (ap (λ (l : List EntryKey). each_after (row_fault d) l ys) (sym (append-nil xs)) ∙ after_apart d xs [] ys apart)
 
--- ---- keys whose numbers differ
+-- ---- keys whose hashes differ
 
 not_same : (x y : EntryKey) → eqb (entry_hash x) (entry_hash y) ≡ false → same_key y x ≡ false
 not_same x y differ = grind (arith, common_steps, same_rows y x)

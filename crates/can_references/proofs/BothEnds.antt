@@ -88,13 +88,13 @@ module _ (order : EntryOrder) where
         → numbers_out_of_range signal entries ≡ []
     none_out [] are ends = refl
     none_out (entry ∷ entries) are ends =
-        let place : length (entry ∷ entries) - 1 ≡ length entries = omega arith in
+        let index : length (entry ∷ entries) - 1 ≡ length entries = omega arith in
         let both = and_parts (has_at signal (Some entry))
         (has_at signal (slice_get (entry ∷ entries) (length (entry ∷ entries) - 1))) ends in
         let first : Has entry = not_out (in_raw_range signal.signed signal.length entry.number) both.0 in
         let last : Has (last_entry entry entries) =
         not_out (in_raw_range signal.signed signal.length (last_entry entry entries).number)
-        (sym (ap (has_at signal) (ap (slice_get (entry ∷ entries)) place ∙ last_at entry entries)) ∙ both.1) in
+        (sym (ap (has_at signal) (ap (slice_get (entry ∷ entries)) index ∙ last_at entry entries)) ∙ both.1) in
         ap (λ (b : Bool). (if not b then entry.number ∷ [] else [])
         ++ numbers_out_of_range signal entries) first
         ∙ none_out_after entry entries are first last

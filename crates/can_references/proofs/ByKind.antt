@@ -57,14 +57,14 @@ AreBelow n keys = AllByRecursion (λ key. kind key < n) keys
 abbrev AreFrom : ℕ → List EntryKey → Type 0
 AreFrom n keys = AllByRecursion (λ key. n ≤ kind key) keys
 
-stands_not : (n : ℕ) (y : EntryKey) (front : List EntryKey) → n ≤ kind y → AreBelow n front → list_any (same_key y) front ≡ false
-stands_not n y [] from below = refl
-stands_not n y (x ∷ xs) from below = ap (λ (b : Bool). b || list_any (same_key y) xs) (not_same n x y below.0 from)
-    ∙ stands_not n y xs from below.1
+occurs_not : (n : ℕ) (y : EntryKey) (front : List EntryKey) → n ≤ kind y → AreBelow n front → list_any (same_key y) front ≡ false
+occurs_not n y [] from below = refl
+occurs_not n y (x ∷ xs) from below = ap (λ (b : Bool). b || list_any (same_key y) xs) (not_same n x y below.0 from)
+    ∙ occurs_not n y xs from below.1
 
 apart : (n : ℕ) (front keys : List EntryKey) → AreBelow n front → AreFrom n keys → AreApart front keys
 apart n front [] below from = tt
-apart n front (key ∷ keys) below from = (stands_not n key front from.0 below, apart n front keys below from.1)
+apart n front (key ∷ keys) below from = (occurs_not n key front from.0 below, apart n front keys below from.1)
 
 -- ---- the keys of one kind
 
@@ -88,7 +88,7 @@ all_of d kinds.Values P is = all_mapped (λ key. P (kind key)) key_of_values (λ
 all_of d kinds.Float P is = all_mapped (λ key. P (kind key)) key_of_float (λ x. is) d.floats
 all_of d kinds.Mux P is = all_mapped (λ key. P (kind key)) key_of_mux (λ x. is) d.muxes
 
--- ---- kinds in rising order
+-- ---- kinds in ascending order
 
 abbrev Rise : ℕ → List EntryKind → Type 0
 Rise n [] = ⊤

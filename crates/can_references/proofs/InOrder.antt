@@ -1,4 +1,4 @@
--- Entries in an order have no number twice.
+-- Entries in an order have no raw value twice.
 use Rattle.std.proofs.Common.{◌≡◌, ◌++◌, ◌||◌, true, false, List, [], ◌∷◌, map, refl, ap, ◌∙◌}
 use Rattle.std.specs.Prelude.{ℤ, if◌then◌else◌}
 use Rattle.std.specs.List.{list_any}
@@ -9,13 +9,13 @@ use Rattle.dbc_records.specs.Records.{Entry}
 use Rattle.dbc_records.specs.declared.order.EntryOrder.{EntryOrder}
 use Rattle.dbc_records.specs.Orders.{precedes, are_in_order_after, are_in_order}
 use Rattle.dbc_records.proofs.InOrder.{precedes-trans, precedes-differs_back}
-use Rattle.can_references.specs.Finding.{stands_in, each_after}
+use Rattle.can_references.specs.Finding.{occurs_in, each_after}
 use Rattle.can_references.specs.Values.{number_repeated, numbers_repeated}
 
 module _ (order : EntryOrder) where
-  -- no number that comes after the last one is among those before
+  -- no raw value that comes after the last one is among those before
   abbrev AreBefore : List ℤ → ℤ → Type 0
-  AreBefore before last = (number : ℤ) → precedes order last number ≡ true → stands_in int_eq number before ≡ false
+  AreBefore before last = (number : ℤ) → precedes order last number ≡ true → occurs_in int_eq number before ≡ false
 
   first_before : (number : ℤ) → AreBefore (number ∷ []) number
   first_before number other after = ap (λ b. b || false) (precedes-differs_back order number other after)

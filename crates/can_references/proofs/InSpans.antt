@@ -8,7 +8,7 @@ use Rattle.can_references.specs.RawRanges.{in_raw_range, number_out_of_range, nu
 use Rattle.can_references.specs.declared.spans.Span.{Span}
 use Rattle.can_references.specs.declared.spans.Spans.{Spans}
 use Rattle.can_references.specs.declared.spans.Spans.TheVariants as spans
-use Rattle.can_references.specs.Spans.{Holds, IsWithin, AreSpans, span_of, has_all}
+use Rattle.can_references.specs.inner.Spans.{Holds, IsWithin, AreSpans, span_of, has_all}
 
 not_above : (a b bound : ℕ) → nat_lt b a ≡ false → nat_lt b bound ≡ true → nat_lt a bound ≡ true
 not_above a b bound reaches below = grind (arith, reaches, below)
@@ -43,7 +43,7 @@ none_out signal span (entry ∷ entries) has within =
     ∙ none_out signal span entries has (All-tail (IsWithin span) entry entries within)
 
 all_within : (halves : Spans) (entries : List Entry) → AreSpans halves entries → All (IsWithin (span_of halves)) entries
-all_within (spans.Few span) entries are = are
+all_within (spans.Small span) entries are = are
 all_within (spans.Halves' span p first q second) entries are = are.0
 
 pub none_outside : (signal : Signal) (halves : Spans) (entries : List Entry) → AreSpans halves entries

@@ -8,17 +8,17 @@ use Rattle.std.proofs.lemmas.List.Elements.{filter_more}
 use Rattle.std.proofs.lemmas.List.Folds.{find-append}
 use Rattle.std.proofs.lemmas.Slice.Eq.{bytes_eq-Decides}
 use Rattle.dbc_records.specs.Databases.{Database}
-use Rattle.can_rows.specs.Rows.{rows_of, first_values}
-use Rattle.can_rows.specs.Indexes.{key_order}
-use Rattle.can_rows.proofs.FirstRows.{first_of_number}
-use Rattle.can_rows.proofs.IndexedRows.{key_equal}
+use Rattle.can_entries.specs.Rows.{rows_of, first_values}
+use Rattle.can_entries.specs.Indexes.{key_order}
+use Rattle.can_entries.proofs.FirstRows.{first_of_number}
+use Rattle.can_entries.proofs.IndexedRows.{key_equal}
 use Rattle.std.specs.BTreeMap.{BTreeMap}
 use Rattle.std.specs.Prelude.{IfSome, IsTrue, if◌then◌else◌}
 use denote.Ref.{Bor}
 use Rattle.std.proofs.lemmas.Bool.{cases_Bool, and_parts, and_from, eqb-true}
 use Rattle.dbc_records.specs.Records.{ValueRow}
 use Rattle.can_references.specs.Values.{has_many}
-use Rattle.can_references.specs.ManyRows.{is_of, is_kept, kept_at, AreKept}
+use Rattle.can_references.specs.inner.ManyRows.{is_of, is_kept, kept_at, AreKept}
 
 -- ---- what is found in lists
 
@@ -75,13 +75,13 @@ module _ {X : Type 0} (test : X → Bool) where
               ]
         ]
 
--- ---- rows of a key
+-- ---- entries of a key
 
 number_is : (number : ℕ) (name : List ℕ) (row : ValueRow) → is_of number name row ≡ true → row.number ≡ number
 number_is number name row is =
     eqb-true row.number number (and_parts (row.number == number) (bytes_eq row.signal name) is).0
 
--- if the first row of a key has many, it is the one that is kept of the key
+-- if the first entry of a key has many, it is the one that is cached for the key
 pub kept_is_first : (test : ℕ → Bool) (rows : List ValueRow) (number : ℕ) (name : List ℕ) (row kept : ValueRow)
     → find (is_of number name) (filter (is_kept test) rows) ≡ Some kept → find (is_of number name) rows ≡ Some row
     → has_many row ≡ true → kept ≡ row
@@ -131,7 +131,7 @@ kept_one test rows i row passes within is keeps =
     ∙ ap (λ (r : ValueRow). before ++ cond (is_kept test r) (r ∷ []) []) (sym is)
     ∙ ap (λ (b : Bool). before ++ cond b (row ∷ []) []) keeps
 
--- a row that is kept is the last of those so far
+-- an entry that is cached is the last of those so far
 pub kept_more : (test : ℕ → Bool) (rows : List ValueRow) (i : ℕ) (row : ValueRow) (old now : BTreeMap (ℕ × Bor (List ℕ)) ValueRow)
     → i < length rows → row ≡ get_or rows i row → AreKept test old (take i rows) → is_kept test row ≡ true
     → ((number : ℕ) (name : List ℕ) → kept_at number name now ≡ option_or (kept_at number name old)
@@ -151,7 +151,7 @@ kept_same test rows i row by_key within is are drops number name =
     ∙ ap (find (is_of number name)) (sym (kept_one test rows i row false within is drops
     ∙ append-nil (filter (is_kept test) (take i rows))))
 
--- ---- a row after its key
+-- ---- an entry with its key
 
 abbrev pub key_is : ℕ → List ℕ → ℕ × Bor (List ℕ) → Bool
 key_is number name key = is_eq (key_order (key.0, key.1.now) (number, name))

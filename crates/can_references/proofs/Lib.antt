@@ -1,3 +1,8 @@
+pub mod HashedKeys
+pub mod SameKeys
+pub mod Ranks
+pub mod Runs
+pub mod NameHashes
 pub mod Rows
 pub mod Pushing
 pub mod Alone

@@ -12,7 +12,7 @@ each_after-append f before (x ∷ xs) ys =
     ∙ ap (λ b. each_after f (before ++ x ∷ []) xs ++ each_after f b ys) (append_assoc before (x ∷ []) xs))
     ∙ sym (append_assoc (f before x) (each_after f (before ++ x ∷ []) xs) (each_after f (before ++ (x ∷ xs)) ys))
 
--- the later part stands first, so that the tactics find what lies between
+-- the later part is first, so that the tactics find what is between
 pub after_then : {X Y : Type 0} (f : List X → X → List Y) (found mid now : List Y) (before seen xs ys : List X)
     → now ≡ mid ++ each_after f seen ys → mid ≡ found ++ each_after f before xs → seen ≡ before ++ xs
     → now ≡ found ++ each_after f before (xs ++ ys)

@@ -1,14 +1,14 @@
--- What the whole of a database says of a number, a name or a node: lists of keys in the order of the database.
+-- What the whole of a database has on a CAN identifier, a name or a node: lists of keys in the order of the database.
 use Rattle.std.specs.Prelude.{◌≡◌, ◌||◌, ℕ, Bool, List, [], ◌∷◌, Option, Some, None, map, codes}
 use Rattle.std.specs.List.{flat_map}
 use Rattle.std.specs.List.Sorted.{IsPermutation}
 use Rattle.std.specs.Str.{bytes_eq}
 use Rattle.dbc_records.specs.Records.{Message, ValueRow}
 use Rattle.dbc_records.specs.Databases.{Database}
-use Rattle.can_rows.specs.Groups.{group_of}
-use Rattle.can_references.specs.Finding.{stands_in}
+use Rattle.can_entries.specs.Groups.{group_of}
+use Rattle.can_references.specs.Finding.{occurs_in}
 
--- the numbers and the names of the messages
+-- the CAN identifiers and the names of the messages
 abbrev pub numbers_of : Database → List ℕ
 numbers_of database = map (λ message. message.head.number) database.messages
 
@@ -19,11 +19,11 @@ abbrev pub perhaps : Option ℕ → List ℕ
 perhaps None = []
 perhaps (Some group) = group ∷ []
 
--- the parameter groups of the group messages
+-- the parameter groups of the J1939 messages
 abbrev pub groups_of : Database → List ℕ
 groups_of database = flat_map (λ message. perhaps (group_of message.head.number database)) database.messages
 
--- the signals, each by the number of its message and its name
+-- the signals, each by the CAN identifier of its message and its name
 abbrev pub signals_in : Message → List (ℕ × List ℕ)
 signals_in message = map (λ signal. (message.head.number, signal.name)) message.signals
 
@@ -36,17 +36,17 @@ defined_in database = map (λ definition. definition.name) database.definitions
 
 -- ---- nodes
 
--- the name that stands for no node
+-- the name that represents no node
 abbrev pub no_node : List ℕ
 no_node = codes "Vector__XXX"
 
 -- a node of the list of nodes, or none
 abbrev pub is_known_node : Database → List ℕ → Bool
-is_known_node database name = stands_in bytes_eq name database.nodes || bytes_eq name no_node
+is_known_node database name = occurs_in bytes_eq name database.nodes || bytes_eq name no_node
 
 -- ---- what is found by keys
 
--- these are all keys of a database, each kind in any order, and all entries of value descriptions
+-- these are all keys of a database, each kind in any order, and all `VAL_` entries
 pub record AreCrossReferences (database : Database) (numbers : List ℕ) (names : List (List ℕ)) (groups : List ℕ)
     (signals : List (ℕ × List ℕ)) (nodes defined : List (List ℕ)) (many : List ValueRow) : Type 0 where
   pub all_numbers : IsPermutation (numbers_of database) numbers

@@ -3,17 +3,17 @@ use Rattle.std.specs.Prelude.{Bool, List, [], ◌∷◌, ◌++◌, nat_le, count
 use Rattle.std.specs.List.{list_any}
 use Rattle.can_diagnostics.specs.declared.diagnostic.Diagnostic.{Diagnostic}
 
--- the diagnostic where the test holds
+-- the diagnostic if the test holds
 abbrev pub where_true : Bool → Diagnostic → List Diagnostic
 where_true test found = if test then found ∷ [] else []
 
--- whether the key stands at least twice among keys: it, and that of another
+-- whether the key occurs at least twice among keys: as itself, and as that of another
 abbrev pub is_shared : {X : Type 0} → (X → X → Bool) → X → List X → Bool
 is_shared same key keys = nat_le 2 (count_by (same key) keys)
 
--- whether the key stands among keys
-abbrev pub stands_in : {X : Type 0} → (X → X → Bool) → X → List X → Bool
-stands_in same key keys = list_any (same key) keys
+-- whether the key is among keys
+abbrev pub occurs_in : {X : Type 0} → (X → X → Bool) → X → List X → Bool
+occurs_in same key keys = list_any (same key) keys
 
 -- what is found of each item, given the items before it
 abbrev pub each_after : {X Y : Type 0} → (List X → X → List Y) → List X → List X → List Y

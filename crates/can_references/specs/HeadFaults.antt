@@ -1,12 +1,12 @@
--- The diagnostics of a message by its number, its name and its nodes, given the whole database.
--- Source: the DBC file format, "Message Definitions", "Node Definitions"; SAE J1939-21, "Parameter Group Numbers". Which of it is
--- told is the profile of candesk.
+-- The diagnostics of a message by its CAN identifier, its name and its nodes, given the whole database. Source: the DBC
+-- file format, "Message Definitions", "Node Definitions"; SAE J1939-21, "Parameter Group Numbers". What is reported is
+-- the profile of candesk.
 use Rattle.std.specs.Prelude.{◌==◌, ◌&&◌, ℕ, Bool, not, List, [], ◌++◌, Option, Some, None}
 use Rattle.std.specs.List.{flat_map}
 use Rattle.std.specs.Str.{bytes_eq}
 use Rattle.dbc_records.specs.Records.{Head, Signal, Message}
 use Rattle.dbc_records.specs.Databases.{Database}
-use Rattle.can_rows.specs.Groups.{is_bad_number, pseudo_number, group_of}
+use Rattle.can_entries.specs.Groups.{is_bad_number, pseudo_number, group_of}
 use Rattle.can_diagnostics.specs.Diagnostics.{of_message, of_sender, of_receiver}
 use Rattle.can_diagnostics.specs.declared.code.Code.TheVariants as codes
 use Rattle.can_diagnostics.specs.declared.diagnostic.Diagnostic.{Diagnostic}
@@ -19,11 +19,11 @@ is_pseudo head = head.number == pseudo_number
 
 -- ---- the message
 
--- its number is no identifier
+-- its CAN identifier is invalid
 unfoldable pub bad_identifier : Message → List Diagnostic
 bad_identifier m = where_true (is_bad_number m.head.number && not (is_pseudo m.head)) (of_message codes.BadIdentifier m.head)
 
--- another message has its number
+-- another message has its CAN identifier
 unfoldable pub shared_identifier : Database → Message → List Diagnostic
 shared_identifier database m = where_true (is_shared (λ a b. a == b) m.head.number (numbers_of database))
     (of_message codes.SharedIdentifier m.head)
@@ -37,7 +37,7 @@ in_shared_group database head None = []
 in_shared_group database head (Some group) = where_true (is_shared (λ a b. a == b) group (groups_of database))
     (of_message codes.SharedGroup head)
 
--- it and another are group messages of one group
+-- it and another are J1939 messages of one parameter group
 unfoldable pub shared_group : Database → Message → List Diagnostic
 shared_group database m = in_shared_group database m.head (group_of m.head.number database)
 

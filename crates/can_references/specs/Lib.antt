@@ -1,8 +1,10 @@
+pub use Rattle.dbc_records.specs.EntryKeys
+pub mod SignalNames
+pub mod Hashes
 pub mod Finding
 pub mod CrossReferences
 pub mod HeadFaults
 pub mod RowFaults
 pub mod RawRanges
-pub mod Spans
 pub mod Values
-pub mod ManyRows
+pub mod inner

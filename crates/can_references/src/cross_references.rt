@@ -1,12 +1,12 @@
-//! What the whole of a database says of numbers, names and nodes, found by keys.
+//! What the whole of a database has on CAN identifiers, names and nodes, found by keys.
 ghost use Rattle.std.specs.Prelude.{◌≡◌, ◌==◌, ◌++◌, false, [], IfOk, IfSome, OnOk, Some, map};
 ghost use Rattle.std.specs.List.{flat_map};
 ghost use Rattle.std.specs.List.Sorted.{IsPermutation};
 ghost use Rattle.std.specs.Str.{bytes_eq};
-ghost use Rattle.can_keys.specs.SignalNames.{same_signal, named_signal};
-ghost use Rattle.can_rows.specs.Rows.{rows_of, first_values, entries_of};
-ghost use Rattle.can_rows.specs.Groups.{group_of};
-ghost use Rattle.can_references.specs.Finding.{is_shared, stands_in};
+ghost use Rattle.can_references.specs.SignalNames.{same_signal, named_signal};
+ghost use Rattle.can_entries.specs.Rows.{rows_of, first_values, entries_of};
+ghost use Rattle.can_entries.specs.Groups.{group_of};
+ghost use Rattle.can_references.specs.Finding.{is_shared, occurs_in};
 ghost use Rattle.can_references.specs.CrossReferences.{numbers_of, names_of, groups_of, signals_in, signals_of, defined_in};
 ghost use Rattle.can_references.specs.CrossReferences.{perhaps};
 ghost use Rattle.can_references.specs.CrossReferences.{is_known_node};
@@ -15,15 +15,17 @@ ghost use Rattle.can_references.specs.Values.{numbers_repeated, may_repeat};
 
 use crate::many_rows::{LINEAR_SEARCH_LIMIT, ManyRows};
 use crate::many_values::ManyValues;
+use crate::names::Names;
+use crate::numbers::Numbers;
+use crate::signal_names::SignalNames;
 use crate::values::{may_repeat, push_out_of_range, push_repeated};
-use can_keys::{Names, Numbers, SignalNames};
-use can_rows::{Lookup, group_in};
+use can_entries::{Lookup, group_in};
 use dbc_records::{AttrDef, Database, Message, Signal};
 use dbc_values::{Memory, Name, same};
 use std::alloc::Global;
 use std::marker::Model;
 
-// The name that stands for no node.
+// The name that represents no node.
 const NO_NODE: &[u8] = b"Vector__XXX";
 
 /// The identifiers, names, parameter groups and signals of the messages of a database, its nodes and its attribute definitions, and
@@ -72,7 +74,7 @@ fn names_of<'a>(alloc: Global, messages: &'a [Message]) -> Result<Names<'a>, Mem
     Names::of(alloc, names.as_slice())
 }
 
-// The groups of messages of a database whose rows are found by `lookup`.
+// The parameter groups of messages of a database whose entries are found by `lookup`.
 fn groups_of<L: Lookup>(alloc: Global, lookup: &L, messages: &[Message]) -> Result<Numbers, Memory>
     ensures { IfOk result (IsPermutation (flat_map (λ message. perhaps (group_of message.head.number (L.whole lookup.now)))
         messages.now)) }
@@ -86,7 +88,7 @@ fn groups_of<L: Lookup>(alloc: Global, lookup: &L, messages: &[Message]) -> Resu
     Ok(Numbers::of(numbers))
 }
 
-// Adds the signals of a message of a number.
+// Adds the signals of a message of a CAN identifier.
 fn add_signals<'a>(
     names: &mut Vec<(u32, &'a [u8])>,
     number: u32,
@@ -140,7 +142,8 @@ fn defined_in<'a>(alloc: Global, definitions: &'a [AttrDef]) -> Result<Names<'a>
 }
 
 impl<'a, L: Lookup> CrossReferences<'a, L> {
-    // The same. Of entries of many value descriptions that several messages have, what is found is kept if their number is wanted.
+    // The same. For `VAL_` entries with many value descriptions that several messages have, the findings are cached if their
+    // CAN identifier is wanted.
     fn with(
         alloc: Global,
         lookup: &'a L,
@@ -169,15 +172,15 @@ impl<'a, L: Lookup> CrossReferences<'a, L> {
         })
     }
 
-    /// What a database says whose rows are found by `lookup`.
+    /// The cross-references of a database whose entries are found by `lookup`.
     pub fn of(alloc: Global, lookup: &'a L) -> Result<CrossReferences<'a, L>, Memory>
         ensures { IfOk result (λ known. known ≡ L.whole lookup.now) }
     {
         CrossReferences::with(alloc, lookup, None)
     }
 
-    /// The same, made to look for the diagnostics of messages with these numbers. It answers for others too, but of many named
-    /// values of theirs it takes longer, if several messages have them.
+    /// The same, made to find the diagnostics of messages with these CAN identifiers. It also answers for others, but takes longer
+    /// for their many value descriptions if several messages have them.
     pub fn among(
         alloc: Global,
         lookup: &'a L,
@@ -195,21 +198,21 @@ impl<'a, L: Lookup> CrossReferences<'a, L> {
         self.lookup.database()
     }
 
-    /// What finds the rows of the database.
+    /// What finds the entries of the database.
     pub fn lookup(&self) -> &'a L
         ensures { L.whole result.now ≡ self.now }
     {
         self.lookup
     }
 
-    /// The parameter group that messages of the number stand for, if they stand for one.
+    /// The parameter group of the J1939 messages with the CAN identifier, if they are such.
     pub fn group_of(&self, number: u32) -> Option<u32>
         ensures { result ≡ group_of number self.now }
     {
         group_in(self.lookup, number)
     }
 
-    /// Whether at least two messages have the number.
+    /// Whether at least two messages have the CAN identifier.
     pub fn is_shared_number(&self, number: u32) -> bool
         ensures { result ≡ is_shared (λ a b. a == b) number (numbers_of self.now) }
     {
@@ -223,28 +226,28 @@ impl<'a, L: Lookup> CrossReferences<'a, L> {
         self.names.is_shared(name.as_bytes())
     }
 
-    /// Whether at least two messages are of the group.
+    /// Whether at least two messages are of the parameter group.
     pub fn is_shared_group(&self, group: u32) -> bool
         ensures { result ≡ is_shared (λ a b. a == b) group (groups_of self.now) }
     {
         self.groups.is_shared(group)
     }
 
-    /// Whether a message has the number.
+    /// Whether a message has the CAN identifier.
     pub fn has_number(&self, number: u32) -> bool
-        ensures { result ≡ stands_in (λ a b. a == b) number (numbers_of self.now) }
+        ensures { result ≡ occurs_in (λ a b. a == b) number (numbers_of self.now) }
     {
         self.numbers.has(number)
     }
 
-    /// Whether a message of the number has a signal of the name.
+    /// Whether a message of the CAN identifier has a signal of the name.
     pub fn has_signal(&self, number: u32, name: &'a [u8]) -> bool
-        ensures { result ≡ stands_in same_signal (number, name.now) (signals_of self.now) }
+        ensures { result ≡ occurs_in same_signal (number, name.now) (signals_of self.now) }
     {
         self.signals.has((number, name))
     }
 
-    /// Whether the name is that of a node, or stands for none.
+    /// Whether the name is that of a node, or represents no node.
     pub fn is_known_node(&self, name: &'a [u8]) -> bool
         ensures { result ≡ is_known_node self.now name.now }
     {
@@ -253,12 +256,12 @@ impl<'a, L: Lookup> CrossReferences<'a, L> {
 
     /// Whether an attribute of the name is defined.
     pub fn is_defined(&self, name: &'a [u8]) -> bool
-        ensures { result ≡ stands_in bytes_eq name.now (defined_in self.now) }
+        ensures { result ≡ occurs_in bytes_eq name.now (defined_in self.now) }
     {
         self.defined.has(name)
     }
 
-    // What is kept of the entry of a signal's value descriptions.
+    // What is cached for the `VAL_` entry of a signal.
     #[inline(always)]
     fn many_values(&self, number: u32, signal: &'a Signal) -> Option<&ManyValues<'a>>
         ensures { IfSome result (λ many. first_values signal.now.name (rows_of number self.now) ≡ Some many.now) }
@@ -273,8 +276,8 @@ impl<'a, L: Lookup> CrossReferences<'a, L> {
         self.many.kept(number, signal.name.as_bytes())
     }
 
-    /// Adds the numbers of a signal's value descriptions that it never has, in the order of the text. Returns whether one of the
-    /// numbers may be repeated.
+    /// Adds the raw values of a signal's value descriptions that it never has, in the order of the text. Returns whether one of the
+    /// raw values may be repeated.
     #[inline(always)]
     pub fn push_out_of_range(
         &self,
@@ -302,7 +305,7 @@ impl<'a, L: Lookup> CrossReferences<'a, L> {
         }
     }
 
-    /// Adds the numbers of the value descriptions of a signal that stood earlier among them, in the order of the text.
+    /// Adds the raw values of a signal's value descriptions that occur earlier among them, in the order of the text.
     #[inline(always)]
     pub fn push_repeated(
         &self,

@@ -1,26 +1,26 @@
-//! The entries of many value descriptions that several messages have, found by their keys.
+//! The `VAL_` entries with many value descriptions that several messages have, found by their keys.
 ghost use Rattle.std.specs.Prelude.{◌≡◌, ℕ, List, IsTrue, IfOk, IfSome, OnOk, Some, None, if◌then◌else◌};
 ghost use Rattle.std.specs.List.{find};
 ghost use Rattle.std.specs.Option.{option_map, option_or};
 ghost use Rattle.dbc_records.specs.Records.{ValueRow as Row};
 ghost use Rattle.can_references.specs.Values.{has_many};
-ghost use Rattle.can_references.specs.ManyRows.{is_of, is_wanted, is_kept_number, is_kept, kept_at, AreKept};
+ghost use Rattle.can_references.specs.inner.ManyRows.{is_of, is_wanted, is_kept_number, is_kept, kept_at, AreKept};
 
 use crate::many_values::ManyValues;
-use can_keys::Numbers;
+use crate::numbers::Numbers;
 use dbc_records::ValueRow;
 use dbc_values::Memory;
 use std::alloc::Global;
 use std::collections::BTreeMap;
 use std::marker::Model;
 
-/// Up to this many value descriptions of a row are gone through for each message.
+/// Up to this many value descriptions of a `VAL_` entry are visited for each message.
 pub(crate) const LINEAR_SEARCH_LIMIT: usize = 64;
 
-// A message number, and the name of a signal.
+// A message ID, and the name of a signal.
 type Key<'a> = (u32, &'a [u8]);
 
-// Whether a number is among those that are wanted, if not all are.
+// Whether a CAN identifier is among the wanted ones, if not all are wanted.
 fn is_wanted(wanted: Option<&[u32]>, number: u32) -> bool
     ensures { result ≡ is_wanted (option_map (λ numbers. numbers.now) wanted.entry) number }
 {
@@ -30,7 +30,8 @@ fn is_wanted(wanted: Option<&[u32]>, number: u32) -> bool
     }
 }
 
-// Whether what is found of a row is kept: it has many value descriptions, several messages have its number, and that is wanted.
+// Whether the findings for a `VAL_` entry are cached: it has many value descriptions, several messages have its CAN identifier,
+// and that is wanted.
 fn is_kept(numbers: &Numbers, wanted: Option<&[u32]>, row: &ValueRow) -> bool
     ensures { result ≡ is_kept (is_kept_number numbers.now (option_map (λ numbers. numbers.now) wanted.entry)) row.now }
 {
@@ -39,7 +40,7 @@ fn is_kept(numbers: &Numbers, wanted: Option<&[u32]>, row: &ValueRow) -> bool
         && is_wanted(wanted, row.number)
 }
 
-// Keeps what is found of a row, if nothing is kept for its key.
+// Caches the findings for an entry, if nothing is cached for its key.
 fn keep_row<'a>(
     alloc: Global,
     by_key: &mut BTreeMap<Key<'a>, ManyValues<'a>>,
@@ -57,7 +58,7 @@ fn keep_row<'a>(
     Ok(())
 }
 
-// What is kept of rows: of those that are to be kept the first of each key.
+// The cached findings for entries: of those to be cached, the first of each key.
 fn kept_rows<'a>(
     alloc: Global,
     numbers: &Numbers,
@@ -76,7 +77,7 @@ fn kept_rows<'a>(
     Ok(by_key)
 }
 
-/// Entries of value descriptions, and what is found of some of those that have many. Contracts see all rows.
+/// `VAL_` entries, and the findings for some of those that have many value descriptions. Contracts see all entries.
 #[derive(Drop)]
 pub(crate) struct ManyRows<'a> {
     rows: &'a [ValueRow],
@@ -86,7 +87,7 @@ pub(crate) struct ManyRows<'a> {
 impl<'a> Model for ManyRows<'a> {
     ghost use Rattle.std.specs.Prelude.{ℕ, Bool, List};
     ghost use Rattle.dbc_records.specs.Records.{ValueRow as Row};
-    ghost use Rattle.can_references.specs.ManyRows.{AreKept};
+    ghost use Rattle.can_references.specs.inner.ManyRows.{AreKept};
 
     ghost Value = { List Row };
 
@@ -96,7 +97,7 @@ impl<'a> Model for ManyRows<'a> {
 }
 
 impl<'a> ManyRows<'a> {
-    /// These rows. What is found of those is kept that have many value descriptions, and whose number stands at least twice among
+    /// These entries. Findings are cached for those with many value descriptions whose CAN identifier occurs at least twice among
     /// these and is wanted.
     pub(crate) fn of(
         alloc: Global,
@@ -110,12 +111,12 @@ impl<'a> ManyRows<'a> {
         Ok(ManyRows { rows, by_key })
     }
 
-    /// Whether nothing is kept.
+    /// Whether nothing is cached.
     pub(crate) fn is_empty(&self) -> bool {
         self.by_key.is_empty()
     }
 
-    /// What is kept for a key. If the key's first row has many value descriptions, it is found of that.
+    /// What is cached for a key. If the key's first entry has many value descriptions, it is found for that one.
     pub(crate) fn kept(&self, number: u32, name: &'a [u8]) -> Option<&ManyValues<'a>>
         ensures { IfSome result (λ values. (row : Row) → find (is_of number name.now) self.now ≡ Some row → IsTrue (has_many row)
             → values.now ≡ row) }

@@ -1,4 +1,4 @@
-//! Entries of many value descriptions, with what is found of them once, however many messages have them.
+//! `VAL_` entries with many value descriptions, whose findings are computed once, however many messages have them.
 ghost use Rattle.std.specs.Prelude.{◌≡◌, false, [], ◌++◌, IfOk, OnOk};
 ghost use Rattle.can_references.specs.RawRanges.{numbers_out_of_range};
 ghost use Rattle.can_references.specs.Values.{numbers_repeated, may_repeat};
@@ -10,7 +10,7 @@ use dbc_values::Memory;
 use std::alloc::Global;
 use std::marker::Model;
 
-// The numbers that stood earlier.
+// The raw values that occurred earlier.
 fn repeated_of(alloc: Global, entries: &Entries) -> Result<Vec<i128>, Memory>
     ensures { IfOk result (λ repeated. repeated.items ≡ numbers_repeated entries.now) }
 {
@@ -19,8 +19,8 @@ fn repeated_of(alloc: Global, entries: &Entries) -> Result<Vec<i128>, Memory>
     Ok(repeated)
 }
 
-/// An entry of many value descriptions: which of them a signal never has is found without going through all, and which repeat a
-/// number is found once. Contracts see the row.
+/// A `VAL_` entry with many value descriptions: the ones that a signal never has are found without visiting all, and those that
+/// repeat a raw value are found once. Contracts see the entry.
 #[derive(Drop)]
 pub(crate) struct ManyValues<'a> {
     row: &'a ValueRow,
@@ -31,7 +31,7 @@ pub(crate) struct ManyValues<'a> {
 impl<'a> Model for ManyValues<'a> {
     ghost use Rattle.std.specs.Prelude.{◌≡◌};
     ghost use Rattle.dbc_records.specs.Records.{ValueRow as Row};
-    ghost use Rattle.can_references.specs.Spans.{AreSpans};
+    ghost use Rattle.can_references.specs.inner.Spans.{AreSpans};
     ghost use Rattle.can_references.specs.Values.{numbers_repeated};
 
     ghost Value = { Row };
@@ -42,7 +42,7 @@ impl<'a> Model for ManyValues<'a> {
 }
 
 impl<'a> ManyValues<'a> {
-    /// The value descriptions of a row.
+    /// The value descriptions of an entry.
     pub(crate) fn of(alloc: Global, row: &'a ValueRow) -> Result<ManyValues<'a>, Memory>
         ensures { IfOk result (λ made. made ≡ row.now) }
     {
@@ -55,7 +55,7 @@ impl<'a> ManyValues<'a> {
         })
     }
 
-    /// Adds the numbers of those that a signal never has.
+    /// Adds the raw values of those that a signal never has.
     pub(crate) fn push_out_of_range(
         &self,
         found: &mut Vec<i128>,
@@ -68,7 +68,7 @@ impl<'a> ManyValues<'a> {
             .push_out_of_range(found, signal, row.entries.as_slice())
     }
 
-    /// Whether one of the numbers may be repeated.
+    /// Whether one of the raw values may be repeated.
     pub(crate) fn may_repeat(&self) -> bool
         ensures flag { result ≡ may_repeat self.now.entries }
         ensures none { result ≡ false → numbers_repeated self.now.entries ≡ [] }
@@ -77,7 +77,7 @@ impl<'a> ManyValues<'a> {
         may_repeat(&row.entries)
     }
 
-    /// Adds the numbers that stood earlier among them.
+    /// Adds the raw values that occurred earlier among them.
     pub(crate) fn push_repeated(&self, found: &mut Vec<i128>) -> Result<(), Memory>
         ensures { OnOk result (found.new.items ≡ found.old.items ++ numbers_repeated self.now.entries) }
     {

@@ -1,15 +1,15 @@
-//! The diagnostics of a message by its number and its name.
+//! The diagnostics of a message by its CAN identifier and its name.
 ghost use Rattle.std.specs.Prelude.{◌≡◌, ◌++◌, OnOk};
 ghost use Rattle.can_references.specs.HeadFaults.{is_pseudo, bad_identifier, shared_identifier, shared_name, in_shared_group};
 ghost use Rattle.can_references.specs.HeadFaults.{shared_group, head_faults};
 
 use crate::cross_references::CrossReferences;
 use can_diagnostics::{Code, Diagnostic};
-use can_rows::{Lookup, is_bad_number};
+use can_entries::{Lookup, is_bad_number};
 use dbc_records::{Head, Message};
 use dbc_values::Memory;
 
-// The number of the message that holds signals of no message.
+// The CAN identifier of the message that holds signals of no message.
 const PSEUDO_NUMBER: u32 = 0xC000_0000;
 
 /// Whether a message holds signals of no message.
@@ -60,7 +60,7 @@ fn push_shared_name<'a, L: Lookup>(
     Ok(())
 }
 
-// Adds the diagnostic of a message of a group that others are of, too.
+// Adds the diagnostic of a message whose parameter group other messages have, too.
 fn push_in_group<L: Lookup>(
     found: &mut Vec<Diagnostic>,
     known: &CrossReferences<'_, L>,
@@ -89,7 +89,7 @@ fn push_shared_group<L: Lookup>(
     push_in_group(found, known, head, known.group_of(head.number))
 }
 
-/// Adds the diagnostics of a message's number and name: codes 1 to 4.
+/// Adds the diagnostics of a message's CAN identifier and name: codes 1 to 4.
 #[tactic(auto, using(crate::proofs::Pushing::pushed_then), unfolding(crate::specs::HeadFaults::head_faults))]
 pub fn push_head_faults<'a, L: Lookup>(
     found: &mut Vec<Diagnostic>,

@@ -5,7 +5,7 @@ ghost use Rattle.can_references.specs.HeadFaults.{unknown_sender, unknown_receiv
 
 use crate::cross_references::CrossReferences;
 use can_diagnostics::{Code, Diagnostic};
-use can_rows::Lookup;
+use can_entries::Lookup;
 use dbc_records::{Head, Message, Signal};
 use dbc_values::{Memory, Name};
 

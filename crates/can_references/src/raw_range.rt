@@ -1,4 +1,4 @@
-//! The raw values of so many bits.
+//! The raw values of this many bits.
 ghost use Rattle.std.specs.Prelude.{◌≡◌, ◌^◌, nat_lt};
 ghost use Rattle.can_references.specs.RawRanges.{in_raw_range, is_out_of_range};
 
@@ -12,7 +12,7 @@ fn is_below_power(number: u128, bits: u16) -> bool
     bits >= 128 || number < 1 << bits
 }
 
-/// Whether a number is a raw value of so many bits.
+/// Whether a number is a raw value of this many bits.
 pub(crate) fn in_raw_range(signed: bool, bits: u16, number: i128) -> bool
     ensures { result ≡ in_raw_range signed bits number }
 {

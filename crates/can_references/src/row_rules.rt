@@ -1,23 +1,25 @@
 //! The diagnostics of entries.
 ghost use Rattle.std.specs.Prelude.{◌≡◌, false, [], ◌∷◌, ◌++◌, IfOk, OnOk, map};
 ghost use Rattle.std.specs.List.{flat_map};
-ghost use Rattle.can_keys.specs.Hashes.{entry_hash};
+ghost use Rattle.can_references.specs.Hashes.{entry_hash};
 ghost use Rattle.dbc_records.specs.EntryKeys.{target_of, entry_key};
 ghost use Rattle.can_diagnostics.specs.Diagnostics.{of_row};
 ghost use Rattle.can_references.specs.Finding.{where_true, each_after};
 ghost use Rattle.can_references.specs.RowFaults.{lacks_signal, lacks_target, is_dangling, lacks_definition, is_undefined};
 ghost use Rattle.can_references.specs.RowFaults.{faults_of_row, row_fault, row_faults};
 
+use crate::apart::all_differ;
 use crate::cross_references::CrossReferences;
+use crate::entry_keys::EntryKeys;
+use crate::hash::entry_hash;
 use can_diagnostics::{Code, Diagnostic};
-use can_keys::{EntryKeys, all_differ, entry_hash};
-use can_rows::Lookup;
+use can_entries::Lookup;
 use dbc_records::{DatabaseEntry, EntryKeyRef, EntryKind, EntryVisitor, TargetRef};
 use dbc_values::Memory;
 use std::alloc::Global;
 use std::marker::Model;
 
-// Whether no message of the number has the signal.
+// Whether no message of the CAN identifier has the signal.
 fn lacks_signal<'a, L: Lookup>(known: &CrossReferences<'a, L>, number: u32, name: &'a [u8]) -> bool
     ensures { result ≡ lacks_signal known.now number name.now }
 {
@@ -35,7 +37,7 @@ fn lacks_target<'a, L: Lookup>(known: &CrossReferences<'a, L>, target: TargetRef
     }
 }
 
-// Whether the entry is about what is not there.
+// Whether the entry is about something that doesn't exist.
 fn is_dangling<'a, L: Lookup>(known: &CrossReferences<'a, L>, key: EntryKeyRef<'a>) -> bool
     ensures { result ≡ is_dangling known.now (entry_key key.entry) }
 {
@@ -75,7 +77,7 @@ fn push_where<R: DatabaseEntry>(
     Ok(())
 }
 
-// Adds the diagnostics of an entry whose key an entry before it has, or none.
+// Adds the diagnostics of an entry whose key an earlier entry has, or none.
 #[tactic(auto, using(crate::proofs::Pushing::pushed_then), unfolding(crate::specs::RowFaults::faults_of_row))]
 fn push_faults_of_row<'a, L: Lookup, R: DatabaseEntry>(
     found: &mut Vec<Diagnostic>,
@@ -107,7 +109,7 @@ pub fn push_row<'a, L: Lookup, R: DatabaseEntry>(
 }
 
 // Adds the diagnostics of entries of one kind, each given those before it.
-fn push_in_turn<'a, L: Lookup, R: DatabaseEntry>(
+fn push_in_round<'a, L: Lookup, R: DatabaseEntry>(
     found: &mut Vec<Diagnostic>,
     known: &CrossReferences<'a, L>,
     rows: &'a [R],
@@ -147,8 +149,8 @@ fn hashes_of<R: DatabaseEntry>(alloc: Global, rows: &[R]) -> Result<Vec<u64>, Me
     Ok(hashes)
 }
 
-// Adds the diagnostics of entries of one kind. If the hashes of their keys differ, and mostly they do, no entry is repeated, and no
-// key is kept.
+// Adds the diagnostics of entries of one kind. If the hashes of their keys differ, as they mostly do, no entry is repeated, and
+// no key is kept.
 fn push_rows<'a, L: Lookup, R: DatabaseEntry>(
     found: &mut Vec<Diagnostic>,
     known: &CrossReferences<'a, L>,
@@ -159,7 +161,7 @@ fn push_rows<'a, L: Lookup, R: DatabaseEntry>(
     if all_differ(hashes_of(*found.allocator(), rows)?) {
         push_alone(found, known, rows)
     } else {
-        push_in_turn(found, known, rows)
+        push_in_round(found, known, rows)
     }
 }
 

@@ -1,14 +1,14 @@
-//! Between which numbers entries are, and each half of them.
+//! The range of raw values of entries, and of each half of them.
 ghost use Rattle.std.specs.Prelude.{◌≡◌, ◌++◌, ℤ, All, IfOk, OnOk};
 ghost use Rattle.can_references.specs.RawRanges.{numbers_out_of_range};
-ghost use Rattle.can_references.specs.Spans.{Holds, IsWithin, AreSpans, span_of, has_all};
+ghost use Rattle.can_references.specs.inner.Spans.{Holds, IsWithin, AreSpans, span_of, has_all};
 
 use crate::raw_range::{in_raw_range, is_out_of_range};
 use dbc_records::{Entry, Signal};
 use dbc_values::Memory;
 use std::alloc::Global;
 
-// At most so many entries are gone through.
+// Up to this many entries are visited one by one.
 const LINEAR_SEARCH_LIMIT: usize = 64;
 
 /// Numbers from the least to the greatest.
@@ -20,16 +20,16 @@ pub(crate) struct Span {
     pub greatest: i128,
 }
 
-/// The span of entries, and where they are many the spans of each half.
+/// The span of entries, and if there are many, the spans of each half.
 #[derive(Drop)]
 pub(crate) enum Spans {
-    /// That of few entries.
-    Few(Span),
-    /// That of entries, and those of their halves.
+    /// The span of few entries.
+    Small(Span),
+    /// The span of entries, and the spans of their halves.
     Halves(Span, Box<Spans>, Box<Spans>),
 }
 
-// The span widened to hold an entry's number.
+// The span widened to hold an entry's raw value.
 fn widened(span: Span, entry: &Entry) -> Span
     ensures holds { IsWithin result entry.now }
     ensures more { (other : ℤ) → Holds span other → Holds result other }
@@ -63,7 +63,7 @@ fn entries_span(entries: &[Entry]) -> Span
     span
 }
 
-// The span that holds what either of two holds.
+// The span that holds what either of two spans holds.
 fn joined(first: Span, second: Span) -> Span
     ensures first { (number : ℤ) → Holds first number → Holds result number }
     ensures second { (number : ℤ) → Holds second number → Holds result number }
@@ -87,7 +87,7 @@ pub(crate) fn spans_of(alloc: Global, entries: &[Entry]) -> Result<Spans, Memory
     ensures { IfOk result (λ spans. AreSpans spans entries.now) }
 {
     if entries.len() <= LINEAR_SEARCH_LIMIT {
-        return Ok(Spans::Few(entries_span(entries)));
+        return Ok(Spans::Small(entries_span(entries)));
     }
     let (left, right) = entries.split_at(entries.len() / 2);
     let first = spans_of(alloc, left)?;
@@ -96,7 +96,7 @@ pub(crate) fn spans_of(alloc: Global, entries: &[Entry]) -> Result<Spans, Memory
     Ok(Spans::Halves(span, Box::new(alloc, first)?, Box::new(alloc, second)?))
 }
 
-// Whether a signal can have all numbers of a span.
+// Whether a signal can have all raw values of a span.
 fn has_all(signal: &Signal, span: Span) -> bool
     ensures { result ≡ has_all signal.now span }
 {
@@ -104,7 +104,7 @@ fn has_all(signal: &Signal, span: Span) -> bool
         && in_raw_range(signal.signed, signal.length, span.greatest)
 }
 
-/// Adds the numbers of the entries that a signal never has, of entries gone through one by one.
+/// Adds the raw values of the entries that a signal never has, visiting entries one by one.
 pub(crate) fn push_each(
     found: &mut Vec<i128>,
     signal: &Signal,
@@ -125,12 +125,12 @@ impl Spans {
         ensures { result ≡ span_of self.now }
     {
         match self {
-            Spans::Few(span) => *span,
+            Spans::Small(span) => *span,
             Spans::Halves(span, _, _) => *span,
         }
     }
 
-    /// Adds the numbers of the entries that a signal never has. Halves without any are passed over.
+    /// Adds the raw values of the entries that a signal never has. Halves without any are skipped.
     pub(crate) fn push_out_of_range(
         &self,
         found: &mut Vec<i128>,
@@ -144,7 +144,7 @@ impl Spans {
             return Ok(());
         }
         match self {
-            Spans::Few(_) => push_each(found, signal, entries),
+            Spans::Small(_) => push_each(found, signal, entries),
             Spans::Halves(_, first, second) => {
                 let (left, right) = entries.split_at(entries.len() / 2);
                 first.push_out_of_range(found, signal, left)?;

@@ -1,11 +1,11 @@
-//! The value descriptions of one row: which a signal never has, and which repeat a number.
+//! The value descriptions of one `VAL_` entry: which a signal never has, and which repeat a raw value.
 ghost use Rattle.std.specs.Prelude.{◌≡◌, false, ◌-◌, ◌∷◌, ◌++◌, [], OnOk, length, slice_get, option_map};
 ghost use Rattle.can_references.specs.RawRanges.{numbers_out_of_range, has_at, has_both_ends};
 ghost use Rattle.can_references.specs.Values.{number_repeated, numbers_repeated, may_repeat};
 
+use crate::integers::Integers;
 use crate::raw_range::is_out_of_range;
 use crate::spans::push_each;
-use can_keys::Integers;
 use dbc_records::{Entries, Entry, Signal};
 use dbc_values::Memory;
 
@@ -38,8 +38,8 @@ fn has_both_ends(signal: &Signal, entries: &[Entry]) -> bool
     has_at(signal, first_of(entries)) && has_at(signal, last_of(entries))
 }
 
-/// Adds the numbers of the entries that a signal never has. There are none where it can have both ends of entries in an order, as
-/// it mostly can.
+/// Adds the raw values of the entries that a signal never has. There are none if it can have both ends of ordered entries,
+/// as it mostly can.
 pub(crate) fn push_out_of_range(
     found: &mut Vec<i128>,
     signal: &Signal,
@@ -53,7 +53,7 @@ pub(crate) fn push_out_of_range(
     }
 }
 
-// Adds the number of an entry if it stood earlier, and takes it among those.
+// Adds the raw value of an entry if it occurred earlier, and adds it to those seen.
 fn push_entry(found: &mut Vec<i128>, seen: &mut Integers, entry: &Entry) -> Result<(), Memory>
     ensures found { OnOk result (found.new.items ≡ found.old.items ++ number_repeated seen.old entry.now.number) }
     ensures seen { OnOk result (seen.new ≡ seen.old ++ entry.now.number ∷ []) }
@@ -64,7 +64,7 @@ fn push_entry(found: &mut Vec<i128>, seen: &mut Integers, entry: &Entry) -> Resu
     Ok(())
 }
 
-// Adds the numbers that stood earlier, of entries in any order.
+// Adds the raw values that occurred earlier, for entries in any order.
 fn push_repeated_unordered(found: &mut Vec<i128>, entries: &[Entry]) -> Result<(), Memory>
     ensures { OnOk result (found.new.items ≡ found.old.items ++ numbers_repeated entries.now) }
 {
@@ -75,7 +75,7 @@ fn push_repeated_unordered(found: &mut Vec<i128>, entries: &[Entry]) -> Result<(
     Ok(())
 }
 
-/// Whether one of the numbers may be repeated: they neither rise nor fall.
+/// Whether one of the raw values may be repeated: they neither rise nor fall.
 pub(crate) fn may_repeat(entries: &Entries) -> bool
     ensures flag { result ≡ may_repeat entries.now }
     ensures none { result ≡ false → numbers_repeated entries.now ≡ [] }
@@ -86,7 +86,7 @@ pub(crate) fn may_repeat(entries: &Entries) -> bool
     }
 }
 
-/// Adds the numbers that stood earlier. There are none where the numbers rise or fall, as they mostly do.
+/// Adds the raw values that occurred earlier. There are none if the raw values rise or fall, as they mostly do.
 pub(crate) fn push_repeated(found: &mut Vec<i128>, entries: &Entries) -> Result<(), Memory>
     ensures { OnOk result (found.new.items ≡ found.old.items ++ numbers_repeated entries.now) }
 {

@@ -1,7 +1,7 @@
 -- Counts of the meter that rise.
 use Rattle.std.proofs.Common.{◌≤◌, ℕ, arith}
 use Rattle.can_layout.specs.Meters.{Meter}
-use Rattle.compiled_database.specs.Compiled.{Raised}
+use Rattle.session_database.specs.CompiledMessage.{Raised}
 
 pub fewer_decoded : (few many : ℕ) (before after : Meter) → few ≤ many → Raised 0 few before after → Raised 0 many before after
 fewer_decoded few many before after le h = record {

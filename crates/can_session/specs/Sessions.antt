@@ -1,8 +1,8 @@
--- What a session keeps beside its database and its lines: what making it anew defines.
+-- What a session keeps in addition to its database and its lines, as making it from scratch defines it.
 use Rattle.std.specs.Prelude.{◌≤◌, List, All, length}
 use Rattle.can_decode.specs.DecodedLines.{Bus}
-use Rattle.kept_lines.specs.declared.keep.Keep.{Keep}
-use Rattle.kept_lines.specs.Keeping.{most_kept}
+use Rattle.session_kept_lines.specs.declared.keep.Keep.{Keep}
+use Rattle.session_kept_lines.specs.Keeping.{most_kept}
 use Rattle.session_log.specs.declared.line.Line.{Line}
 use Rattle.session_log.specs.Logs.{IsDecoded}
 

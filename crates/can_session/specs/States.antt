@@ -10,13 +10,13 @@ use Rattle.dbc_edits.specs.declared.refusal.Refusal.{Refusal}
 use Rattle.dbc_edits.specs.declared.refusal.Refusal.TheVariants as refusals
 use Rattle.dbc_edits.specs.Refusals.{IsRefusal}
 use Rattle.dbc_edits.specs.Edits.{edited}
-use Rattle.edit_reach.specs.Touched.{line_touched}
+use Rattle.session_edit_reach.specs.Touched.{line_touched}
 use Rattle.can_decode.specs.declared.short.Short.TheVariants.{Refuse}
 use Rattle.can_session.specs.declared.options.Options.{Options}
-use Rattle.kept_lines.specs.declared.keep.Keep.{Keep}
-use Rattle.kept_lines.specs.declared.keep.Keep.TheVariants.{All}
-use Rattle.kept_lines.specs.Keeping.{kept, is_full}
-use Rattle.compiled_database.specs.Compiled.{count_here, Raised, nothing_made}
+use Rattle.session_kept_lines.specs.declared.keep.Keep.{Keep}
+use Rattle.session_kept_lines.specs.declared.keep.Keep.TheVariants.{All}
+use Rattle.session_kept_lines.specs.Keeping.{kept, is_full}
+use Rattle.session_database.specs.CompiledMessage.{messages_touched, Raised, nothing_made}
 
 -- what is chosen as the session is opened, and what commands change: the database, and the kept lines in order of arrival
 pub record State : Type 0 where
@@ -24,7 +24,7 @@ pub record State : Type 0 where
   pub database : Database
   pub lines : List (List ℕ)
 
--- the choices where nothing else is said: frames that are shorter than their message are refused, and all lines are kept
+-- the default choices: truncated frames are refused, and all lines are kept
 abbrev pub usual : Options
 usual = record { short = Refuse; keep = All }
 
@@ -36,8 +36,7 @@ pub record Open : Type 0 where
 -- ---- the first state
 
 -- The state of a text's database without lines, with the choices, for which at most as many plans and diagrams were counted as
--- there
--- are messages. Or the first fault of the text, or memory ran out.
+-- there are messages. Or the first fault of the text, or memory ran out.
 abbrev pub Opens : List ℕ → Options → Result Open ReadFault → Type 0
 Opens text options (Ok session) =
     HasDatabase text session.state.database × (session.state.lines ≡ []) × Raised (length session.state.database.messages) 0
@@ -47,7 +46,7 @@ Opens text options (Err fault) = IsRead text (Err fault)
 
 -- ---- edits
 
--- An accepted edit gives the defined database. A refused one is refused for the defined cause, or because memory ran out where the
+-- An accepted edit gives the defined database. A refused one is refused for the defined cause, or because memory ran out if the
 -- definition accepts it, and the state is as it was.
 abbrev pub Applies : Edit → State → Result (Unit {0}) Refusal → State → Type 0
 Applies edit before answer after =
@@ -55,12 +54,12 @@ Applies edit before answer after =
     (λ _. (edited before.database edit ≡ Ok after.database) × (after.lines ≡ before.lines) × (after.options ≡ before.options))
     (λ refusal. IsRefusal (edited before.database edit) refusal × (after ≡ before))
 
--- An accepted edit raises the counts of plans and diagrams at most by the messages of the edited database that have one of its
--- numbers, and that of lines at most by the lines that it touches, also where memory runs out. A refused one raises none.
+-- An accepted edit raises the counts of plans and diagrams at most by the messages of the edited database that have one of its CAN
+-- identifiers, and that of lines at most by the lines that it touches, also if memory runs out. A refused one raises none.
 abbrev pub RaisedBy : Result Database Refusal → List ℕ → List (List ℕ) → Meter → Meter → Type 0
 RaisedBy defined numbers lines before after =
     MatchResult defined
-    (λ database. Raised (count_here numbers database) (count_by (line_touched numbers) lines) before after)
+    (λ database. Raised (messages_touched numbers database) (count_by (line_touched numbers) lines) before after)
     (λ _. after ≡ before)
 
 -- ---- lines
@@ -76,7 +75,7 @@ with_line keep lines line =
     else (if nat_lt longest_line (length line) then Err refusals.LongLine
     else Ok (kept keep (lines ++ line ∷ [])))
 
--- so for a line
+-- the same for a line
 abbrev pub Adds : List ℕ → State → Result (Unit {0}) Refusal → State → Type 0
 Adds line before answer after =
     MatchResult answer

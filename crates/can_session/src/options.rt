@@ -3,21 +3,21 @@ ghost use Rattle.std.specs.Prelude.{◌≡◌};
 ghost use Rattle.can_session.specs.States.{usual};
 
 use can_decode::Short;
-use kept_lines::Keep;
+use session_kept_lines::Keep;
 use std::hash::RandomState;
 
-/// What is chosen for a session as it is opened. No command changes it.
+/// The choices for a session as it is opened. No command changes them.
 #[derive(Clone, Copy, Debug, PartialEq, Eq)]
 pub struct Options {
-    /// What is said of frames that are shorter than their message.
+    /// How truncated frames are decoded.
     pub short: Short,
     /// Which lines are kept.
     pub keep: Keep,
 }
 
 /// What is chosen for a session, and the keys with which its log's index hashes. They come from `RandomState::new`, and what is
-/// shown is the same without them; but then identifiers can be chosen that make each line as slow as all lines before it, so a
-/// program that reads lines of others draws keys.
+/// shown is the same without them; but then identifiers can be crafted that make each line as slow as all lines before it, so a
+/// program that reads untrusted lines draws keys.
 #[derive(Clone, Copy)]
 pub struct KeyedOptions {
     /// The choices.

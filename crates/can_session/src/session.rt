@@ -2,52 +2,52 @@
 ghost use Rattle.std.specs.Prelude.{◌≡◌, ◌<◌, IfOk, Some, [], All, count_by, map, length, slice_get};
 ghost use Rattle.std.specs.Option.{option_map};
 ghost use Rattle.can_layout.specs.Plans.{plan_of};
-ghost use Rattle.can_layout.specs.Pictures.{picture_of};
+ghost use Rattle.can_layout.specs.Diagrams.{picture_of};
 ghost use Rattle.can_check.specs.AllFaults.{all_faults};
 ghost use Rattle.can_decode.specs.DecodedLines.{decoded_line};
 ghost use Rattle.dbc_edits.specs.Edits.{edited};
-ghost use Rattle.edit_reach.specs.Touched.{edit_numbers, line_touched};
-ghost use Rattle.compiled_database.specs.Acceptance.{numbers_of};
-ghost use Rattle.compiled_database.specs.Compiled.{count_here, Raised, nothing_made};
+ghost use Rattle.session_edit_reach.specs.Touched.{edit_numbers, line_touched};
+ghost use Rattle.session_database.specs.Acceptance.{numbers_of};
+ghost use Rattle.session_database.specs.CompiledMessage.{messages_touched, Raised, nothing_made};
 ghost use Rattle.session_log.specs.Logs.{bytes_of, IsDecoded, Completes};
 ghost use Rattle.can_session.specs.States.{Applies, Adds, RaisedBy, Opens, usual};
 
+use crate::compiled_bus::CompiledBus;
 use crate::options::{KeyedOptions, Options};
-use crate::shown_bus::ShownBus;
 use crate::touching::decode_touched;
 use can_check::Diagnostic;
 use can_decode::Short;
 use can_layout::{Meter, Plan};
-use compiled_database::{Accepted, Shown};
 use dbc_edits::{Edit, Refusal};
 use dbc_reader::read;
 use dbc_records::Database;
+use dbc_text_buffer::TextBuffer;
 use dbc_tokens::{Cause, ReadFault};
 use dbc_values::Memory;
-use ready_texts::TextBuffer;
+use session_database::{Accepted, CompiledDatabase};
 use session_log::{Log, RedecodedLine};
 use std::alloc::Global;
 use std::hash::RandomState;
 use std::marker::Model;
 
 // The most bytes of a kept line.
-const LONGEST_LINE: usize = 4_096;
+const MAX_LINE_SIZE: usize = 4_096;
 
-// The room for longer texts isn't kept from one line to the next.
-const MAX_DRAFT_SIZE: usize = 4_096;
+// The space for longer texts isn't kept from one line to the next.
+const MAX_BUFFER_SIZE: usize = 4_096;
 
 /// A database that is edited and a log that is kept, with all that is shown of both.
 ///
-/// What the readers lend is at every moment what making it from the database and the lines alone gives. They take no memory, and
-/// raise no count of the meter.
+/// What the readers return by reference is at every moment what making it from the database and the lines alone gives. They
+/// allocate nothing, and raise no count of the meter.
 #[derive(Drop)]
 pub struct Session {
     alloc: Global,
     options: Options,
-    shown: Shown,
+    shown: CompiledDatabase,
     log: Log,
     meter: Meter,
-    // In which the texts of lines are made.
+    // The buffer in which the texts of lines are made.
     buffer: TextBuffer,
 }
 
@@ -74,20 +74,20 @@ fn made_after(
     short: Short,
     log: &Log,
     meter: &mut Meter,
-) -> Result<(Shown, Vec<RedecodedLine>), Memory>
+) -> Result<(CompiledDatabase, Vec<RedecodedLine>), Memory>
     requires { All (IsDecoded (record { database = accepted.before; short = short })) log.now }
     ensures shown { IfOk result (λ made. made.0 ≡ accepted.entry.after) }
-    ensures fresh { IfOk result (λ made. Completes (record { database = accepted.entry.after; short = short }) log.now
+    ensures redecoded { IfOk result (λ made. Completes (record { database = accepted.entry.after; short = short }) log.now
         made.1.items) }
-    ensures made { Raised (count_here (numbers_of accepted.entry) accepted.entry.after)
+    ensures made { Raised (messages_touched (numbers_of accepted.entry) accepted.entry.after)
         (count_by (line_touched (numbers_of accepted.entry)) (map bytes_of log.now)) meter.old meter.new }
 {
-    let remade = accepted.remade(alloc, meter)?;
-    let fresh = decode_touched(alloc, &remade, short, log, meter)?;
-    Ok((remade.into_shown(), fresh))
+    let applied = accepted.applied(alloc, meter)?;
+    let redecoded = decode_touched(alloc, &applied, short, log, meter)?;
+    Ok((applied.into_shown(), redecoded))
 }
 
-// The log of no lines, whose index hashes with these keys, if there are any.
+// The log without lines, whose index hashes with these keys, if there are any.
 fn log_of(alloc: Global, keys: Option<RandomState>) -> Log
     ensures { result ≡ [] }
 {
@@ -105,7 +105,7 @@ fn session_of(alloc: Global, database: Database, keyed: KeyedOptions) -> Result<
     ensures made { IfOk result (λ session. Raised (length database.messages) 0 nothing_made session.meter) }
 {
     let mut meter = Meter::new();
-    let shown = Shown::of(alloc, database, &mut meter)?;
+    let shown = CompiledDatabase::of(alloc, database, &mut meter)?;
     Ok(Session {
         alloc,
         options: keyed.options,
@@ -116,9 +116,9 @@ fn session_of(alloc: Global, database: Database, keyed: KeyedOptions) -> Result<
     })
 }
 
-// Gives back the room of a draft in which a longer text was made.
+// Releases the capacity of a buffer in which a longer text was made.
 fn limit_buffer(buffer: &mut TextBuffer) {
-    if buffer.as_slice().len() > MAX_DRAFT_SIZE {
+    if buffer.as_slice().len() > MAX_BUFFER_SIZE {
         *buffer = TextBuffer::new(buffer.allocator());
     }
 }
@@ -129,15 +129,15 @@ const NO_MEMORY: ReadFault = ReadFault {
 };
 
 impl Session {
-    /// The session of a text's database, in which frames that are shorter than their message are refused and all lines are
-    /// kept. Where the text has no database, its first fault is answered; that memory ran out is a fault of line 0.
+    /// The session of a text's database, in which truncated frames are refused and all lines are kept. If the text has no database,
+    /// its first fault is returned; running out of memory is a fault of line 0.
     pub fn open(alloc: Global, text: &[u8]) -> Result<Session, ReadFault>
         ensures { Opens text.now usual result }
     {
         Session::open_with(alloc, text, Options::default())
     }
 
-    /// The same, with the choices that are handed in.
+    /// The same, with the given choices.
     pub fn open_with(alloc: Global, text: &[u8], options: Options) -> Result<Session, ReadFault>
         ensures { Opens text.now options result }
     {
@@ -159,9 +159,9 @@ impl Session {
         }
     }
 
-    /// Does an edit. A refused one changes nothing but the meter; running out of memory comes after all other refusals. Plans and
-    /// diagrams are made only of messages that have one of the edit's numbers, and only lines whose frames these concern are
-    /// decoded again.
+    /// Applies an edit. A refused one changes nothing but the meter; running out of memory comes after all other refusals. Plans
+    /// and diagrams are made only for messages that have one of the edit's CAN identifiers, and only lines whose frames these
+    /// concern are decoded again.
     pub fn apply(&mut self, edit: &Edit) -> Result<(), Refusal>
         ensures step { Applies edit.now self.old.state result self.new.state }
         ensures meter { RaisedBy (edited self.old.state.database edit.now) (edit_numbers self.old.state.database edit.now)
@@ -170,16 +170,22 @@ impl Session {
         let accepted = Accepted::of(self.alloc, &self.shown, edit)?;
         // All growths come first.
         let short = self.options.short;
-        let (shown, fresh) = made_after(self.alloc, accepted, short, &self.log, &mut self.meter)?;
-        // From here on nothing takes memory.
+        let (shown, redecoded) = made_after(
+            self.alloc,
+            accepted,
+            short,
+            &self.log,
+            &mut self.meter,
+        )?;
+        // From here on nothing allocates.
         self.shown = shown;
-        self.log.exchange(fresh);
+        self.log.exchange(redecoded);
         Ok(())
     }
 
-    /// Keeps a line, which holds no LF, as the session's choice says. A refused one changes nothing but the meter: a line has at
-    /// most 4,096 bytes, and where all lines are kept there is room for 1,048,576. Where the last ones are, the oldest goes for
-    /// a new one, and no log is full. Running out of memory comes last.
+    /// Keeps a line, which holds no LF, according to the session's choice. A refused one changes nothing but the meter: a line has
+    /// at most 4,096 bytes, and if all lines are kept there is space for 1,048,576. If only the last ones are kept, a new one
+    /// replaces the oldest, and the log is never full. Running out of memory comes last.
     pub fn add_line(&mut self, line: &[u8]) -> Result<(), Refusal>
         ensures step { Adds line.now self.old.state result self.new.state }
         ensures meter { Raised 0 1 self.old.meter self.new.meter }
@@ -187,10 +193,10 @@ impl Session {
         if self.options.keep.is_full(self.log.len()) {
             return Err(Refusal::LogFull);
         }
-        if line.len() > LONGEST_LINE {
+        if line.len() > MAX_LINE_SIZE {
             return Err(Refusal::LongLine);
         }
-        let bus = ShownBus {
+        let bus = CompiledBus {
             shown: &self.shown,
             short: self.options.short,
         };
@@ -226,21 +232,21 @@ impl Session {
     }
 
     /// The decode plan of the message at an index.
-    pub fn plan(&self, place: usize) -> &Plan
-        requires { place < length self.now.state.database.messages }
+    pub fn plan(&self, index: usize) -> &Plan
+        requires { index < length self.now.state.database.messages }
         ensures { Some result.now ≡ option_map (plan_of self.now.state.database) (slice_get self.now.state.database.messages
-            place) }
+            index) }
     {
-        self.shown.plan(place)
+        self.shown.plan(index)
     }
 
     /// The diagram of the message at an index.
-    pub fn picture(&self, place: usize) -> &[u8]
-        requires { place < length self.now.state.database.messages }
+    pub fn picture(&self, index: usize) -> &[u8]
+        requires { index < length self.now.state.database.messages }
         ensures { Some result.now ≡ option_map (picture_of self.now.state.database) (slice_get self.now.state.database.messages
-            place) }
+            index) }
     {
-        self.shown.picture(place)
+        self.shown.picture(index)
     }
 
     /// How many lines are kept.
@@ -258,8 +264,8 @@ impl Session {
         self.log.line(n).bytes.as_slice()
     }
 
-    /// The decoded text of the line at an index, of which 0 is the oldest that is kept: what decoding it by itself gives, with
-    /// the database as it is and by the session's choice.
+    /// The decoded text of the line at an index, where 0 is the oldest that is kept: what decoding it by itself gives, with the
+    /// database as it is and by the session's choice.
     pub fn decoded(&self, n: usize) -> &[u8]
         requires { n < length self.now.state.lines }
         ensures { Some result.now ≡ option_map (decoded_line self.now.state.options.short self.now.state.database)

@@ -1,4 +1,4 @@
--- What the status of a run of any command says of what was read and written.
+-- What the status of a run of any command means for what was read and written.
 use Rattle.std.specs.Prelude.{◌≡◌, ℕ, Bool, List, Result, if◌then◌else◌}
 use Rattle.byte_devices.specs.Device.{Unread, Written}
 use Rattle.can_decode.specs.declared.short.Short.{Short}
@@ -14,7 +14,7 @@ use Rattle.candesk_words.specs.declared.job.Command.TheVariants as commands
 use Rattle.candesk_runs.specs.Checking.{ChecksAll, verdict_status}
 use Rattle.candesk_runs.specs.Decoding.{Runs, RunsToJson, RunsToCsv}
 use Rattle.candesk_runs.specs.declared.fault.RunFault.{RunFault}
-use Rattle.candesk_runs.specs.Dumping.{DumpsPictures, DumpsObjects}
+use Rattle.candesk_runs.specs.Dumping.{DumpsDiagrams, DumpsObjects}
 use Rattle.candesk_runs.specs.Explaining.{ExplainsText}
 use Rattle.candesk_runs.specs.FindingObjects.{WritesObjects}
 use Rattle.candesk_runs.specs.declared.checking.Verdict.{Verdict}
@@ -35,7 +35,7 @@ Decoded log_forms.Rows text short before after old new outcome = RunsToCsv text 
 
 -- the messages of a database were written in this form
 abbrev pub Dumped : DumpForm → List ℕ → Written → Written → Result (Unit {0}) RunFault → Type 0
-Dumped dump_forms.Diagrams text old new outcome = DumpsPictures text old new outcome
+Dumped dump_forms.Diagrams text old new outcome = DumpsDiagrams text old new outcome
 Dumped dump_forms.Objects text old new outcome = DumpsObjects text old new outcome
 Dumped dump_forms.Locations text old new outcome = WritesLocations text old new outcome
 
@@ -49,7 +49,8 @@ abbrev pub Explained : ReportForm → List ℕ → Written → Written → Resul
 Explained report_forms.Lines text old new outcome = ExplainsText text old new outcome
 Explained report_forms.Objects text old new outcome = WritesObjects text old new outcome
 
--- the command ended so; all but `decode` and `session` read nothing from the source
+-- the command ended in this way: `before` and `after` are what is unread of the source, `old` and `new` what the sink has; all
+-- commands except `decode` and `session` read nothing from the source
 abbrev pub EndsWith : Command → List ℕ → Unread → Unread → Written → Written → ℕ → Type 0
 EndsWith (commands.Check form) text before after old new status =
     (after ≡ before) × Ends verdict_status (Checked form text old new) status

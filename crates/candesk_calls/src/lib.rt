@@ -1,8 +1,8 @@
 //! The program's calls: what it does with its words, a database and the standard streams.
 //!
-//! [`job_of`] of `candesk_words` reads the words, [`run`] does a job on the bytes of its file, and [`refuse`] says why there is
-//! none. [`run_keyed`] is for programs that read the lines of others, as its session can't be slowed down by chosen identifiers.
-//! [`run`] stands on the runs of `candesk_runs` and on the session of `session_script`, whose contracts say what is written.
+//! [`job_of`] of `candesk_words` reads the words, [`run`] does a job on the bytes of its file, and [`refuse`] reports why there is
+//! none. [`run_keyed`] is for programs that read untrusted lines, as its session can't be slowed down by crafted identifiers.
+//! [`run`] uses the runs of `candesk_runs` and the session of `session_script`, whose contracts state what is written.
 #![tactic(auto)]
 
 mod refusing;

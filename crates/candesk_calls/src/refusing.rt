@@ -7,8 +7,8 @@ use candesk_runs::{report, status};
 use candesk_words::NoJob;
 use dbc_model::{Memory, Sink, put_all};
 
-/// Writes the help that the words ask for to `sink`, or why there is no job to `errors`, and answers the exit status.
-/// That `errors` fails doesn't change the status.
+/// Writes the help that the words ask for to `sink`, or why there is no job to `errors`, and returns the exit status. That `errors`
+/// fails doesn't change the status.
 pub fn refuse<W: Sink, E: Sink>(why: &NoJob, sink: &mut W, errors: &mut E) -> u8
     ensures { RefusesWith why.now (W.written sink.old) (W.written sink.new) result }
 {
@@ -31,7 +31,7 @@ pub fn refuse<W: Sink, E: Sink>(why: &NoJob, sink: &mut W, errors: &mut E) -> u8
     }
 }
 
-/// Writes to `errors` that the job's file can't be read, and answers the exit status. That `errors` fails doesn't change it.
+/// Writes to `errors` that the job's file can't be read, and returns the exit status. That `errors` fails doesn't change it.
 pub fn refuse_file<E: Sink>(errors: &mut E) -> u8
     ensures { result ≡ device }
 {

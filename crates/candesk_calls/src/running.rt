@@ -106,8 +106,8 @@ fn scripted<R: Source, W: Sink>(
     outcome_of(keyed_run(alloc, text, options, source, sink))
 }
 
-/// Does the job on the bytes of its file: writes the output to `sink` and a fault's line to `errors`, and answers the
-/// exit status. `source` is standard input, which only `decode` and `session` read. That `errors` fails doesn't change the status.
+/// Does the job on the bytes of its file: writes the output to `sink` and a fault's line to `errors`, and returns the exit status.
+/// `source` is standard input, which only `decode` and `session` read. That `errors` fails doesn't change the status.
 pub fn run<R: Source, W: Sink, E: Sink>(
     alloc: Global,
     job: &Job,
@@ -122,8 +122,8 @@ pub fn run<R: Source, W: Sink, E: Sink>(
     run_keyed(alloc, job, text, None, source, sink, errors)
 }
 
-/// The same, with keys for the index of a session's log, if any were drawn. Without them a script can have lines that make
-/// `session` slow.
+/// The same, with keys for the index of a session's log, if any were drawn. Without them a script can contain lines
+/// that make `session` slow.
 pub fn run_keyed<R: Source, W: Sink, E: Sink>(
     alloc: Global,
     job: &Job,

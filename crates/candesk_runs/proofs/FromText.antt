@@ -11,20 +11,20 @@ use Rattle.dbc_reader.specs.Pattern.{first_fault, nothing_seen}
 use Rattle.dbc_reader.specs.Texts.{HasDatabase, HasFirstFault, IsRead}
 use Rattle.dbc_reader.specs.Located.{HasLocatedDatabase}
 use Rattle.dbc_reader.specs.declared.start.Starts.{Starts}
-use Rattle.fault_places.specs.Places.{Found, IsPlace}
-use Rattle.fault_places.specs.Walks.{found_of}
-use Rattle.fault_reports.specs.Headlines.{BeginsSo}
-use Rattle.fault_reports.specs.declared.report.Report.{Report}
+use Rattle.dbc_faults.specs.FaultLocations.{Found, IsFaultLocation}
+use Rattle.dbc_faults.specs.Derivatives.{found_of}
+use Rattle.dbc_faults.specs.Headlines.{BeginsSo}
+use Rattle.dbc_faults.specs.declared.report.Report.{Report}
 use Rattle.candesk_runs.specs.declared.fault.RunFault.{RunFault}
 use Rattle.candesk_runs.specs.declared.fault.RunFault.TheVariants as run
-use Rattle.line_stream.specs.declared.fault.StreamFault.TheVariants as streams
+use Rattle.can_line_stream.specs.declared.fault.StreamFault.TheVariants as streams
 use Rattle.candesk_runs.specs.declared.checking.Verdict.{Verdict}
 use Rattle.candesk_runs.specs.Explaining.{ExplainsFound, ExplainsFault, ExplainsText}
 use Rattle.candesk_runs.specs.FindingObjects.{WritesFindings, WritesObjects}
 use Rattle.candesk_runs.specs.Locating.{WritesLocations}
-use Rattle.json_locations.specs.Locations.{locations_text}
-use Rattle.json_findings.specs.declared.fault.FaultLines.{FaultLines}
-use Rattle.json_findings.specs.Faults.{BeginsWithFault, AreOfFaults}
+use Rattle.can_json_locations.specs.Locations.{locations_text}
+use Rattle.can_json_findings.specs.declared.fault.FaultLines.{FaultLines}
+use Rattle.can_json_findings.specs.Faults.{BeginsWithFault, AreOfFaults}
 use Rattle.can_findings.specs.AllFindings.{all_findings}
 use Rattle.can_decode.specs.declared.short.Short.{Short}
 use Rattle.can_decode.specs.DecodedLines.{Bus}
@@ -57,7 +57,7 @@ module _ (text : List ℕ) (database : Database) (read : HasDatabase text databa
   printed old new (Err (run.Stream streams.Memory)) done = absurd done
   printed old new (Err run.Memory) done = absurd done
 
--- the same of a database with where its statements begin
+-- the same for a database with where its statements begin
 pub explained : (text : List ℕ) (database : Database) (starts : Starts) → HasLocatedDatabase text database starts
     → (old new : Written) (result : Result Verdict RunFault) → ExplainsFound (all_findings database starts) old new result
     → ExplainsText text old new result
@@ -125,38 +125,40 @@ one_first_fault text fault other (cut, has, first) (again, too, second) =
     let both : Some other ≡ Some fault = sym second ∙ ap (first_fault grammar.text nothing_seen) same ∙ first in
     cc
 
--- a text with a first fault has a place of it
-pub has_place : (text : List ℕ) (fault : ReadFault) → HasFirstFault grammar.text text fault → IsPlace grammar.text text None → ⊥
-has_place text fault (cut, has, first) (again, too, none) =
+-- a text with a first fault has a location of it
+pub has_location : (text : List ℕ) (fault : ReadFault) → HasFirstFault grammar.text text fault → IsFaultLocation grammar.text text
+    None → ⊥
+has_location text fault (cut, has, first) (again, too, none) =
     let same : again ≡ cut = cut_unique 1 text again too ∙ sym (cut_unique 1 text cut has) in
     let both : None ≡ Some fault = sym none ∙ ap (first_fault grammar.text nothing_seen) same ∙ first in
     cc
 
--- words on its place begin so
+-- words on its location begin in this way
 pub words_begin : (text : List ℕ) (fault : ReadFault) (found : Found) (words : List ℕ) → HasFirstFault grammar.text text fault
-    → IsPlace grammar.text text (Some found) → BeginsSo found.fault words → BeginsSo fault words
+    → IsFaultLocation grammar.text text (Some found) → BeginsSo found.fault words → BeginsSo fault words
 words_begin text fault found words first (other, at) begins =
     subst (λ f. BeginsSo f words) (one_first_fault text fault found.fault first other) begins
 
 -- what is reported begins so
-pub report_begins : (text : List ℕ) (fault : ReadFault) (told : Option Report) (report : Report) → told ≡ Some report
-    → HasFirstFault grammar.text text fault → IsPlace grammar.text text (option_map (λ (r : Report). found_of r.place) told)
-    → IfSome told (λ (r : Report). BeginsSo r.place.fault r.words.items) → BeginsSo fault report.words.items
-report_begins text fault None report is first place begins = absurd cc
-report_begins text fault (Some r) report is first place begins =
+pub report_begins : (text : List ℕ) (fault : ReadFault) (given : Option Report) (report : Report) → given ≡ Some report
+    → HasFirstFault grammar.text text fault → IsFaultLocation grammar.text text (option_map (λ (r : Report). found_of r.location)
+    given)
+    → IfSome given (λ (r : Report). BeginsSo r.location.fault r.words.items) → BeginsSo fault report.words.items
+report_begins text fault None report is first index begins = absurd cc
+report_begins text fault (Some r) report is first index begins =
     let same : r ≡ report = cc in
     subst (λ (x : Report). BeginsSo fault x.words.items) same
-    (words_begin text fault (found_of r.place) r.words.items first place begins)
+    (words_begin text fault (found_of r.location) r.words.items first index begins)
 
 -- something is reported
-pub no_report : (text : List ℕ) (fault : ReadFault) (told : Option Report) → told ≡ None → HasFirstFault grammar.text text fault
-    → IsPlace grammar.text text (option_map (λ (r : Report). found_of r.place) told) → ⊥
-no_report text fault None is first place = has_place text fault first place
-no_report text fault (Some r) is first place = absurd cc
+pub no_report : (text : List ℕ) (fault : ReadFault) (given : Option Report) → given ≡ None → HasFirstFault grammar.text text fault
+    → IsFaultLocation grammar.text text (option_map (λ (r : Report). found_of r.location) given) → ⊥
+no_report text fault None is first index = has_location text fault first index
+no_report text fault (Some r) is first index = absurd cc
 
 -- ---- objects of faults
 
-pub of_some : (text : List ℕ) (told : Option FaultLines) (lines : FaultLines) → told ≡ Some lines → AreOfFaults text told
+pub of_some : (text : List ℕ) (given : Option FaultLines) (lines : FaultLines) → given ≡ Some lines → AreOfFaults text given
     → BeginsWithFault text lines.fault lines.words.items
 of_some text None lines is has = absurd cc
 of_some text (Some other) lines is has =
@@ -164,15 +166,16 @@ of_some text (Some other) lines is has =
     subst (λ (x : FaultLines). BeginsWithFault text x.fault x.words.items) same has
 
 -- there are some
-pub no_lines : (text : List ℕ) (fault : ReadFault) (told : Option FaultLines) → told ≡ None → HasFirstFault grammar.text text fault
-    → AreOfFaults text told → ⊥
-no_lines text fault None is first none = has_place text fault first none
+pub no_lines : (text : List ℕ) (fault : ReadFault) (given : Option FaultLines) → given ≡ None → HasFirstFault grammar.text text
+    fault
+    → AreOfFaults text given → ⊥
+no_lines text fault None is first none = has_location text fault first none
 no_lines text fault (Some lines) is first has = absurd cc
 
 -- the fault that they begin with is the first
 first_of : (text : List ℕ) (fault : ReadFault) (words : List ℕ) → BeginsWithFault text fault words
     → HasFirstFault grammar.text text fault
-first_of text fault words (told, place, same, others, is) = subst (HasFirstFault grammar.text text) same place.0
+first_of text fault words (given, index, same, others, is) = subst (HasFirstFault grammar.text text) same index.0
 
 pub faults_written : (text : List ℕ) (fault : ReadFault) (words written : List ℕ) (old new : Written)
     → BeginsWithFault text fault words → written ≡ words → Wrote old new written

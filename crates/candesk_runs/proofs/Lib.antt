@@ -1,3 +1,3 @@
 pub mod FromText
-pub mod Drawing
+pub mod Diagram
 pub mod Flushed

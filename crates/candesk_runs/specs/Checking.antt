@@ -15,7 +15,7 @@ use Rattle.candesk_runs.specs.declared.checking.Verdict.{Verdict}
 use Rattle.candesk_runs.specs.declared.checking.Verdict.TheVariants as verdicts
 use Rattle.candesk_runs.specs.declared.fault.RunFault.{RunFault}
 use Rattle.candesk_runs.specs.declared.fault.RunFault.TheVariants as faults
-use Rattle.line_stream.specs.declared.fault.StreamFault.TheVariants as streams
+use Rattle.can_line_stream.specs.declared.fault.StreamFault.TheVariants as streams
 use Rattle.candesk_runs.specs.Statuses.{done, has_diagnostics}
 
 -- a line for each
@@ -32,8 +32,8 @@ abbrev pub verdict_then : Verdict → Verdict → Verdict
 verdict_then verdicts.Clean later = later
 verdict_then verdicts.HasDiagnostics later = verdicts.HasDiagnostics
 
--- The lines of all were written, or a beginning of them and then a put failed. Or the lines of some first ones were written, and
--- then memory ran out. It ends so after the database was read.
+-- The lines of all were written, or a prefix of them and then a put failed. Or the lines of some first ones were written, and then
+-- memory ran out. It ends in this way after the database was read.
 abbrev pub Says : List Diagnostic → Written → Written → Result Verdict RunFault → Type 0
 Says found old new (Ok verdict) = Wrote old new (found_text found) × (verdict ≡ verdict_of found)
 Says found old new (Err (faults.Read fault)) = ⊥
@@ -42,8 +42,8 @@ Says found old new (Err (faults.Stream fault)) = ⊥
 Says found old new (Err faults.Memory) = (first later : List Diagnostic) × (found ≡ first ++ later)
     × Wrote old new (found_text first)
 
--- The text has a database, and its diagnostics were written so. Or nothing was written, and the fault is the first of the text,
--- or says that memory ran out.
+-- The text has a database, and its diagnostics were written in this way. Or nothing was written, and the fault is the first of the
+-- text, or that memory ran out.
 abbrev pub ChecksAll : List ℕ → Written → Written → Result Verdict RunFault → Type 0
 ChecksAll text old new (Ok verdict) = (database : Database) × HasDatabase text database
     × Says (all_faults database) old new (Ok verdict)
@@ -59,7 +59,7 @@ abbrev pub verdict_status : Verdict → ℕ
 verdict_status verdicts.Clean = done
 verdict_status verdicts.HasDiagnostics = has_diagnostics
 
--- ---- lines that wait before a sink
+-- ---- lines that are buffered before a sink
 
 -- their lines were sent, and the verdict is that on all so far
 abbrev pub TookLines : {W : Type 0} → (W → Written) → Out W → Out W → Verdict → Verdict → List Diagnostic → Type 0
@@ -72,7 +72,7 @@ StoppedLines written old new stops.Write found = Lost written old new (found_tex
 StoppedLines written old new stops.Memory found = (first later : List Diagnostic) × (found ≡ first ++ later)
     × Took written old new (found_text first)
 
--- What waited was written, and it ends with the outcome. Or a put failed, and a beginning of it was written.
+-- What was buffered was written, and it ends with the outcome. Or a put failed, and a prefix of it was written.
 abbrev pub Flushes : Written → Written → List ℕ → Result Verdict RunFault → Result Verdict RunFault → Type 0
 Flushes old new held outcome result = (Wrote old new held × (result ≡ outcome)) ⊎ (Broke old new held × (result
     ≡ Err (faults.Stream streams.Write)))

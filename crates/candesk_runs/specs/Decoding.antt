@@ -5,13 +5,13 @@ use Rattle.csv.specs.Writing.{row_text, default_writer}
 use Rattle.dbc_records.specs.Databases.{Database}
 use Rattle.dbc_reader.specs.Grammar as grammar
 use Rattle.dbc_reader.specs.Texts.{HasDatabase, HasFirstFault}
-use Rattle.line_stream.specs.LineTexts.{StreamsTexts, Streams}
-use Rattle.line_stream.specs.declared.fault.StreamFault.{StreamFault}
-use Rattle.line_stream.specs.declared.fault.StreamFault.TheVariants as streams
+use Rattle.can_line_stream.specs.LineTexts.{StreamsTexts, Streams}
+use Rattle.can_line_stream.specs.declared.fault.StreamFault.{StreamFault}
+use Rattle.can_line_stream.specs.declared.fault.StreamFault.TheVariants as streams
 use Rattle.can_decode.specs.declared.short.Short.{Short}
 use Rattle.can_decode.specs.DecodedLines.{Bus, bus_line}
-use Rattle.json_lines.specs.Lines.{json_line}
-use Rattle.csv_lines.specs.Rows.{csv_line, header}
+use Rattle.can_json_lines.specs.Lines.{json_line}
+use Rattle.can_csv_lines.specs.Rows.{csv_line, header}
 use Rattle.candesk_runs.specs.declared.fault.RunFault.{RunFault}
 use Rattle.candesk_runs.specs.declared.fault.RunFault.TheVariants as faults
 
@@ -38,12 +38,12 @@ RunsToTexts text_of text before after old new (Err (faults.Read fault)) = IsUnto
     × HasFirstFault grammar.text text fault
 RunsToTexts text_of text before after old new (Err faults.Memory) = IsUntouched before after old new
 
--- the log is decoded, by what is chosen for truncated frames
+-- the log is decoded, by the option for truncated frames
 abbrev pub Runs : List ℕ → Short → Unread → Unread → Written → Written → Result ℕ RunFault → Type 0
 Runs text short before after old new outcome =
     RunsToTexts (λ database. bus_line (record { database = database; short = short })) text before after old new outcome
 
--- the log is decoded to objects of JSON
+-- the log is decoded to JSON objects
 abbrev pub RunsToJson : List ℕ → Short → Unread → Unread → Written → Written → Result ℕ RunFault → Type 0
 RunsToJson text short before after old new outcome =
     RunsToTexts (λ database. json_line (record { database = database; short = short })) text before after old new outcome
@@ -72,20 +72,20 @@ pub record BreaksInHeader (before after : Unread) (old new : Written) (fault : S
   pub broke : Broke old new header_text
 
 -- the names of the columns are written, and then the rows of the lines
-abbrev pub RowsBehindHeader : Bus → Unread → Unread → Written → Written → Result ℕ RunFault → Type 0
-RowsBehindHeader bus before after old new result =
+abbrev pub RowsFollowingHeader : Bus → Unread → Unread → Written → Written → Result ℕ RunFault → Type 0
+RowsFollowingHeader bus before after old new result =
     (begun : Written) × Wrote old begun header_text × WritesRows bus before after begun new result
 
--- So it is, or a put failed before. Or the log is untouched, and memory ran out.
+-- This holds, or a put failed before. Or the log is untouched, and memory ran out.
 abbrev pub WritesCsv : Bus → Unread → Unread → Written → Written → Result ℕ RunFault → Type 0
-WritesCsv bus before after old new (Ok count) = RowsBehindHeader bus before after old new (Ok count)
+WritesCsv bus before after old new (Ok count) = RowsFollowingHeader bus before after old new (Ok count)
 WritesCsv bus before after old new (Err (faults.Stream fault)) =
-    BreaksInHeader before after old new fault ⊎ RowsBehindHeader bus before after old new (Err (faults.Stream fault))
+    BreaksInHeader before after old new fault ⊎ RowsFollowingHeader bus before after old new (Err (faults.Stream fault))
 WritesCsv bus before after old new (Err (faults.Read fault)) = ⊥
 WritesCsv bus before after old new (Err faults.Memory) = IsUntouched before after old new
 
--- The text has a database, and the log is decoded by it to CSV. Or the log is untouched, and the fault is the first of the text, or
--- memory ran out.
+-- The text has a database, and the log is decoded by it to CSV. Or the log is untouched, and the fault is the first of the text,
+-- or memory ran out.
 abbrev pub RunsToCsv : List ℕ → Short → Unread → Unread → Written → Written → Result ℕ RunFault → Type 0
 RunsToCsv text short before after old new (Ok count) = (database : Database) × HasDatabase text database
     × WritesCsv (record { database = database; short = short }) before after old new (Ok count)

@@ -5,18 +5,18 @@ use Rattle.dbc_records.specs.Records.{Message}
 use Rattle.dbc_records.specs.Databases.{Database}
 use Rattle.byte_devices.specs.Device.{Written, Wrote, Broke}
 use Rattle.dbc_reader.specs.Texts.{HasDatabase, IsRead}
-use Rattle.can_layout.specs.Pictures.{picture_of}
-use Rattle.json_dump.specs.Dumps.{dump_lines}
+use Rattle.can_layout.specs.Diagrams.{picture_of}
+use Rattle.can_json_dump.specs.Dumps.{dump_lines}
 use Rattle.candesk_runs.specs.declared.fault.RunFault.{RunFault}
 use Rattle.candesk_runs.specs.declared.fault.RunFault.TheVariants as faults
-use Rattle.line_stream.specs.declared.fault.StreamFault.TheVariants as streams
+use Rattle.can_line_stream.specs.declared.fault.StreamFault.TheVariants as streams
 
 -- the diagrams of messages, one after another
 abbrev pub pictures_text : Database → List Message → List ℕ
 pictures_text database messages = flat_map (picture_of database) messages
 
--- All diagrams were written, or a beginning of them and then a put failed. Or those of some first messages were, each
--- whole, and then memory ran out. It ends so after the database was read.
+-- All diagrams were written, or a prefix of them and then a put failed. Or those of some first messages were, each whole, and then
+-- memory ran out. It ends in this way after the database was read.
 abbrev pub Draws : Database → List Message → Written → Written → Result (Unit {0}) RunFault → Type 0
 Draws database messages old new (Ok u) = Wrote old new (pictures_text database messages)
 Draws database messages old new (Err (faults.Read fault)) = ⊥
@@ -24,25 +24,24 @@ Draws database messages old new (Err (faults.Stream streams.Write)) = Broke old 
 Draws database messages old new (Err (faults.Stream fault)) = ⊥
 Draws database messages old new (Err faults.Memory) = (count : ℕ) × Wrote old new (pictures_text database (take count messages))
 
--- The text has a database whose diagrams were so written. Or nothing was written, and the fault is the first of the text, or says
--- that memory ran out.
-abbrev pub DumpsPictures : List ℕ → Written → Written → Result (Unit {0}) RunFault → Type 0
-DumpsPictures text old new (Ok u) = (database : Database) × HasDatabase text database × Draws database database.messages old new
+-- The text has a database whose diagrams were written in this way. Or nothing was written, and the fault is the first of the text,
+-- or that memory ran out.
+abbrev pub DumpsDiagrams : List ℕ → Written → Written → Result (Unit {0}) RunFault → Type 0
+DumpsDiagrams text old new (Ok u) = (database : Database) × HasDatabase text database × Draws database database.messages old new
     (Ok u)
-DumpsPictures text old new (Err (faults.Read fault)) = (new ≡ old) × IsRead text (Err fault)
-DumpsPictures text old new (Err (faults.Stream streams.Write)) = (database : Database) × HasDatabase text database
+DumpsDiagrams text old new (Err (faults.Read fault)) = (new ≡ old) × IsRead text (Err fault)
+DumpsDiagrams text old new (Err (faults.Stream streams.Write)) = (database : Database) × HasDatabase text database
     × Draws database database.messages old new (Err (faults.Stream streams.Write))
-DumpsPictures text old new (Err (faults.Stream fault)) = ⊥
-DumpsPictures text old new (Err faults.Memory) = (database : Database) × HasDatabase text database
+DumpsDiagrams text old new (Err (faults.Stream fault)) = ⊥
+DumpsDiagrams text old new (Err faults.Memory) = (database : Database) × HasDatabase text database
     × Draws database database.messages old new (Err faults.Memory)
 
--- ---- objects of JSON
+-- ---- JSON objects
 
 abbrev pub lines_text : List (List ℕ) → List ℕ
 lines_text lines = flat_map (λ line. line) lines
 
--- All lines were written, or a beginning of them and then a put failed. Or some first ones were, each whole, and then memory ran
--- out.
+-- All lines were written, or a prefix of them and then a put failed. Or some first ones were, each whole, and then memory ran out.
 abbrev pub WritesLines : List (List ℕ) → Written → Written → Result (Unit {0}) RunFault → Type 0
 WritesLines lines old new (Ok u) = Wrote old new (lines_text lines)
 WritesLines lines old new (Err (faults.Read fault)) = ⊥
@@ -50,8 +49,8 @@ WritesLines lines old new (Err (faults.Stream streams.Write)) = Broke old new (l
 WritesLines lines old new (Err (faults.Stream fault)) = ⊥
 WritesLines lines old new (Err faults.Memory) = (count : ℕ) × Wrote old new (lines_text (take count lines))
 
--- The text has a database whose objects were so written. Or nothing was written, and the fault is the first of the text, or says
--- that memory ran out.
+-- The text has a database whose objects were written in this way. Or nothing was written, and the fault is the first of the text,
+-- or that memory ran out.
 abbrev pub DumpsObjects : List ℕ → Written → Written → Result (Unit {0}) RunFault → Type 0
 DumpsObjects text old new (Ok u) = (database : Database) × HasDatabase text database
     × WritesLines (dump_lines database) old new (Ok u)

@@ -10,15 +10,15 @@ use Rattle.dbc_reader.specs.Located.{HasLocatedDatabase}
 use Rattle.dbc_reader.specs.declared.start.Starts.{Starts}
 use Rattle.can_findings.specs.declared.finding.Finding.{Finding}
 use Rattle.can_findings.specs.Remedies.{explained_text}
-use Rattle.fault_reports.specs.Headlines.{BeginsSo}
+use Rattle.dbc_faults.specs.Headlines.{BeginsSo}
 use Rattle.can_findings.specs.AllFindings.{all_findings}
 use Rattle.candesk_runs.specs.declared.checking.Verdict.{Verdict}
 use Rattle.candesk_runs.specs.declared.fault.RunFault.{RunFault}
 use Rattle.candesk_runs.specs.declared.fault.RunFault.TheVariants as faults
-use Rattle.line_stream.specs.declared.fault.StreamFault.TheVariants as streams
+use Rattle.can_line_stream.specs.declared.fault.StreamFault.TheVariants as streams
 use Rattle.candesk_runs.specs.Checking.{verdict_of}
 
--- The lines of all with their remedies were written, or a beginning of them and then a put failed.
+-- The lines of all with their remedies were written, or a prefix of them and then a put failed.
 abbrev pub ExplainsAll : List Finding → Written → Written → Result Verdict RunFault → Type 0
 ExplainsAll found old new (Ok verdict) = Wrote old new (flat_map explained_text found) × (verdict ≡ verdict_of found)
 ExplainsAll found old new (Err (faults.Read fault)) = ⊥
@@ -26,7 +26,7 @@ ExplainsAll found old new (Err (faults.Stream streams.Write)) = Broke old new (f
 ExplainsAll found old new (Err (faults.Stream fault)) = ⊥
 ExplainsAll found old new (Err faults.Memory) = ⊥
 
--- So it ended, or nothing was written, and memory ran out.
+-- It ended in this way, or nothing was written, and memory ran out.
 abbrev pub ExplainsFound : List Finding → Written → Written → Result Verdict RunFault → Type 0
 ExplainsFound found old new (Ok verdict) = ExplainsAll found old new (Ok verdict)
 ExplainsFound found old new (Err (faults.Read fault)) = ⊥
@@ -34,8 +34,8 @@ ExplainsFound found old new (Err (faults.Stream streams.Write)) = ExplainsAll fo
 ExplainsFound found old new (Err (faults.Stream fault)) = ⊥
 ExplainsFound found old new (Err faults.Memory) = new ≡ old
 
--- Words on a text with this first fault were written, which begin with its line and its cause, or a beginning of such words, and
--- then a put failed. Or nothing was written, and memory ran out.
+-- Words on a text with this first fault were written, which begin with its line and its cause, or a prefix of such words, and then
+-- a put failed. Or nothing was written, and memory ran out.
 abbrev pub ExplainsFault : ReadFault → Written → Written → Result Verdict RunFault → Type 0
 ExplainsFault first old new (Ok verdict) = ⊥
 ExplainsFault first old new (Err (faults.Read fault)) = (fault ≡ first) × (words : List ℕ) × BeginsSo first words
@@ -44,9 +44,8 @@ ExplainsFault first old new (Err (faults.Stream streams.Write)) = (words : List 
 ExplainsFault first old new (Err (faults.Stream fault)) = ⊥
 ExplainsFault first old new (Err faults.Memory) = new ≡ old
 
--- The text has a database, of which the statements begin there, and its diagnostics were so explained; or it has this first fault,
--- and
--- words on it were written.
+-- The text has a database, whose statements begin there, and its diagnostics were explained in this way; or it has this first
+-- fault, and words on it were written.
 abbrev pub ExplainsText : List ℕ → Written → Written → Result Verdict RunFault → Type 0
 ExplainsText text old new (Ok verdict) = (database : Database) × (starts : Starts) × HasLocatedDatabase text database starts
     × ExplainsFound (all_findings database starts) old new (Ok verdict)

@@ -5,5 +5,5 @@ pub mod Explaining
 pub mod FindingObjects
 pub mod Locating
 pub mod Printing
-pub mod SentLines
 pub mod Statuses
+pub mod inner

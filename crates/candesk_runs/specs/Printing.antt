@@ -6,9 +6,9 @@ use Rattle.byte_devices.specs.Device.{Written, Wrote, Broke}
 use Rattle.dbc_reader.specs.Texts.{HasDatabase, IsRead}
 use Rattle.candesk_runs.specs.declared.fault.RunFault.{RunFault}
 use Rattle.candesk_runs.specs.declared.fault.RunFault.TheVariants as faults
-use Rattle.line_stream.specs.declared.fault.StreamFault.TheVariants as streams
+use Rattle.can_line_stream.specs.declared.fault.StreamFault.TheVariants as streams
 
--- The whole canonical text of a database was written, or a beginning of it and then a put failed.
+-- The whole canonical text of a database was written, or a prefix of it and then a put failed.
 abbrev pub Prints : Database → Written → Written → Result (Unit {0}) RunFault → Type 0
 Prints database old new (Ok u) = Wrote old new (canonical_text database)
 Prints database old new (Err (faults.Read fault)) = ⊥
@@ -16,8 +16,8 @@ Prints database old new (Err (faults.Stream streams.Write)) = Broke old new (can
 Prints database old new (Err (faults.Stream fault)) = ⊥
 Prints database old new (Err faults.Memory) = ⊥
 
--- The text has a database, which was so printed. Or nothing was written, and the fault is the first of the text, or says that
--- memory ran out.
+-- The text has a database, which was printed in this way. Or nothing was written, and the fault is the first of the text, or
+-- that memory ran out.
 abbrev pub PrintsText : List ℕ → Written → Written → Result (Unit {0}) RunFault → Type 0
 PrintsText text old new (Ok u) = (database : Database) × HasDatabase text database × Prints database old new (Ok u)
 PrintsText text old new (Err (faults.Read fault)) = (new ≡ old) × IsRead text (Err fault)

@@ -2,7 +2,7 @@
 use Rattle.std.specs.Prelude.{◌≡◌, ℕ, Result, Ok, Err}
 use Rattle.dbc_tokens.specs.declared.fault.Cause.{Cause}
 use Rattle.dbc_tokens.specs.declared.fault.Cause.TheVariants as causes
-use Rattle.line_stream.specs.declared.fault.StreamFault.TheVariants as streams
+use Rattle.can_line_stream.specs.declared.fault.StreamFault.TheVariants as streams
 use Rattle.candesk_runs.specs.declared.fault.RunFault.{RunFault}
 use Rattle.candesk_runs.specs.declared.fault.RunFault.TheVariants as faults
 
@@ -10,7 +10,7 @@ use Rattle.candesk_runs.specs.declared.fault.RunFault.TheVariants as faults
 abbrev pub done : ℕ
 done = 0
 
--- the database was refused
+-- the database was rejected
 abbrev pub refused : ℕ
 refused = 1
 
@@ -18,7 +18,7 @@ refused = 1
 abbrev pub has_diagnostics : ℕ
 has_diagnostics = 1
 
--- the words are no job
+-- the words name no job
 abbrev pub usage : ℕ
 usage = 2
 
@@ -26,11 +26,11 @@ usage = 2
 abbrev pub device : ℕ
 device = 3
 
--- an allocation was refused
+-- an allocation failed
 abbrev pub memory : ℕ
 memory = 4
 
--- the exit status of a text that is not read
+-- the exit status of a text that isn't read
 abbrev pub status_of_cause : Cause → ℕ
 status_of_cause causes.Memory = memory
 status_of_cause causes.Token = refused
@@ -54,7 +54,7 @@ abbrev pub status_of : {A : Type 0} → (A → ℕ) → Result A RunFault → �
 status_of of_value (Ok x) = of_value x
 status_of of_value (Err fault) = status_of_fault fault
 
--- whatever it gives
+-- that of success, whatever the value
 abbrev pub well : {A : Type 0} → A → ℕ
 well x = done
 

@@ -7,13 +7,13 @@ ghost use Rattle.byte_devices.specs.Outs.{SameSink};
 use crate::fault::RunFault;
 use byte_devices::Out;
 use can_check::{Diagnostic, Report, Stop, report_all, send_lines};
+use can_line_stream::StreamFault;
 use dbc_model::{Sink, WriteFault};
 use dbc_reader::read;
 use dbc_records::Database;
-use line_stream::StreamFault;
 use std::alloc::Global;
 
-/// What is said of a database as a whole.
+/// The verdict on a database as a whole.
 #[derive(Clone, Copy, Debug, PartialEq, Eq)]
 pub enum Verdict {
     /// There are no diagnostics.
@@ -23,7 +23,7 @@ pub enum Verdict {
 }
 
 /// The verdict on a database in which these things were found.
-pub fn verdict_of<T>(found: &[T]) -> Verdict
+pub(crate) fn verdict_of<T>(found: &[T]) -> Verdict
     ensures { result ≡ verdict_of found.now }
 {
     match found {
@@ -32,7 +32,7 @@ pub fn verdict_of<T>(found: &[T]) -> Verdict
     }
 }
 
-// The lines of diagnostics, on their way to a sink, and the verdict on those so far.
+// The lines of diagnostics, on their way to a sink, and the verdict so far.
 #[derive(Drop)]
 struct Lines<'w, W: Sink> {
     out: Out<'w, W>,
@@ -51,7 +51,7 @@ fn verdict_then(first: Verdict, later: Verdict) -> Verdict
 
 impl<'w, W: Sink> Report for Lines<'w, W> {
     ghost use Rattle.candesk_runs.specs.Checking.{TookLines, StoppedLines};
-    ghost use Rattle.candesk_runs.specs.SentLines.{took_none, took_then, stopped_after, stopped_before, refused};
+    ghost use Rattle.candesk_runs.specs.inner.SentLines.{took_none, took_then, stopped_after, stopped_before, refused};
 
     ghost Took = { λ old new found. TookLines W.written old.out new.out old.verdict new.verdict found };
 
@@ -91,7 +91,7 @@ impl<'w, W: Sink> Lines<'w, W> {
     }
 }
 
-// Puts what waits, after which it ends so, unless the put fails.
+// Puts what is buffered, after which it ends in this way, unless the put fails.
 fn flushed<W: Sink>(
     out: &mut Out<'_, W>,
     outcome: Result<Verdict, RunFault>,
@@ -105,7 +105,7 @@ fn flushed<W: Sink>(
     }
 }
 
-// Looks at all of the database, and writes the lines as they are found.
+// Checks all of the database, and writes the lines as they are found.
 fn say_all<W: Sink>(alloc: Global, database: &Database, sink: &mut W) -> Result<Verdict, RunFault>
     ensures { Says (all_faults database.now) (W.written sink.old) (W.written sink.new) result }
 {

@@ -1,16 +1,16 @@
-//! A database text and a log in, decoded lines or objects of JSON out.
+//! A database text and a log in, decoded lines or JSON objects out.
 ghost use Rattle.can_decode.specs.DecodedLines.{bus_line};
-ghost use Rattle.json_lines.specs.Lines.{json_line};
+ghost use Rattle.can_json_lines.specs.Lines.{json_line};
 ghost use Rattle.candesk_runs.specs.Decoding.{Writes, Runs, RunsToJson, RunsToTexts};
 
 use crate::fault::RunFault;
 use can_decode::{Decoding, Short, decode_stream_by};
+use can_json_lines::{JsonDecoding, json_stream_by};
 use can_layout::Meter;
 use dbc_model::{Memory, Sink, Source};
 use dbc_reader::read;
 use dbc_records::Database;
 use dbc_tokens::Cause;
-use json_lines::{JsonDecoding, json_stream_by};
 use std::alloc::Global;
 
 // What is written for the lines of a log.
@@ -108,7 +108,7 @@ fn prepare_and_stream<R: Source, W: Sink>(
     }
 }
 
-// Objects of JSON.
+// JSON objects.
 #[derive(Drop)]
 struct Json {
     short: Short,
@@ -151,8 +151,7 @@ fn run_with<T: LogTexts, R: Source, W: Sink>(
 }
 
 /// Reads the database text, makes the plans of its messages, then reads the log to its end, and writes the decoded line and an LF
-/// for each line of it. `short` tells what is said of frames that are shorter than their message. It answers how many lines there
-/// are, up to `u64::MAX`.
+/// for each line of it. `short` determines how truncated frames are decoded. It returns how many lines there are, up to `u64::MAX`.
 #[inline(never)]
 pub fn decode_run<R: Source, W: Sink>(
     alloc: Global,
@@ -166,7 +165,7 @@ pub fn decode_run<R: Source, W: Sink>(
     run_with(alloc, text, &Plain { short }, source, sink)
 }
 
-/// As [`decode_run`], with an object of JSON in place of each decoded line.
+/// Like [`decode_run`], with a JSON object instead of each decoded line.
 #[inline(never)]
 pub fn decode_json_run<R: Source, W: Sink>(
     alloc: Global,

@@ -1,12 +1,12 @@
 //! A database text in, the diagrams of its messages out.
-ghost use Rattle.candesk_runs.specs.Dumping.{Draws, DumpsPictures};
+ghost use Rattle.candesk_runs.specs.Dumping.{Draws, DumpsDiagrams};
 
 use crate::fault::RunFault;
 use can_layout::{Indexed, Lookup, Meter, picture_with};
+use can_line_stream::StreamFault;
 use dbc_model::{Sink, WriteFault, put_all};
 use dbc_reader::read;
 use dbc_records::{Database, Message};
-use line_stream::StreamFault;
 use std::alloc::Global;
 
 // Writes the diagram of each message as soon as it is made.
@@ -43,7 +43,7 @@ fn draw_all<W: Sink>(alloc: Global, database: &Database, sink: &mut W) -> Result
 /// Reads the database text to its end, and then writes the diagrams of its messages in order, each as soon as it is made.
 #[inline(never)]
 pub fn dump_run<W: Sink>(alloc: Global, text: &[u8], sink: &mut W) -> Result<(), RunFault>
-    ensures { DumpsPictures text.now (W.written sink.old) (W.written sink.new) result }
+    ensures { DumpsDiagrams text.now (W.written sink.old) (W.written sink.new) result }
 {
     match read(alloc, text) {
         Ok(database) => draw_all(alloc, &database, sink),

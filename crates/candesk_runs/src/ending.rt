@@ -6,20 +6,20 @@ ghost use Rattle.candesk_runs.specs.Statuses.{status_of, status_of_cause, status
 use crate::checking::Verdict;
 use crate::fault::RunFault;
 use arrayvec::ArrayString;
+use can_line_stream::StreamFault;
 use dbc_model::{Sink, put_all};
 use dbc_tokens::Cause;
-use line_stream::StreamFault;
 use std::fmt::{Display, Write};
 
 /// The exit statuses.
 pub mod status {
     /// All went well.
     pub const DONE: u8 = 0;
-    /// The database was refused.
+    /// The database was rejected.
     pub const REFUSED: u8 = 1;
     /// The database has diagnostics.
     pub const HAS_DIAGNOSTICS: u8 = 1;
-    /// The words are no job.
+    /// The words name no job.
     pub const USAGE: u8 = 2;
     /// A file, a read or a write failed, or a line was too long.
     pub const DEVICE: u8 = 3;
@@ -27,7 +27,7 @@ pub mod status {
     pub const MEMORY: u8 = 4;
 }
 
-// The status of a text that is not read.
+// The status of a text that isn't read.
 fn status_of_cause(cause: Cause) -> u8
     ensures { result ≡ status_of_cause cause }
 {
@@ -50,18 +50,18 @@ fn status_of_fault(fault: RunFault) -> u8
     }
 }
 
-// Room for the longest fault line.
-const LONGEST_FAULT: usize = 96;
+// Space for the longest fault line.
+const MAX_FAULT_SIZE: usize = 96;
 
-/// Writes a fault's line, `candesk: ` and what is said of it. It takes no memory, and where the sink fails nothing more
-/// can be said. It only prints, so no clause says what is written.
+/// Writes a fault's line: `candesk: ` and its message. It allocates nothing, and if the sink fails nothing more can be reported. It
+/// only prints, so no clause states what is written.
 pub fn report<E: Sink>(errors: &mut E, fault: impl Display + Drop) {
-    let mut line: ArrayString<LONGEST_FAULT> = ArrayString::new();
+    let mut line: ArrayString<MAX_FAULT_SIZE> = ArrayString::new();
     let _ = writeln!(line, "candesk: {fault}");
     let _ = put_all(errors, line.as_bytes());
 }
 
-// Writes the line of a fault; its exit status.
+// Writes the line of a fault, and returns its exit status.
 fn report_fault<E: Sink>(errors: &mut E, fault: RunFault) -> u8
     ensures { result ≡ status_of_fault fault }
 {
@@ -69,7 +69,7 @@ fn report_fault<E: Sink>(errors: &mut E, fault: RunFault) -> u8
     status_of_fault(fault)
 }
 
-/// Writes the line of the fault that a run ended with, if it did, to `errors`; its exit status.
+/// Writes the line of the fault with which a run ended, if it did, to `errors`, and returns its exit status.
 pub fn ended<T: Copy, E: Sink>(outcome: Result<T, RunFault>, errors: &mut E) -> u8
     ensures { result ≡ status_of well outcome }
 {
@@ -79,7 +79,7 @@ pub fn ended<T: Copy, E: Sink>(outcome: Result<T, RunFault>, errors: &mut E) -> 
     }
 }
 
-/// The same of a run that has a verdict on the database.
+/// The same for a run that has a verdict on the database.
 pub fn ended_with_verdict<E: Sink>(outcome: Result<Verdict, RunFault>, errors: &mut E) -> u8
     ensures { result ≡ status_of verdict_status outcome }
 {

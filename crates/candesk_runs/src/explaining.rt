@@ -7,12 +7,12 @@ ghost use Rattle.candesk_runs.specs.Explaining.{ExplainsAll, ExplainsFound, Expl
 use crate::checking::{Verdict, verdict_of};
 use crate::fault::RunFault;
 use can_findings::{Finding, all_findings, write_explained};
+use can_line_stream::StreamFault;
+use dbc_faults::fault_report;
 use dbc_model::{Memory, Sink, WriteFault, put_all};
 use dbc_reader::{Starts, read_with_starts};
 use dbc_records::Database;
 use dbc_tokens::{Cause, ReadFault};
-use fault_reports::fault_report;
-use line_stream::StreamFault;
 use std::alloc::Global;
 
 // Writes diagnostics after their lines, with their remedies.
@@ -40,7 +40,7 @@ fn explain_database<W: Sink>(
     }
 }
 
-// Writes what is said of the faults of a text, of which this is the first.
+// Writes the report on the faults of a text, of which this is the first.
 fn explain_fault<W: Sink>(
     alloc: Global,
     text: &[u8],

@@ -1,4 +1,4 @@
-//! A database text in, objects of JSON for its diagnostics out.
+//! A database text in, JSON objects for its diagnostics out.
 ghost use Rattle.std.specs.Prelude.{◌≡◌};
 ghost use Rattle.dbc_reader.specs.Grammar as grammar;
 ghost use Rattle.dbc_reader.specs.Texts.{HasFirstFault};
@@ -8,12 +8,12 @@ ghost use Rattle.candesk_runs.specs.FindingObjects.{WritesLinesOf, WritesFinding
 use crate::checking::{Verdict, verdict_of};
 use crate::fault::RunFault;
 use can_findings::{Finding, all_findings};
+use can_json_findings::{fault_lines, finding_line};
+use can_line_stream::StreamFault;
 use dbc_model::{Memory, Sink, WriteFault, put_all};
 use dbc_reader::{Starts, read_with_starts};
 use dbc_records::Database;
 use dbc_tokens::{Cause, ReadFault};
-use json_findings::{fault_lines, finding_line};
-use line_stream::StreamFault;
 use std::alloc::Global;
 
 // Writes the line of each finding as soon as it is made.
@@ -87,9 +87,9 @@ fn write_faults<W: Sink>(
     }
 }
 
-/// Reads the database text, and writes an object for each of its diagnostics, in `check`'s order, with its remedy and the byte
-/// ranges of the parts that it is about. If the text is rejected, writes an object for its first fault and, as guesses, for later
-/// ones.
+/// Reads the database text, and writes an object for each of its diagnostics, in `check`'s order, with its remedy and the
+/// byte ranges of the parts that it is about. If the text is rejected, writes an object for its first fault and, as
+/// guesses, for later ones.
 #[inline(never)]
 pub fn explain_json_run<W: Sink>(
     alloc: Global,

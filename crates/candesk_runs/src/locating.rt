@@ -1,13 +1,13 @@
-//! A database text in, objects of JSON with the bytes of its messages, signals and entries out.
+//! A database text in, JSON objects with the bytes of its messages, signals and entries out.
 ghost use Rattle.dbc_reader.specs.Located.{HasLocatedDatabase};
 ghost use Rattle.candesk_runs.specs.Locating.{WritesLocations};
 
 use crate::fault::RunFault;
+use can_json_locations::location_lines;
+use can_line_stream::StreamFault;
 use dbc_model::{Sink, WriteFault, put_all};
 use dbc_reader::{Starts, read_with_starts};
 use dbc_records::Database;
-use json_locations::location_lines;
-use line_stream::StreamFault;
 use std::alloc::Global;
 
 // Writes the locations of a database whose statements begin there.

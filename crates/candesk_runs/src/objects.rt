@@ -1,14 +1,14 @@
-//! A database text in, objects of JSON out.
-ghost use Rattle.json_dump.specs.Dumps.{dump_lines};
+//! A database text in, JSON objects out.
+ghost use Rattle.can_json_dump.specs.Dumps.{dump_lines};
 ghost use Rattle.candesk_runs.specs.Dumping.{WritesLines, DumpsObjects};
 
 use crate::fault::RunFault;
+use can_json_dump::Dump;
 use can_layout::{Indexed, Lookup};
+use can_line_stream::StreamFault;
 use dbc_model::{Sink, WriteFault, put_all};
 use dbc_reader::read;
 use dbc_records::Database;
-use json_dump::Dump;
-use line_stream::StreamFault;
 use std::alloc::Global;
 
 // Writes each line as soon as it is made.
@@ -19,8 +19,8 @@ fn write_lines<L: Lookup, W: Sink>(
 ) -> Result<(), RunFault>
     ensures { WritesLines (dump_lines dump.now) (W.written sink.old) (W.written sink.new) result }
 {
-    for place in 0..dump.len() {
-        let Ok(line) = dump.line(alloc, place) else {
+    for index in 0..dump.len() {
+        let Ok(line) = dump.line(alloc, index) else {
             return Err(RunFault::Memory);
         };
         if let Err(WriteFault) = put_all(sink, line.as_slice()) {

@@ -2,10 +2,10 @@
 ghost use Rattle.candesk_runs.specs.Printing.{Prints, PrintsText};
 
 use crate::fault::RunFault;
+use can_line_stream::StreamFault;
 use dbc_model::{Sink, WriteFault, print};
 use dbc_reader::read;
 use dbc_records::Database;
-use line_stream::StreamFault;
 use std::alloc::Global;
 
 // Writes the canonical text of a database.

@@ -3,17 +3,17 @@ ghost use Rattle.std.specs.Prelude.{◌≡◌};
 ghost use Rattle.candesk_runs.specs.Decoding.{WritesRows, WritesCsv, RunsToCsv};
 
 use crate::fault::RunFault;
+use can_csv_lines::{CsvDecoding, csv_stream_by, header};
 use can_decode::{Decoding, Short};
 use can_layout::Meter;
-use csv_lines::{CsvDecoding, csv_stream_by, header};
+use can_line_stream::StreamFault;
 use dbc_model::{Memory, Sink, Source, put_all};
 use dbc_reader::read;
 use dbc_records::Database;
 use dbc_tokens::Cause;
-use line_stream::StreamFault;
 use std::alloc::Global;
 
-// Writes the entries of each line.
+// Writes the rows of each line.
 fn stream_rows<R: Source, W: Sink>(
     alloc: Global,
     decoding: &CsvDecoding<'_>,
@@ -61,7 +61,7 @@ fn prepare_and_write_csv<R: Source, W: Sink>(
     }
 }
 
-// The same of a database.
+// The same for a database.
 fn csv_of<R: Source, W: Sink>(
     alloc: Global,
     database: Database,
@@ -79,7 +79,7 @@ fn csv_of<R: Source, W: Sink>(
     }
 }
 
-/// As [`decode_run`](crate::decode_run), with a row of CSV for each signal that is shown in place of the decoded lines, after a
+/// Like [`decode_run`](crate::decode_run), with a row of CSV for each signal that is shown instead of the decoded lines, after a
 /// row that names the columns. That one is written before the log is read.
 #[inline(never)]
 pub fn decode_csv_run<R: Source, W: Sink>(

@@ -1,5 +1,5 @@
-//! Fault lines, and that calls succeed where memory is there. `tests/run_rows` tries the built program on more words,
-//! databases and logs.
+//! Fault lines, and that calls succeed if there is enough memory. `tests/test_run_rows.py` tries the built program on more
+//! words, databases and logs.
 
 use byte_devices::limp::Limp;
 use candesk_calls::{
@@ -28,7 +28,7 @@ fn sink(alloc: Global, limit: usize) -> Limp {
     Limp::new(Vec::new(alloc), 5, u64::MAX, limit)
 }
 
-// Whether a job on WHEEL, over devices that fail after so many bytes, ends with this status, output and fault line.
+// Whether a job on WHEEL, over devices that fail after this many bytes, ends with this status, output and fault line.
 fn ends_so(
     alloc: Global,
     command: Command,
@@ -58,7 +58,7 @@ fn runs(rt: HostRuntime) -> Result<(), AllocError> {
     let table: [(Command, (usize, usize), u8, &[u8], &[u8]); 6] = [
         (check, (0, ALL), status::DONE, b"", b""),
         (decode, (ALL, ALL), status::DONE, DECODED, b""),
-        // of the lines of which the LF was read
+        // of the lines whose LF was read
         (
             decode,
             (22, ALL),

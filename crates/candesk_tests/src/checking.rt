@@ -7,18 +7,18 @@ use dbc_records::Database;
 use std::alloc::Global;
 use std::test::Fail;
 
-// A number that is no identifier, and a sender that isn't there.
-const DOUBTFUL: &[u8] = b"BU_: Ecu\nBO_ 2048 A: 8 N\n";
+// A CAN identifier that is invalid, and a sender that doesn't exist.
+const FAULTY: &[u8] = b"BU_: Ecu\nBO_ 2048 A: 8 N\n";
 
 // Whether the diagnostic at an index has the code.
-fn has_code(found: &[Diagnostic], place: usize, code: Code) -> bool {
-    match found.get(place) {
+fn has_code(found: &[Diagnostic], index: usize, code: Code) -> bool {
+    match found.get(index) {
         Some(diagnostic) => diagnostic.code == code,
         None => false,
     }
 }
 
-// Whether both are found, and all of the one message.
+// Whether both are found, and all for the one message.
 fn both_found(alloc: Global, database: &Database) -> Result<bool, Fail>
     requires { 0 < length database.now.messages }
 {
@@ -33,7 +33,7 @@ fn both_found(alloc: Global, database: &Database) -> Result<bool, Fail>
 }
 
 fn has_diagnostics(alloc: Global) -> Result<bool, Fail> {
-    let database = database(alloc, DOUBTFUL)?;
+    let database = database(alloc, FAULTY)?;
     both_found(alloc, &database)
 }
 

@@ -1,5 +1,5 @@
-//! That lines are decoded, in whatever pieces they come and by either choice for truncated frames, and what is written where a
-//! device fails.
+//! That lines are decoded, in whatever pieces they come and by either choice for truncated frames, and what is written
+//! if a device fails.
 
 use crate::reading::database;
 use byte_devices::limp::Limp;
@@ -44,12 +44,12 @@ fn decode(
     ))
 }
 
-// The log, in pieces of at most so many bytes, of which so many can be read.
+// The log, in pieces of at most this many bytes, of which this many can be read.
 fn log(alloc: Global, most: usize, read: usize) -> Result<Limp, Memory> {
     Ok(Limp::new(LOG.to_vec(alloc)?, most.max(1), u64::MAX, read))
 }
 
-// Whether the log ends so, and with this output, where so many bytes of it can be written.
+// Whether the log ends in this way, and with this output, if this many bytes of it can be written.
 fn ends(
     alloc: Global,
     database: &Database,
@@ -63,7 +63,7 @@ fn ends(
     Ok(ended == wanted && sink.bytes() == output)
 }
 
-// Whether all is decoded from pieces of at most so many bytes.
+// Whether all is decoded from pieces of at most this many bytes.
 fn is_decoded(alloc: Global, database: &Database, most: usize) -> Result<bool, Memory> {
     let source = log(alloc, most, usize::MAX)?;
     ends(alloc, database, source, usize::MAX, Ok(5), DECODED)
@@ -90,7 +90,7 @@ fn pieces(rt: HostRuntime) -> Result<(), Fail> {
     Ok(())
 }
 
-// Whether the log ends so with a beginning of its output, where so many bytes of both can be moved.
+// Whether the log ends in this way with a prefix of its output, if this many bytes of both can be moved.
 fn breaks_off(
     alloc: Global,
     database: &Database,
@@ -107,13 +107,13 @@ fn breaks_off(
     }
 }
 
-// How much is written where a read fails within the second line.
+// How much is written if a read fails within the second line.
 fn unread(alloc: Global, database: &Database) -> Result<usize, Memory> {
     let source = log(alloc, 9, 25)?;
     breaks_off(alloc, database, source, usize::MAX, StreamFault::Read)
 }
 
-// How much is written where so much can be.
+// How much is written if this many bytes can be.
 fn unwritten(alloc: Global, database: &Database, written: usize) -> Result<usize, Memory> {
     let source = log(alloc, 4096, usize::MAX)?;
     breaks_off(alloc, database, source, written, StreamFault::Write)
@@ -129,7 +129,7 @@ fn all_written(alloc: Global, database: &Database) -> Result<bool, Fail> {
     Ok(true)
 }
 
-// How much is written where reading fails, and whether as much is as can be where writing does.
+// How much is written if reading fails, and whether as much as possible is written if writing fails.
 fn broken_off(alloc: Global) -> Result<(usize, bool), Fail> {
     let database = database(alloc, TWO)?;
     both_broken_off(alloc, &database)
@@ -147,7 +147,7 @@ fn failing_devices(rt: HostRuntime) -> Result<(), Fail> {
     Ok(())
 }
 
-// Lines, what is chosen for truncated frames, and what is said of them.
+// Lines, the option for truncated frames, and their decoded lines.
 const LINES: [(&[u8], Short, &[u8]); 3] = [
     (
         b"(1.0)  c  123#0102 R\r",
@@ -162,7 +162,7 @@ const LINES: [(&[u8], Short, &[u8]); 3] = [
     (b"(1.0) c 123#01", Short::Show, b"(1.0) c 123#01 :: A(S: 1)"),
 ];
 
-// Whether each line is decoded so by itself, and counted.
+// Whether each line is decoded in this way by itself, and counted.
 fn are_lines_decoded(alloc: Global, database: &Database) -> Result<bool, Memory> {
     let mut meter = Meter::new();
     let plans = make_plans(alloc, database, &mut meter)?;

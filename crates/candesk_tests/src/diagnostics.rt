@@ -1,4 +1,4 @@
-//! What no contract says: that calls succeed, and one line of each form.
+//! What no contract states: that calls succeed, and one line of each form.
 
 use byte_devices::WriteFault;
 use byte_devices::limp::Limp;
@@ -22,7 +22,7 @@ fn text(alloc: Global, bytes: &[u8]) -> Result<Text, Fail> {
     }
 }
 
-// Whether the line is this, at a sink that takes 5 bytes at a time.
+// Whether the line is this one, at a sink that takes 5 bytes at a time.
 fn is_written(alloc: Global, found: &Diagnostic, wanted: &[u8]) -> bool {
     let mut sink = Limp::new(Vec::new(alloc), 5, u64::MAX, usize::MAX);
     write_diagnostic(found, &mut sink).is_ok() && sink.bytes() == wanted
@@ -214,7 +214,7 @@ fn all_made(alloc: Global, parts: &Parts) -> Result<[bool; 6], Fail> {
     ])
 }
 
-// Whoever has such parts of its own and leaves in many ways is long in proving, so they are reported at once.
+// A function that owns such parts and has many exits takes long to prove, so they are reported at once.
 fn made_of_parts(alloc: Global) -> Result<[bool; 6], Fail> {
     let parts = new_parts(alloc)?;
     all_made(alloc, &parts)

@@ -1,4 +1,4 @@
-//! That value descriptions are found, decoded and checked, whatever the order of their numbers: more than sixteen, and sixteen.
+//! That value descriptions are found, decoded and checked, whatever the order of their raw values: more than sixteen, and sixteen.
 
 use crate::reading::database;
 use can_check::{Code, Diagnostic, Subject, all_faults};
@@ -9,7 +9,7 @@ use dbc_values::Memory;
 use std::alloc::Global;
 use std::test::Fail;
 
-// Signals whose numbers rise, fall, are in no order, rise except for one that is repeated, and, signed, fall: seventeen of each.
+// Signals whose raw values rise, fall, are in no order, rise except for one that is repeated, and, signed, fall: seventeen of each.
 // Then sixteen that rise, and sixteen that fall except for one that is repeated.
 const SEVEN: &[u8] = b"\
 BU_: N
@@ -37,7 +37,7 @@ VAL_ 5 TwiceFew 130 \"a\" 128 \"b\" 128 \"c\" 126 \"d\" 124 \"e\" 122 \"f\" 120 
  116 \"i\" 114 \"j\" 112 \"k\" 110 \"l\" 108 \"m\" 106 \"n\" 104 \"o\" 102 \"p\";
 ";
 
-// The order of the value descriptions of each entry.
+// The order of the value descriptions of each `VAL_` entry.
 const ORDERS: [(usize, Option<EntryOrder>); 7] = [
     (0, Some(EntryOrder::Rising)),
     (1, Some(EntryOrder::Falling)),
@@ -97,10 +97,10 @@ const LINES: [(&[u8], &[u8]); 3] = [
     ),
 ];
 
-// Whether the value descriptions of each entry are in the order, or in none.
+// Whether the value descriptions of each `VAL_` entry are in the order, or in none.
 fn are_in_orders(database: &Database) -> bool {
-    for (place, order) in ORDERS {
-        match database.values.as_slice().get(place) {
+    for (index, order) in ORDERS {
+        match database.values.as_slice().get(index) {
             Some(row) if row.entries.order() == order => {}
             _ => return false,
         }
@@ -109,19 +109,19 @@ fn are_in_orders(database: &Database) -> bool {
 }
 
 // How the signal at an index is read.
-fn decoder_of(plan: &Plan, place: usize) -> Option<&Decoder> {
-    if place >= plan.signals() {
+fn decoder_of(plan: &Plan, index: usize) -> Option<&Decoder> {
+    if index >= plan.signals() {
         return None;
     }
-    match &plan.row(place).reading {
+    match &plan.row(index).reading {
         Reading::Read(decoder) => Some(decoder),
         Reading::Refused(_) => None,
     }
 }
 
 // Whether the first entry for a raw value has the text.
-fn is_found(plan: &Plan, place: usize, raw: i128, wanted: &[u8]) -> bool {
-    let Some(decoder) = decoder_of(plan, place) else {
+fn is_found(plan: &Plan, index: usize, raw: i128, wanted: &[u8]) -> bool {
+    let Some(decoder) = decoder_of(plan, index) else {
         return false;
     };
     match decoder.entry(raw) {
@@ -131,8 +131,8 @@ fn is_found(plan: &Plan, place: usize, raw: i128, wanted: &[u8]) -> bool {
 }
 
 fn all_found(plan: &Plan) -> bool {
-    for (place, raw, wanted) in FOUND {
-        if !is_found(plan, place, raw, wanted) {
+    for (index, raw, wanted) in FOUND {
+        if !is_found(plan, index, raw, wanted) {
             return false;
         }
     }
@@ -161,7 +161,7 @@ fn are_decoded(alloc: Global, database: &Database) -> Result<bool, Memory> {
     Ok(true)
 }
 
-// Whether a diagnostic is that a signal has an earlier entry for a raw value.
+// Whether a diagnostic is that a signal has an earlier value description for a raw value.
 fn is_repeated(diagnostic: &Diagnostic, name: &[u8], raw: i128) -> bool {
     match &diagnostic.subject {
         Subject::Value(_, _, signal, value) => {
@@ -171,7 +171,7 @@ fn is_repeated(diagnostic: &Diagnostic, name: &[u8], raw: i128) -> bool {
     }
 }
 
-// Whether the two repeated numbers are reported, and nothing else.
+// Whether the two repeated raw values are reported, and nothing else.
 fn are_reported(alloc: Global, database: &Database) -> Result<bool, Memory> {
     let found = all_faults(alloc, database)?;
     match found.as_slice() {

@@ -1,5 +1,5 @@
 //! A frame of each kind, and a line that is none.
-use log_frames::{Kind, read_frame};
+use can_frames::{Kind, read_frame};
 use std::test::Fail;
 
 #[test]

@@ -1,6 +1,6 @@
-//! What no contract says: that calls succeed.
+//! What no contract states: that calls succeed.
 
-use can_keys::{EntryKeys, Names, Numbers, SignalNames, all_differ, entry_hash};
+use can_references::{EntryKeys, Names, Numbers, SignalNames, all_differ, entry_hash};
 use dbc_records::{Comment, DatabaseEntry, EntryKeyRef, Object, Target, TargetRef};
 use dbc_values::Text;
 use std::test::Fail;

@@ -37,7 +37,7 @@ fn all_made(alloc: Global, database: &Database) -> Result<bool, Fail> {
     Ok(plans.len() == 1 && drawn.len() == 1 && meter.plans() == 1 && meter.pictures() == 1)
 }
 
-const PICTURE: &[u8] = b"\
+const DIAGRAM: &[u8] = b"\
 Message A 5 2
    0:   .   .   .   .   .   .   .   .
    1:   0   0   0   0   0   0   0   0
@@ -50,7 +50,7 @@ fn all_right(alloc: Global, database: &Database) -> Result<bool, Fail>
 {
     let drawn = picture(alloc, database, 0, &mut Meter::new())?;
     Ok(
-        drawn.as_slice() == PICTURE
+        drawn.as_slice() == DIAGRAM
             && first_raw(alloc, database, &[1, 42])? == 42
             && all_made(alloc, database)?,
     )
@@ -82,8 +82,8 @@ fn has_first(database: &Database) -> bool
     }
 }
 
-// Whether one multiplexor stands above the first signal.
-fn has_one_above(alloc: Global, database: &Database) -> Result<bool, Memory> {
+// Whether the first signal has one multiplexor.
+fn has_one_link(alloc: Global, database: &Database) -> Result<bool, Memory> {
     if !has_first(database) {
         return Ok(false);
     }
@@ -95,16 +95,16 @@ fn has_one_above(alloc: Global, database: &Database) -> Result<bool, Memory> {
 
 fn is_chained(alloc: Global) -> Result<bool, Fail> {
     let database = database(alloc, CHAINED)?;
-    Ok(has_one_above(alloc, &database)?)
+    Ok(has_one_link(alloc, &database)?)
 }
 
 #[test]
-fn a_way_up(rt: HostRuntime) -> Result<(), Fail> {
+fn a_multiplexing_chain(rt: HostRuntime) -> Result<(), Fail> {
     assert!(rt; is_chained(rt.alloc())?);
     Ok(())
 }
 
-// A signal below a multiplexor below a multiplexor, with many numbers of its own one.
+// A signal below a multiplexor below a multiplexor, with many raw values of its own one.
 const DEEP: &[u8] = b"\
 BO_ 5 A: 3 N
  SG_ S m0 : 16|8@1+ (1,0) [0|0] \"\"
@@ -114,7 +114,7 @@ SG_MUL_VAL_ 5 S T 9-9, 1-5, 2-3, 20-20, 22-22, 24-24, 26-26, 28-28, 30-30, 32-32
 SG_MUL_VAL_ 5 T U 1-1;
 ";
 
-// Whether the first signal of a plan is there in data, by the plan and as it is looked for.
+// Whether the first signal of a plan is present in data, by the plan and as it is looked up.
 fn is_first_there(alloc: Global, plan: &Plan, bytes: &[u8]) -> Result<bool, Memory>
     requires { 0 < length plan.now.rows }
 {
@@ -123,8 +123,8 @@ fn is_first_there(alloc: Global, plan: &Plan, bytes: &[u8]) -> Result<bool, Memo
     Ok(plan.present(0, bytes) && presence.has(0) && by_runs.has(0) && by_runs.run_from(0).0)
 }
 
-// Whether the chain leads by way of places 1 and 2, and the first link has the number 4 and not 6.
-fn leads_up(chain: &Chain) -> bool {
+// Whether the chain leads through indexes 1 and 2, and the first link has the raw value 4 and not 6.
+fn has_both_links(chain: &Chain) -> bool {
     let (Some(own), Some(next)) = (chain.link(0), chain.link(1)) else {
         return false;
     };
@@ -141,7 +141,7 @@ fn is_deep(alloc: Global, plan: &Plan) -> Result<bool, Memory> {
         return Ok(false);
     }
     let leads = match &plan.row(0).chain {
-        Some(chain) => leads_up(chain),
+        Some(chain) => has_both_links(chain),
         None => false,
     };
     Ok(
@@ -153,14 +153,14 @@ fn is_deep(alloc: Global, plan: &Plan) -> Result<bool, Memory> {
     )
 }
 
-fn is_found_upwards(alloc: Global) -> Result<bool, Fail> {
+fn is_chain_found(alloc: Global) -> Result<bool, Fail> {
     let database = database(alloc, DEEP)?;
     let plan = make_plan(alloc, &database, 0, &mut Meter::new())?;
     Ok(is_deep(alloc, &plan)?)
 }
 
 #[test]
-fn switches_under_switches(rt: HostRuntime) -> Result<(), Fail> {
-    assert!(rt; is_found_upwards(rt.alloc())?);
+fn nested_multiplexors(rt: HostRuntime) -> Result<(), Fail> {
+    assert!(rt; is_chain_found(rt.alloc())?);
     Ok(())
 }

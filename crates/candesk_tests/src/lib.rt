@@ -1,5 +1,5 @@
-//! Tests of checks, plans, diagrams, decoding and whole runs: what no contract says of them. They stand apart, as a crate with
-//! tests is proved once more with them. So do those of the entries, diagnostics, keys, frames, ready texts and words below.
+//! Tests of checks, plans, diagrams, decoding and whole runs: what no contract states about them. They are separate, as a crate
+//! with tests is proved once more with them. So are those of the entries, diagnostics, keys, frames, ready texts and words below.
 #![tactic(auto)]
 
 #[cfg(test)]
@@ -15,6 +15,8 @@ mod entries;
 #[cfg(test)]
 mod frames;
 #[cfg(test)]
+mod identifiers;
+#[cfg(test)]
 mod keys;
 #[cfg(test)]
 mod layouts;
@@ -22,8 +24,6 @@ mod layouts;
 mod reading;
 #[cfg(test)]
 mod ready;
-#[cfg(test)]
-mod rows;
 #[cfg(test)]
 mod visiting;
 #[cfg(test)]

@@ -7,8 +7,8 @@ use dbc_records::Database;
 use std::alloc::Global;
 use std::test::Fail;
 
-/// The database of a text, which has a message. Whoever has a database of its own and leaves in many ways is long in proving,
-/// so tests hand it on at once.
+/// The database of a text, which has a message. A function that owns a database and has many exits takes long to prove, so tests
+/// pass it on at once.
 pub fn database(alloc: Global, text: &[u8]) -> Result<Database, Fail>
     ensures { IfOk result (λ database. 0 < length database.messages) }
 {

@@ -1,5 +1,5 @@
-//! Texts as long as a front, and longer; and a text of two lines.
-use ready_texts::{ReadyText, TextBuffer, push_bytes, push_shown};
+//! Texts as long as a prefix, and longer; and a text of two lines.
+use dbc_text_buffer::{ReadyText, TextBuffer, push_bytes, push_shown};
 use std::test::Fail;
 
 #[test]

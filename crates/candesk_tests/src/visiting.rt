@@ -1,4 +1,4 @@
-//! What no contract says: that entries are shown where memory is there.
+//! What no contract states: that entries are shown if there is enough memory.
 
 use crate::reading::database;
 use dbc_records::{Database, DatabaseEntry, EntryKind, EntryVisitor};

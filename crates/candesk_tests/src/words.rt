@@ -1,4 +1,4 @@
-//! What no contract says: that words are read where memory is there, and what `--version` answers.
+//! What no contract states: that words are read if there is enough memory, and what `--version` prints.
 
 use candesk_words::{Command, DumpForm, Job, Keep, LogForm, NoJob, ReportForm, job_of};
 use std::test::Fail;

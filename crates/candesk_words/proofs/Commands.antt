@@ -19,9 +19,9 @@ use Rattle.clap.specs.Values.{Accepts}
 use Rattle.clap.specs.ValueTests.{is_unsigned_in}
 use Rattle.clap.specs.declared.builder.value_parser.ValueParser.TheVariants.{Unsigned}
 use Rattle.clap.proofs.ValueTestLemmas.{accepts-Accepts, Accepts-accepts}
-use Rattle.kept_lines.specs.Counts.{most_lines, is_count, count_of}
-use Rattle.kept_lines.specs.declared.keep.Keep.{Keep}
-use Rattle.kept_lines.specs.declared.keep.Keep.TheVariants.{All, Last}
+use Rattle.session_kept_lines.specs.Counts.{most_lines, is_count, count_of}
+use Rattle.session_kept_lines.specs.declared.keep.Keep.{Keep}
+use Rattle.session_kept_lines.specs.declared.keep.Keep.TheVariants.{All, Last}
 use Rattle.clap.proofs.WalkLemmas.{both, first_value-rows, one_text-rows}
 use Rattle.clap.proofs.OnLiterals.{clap_on_literals}
 use Rattle.candesk_words.proofs.OnLiterals.{words_on_literals}
@@ -46,7 +46,7 @@ rows-named m name rows e h = pair-of (out-ArgMatches m).subcommand _ _ name rows
 
 module _ (m found : ArgMatches) (name : Text) (e : Some name ≡ subcommand_name_of m) (h : Some (rows_of (found_of found))
     ≡ option_map (λ (p : Text × List Row). p.1) (subcommand_rows_of m)) where
-  -- of another name, or with two forms or no number of lines
+  -- of another name, or with two forms or no valid number of lines
   pub no-command : command_found name (rows_of (found_of found)) ≡ None → job_found (subcommand_rows_of m) ≡ None
   no-command other = rw (rows-named m name (rows_of (found_of found)) e h, other) refl
 
@@ -106,7 +106,7 @@ in_bounds t h = Accepts-accepts false (Unsigned 1 most_lines) t h
 of_bounds : (t : Text) → is_unsigned_in 1 most_lines t ≡ true → Accepts false (Unsigned 1 most_lines) t
 of_bounds t h = accepts-Accepts false (Unsigned 1 most_lines) t h
 
--- a number that is read is one of lines where the text is in the bounds
+-- a number that is read is a number of lines if the text is within the bounds
 count-read : (t : Text) (count : ℕ) → IsNumeral 10 (without_leading_plus t) → digits_value 10 (without_leading_plus t) < 2 ^ 64
     → count ≡ digits_value 10 (without_leading_plus t) → count_of count ≡ count_in t
 count-read t count numeral fits is =
@@ -139,7 +139,7 @@ count-unread t not =
       | inr outside ↦ rw outside refl
     ]
 
--- what reading a number of 64 bits gives
+-- what reading a 64-bit number gives
 abbrev Gives : Text → Result ℕ ParseIntError → Type 0
 Gives t read = ParsesUnsigned 64 10 t read × ExplainsUnsignedError 10 t read × HasUnsignedDigitsIfOk t read
 
@@ -153,7 +153,7 @@ of_read (Some t) (Ok (Some count)) none value = let h = (value t refl).0 in
     ap (option_map (λ count. Last count)) (count-read t count h.0.0 h.0.1 h.1)
 of_read (Some t) (Err e) none value = rw (count-unread t (value t refl).0) refl
 
--- what is read says which lines are kept
+-- what is read determines which lines are kept
 pub keep-read : (found : ArgMatches) (read : Result (Option ℕ) ParseIntError) → (one_text (found_of found) (codes "keep") ≡ None
     → read ≡ Ok None)
     → ((t : Text) → one_text (found_of found) (codes "keep") ≡ Some t → TriesOne Gives t read)
@@ -174,9 +174,9 @@ pub free : is_simple_and_free command_line ≡ true
 unfolding clap_on_literals words_on_literals
 free = refl
 
--- ---- what is said of the words
+-- ---- the answer to the words
 
--- where clap has no fault
+-- if clap has no fault
 pub IsJobOf-found : (words : List Text) (m : ArgMatches) (result : Result Job NoJob) → fault_of command_line words ≡ []
     → subcommand_rows_of m ≡ subcommand_of command_line words
     → IfOk result (λ job. job_found (subcommand_rows_of m) ≡ Some (job_as_found job))
@@ -189,12 +189,12 @@ IsJobOf-found words m (Err reasons.Usage) f e ok (inr q) = inl (rw (sym e) q.1)
 IsJobOf-found words m (Err (reasons.Help text)) f e ok (inl q) = cc
 IsJobOf-found words m (Err (reasons.Help text)) f e ok (inr q) = let bad : reasons.Help text ≡ reasons.Usage = q.0 in cc
 
--- where it has one
+-- if it has one
 pub IsJobOf-fault : (words : List Text) (fault : Error) (why : NoJob) → HasKind (fault_of command_line words) fault
     → SaysOf (kind_of fault) why → IsJobOf words (Err why)
-IsJobOf-fault words fault reasons.Memory h says = tt
-IsJobOf-fault words fault reasons.Usage (inl q) says = absurd (says.0 q)
-IsJobOf-fault words fault reasons.Usage (inr q) says = inr (kind_of fault, q, says)
+IsJobOf-fault words fault reasons.Memory h means = tt
+IsJobOf-fault words fault reasons.Usage (inl q) means = absurd (means.0 q)
+IsJobOf-fault words fault reasons.Usage (inr q) means = inr (kind_of fault, q, means)
 IsJobOf-fault words fault (reasons.Help text) (inl q) (inl h) = cc
 IsJobOf-fault words fault (reasons.Help text) (inl q) (inr h) = cc
-IsJobOf-fault words fault (reasons.Help text) (inr q) says = (kind_of fault, q, says)
+IsJobOf-fault words fault (reasons.Help text) (inr q) means = (kind_of fault, q, means)

@@ -9,7 +9,7 @@ use Rattle.candesk_words.specs.declared.job.Command.TheVariants.{Check, Decode, 
 use Rattle.candesk_words.specs.declared.job.ReportForm.TheVariants as report
 use Rattle.candesk_words.specs.declared.job.LogForm.TheVariants as log
 use Rattle.candesk_words.specs.declared.job.DumpForm.TheVariants as dump
-use Rattle.kept_lines.specs.declared.keep.Keep.TheVariants.{All, Last}
+use Rattle.session_kept_lines.specs.declared.keep.Keep.TheVariants.{All, Last}
 use Rattle.candesk_words.specs.Words.{command_line, job_named}
 
 check-job : job_named (codes "check" ∷ codes "a" ∷ []) ≡ Some (Check report.Lines, codes "a")

@@ -1,5 +1,5 @@
--- Which arguments are which job. How arguments are read at all, with options, `--` and `help`, is defined by the
--- definitions of clap for a command line with these commands and options.
+-- Which arguments are which job. How arguments are read at all, with options, `--` and `help`, is defined by clap's definitions for
+-- a command line with these commands and options.
 use Rattle.std.specs.Prelude.{◌≡◌, ◌≢◌, ⊤, ℕ, Bool, true, false, List, [], codes, Option, Some, None, option_and_then, option_map}
 use Rattle.std.specs.Prelude.{Result, Ok, Err, ◌⊎◌, if◌then◌else◌}
 use Rattle.std.specs.Option.{option_map_or}
@@ -10,9 +10,9 @@ use Rattle.clap.specs.Words.{fault_of, IsAmong}
 use Rattle.clap.specs.declared.builder.action.ArgAction.TheVariants.{Set, SetTrue}
 use Rattle.clap.specs.declared.builder.value_parser.ValueParser.TheVariants.{Unsigned}
 use Rattle.clap.specs.ValueTests.{is_unsigned_in}
-use Rattle.kept_lines.specs.Counts.{most_lines}
-use Rattle.kept_lines.specs.declared.keep.Keep.{Keep}
-use Rattle.kept_lines.specs.declared.keep.Keep.TheVariants.{All, Last}
+use Rattle.session_kept_lines.specs.Counts.{most_lines}
+use Rattle.session_kept_lines.specs.declared.keep.Keep.{Keep}
+use Rattle.session_kept_lines.specs.declared.keep.Keep.TheVariants.{All, Last}
 use Rattle.clap.specs.declared.error.kind.ErrorKind.{ErrorKind}
 use Rattle.clap.specs.declared.error.kind.ErrorKind.TheVariants as kinds
 use Rattle.candesk_words.specs.declared.job.Command.{Command}
@@ -29,7 +29,7 @@ use Rattle.candesk_words.specs.declared.job.NoJob.TheVariants as reasons
 
 -- ---- the command line
 
--- one FILE has to be there
+-- one FILE has to be given
 abbrev pub file_rule : Rule
 file_rule = record (new_rule (codes "FILE")) { required = true }
 
@@ -41,7 +41,7 @@ on_file name = with_rule (new_app name) file_rule
 abbrev pub short_rule : Rule
 short_rule = record (new_rule (codes "short")) { long = Some (codes "short"); action = Some SetTrue }
 
--- a command on a FILE that says what frames say, and takes `--short`
+-- a command on a FILE that decodes frames, and takes `--short`
 unfoldable pub on_frames : Text → App
 on_frames name = with_rule (on_file name) short_rule
 
@@ -82,7 +82,7 @@ keep_rule = record (new_rule (codes "keep")) {
 unfoldable pub on_session : App
 on_session = with_rule (on_frames (codes "session")) keep_rule
 
--- the words before a command, which has to be there: `--help` and `--version` alone
+-- the words before a command, which has to be given: `--help` and `--version` alone
 unfoldable pub before_command : App
 before_command = let app = new_app (codes "candesk") in
     record app { top = record app.top { has_version = true; no_binary_name = true; subcommand_required = true } }
@@ -102,31 +102,31 @@ command_line =
 
 -- ---- jobs
 
--- whether the flag of this name is there, for which clap finds `true` then and `false` else
+-- whether the flag of this name is given; if so clap finds `true` for it, otherwise `false`
 abbrev pub has_flag : Text → List Row → Bool
 has_flag name rows = option_map_or (λ text. bytes_eq text (codes "true")) (one_of name rows) false
 
--- the number of lines that the value of `--keep` spells in decimal, after a `+` or none; none where that is no number of lines
+-- the number of lines that the value of `--keep` spells in decimal, after a `+` or none; none if that is no valid number of lines
 abbrev pub count_in : Text → Option ℕ
 count_in text = if is_unsigned_in 1 most_lines text then Some (digits_value 10 (without_leading_plus text)) else None
 
--- the last so many lines where `--keep` is there, and all lines where it isn't
+-- a number of the last lines if `--keep` is given, and all lines if it isn't
 abbrev pub keep_found : List Row → Option Keep
 keep_found rows = option_map_or (λ text. option_map (λ count. Last count) (count_in text)) (one_of (codes "keep") rows) (Some All)
 
--- how diagnostics are written, by whether `--json` is there
+-- how diagnostics are written, by whether `--json` is given
 abbrev pub report_form : Bool → ReportForm
 report_form false = report_forms.Lines
 report_form true = report_forms.Objects
 
--- how a log is written, by whether `--json` and `--csv` are there; none if both are
+-- how a log is written, by whether `--json` and `--csv` are given; none if both are
 abbrev pub log_form : Bool → Bool → Option LogForm
 log_form false false = Some log_forms.Lines
 log_form true false = Some log_forms.Objects
 log_form false true = Some log_forms.Rows
 log_form true true = None
 
--- how messages are written, by whether `--json` and `--at` are there; none if both are
+-- how messages are written, by whether `--json` and `--at` are given; none if both are
 abbrev pub dump_form : Bool → Bool → Option DumpForm
 dump_form false false = Some dump_forms.Diagrams
 dump_form true false = Some dump_forms.Objects
@@ -146,11 +146,11 @@ command_found name rows =
     else (if bytes_eq name (codes "print") then Some commands.Print
     else (if bytes_eq name (codes "session") then option_map (λ keep. commands.Session short keep) (keep_found rows) else None)))))
 
--- what a job says: the command, and its FILE
+-- the contents of a job: the command, and its FILE
 abbrev pub JobParts : Type 0
 JobParts = Command × Text
 
--- that of the words, from what clap finds in them
+-- the job of the words, from what clap finds in them
 abbrev pub job_found : Option (Text × List Row) → Option JobParts
 job_found None = None
 job_found (Some found) = option_and_then
@@ -164,14 +164,14 @@ job_as_found job = (job.command, job.file.bytes.items)
 abbrev pub job_named : List Text → Option JobParts
 job_named words = job_found (subcommand_of command_line words)
 
--- what is said of words with a fault of this kind
+-- the answer to words with a fault of this kind
 abbrev pub SaysOf : ErrorKind → NoJob → Type 0
 SaysOf kind reasons.Usage = (kind ≢ kinds.OutOfMemory) × (kind ≢ kinds.DisplayHelp) × (kind ≢ kinds.DisplayVersion)
 SaysOf kind (reasons.Help text) = (kind ≡ kinds.DisplayHelp) ⊎ (kind ≡ kinds.DisplayVersion)
 SaysOf kind reasons.Memory = ⊤
 
--- The job is the one that the words name, and they have no fault. Else they have a fault of which this is said, or name
--- no job, or memory ran out.
+-- The job is the one that the words name, and they have no fault. Otherwise they have a fault with this answer, or name no job,
+-- or memory ran out.
 abbrev pub IsJobOf : List Text → Result Job NoJob → Type 0
 IsJobOf words (Ok job) = (fault_of command_line words ≡ []) × (job_named words ≡ Some (job_as_found job))
 IsJobOf words (Err reasons.Memory) = ⊤

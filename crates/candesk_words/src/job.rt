@@ -7,24 +7,24 @@ ghost use Rattle.candesk_words.specs.Words.{job_as_found, SaysOf, IsJobOf};
 use crate::line::command_line;
 use clap::ArgMatches;
 use clap::error::ErrorKind;
-use kept_lines::{Keep, LineCount};
+use session_kept_lines::{Keep, LineCount};
 use std::alloc::{AllocError, Global};
 
 /// How diagnostics are written.
 #[derive(Clone, Copy, Debug, PartialEq, Eq)]
 pub enum ReportForm {
-    /// As lines to be read by people.
+    /// As lines for people.
     Lines,
-    /// As objects of JSON.
+    /// As JSON objects.
     Objects,
 }
 
 /// How a decoded log is written.
 #[derive(Clone, Copy, Debug, PartialEq, Eq)]
 pub enum LogForm {
-    /// As lines to be read by people.
+    /// As lines for people.
     Lines,
-    /// As objects of JSON.
+    /// As JSON objects.
     Objects,
     /// As rows of CSV.
     Rows,
@@ -35,9 +35,9 @@ pub enum LogForm {
 pub enum DumpForm {
     /// As diagrams of their layouts.
     Diagrams,
-    /// As objects of JSON.
+    /// As JSON objects.
     Objects,
-    /// As objects of JSON with the bytes of each message, signal and entry.
+    /// As JSON objects with the bytes of each message, signal and entry.
     Locations,
 }
 
@@ -48,7 +48,7 @@ pub enum Command {
     Check(ReportForm),
     /// Decodes the log on standard input.
     Decode {
-        /// Whether the signals that are there of truncated frames are shown.
+        /// Whether the signals that are present in truncated frames are shown.
         short: bool,
         /// How the log is written.
         form: LogForm,
@@ -61,7 +61,7 @@ pub enum Command {
     Print,
     /// Keeps a session open for the script on standard input.
     Session {
-        /// Whether the signals that are there of truncated frames are shown.
+        /// Whether the signals that are present in truncated frames are shown.
         short: bool,
         /// Which lines of the log are kept.
         keep: Keep,
@@ -80,7 +80,7 @@ pub struct Job {
 /// Why there is no job.
 #[derive(Debug, Drop)]
 pub enum NoJob {
-    /// The words name no command, not one FILE, or an option that isn't there.
+    /// The words name no command, not one FILE, or an option that doesn't exist.
     Usage,
     /// They ask for help or for the version, and this is its text.
     Help(String),
@@ -98,7 +98,7 @@ impl From<AllocError> for NoJob {
     }
 }
 
-// What `clap`'s fault says of the words.
+// What `clap`'s fault means for the words.
 fn no_job(alloc: Global, fault: &clap::Error) -> NoJob
     ensures { SaysOf (kind_of fault.now) result }
 {
@@ -112,14 +112,14 @@ fn no_job(alloc: Global, fault: &clap::Error) -> NoJob
     }
 }
 
-// Whether the flag of this name is there.
+// Whether the flag of this name is given.
 fn has_flag(found: &ArgMatches<'_>, name: &str) -> bool
     ensures { result ≡ has_flag name.now (rows_of (found_of found.now)) }
 {
     found.get_one::<bool>(name).unwrap_or(false)
 }
 
-// Which lines `--keep` asks for; none where its value is no number of lines, which clap lets through for no words.
+// Which lines `--keep` asks for; none if its value is no number of lines, which clap accepts for no words.
 fn keep_in(found: &ArgMatches<'_>) -> Option<Keep>
     ensures { result ≡ keep_found (rows_of (found_of found.now)) }
 {
@@ -210,10 +210,10 @@ fn job_in(alloc: Global, matches: &ArgMatches<'_>) -> Result<Job, NoJob>
     Ok(Job { command, file })
 }
 
-/// Reads the words after the program's name. Options stand before or after FILE, `--` ends them, `help` is the
-/// word for `--help`, and `--version` and `-V` stand before a command alone. `decode` and `session` alone take `--short`, `decode`
-/// takes `--json` or `--csv`, `check` and `explain` take `--json`, `dump` takes `--json` or `--at`, and `session` alone
-/// takes `--keep`, with an integer from 1 to 1,048,576.
+/// Reads the words after the program's name. Options come before or after FILE, `--` ends them, `help` is the word for `--help`,
+/// and `--version` and `-V` come only before a command. `decode` and `session` alone take `--short`, `decode` takes `--json` or
+/// `--csv`, `check` and `explain` take `--json`, `dump` takes `--json` or `--at`, and `session` alone takes `--keep`, with an
+/// integer from 1 to 1,048,576.
 pub fn job_of<'a>(alloc: Global, words: &'a [&'a str]) -> Result<Job, NoJob>
     ensures { IsJobOf (map (λ word. word.now) words.now) result }
 {

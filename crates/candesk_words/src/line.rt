@@ -9,11 +9,11 @@ use crate::notes;
 use crate::version::VERSION;
 use clap::builder::ValueParser;
 use clap::{Arg, ArgAction, Command};
-use kept_lines::LineCount;
+use session_kept_lines::LineCount;
 use std::alloc::{AllocError, Global};
 
 // The help of `--json` of `check` and `explain`.
-const FINDINGS: &str = "Write a JSON object for each problem, with its place in the text";
+const FINDINGS: &str = "Write a JSON object for each problem, with its location in the text";
 
 // The words before a command.
 #[tactic(auto, unfolding(crate::specs::Words::before_command))]
@@ -118,7 +118,7 @@ fn on_dump<'a>(alloc: Global, about: &'a str, notes: &'a str) -> Result<Command<
     let locations = Arg::new(alloc, "at")
         .long("at")
         .action(ArgAction::SetTrue)
-        .help("Write a JSON object for each name, with its place in the text");
+        .help("Write a JSON object for each name, with its location in the text");
     on_file(alloc, "dump", about, notes)?
         .arg(json)?
         .arg(locations)
@@ -134,7 +134,7 @@ fn on_session<'a>(alloc: Global, about: &'a str, notes: &'a str) -> Result<Comma
         .long("keep")
         .value_name("N")
         .action(ArgAction::Set)
-        .value_parser(ValueParser::unsigned(1, LineCount::MOST))
+        .value_parser(ValueParser::unsigned(1, LineCount::MAX_LINES))
         .help("Keep only the last N lines, from 1 to 1048576");
     on_frames(alloc, "session", about, notes)?.arg(keep)
 }
@@ -196,11 +196,11 @@ fn with_session<'a>(alloc: Global, line: Command<'a>) -> Result<Command<'a>, All
     with_command(line, command)
 }
 
-/// The command line: `candesk check FILE`, and so with `decode`, `dump`, `explain`, `print` and `session`, of which `decode`
-/// and `session` take `--short` too, `decode` takes `--json` and `--csv`, `check`, `dump` and `explain` take `--json`, `dump`
+/// The command line: `candesk check FILE`, and likewise with `decode`, `dump`, `explain`, `print` and `session`, of which `decode`
+/// and `session` also take `--short`, `decode` takes `--json` and `--csv`, `check`, `dump` and `explain` take `--json`, `dump`
 /// takes `--at`, and `session` takes `--keep N`.
 #[tactic(auto, unfolding(crate::specs::Words::command_line))]
-pub fn command_line<'a>(alloc: Global) -> Result<Command<'a>, AllocError>
+pub(crate) fn command_line<'a>(alloc: Global) -> Result<Command<'a>, AllocError>
     ensures { IfOk result (λ line. app_of line ≡ command_line) }
 {
     let line = before_command(alloc)?;

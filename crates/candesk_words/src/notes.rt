@@ -1,7 +1,7 @@
-//! What the help of each command says below its options.
+//! The text in the help of each command below its options.
 
-/// Of `check`.
-pub const CHECK: &str = "\
+/// For `check`.
+pub(crate) const CHECK: &str = "\
 Writes a line for each problem: its code, the code's name, and what it is about. The exit status is 1 if there are any.
 With `--json`, each problem is a JSON object that also has the bytes of the text that it is about.
 
@@ -10,8 +10,8 @@ Example: a message whose sender isn't a node:
   $ candesk check sender.dbc
   13 UnknownNode 1 A N";
 
-/// Of `decode`.
-pub const DECODE: &str = "\
+/// For `decode`.
+pub(crate) const DECODE: &str = "\
 Reads a log as `candump -L` writes it. Writes each line, followed by the decoded message if the line has a data frame. A
 frame that is shorter than its message is not decoded; with `--short`, the signals that it still has are. With `--json`,
 each line becomes a JSON object; with `--csv`, each decoded signal becomes a CSV row.
@@ -20,9 +20,9 @@ Example:
   $ candesk decode examples/wheel.dbc < examples/wheel.log
   (1.5) can0 123#0A01 :: Wheel(Speed: 537 rpm)";
 
-/// Of `dump`.
-pub const DUMP: &str = "\
-Writes a layout diagram of each message: its name, identifier and length (DLC), a line for each byte with a cell for each
+/// For `dump`.
+pub(crate) const DUMP: &str = "\
+Writes a layout diagram of each message: its name, message ID and length (DLC), a line for each byte with a cell for each
 bit, and a line for each signal, whose number is what the cells show. With `--json`, each message is a JSON object with
 its signals, and a last object has everything that belongs to no message. With `--at`, each message, sender,
 signal, receiver and entry is a JSON object that has the bytes of the text that name it.
@@ -34,8 +34,8 @@ Example:
      1:   0   0   0   0   0   0   0   0
      0 Speed 0|16@1+";
 
-/// Of `explain`.
-pub const EXPLAIN: &str = "\
+/// For `explain`.
+pub(crate) const EXPLAIN: &str = "\
 If the database is rejected, writes the line of its first error with the token underlined, what was found, what is
 expected, and the usual reason with its remedy; then the same, as guesses, for later errors. Otherwise writes what
 `check` reports, with the line of each problem and its remedy. The exit status is 1 if there is any. With `--json`, each
@@ -52,8 +52,8 @@ Example: a limit that isn't a number:
   reason: inf and nan are not numbers; as limits of a signal, [0|0] means that there are none
   candesk: line 2: 2 Statement";
 
-/// Of `print`.
-pub const PRINT: &str = "\
+/// For `print`.
+pub(crate) const PRINT: &str = "\
 Writes the database in its one canonical form.
 
 Example:
@@ -65,8 +65,8 @@ Example:
   BO_ 291 Wheel: 2 Ecu
    SG_ Speed : 0|16@1+ (2,5) [0|0] \"rpm\" Ecu";
 
-/// Of `session`.
-pub const SESSION: &str = "\
+/// For `session`.
+pub(crate) const SESSION: &str = "\
 Reads a script, one command per line: edits of the database, lines of a log to keep, and what to show. Answers each with
 what was asked for and `ok`, or why the command is refused. After an edit, everything is shown as the edited database has
 it. With `--short`, frames that are shorter than their message show the signals that they still have. With `--keep N`, only

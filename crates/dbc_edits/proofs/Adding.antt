@@ -11,13 +11,13 @@ no_less n m e = grind arith
 not_as_many : (n m : ℕ) → n < m → nat_le m n ≡ false
 not_as_many n m e = grind arith
 
-pub added : (place at : ℕ) (signal : Signal) (database : Database) (message : Message) (edited : Database)
-    → slice_get database.messages place ≡ Some message
+pub added : (index at : ℕ) (signal : Signal) (database : Database) (message : Message) (edited : Database)
+    → slice_get database.messages index ≡ Some message
     → at ≤ length message.signals
     → length message.signals < most_signals
     → has_named signal.name message.signals ≡ false
-    → edited ≡ with_message place (record message { signals = insert message.signals at signal }) database
-    → signal_added place at signal database ≡ Ok edited
+    → edited ≡ with_message index (record message { signals = insert message.signals at signal }) database
+    → signal_added index at signal database ≡ Ok edited
 unfolding signal_added at_message refused_if
-added place at signal database message edited e f g h i =
+added index at signal database message edited e f g h i =
     rw (e, no_less (length message.signals) at f, h, not_as_many (length message.signals) most_signals g, i) refl

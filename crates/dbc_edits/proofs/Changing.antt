@@ -12,7 +12,7 @@ as_many f zero items = refl
 as_many f (suc count) [] = refl
 as_many f (suc count) (item ∷ items) = ap suc (as_many f count items)
 
--- what stands after them is as it was
+-- what is after them is as it was
 pub next_is : {X : Type 0} (f : X → X) (count : ℕ) (items : List X) (d : X) → get_or (first_changed f count items) count d
     ≡ get_or items count d
 next_is f zero items d = refl

@@ -1,4 +1,4 @@
--- The signals of a message have different names, and still do when one is put in, goes or gives way to another of its name.
+-- The signals of a message have different names, and still do when one is added, removed or replaced by another of its name.
 use Rattle.std.proofs.Common.{◌≡◌, ℕ, zero, suc, ◌<◌, ◌≤◌, Bool, true, false, List, [], ◌∷◌, length, map, refl, sym, ◌∙◌, inl, inr}
 use Rattle.std.proofs.Common.{arith}
 use Rattle.std.specs.Prelude.{not, ◌||◌, ◌&&◌, insert, slice_set, nat_le, IsTrue}
@@ -9,7 +9,7 @@ use Rattle.std.proofs.lemmas.Slice.Eq.{bytes_eq-Decides}
 use Rattle.std.proofs.lemmas.List.Edits.{length-insert}
 use Rattle.std.proofs.lemmas.List.{length-map}
 use Rattle.dbc_records.specs.Records.{Signal, names_of, are_distinct, signals_fit, most_signals}
-use Rattle.dbc_edits.proofs.Places.{one_more}
+use Rattle.dbc_edits.proofs.Indexes.{one_more}
 use Rattle.dbc_edits.specs.Rows.{without}
 use Rattle.dbc_edits.specs.Edits.{is_named, has_named, replaced_by, with_name}
 
@@ -31,7 +31,7 @@ either_way a b =
       ]
     ]
 
--- a list of signals has the name where its names have it
+-- a list of signals has the name if its names have it
 named : (name : List ℕ) (signals : List Signal) → list_any (bytes_eq name) (names_of signals) ≡ has_named name signals
 named name [] = refl
 named name (signal ∷ signals) = rw (either_way name signal.name, named name signals) refl
@@ -56,7 +56,7 @@ turned false e = refl
 differs : (a b : Bool) → a ≡ false → b ≡ true → (not a && b) ≡ true
 differs a b e f = rw (e, f) refl
 
--- what the first of different names says
+-- what the first of different names means
 first_differs : (name : List ℕ) (names : List (List ℕ)) → are_distinct (name ∷ names) ≡ true → list_any (bytes_eq name) names
     ≡ false
 first_differs name names e = turned _ (both _ _ e).0
@@ -129,7 +129,7 @@ same_names : (signal : Signal) (signals : List Signal) → names_of (map (replac
 same_names signal [] = refl
 same_names signal (old ∷ signals) = rw (same_name signal old, same_names signal signals) refl
 
--- a signal whose name no other has stands alone
+-- a signal whose name no other has is alone
 untouched : (signal : Signal) (signals : List Signal) → has_named signal.name signals ≡ false → map (replaced_by signal) signals
     ≡ signals
 untouched signal [] e = refl
@@ -217,8 +217,8 @@ fits_none = refl
 
 pub fits_inserted : (signals : List Signal) (at : ℕ) (signal : Signal) → IsTrue (signals_fit signals) → at ≤ length signals
     → length signals < most_signals → has_named signal.name signals ≡ false → IsTrue (signals_fit (insert signals at signal))
-fits_inserted signals at signal fit place room new =
-    fits-of _ (omega (arith, length-insert signals at signal place, room)) (distinct_inserted signals at signal
+fits_inserted signals at signal fit index space new =
+    fits-of _ (omega (arith, length-insert signals at signal index, space)) (distinct_inserted signals at signal
     (fits-distinct signals fit) new)
 
 pub fits_without : (gone : Signal → Bool) (signals : List Signal) → IsTrue (signals_fit signals)

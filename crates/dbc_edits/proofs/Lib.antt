@@ -1,5 +1,5 @@
 pub mod Fitting
 pub mod Adding
 pub mod Clearing
-pub mod Places
+pub mod Indexes
 pub mod Changing

@@ -1,9 +1,9 @@
--- What a message's first line is changed to.
+-- The change of a message's first line.
 use Rattle.std.specs.Prelude.{ℕ, List, IsTrue}
 use Rattle.dbc_values.specs.Names.{IsName}
 use Rattle.dbc_records.specs.Records.{Head, head_fits}
 
--- all of the first line but its number
+-- all of the first line except its CAN identifier
 pub record Change : Type 0 where
   pub name : List ℕ
   pub size : ℕ
@@ -14,6 +14,6 @@ pub record IsChange (change : Change) : Type 0 where
   pub size : IsTrue (head_fits change.size)
   pub sender : IsName change.sender
 
--- the first line with these in place of its own; the number stays
+-- the first line with these instead of its own; the CAN identifier stays
 abbrev pub changed : Change → Head → Head
 changed change head = record { number = head.number; name = change.name; size = change.size; sender = change.sender }

@@ -1,4 +1,4 @@
--- What is answered to an edit, and the numbers and words of refusals.
+-- The answer to an edit, and the numbers and names of refusals.
 use Rattle.std.specs.Prelude.{◌≡◌, ℕ, List, Result, Ok, Err, codes, MatchResult}
 use Rattle.dbc_edits.specs.declared.refusal.Refusal.{Refusal}
 use Rattle.dbc_edits.specs.declared.refusal.Refusal.TheVariants as refusals

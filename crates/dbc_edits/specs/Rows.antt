@@ -1,5 +1,5 @@
--- The rows of a database that belong to a message or a signal: its comments, attributes, value descriptions, float types and
--- multiplexer rows. Each is seen by its target: what it speaks of, as it is written.
+-- The entries of a database that belong to a message or a signal: its comments, attributes, value descriptions, float types and
+-- `SG_MUL_VAL_` entries. Each is seen by its target: what it is about, as it is written.
 use Rattle.std.specs.Prelude.{ℕ, Bool, false, not, ◌&&◌, ◌||◌, ◌==◌, List, [], ◌∷◌, filter, map, if◌then◌else◌}
 use Rattle.std.specs.List.{list_any}
 use Rattle.std.specs.Str.{bytes_eq}
@@ -10,34 +10,34 @@ use Rattle.dbc_records.specs.Databases.{Database}
 use Rattle.dbc_records.specs.declared.target.Target.{Target}
 use Rattle.dbc_records.specs.declared.target.Target.TheVariants as targets
 
--- ---- lists of rows
+-- ---- lists of entries
 
 -- the list without the items that pass
 abbrev pub without : {X : Type 0} → (X → Bool) → List X → List X
 without test items = filter (λ item. not (test item)) items
 
--- the item replaces the first that passes, and the others that pass go; where none passes, it stands last
+-- the item replaces the first that passes, and the others that pass are removed; if none passes, it comes last
 abbrev pub with_item : {X : Type 0} → (X → Bool) → X → List X → List X
 with_item test item [] = item ∷ []
 with_item test item (first ∷ rest) = if test first then item ∷ without test rest else first ∷ with_item test item rest
 
 -- ---- targets
 
--- the target is the message of the number, or a signal of it
+-- the target is the message of the CAN identifier, or one of its signals
 abbrev pub is_of_number : ℕ → Target → Bool
 is_of_number number targets.Whole = false
 is_of_number number (targets.Node name) = false
 is_of_number number (targets.Message other) = other == number
 is_of_number number (targets.Signal other name) = other == number
 
--- the target is the signal of the number and name
+-- the target is the signal of the CAN identifier and name
 abbrev pub is_of_signal : ℕ → List ℕ → Target → Bool
 is_of_signal number name targets.Whole = false
 is_of_signal number name (targets.Node other) = false
 is_of_signal number name (targets.Message other) = false
 is_of_signal number name (targets.Signal other signal) = other == number && bytes_eq signal name
 
--- the rows that have no target written as such speak of a signal
+-- the entries that have no target written as such are about a signal
 abbrev pub values_target : ValueRow → Target
 values_target row = targets.Signal row.number row.signal
 
@@ -47,9 +47,9 @@ float_target row = targets.Signal row.number row.signal
 abbrev pub mux_target : MuxRow → Target
 mux_target row = targets.Signal row.number row.signal
 
--- ---- the rows of a database
+-- ---- the entries of a database
 
--- the database without the rows whose targets pass
+-- the database without the entries whose targets pass
 unfoldable pub without_rows : (Target → Bool) → Database → Database
 without_rows test database = record database {
   comments = without (λ row. test row.target) database.comments;
@@ -59,7 +59,7 @@ without_rows test database = record database {
   muxes = without (λ row. test (mux_target row)) database.muxes;
 }
 
--- one of its rows has a target that passes
+-- one of its entries has a target that passes
 unfoldable pub has_row : (Target → Bool) → Database → Bool
 has_row test database =
     list_any (λ row. test row.target) database.comments
@@ -68,7 +68,7 @@ has_row test database =
     || list_any (λ row. test (float_target row)) database.floats
     || list_any (λ row. test (mux_target row)) database.muxes
 
--- ---- a further number in place of an old one
+-- ---- a new CAN identifier instead of an old one
 
 abbrev pub renumbered : ℕ → ℕ → ℕ → ℕ
 renumbered old new number = if number == old then new else number
@@ -94,7 +94,7 @@ float_renumbered old new row = record row { number = renumbered old new row.numb
 abbrev pub mux_renumbered : ℕ → ℕ → MuxRow → MuxRow
 mux_renumbered old new row = record row { number = renumbered old new row.number }
 
--- all rows of the old number have the new one
+-- all entries of the old CAN identifier have the new one
 unfoldable pub rows_renumbered : ℕ → ℕ → Database → Database
 rows_renumbered old new database = record database {
   comments = map (comment_renumbered old new) database.comments;
@@ -104,15 +104,15 @@ rows_renumbered old new database = record database {
   muxes = map (mux_renumbered old new) database.muxes;
 }
 
--- ---- a further name in place of an old one
+-- ---- a new name instead of an old one
 
--- signals of the number take the new name in place of the old one
+-- signals of the CAN identifier take the new name instead of the old one
 pub record Renaming : Type 0 where
   pub number : ℕ
   pub old : List ℕ
   pub new : List ℕ
 
--- the name of a signal of a number
+-- the name of a signal of a CAN identifier
 abbrev pub name_after : Renaming → ℕ → List ℕ → List ℕ
 name_after renaming number name = if number == renaming.number && bytes_eq name renaming.old then renaming.new else name
 
@@ -134,12 +134,12 @@ values_renamed renaming row = record row { signal = name_after renaming row.numb
 abbrev pub float_renamed : Renaming → FloatRow → FloatRow
 float_renamed renaming row = record row { signal = name_after renaming row.number row.signal }
 
--- a row names its switch too
+-- an entry names its multiplexor too
 abbrev pub mux_renamed : Renaming → MuxRow → MuxRow
 mux_renamed renaming row =
     record row { signal = name_after renaming row.number row.signal; switch = name_after renaming row.number row.switch }
 
--- all rows of the number that name the old signal name the new one; statements kept verbatim stay
+-- all entries of the CAN identifier that name the old signal name the new one; statements kept verbatim stay
 unfoldable pub rows_renamed : Renaming → Database → Database
 rows_renamed renaming database = record database {
   comments = map (comment_renamed renaming) database.comments;
@@ -149,16 +149,16 @@ rows_renamed renaming database = record database {
   muxes = map (mux_renamed renaming) database.muxes;
 }
 
--- a row of the number names the signal as its switch
+-- an entry of the CAN identifier names the signal as its multiplexor (switch)
 abbrev pub is_switched_by : ℕ → List ℕ → MuxRow → Bool
 is_switched_by number name row = row.number == number && bytes_eq row.switch name
 
--- a row of the number names the signal, as what it speaks of or as its switch
+-- an entry of the CAN identifier names the signal, as what it is about or as its multiplexor
 unfoldable pub has_row_naming : ℕ → List ℕ → Database → Bool
 has_row_naming number name database =
     has_row (is_of_signal number name) database || list_any (is_switched_by number name) database.muxes
 
--- ---- the keys by which rows are set and dropped
+-- ---- the keys by which entries are set and dropped
 
 abbrev pub is_values_of : ℕ → List ℕ → ValueRow → Bool
 is_values_of number signal row = is_of_signal number signal (values_target row)

@@ -26,7 +26,8 @@ fn is_defined(definitions: &[AttrDef], name: &[u8]) -> bool
     false
 }
 
-// The row of an attribute of a message. (It is made apart from the copies: beside their ways out it takes minutes to prove.)
+// The entry of an attribute of a message. (It is made separately from the copies: together with their exits it
+// takes minutes to prove.)
 fn message_row(name: Text, number: u32, value: AttrValue) -> AttrRow
     ensures { result ≡ record { name = name; target = targets.Message number; value = value } }
 {
@@ -37,7 +38,7 @@ fn message_row(name: Text, number: u32, value: AttrValue) -> AttrRow
     }
 }
 
-// The row of an attribute of a message, with copies of its name and value.
+// The entry of an attribute of a message, with copies of its name and value.
 fn row_of(name: &Text, number: u32, value: &AttrValue) -> Result<AttrRow, Memory>
     ensures { IfOk result (λ row. row ≡ record { name = name.now; target = targets.Message number; value = value.now }) }
 {
@@ -46,7 +47,7 @@ fn row_of(name: &Text, number: u32, value: &AttrValue) -> Result<AttrRow, Memory
     Ok(message_row(name, number, value))
 }
 
-// The database with the row in place of those of the attribute for messages of the number.
+// The database with the entry instead of those of the attribute for messages of the CAN identifier.
 fn with_row(database: &Database, name: &Text, number: u32, row: AttrRow) -> Result<Database, Memory>
     ensures { IfOk result (λ edited. edited ≡ record database.now {
       attributes = with_item (is_attribute_of name.now number) row database.now.attributes;
@@ -61,7 +62,7 @@ fn with_row(database: &Database, name: &Text, number: u32, row: AttrRow) -> Resu
     Ok(edited)
 }
 
-// The database with the attribute of the messages of the number set.
+// The database with the attribute set for the messages of the CAN identifier.
 fn with_attribute(
     database: &Database,
     name: &Text,
@@ -77,7 +78,7 @@ fn with_attribute(
     with_row(database, name, number, row)
 }
 
-/// The database with the attribute set, where there are such messages and the attribute is defined.
+/// The database with the attribute set, if there are such messages and the attribute is defined.
 #[tactic(auto, unfolding(crate::specs::Edits::attribute_set, crate::specs::Edits::refused_if))]
 pub(crate) fn set_attribute(
     database: &Database,
@@ -97,7 +98,7 @@ pub(crate) fn set_attribute(
     Ok(edited)
 }
 
-/// The database without the rows of the attribute for messages of the number.
+/// The database without the entries of the attribute for messages of the CAN identifier.
 #[tactic(auto, unfolding(crate::specs::Edits::attribute_dropped, crate::specs::Edits::refused_if))]
 pub(crate) fn drop_attribute(
     database: &Database,

@@ -1,4 +1,4 @@
-//! What a message's first line is changed to.
+//! The change of a message's first line.
 ghost use Rattle.std.specs.Prelude.{◌≡◌, Some, None, if◌then◌else◌};
 ghost use Rattle.dbc_records.specs.Records.{head_fits};
 
@@ -6,12 +6,12 @@ use dbc_records::Head;
 use dbc_values::Name;
 use std::marker::Model;
 
-/// All of a message's first line but its number, which an edit of its own changes.
+/// A message's whole first line except its CAN identifier, which has an edit of its own.
 #[derive(Drop)]
 pub struct Change {
     /// The message's new name.
     pub name: Name,
-    /// How many bytes of data it has from now on.
+    /// The new length (DLC) in bytes.
     pub size: u16,
     /// Its new sender.
     pub sender: Name,
@@ -28,7 +28,7 @@ impl Model for Change {
 }
 
 impl Change {
-    /// The change, or `None` where the size is over [`Head::MAX_SIZE`].
+    /// The change, or `None` if the length is over [`Head::MAX_SIZE`].
     pub fn new(name: Name, size: u16, sender: Name) -> Option<Change>
         ensures { result ≡ (if head_fits size then Some (record { name = name; size = size; sender = sender }) else None) }
     {

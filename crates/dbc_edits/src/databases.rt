@@ -1,4 +1,4 @@
-//! Databases with another message, and without the rows of a message or a signal.
+//! Databases with another message, and without the entries of a message or a signal.
 ghost use Rattle.std.specs.Prelude.{◌≡◌, ◌<◌, IfOk, length};
 ghost use Rattle.dbc_edits.specs.Rows.{without_rows, has_row};
 ghost use Rattle.dbc_edits.specs.Edits.{with_message};
@@ -8,21 +8,21 @@ use crate::rows::{drop_all, has_any};
 use dbc_records::{Database, Message};
 use dbc_values::{Copied, Memory};
 
-/// The database with another message at the place.
+/// The database with another message at the index.
 pub(crate) fn with_message(
     database: &Database,
-    place: usize,
+    index: usize,
     message: Message,
 ) -> Result<Database, Memory>
-    requires { place < length database.now.messages }
-    ensures { IfOk result (λ edited. edited ≡ with_message place message database.now) }
+    requires { index < length database.now.messages }
+    ensures { IfOk result (λ edited. edited ≡ with_message index message database.now) }
 {
     let mut edited = database.copy()?;
-    edited.messages.set(place, message);
+    edited.messages.set(index, message);
     Ok(edited)
 }
 
-/// Whether a row speaks of the key.
+/// Whether an entry is about the key.
 #[tactic(auto, unfolding(crate::specs::Rows::has_row))]
 pub(crate) fn has_row<K: TargetKey>(database: &Database, key: &K) -> bool
     ensures { result ≡ has_row (K.takes key.now) database.now }
@@ -34,7 +34,7 @@ pub(crate) fn has_row<K: TargetKey>(database: &Database, key: &K) -> bool
         || has_any(database.muxes.as_slice(), key)
 }
 
-/// Takes out the rows that speak of the key.
+/// Removes the entries that are about the key.
 #[tactic(auto, unfolding(crate::specs::Rows::without_rows))]
 pub(crate) fn drop_rows<K: TargetKey>(database: &mut Database, key: &K)
     ensures { database.new ≡ without_rows (K.takes key.now) database.old }

@@ -4,43 +4,43 @@ use crate::change::Change;
 use dbc_records::{AttrValue, Head, MuxRow, Signal, TableRow, ValueRow};
 use dbc_values::{Name, Text};
 
-/// A change of a database. Places of messages, and of signals within a message, are counted from 0.
+/// A change of a database. Indexes of messages, and of signals within a message, count from 0.
 ///
-/// A row that is set replaces the first row of its key, drops the others of it, and stands last where there was none.
+/// An entry that is set replaces the first entry of its key, drops the others of it, and comes last if there was none.
 #[derive(Drop)]
 pub enum Edit {
-    /// A message without signals comes to stand at a place.
+    /// Inserts a message without signals at an index.
     AddMessage(usize, Head),
-    /// The message at a place goes; so do the rows of its number, where no other message has the number.
+    /// Removes the message at an index, and the entries of its CAN identifier if no other message has it.
     RemoveMessage(usize),
-    /// The first line of the message at a place is changed, all but its number.
+    /// Changes the first line of the message at an index, except its CAN identifier.
     ChangeMessage(usize, Change),
-    /// The message at a place and all rows of its number take another number.
+    /// Gives the message at an index and all entries of its CAN identifier another CAN identifier.
     Renumber(usize, u32),
-    /// In the message at the first place a signal comes to stand at the second.
+    /// Inserts a signal at the second index of the message at the first.
     AddSignal(usize, usize, Signal),
-    /// The signal of a name goes from the message at a place; so do its rows, where no other message of the number has such a
-    /// signal. Rows that name it as their switch stay.
+    /// Removes the signal of a name from the message at an index, and its entries if no other message of the CAN identifier has
+    /// such a signal. Entries that name it as their multiplexor (switch) stay.
     RemoveSignal(usize, Name),
-    /// In the message at a place the signal of the same name gives way to this one.
+    /// Replaces the signal of the same name in the message at an index.
     ChangeSignal(usize, Signal),
-    /// The signal of a name in the message at a place takes another name, and so do all rows of the message's number that name it,
-    /// also as their switch. Statements kept verbatim stay.
+    /// Renames the signal of a name in the message at an index, and in all entries of the message's CAN identifier that name it,
+    /// also as their multiplexor. Statements kept verbatim stay.
     RenameSignal(usize, Name, Name),
-    /// The multiplexer row of a signal is set.
+    /// Sets the `SG_MUL_VAL_` entry of a signal.
     SetMux(MuxRow),
-    /// The value descriptions of a signal are set.
+    /// Sets the value descriptions of a signal.
     SetValues(ValueRow),
-    /// The multiplexer rows of a signal, by number and name, go.
+    /// Removes the `SG_MUL_VAL_` entries of a signal, by CAN identifier and name.
     DropMux(u32, Name),
-    /// The entries of value descriptions of a signal, by number and name, go.
+    /// Removes the `VAL_` entries of a signal, by CAN identifier and name.
     DropValues(u32, Name),
-    /// The value tables of a name go.
+    /// Removes the value tables of a name.
     DropTable(Name),
-    /// A value table is set.
+    /// Sets a value table.
     SetTable(TableRow),
-    /// The attribute of a name of the message of a number is set.
+    /// Sets the attribute of a name for the message of a CAN identifier.
     SetAttribute(Text, u32, AttrValue),
-    /// The rows of the attribute of a name for the message of a number go.
+    /// Removes the entries of the attribute of a name for the message of a CAN identifier.
     DropAttribute(Text, u32),
 }

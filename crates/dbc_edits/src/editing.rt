@@ -15,20 +15,20 @@ use std::alloc::Global;
 
 /// The changed database, or why the edit is refused.
 ///
-/// It copies the database, in time and memory linear in it, and the database handed in stays as it is. Running out of memory is
-/// answered only where nothing else refuses the edit.
+/// It copies the database, in time and memory linear in it, and leaves the given database as it is. Running out of memory is
+/// reported only if nothing else refuses the edit.
 pub fn edited(alloc: Global, database: &Database, edit: &Edit) -> Result<Database, Refusal>
     ensures { IsAnswer (edited database.now edit.now) result }
 {
     match edit {
-        Edit::AddMessage(place, head) => add_message(alloc, database, *place, head),
-        Edit::RemoveMessage(place) => remove_message(database, *place),
-        Edit::ChangeMessage(place, change) => change_message(database, *place, change),
-        Edit::Renumber(place, number) => renumber(database, *place, *number),
-        Edit::AddSignal(place, at, signal) => add_signal(database, *place, *at, signal),
-        Edit::RemoveSignal(place, name) => remove_signal(database, *place, name.as_bytes()),
-        Edit::ChangeSignal(place, signal) => change_signal(database, *place, signal),
-        Edit::RenameSignal(place, old, new) => rename_signal(database, *place, old, new),
+        Edit::AddMessage(index, head) => add_message(alloc, database, *index, head),
+        Edit::RemoveMessage(index) => remove_message(database, *index),
+        Edit::ChangeMessage(index, change) => change_message(database, *index, change),
+        Edit::Renumber(index, number) => renumber(database, *index, *number),
+        Edit::AddSignal(index, at, signal) => add_signal(database, *index, *at, signal),
+        Edit::RemoveSignal(index, name) => remove_signal(database, *index, name.as_bytes()),
+        Edit::ChangeSignal(index, signal) => change_signal(database, *index, signal),
+        Edit::RenameSignal(index, old, new) => rename_signal(database, *index, old, new),
         Edit::SetMux(row) => set_mux(database, row),
         Edit::SetValues(row) => set_values(database, row),
         Edit::DropMux(number, name) => drop_mux(database, *number, name.as_bytes()),

@@ -1,4 +1,4 @@
-//! The keys by which rows are found.
+//! The keys by which entries are found.
 ghost use Rattle.std.specs.Prelude.{◌≡◌, Bool};
 ghost use Rattle.dbc_records.specs.declared.target.Target.{Target as TargetSpec};
 ghost use Rattle.dbc_records.specs.EntryKeys.{target_of, key_target};
@@ -6,9 +6,9 @@ ghost use Rattle.dbc_records.specs.EntryKeys.{target_of, key_target};
 use dbc_records::{AttrRow, DatabaseEntry, MuxRow, Signal, TableRow, TargetRef};
 use dbc_values::{Checked, same};
 
-/// A test on rows of a kind.
+/// A test on entries of a kind.
 pub(crate) trait Key<R: Checked>: Drop {
-    // Whether a row passes.
+    // Whether an entry passes.
     ghost has: { Self → R → Bool };
 
     fn has(&self, row: &R) -> bool
@@ -51,7 +51,7 @@ impl TargetKey for OfNumber {
     }
 }
 
-/// A signal of messages of a number.
+/// A signal of messages of a CAN identifier.
 #[derive(Drop)]
 pub(crate) struct OfSignal<'a> {
     pub(crate) number: u32,
@@ -71,7 +71,7 @@ impl<'a> TargetKey for OfSignal<'a> {
     }
 }
 
-/// The multiplexer rows of a number that name a switch.
+/// The multiplexer entries of a CAN identifier that name a multiplexor (switch).
 #[derive(Drop)]
 pub(crate) struct OfSwitch<'a> {
     pub(crate) number: u32,
@@ -104,7 +104,7 @@ impl<'a> Key<TableRow> for OfTable<'a> {
     }
 }
 
-/// An attribute of messages of a number.
+/// An attribute of messages of a CAN identifier.
 #[derive(Drop)]
 pub(crate) struct OfAttribute<'a> {
     pub(crate) name: &'a [u8],

@@ -1,7 +1,7 @@
 //! Edits of a database: sixteen changes, each one exact step.
 //!
-//! [`edited`] answers the changed database, or why the edit is refused; the database itself stays as it is. What each edit does
-//! is said over whole lists in `specs/Edits.antt`.
+//! [`edited`] returns the changed database, or why the edit is refused; the database itself stays as it is. `specs/Edits.antt`
+//! defines what each edit does, over whole lists.
 #![tactic(auto)]
 
 mod attributes;

@@ -4,15 +4,15 @@ ghost use Rattle.dbc_edits.specs.Refusals.{refusal_number, refusal_word};
 
 use dbc_values::Memory;
 
-/// Why a command of a session is refused. Where several causes hold, that of the least number is answered; the numbers and the
-/// words don't change.
+/// Why a command of a session is refused. If several causes hold, that of the least number is reported; the numbers and
+/// the words don't change.
 #[derive(Clone, Copy, Debug, PartialEq, Eq)]
 pub enum Refusal {
-    /// No message stands at the place, or has the number.
+    /// No message is at the index, or has the CAN identifier.
     NoMessage,
-    /// The place is after the end.
+    /// The index is after the end.
     BadPlace,
-    /// The message, or no message of the number, has the signal.
+    /// The message has no such signal, or no message of the CAN identifier has it.
     NoSignal,
     /// The message has a signal of the name.
     SignalExists,
@@ -20,21 +20,21 @@ pub enum Refusal {
     SignalsFull,
     /// There are as many messages as there may be.
     MessagesFull,
-    /// A message or a row has the new number.
+    /// A message or an entry has the new CAN identifier.
     IdTaken,
-    /// Another message has the old number.
+    /// Another message has the old CAN identifier.
     IdShared,
-    /// No row has the key.
+    /// No entry has the key.
     NoRow,
     /// No definition has the attribute's name.
     NoDefinition,
-    /// As many lines are kept as may be.
+    /// The session's log is full.
     LogFull,
     /// The line has too many bytes.
     LongLine,
-    /// A row of the message's number names the new name, as its signal or as its switch.
+    /// An entry of the message's CAN identifier uses the new name, for its signal or its multiplexor (switch).
     NameTaken,
-    /// Another message of the number has a signal of the old or of the new name.
+    /// Another message of the CAN identifier has a signal of the old or of the new name.
     NameShared,
     /// Memory ran out.
     Memory,
@@ -64,7 +64,7 @@ impl Refusal {
         }
     }
 
-    /// The refusal's name, as it stands above.
+    /// The refusal's name, as above.
     pub fn word(self) -> &'static [u8]
         ensures { result.now ≡ refusal_word self }
     {

@@ -1,4 +1,4 @@
-//! Rows, and signals, of an old name that take a new one.
+//! Entries, and signals, of an old name that take a new one.
 ghost use Rattle.std.specs.Prelude.{◌≡◌, ◌==◌, ◌&&◌, All, IfOk, MatchOption, OnOk, map};
 ghost use Rattle.std.specs.Str.{bytes_eq};
 ghost use Rattle.dbc_edits.specs.Rows.{name_after, target_renamed, rows_renamed};
@@ -7,7 +7,7 @@ use dbc_records::{AttrRow, Comment, Database, FloatRow, MuxRow, Signal, Target, 
 use dbc_values::{Checked, Copied, List, Memory, Name, same};
 use std::marker::Model;
 
-/// Signals of a number take a new name in place of an old one.
+/// Signals of a CAN identifier take a new name instead of an old one.
 #[derive(Drop)]
 pub(crate) struct Renaming<'a> {
     pub(crate) number: u32,
@@ -30,14 +30,14 @@ pub(crate) trait Rename<T: Checked>: Drop {
     // The item, renamed.
     ghost renamed: { Self → T → T };
 
-    /// The item with its new name, or nothing where it keeps the one that it has.
+    /// The item with its new name, or nothing if it keeps its own.
     fn renamed(&self, item: &T) -> Result<Option<T>, Memory>
         ensures new { IfOk result (λ made. MatchOption made (item.now ≡ renamed self.now item.now) (λ other. other
             ≡ renamed self.now item.now)) }
         ensures valid { IfOk result (λ made. IfSome made T.IsValid) };
 }
 
-/// Puts each item through the change.
+/// Applies the change to each item.
 pub(crate) fn rename_all<T: Checked, R: Rename<T>>(
     items: &mut List<T>,
     change: &R,
@@ -46,23 +46,23 @@ pub(crate) fn rename_all<T: Checked, R: Rename<T>>(
     ensures valid { All T.IsValid items.new }
 {
     let count = items.as_slice().len();
-    for place in 0..count {
-        if let Some(other) = change.renamed(&items.as_slice()[place])? {
-            items.set(place, other);
+    for index in 0..count {
+        if let Some(other) = change.renamed(&items.as_slice()[index])? {
+            items.set(index, other);
         }
     }
     Ok(())
 }
 
 impl<'a> Renaming<'a> {
-    // Whether a signal of a number has the old name.
+    // Whether a signal of a CAN identifier has the old name.
     fn takes(&self, number: u32, name: &Name) -> bool
         ensures { result ≡ (number == self.now.number && bytes_eq name.now self.now.old) }
     {
         number == self.number && same(name.as_bytes(), self.old.as_bytes())
     }
 
-    // The name that a signal of a number then has.
+    // The name that a signal of a CAN identifier then has.
     fn name_after(&self, number: u32, name: &Name) -> Result<Name, Memory>
         ensures { IfOk result (λ after. after ≡ name_after self.now number name.now) }
     {
@@ -73,7 +73,7 @@ impl<'a> Renaming<'a> {
         }
     }
 
-    // What a row that speaks of it then speaks of, or nothing where that stays.
+    // The target of an entry after the renaming, or nothing if it stays the same.
     fn target_after(&self, target: &Target) -> Result<Option<Target>, Memory>
         ensures { IfOk result (λ made. MatchOption made (target.now ≡ target_renamed self.now target.now) (λ other. other
             ≡ target_renamed self.now target.now)) }
@@ -178,7 +178,7 @@ impl<'a> Rename<Signal> for Renaming<'a> {
     }
 }
 
-/// Renames the signal in all rows of the database.
+/// Renames the signal in all entries of the database.
 #[tactic(auto, unfolding(crate::specs::Rows::rows_renamed))]
 pub(crate) fn rename_rows(database: &mut Database, renaming: &Renaming<'_>) -> Result<(), Memory>
     ensures { OnOk result (database.new ≡ rows_renamed renaming.now database.old) }

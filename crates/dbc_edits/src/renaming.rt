@@ -13,7 +13,7 @@ use crate::signals::{has_named, has_signal, with_signals};
 use dbc_records::{Database, Message};
 use dbc_values::{Copied, Memory, Name};
 
-// Whether a row of the number names the signal, as what it speaks of or as its switch.
+// Whether an entry of the CAN identifier names the signal, as what it is about or as its multiplexor (switch).
 #[tactic(auto, unfolding(crate::specs::Rows::has_row_naming))]
 fn has_row_naming(database: &Database, number: u32, name: &[u8]) -> bool
     ensures { result ≡ has_row_naming number name.now database.now }
@@ -22,13 +22,13 @@ fn has_row_naming(database: &Database, number: u32, name: &[u8]) -> bool
         || has_any(database.muxes.as_slice(), &OfSwitch { number, name })
 }
 
-// Whether a message of the number but that at the place has a signal of the name.
-fn another_has_signal(messages: &[Message], place: usize, number: u32, name: &[u8]) -> bool
-    requires { place < length messages.now }
-    ensures { result ≡ has_signal number name.now (remove messages.now place) }
+// Whether a message of the CAN identifier other than the one at the index has a signal of the name.
+fn another_has_signal(messages: &[Message], index: usize, number: u32, name: &[u8]) -> bool
+    requires { index < length messages.now }
+    ensures { result ≡ has_signal number name.now (remove messages.now index) }
 {
-    let (before, _) = messages.split_at(place);
-    let (_, after) = messages.split_at(place + 1);
+    let (before, _) = messages.split_at(index);
+    let (_, after) = messages.split_at(index + 1);
     has_signal(before, number, name) || has_signal(after, number, name)
 }
 
@@ -46,40 +46,40 @@ fn with_renamed(message: &Message, renaming: &Renaming<'_>) -> Result<Message, M
     with_signals(message, signals)
 }
 
-// The database with this message, which stands at the place, and all rows of its number renamed.
+// The database with this message at the index, and with all entries of its CAN identifier renamed.
 fn renamed_at(
     database: &Database,
-    place: usize,
+    index: usize,
     message: &Message,
     renaming: &Renaming<'_>,
 ) -> Result<Database, Memory>
-    requires place { place < length database.now.messages }
+    requires index { index < length database.now.messages }
     requires free { has_named renaming.now.new message.now.signals ≡ false }
     ensures { IfOk result (λ edited. edited ≡ rows_renamed renaming.now
-        (with_message place (record message.now {
+        (with_message index (record message.now {
           signals = map (with_name renaming.now.old renaming.now.new)
               message.now.signals;
         }) database.now)) }
 {
     let message = with_renamed(message, renaming)?;
-    let mut edited = with_message(database, place, message)?;
+    let mut edited = with_message(database, index, message)?;
     rename_rows(&mut edited, renaming)?;
     Ok(edited)
 }
 
-/// The database with the new name of the signal of the old name in the message at the place, and of all rows that name it, or why
-/// that is refused.
+/// The database with the new name of the signal of the old name in the message at the index, and of all entries that name it, or
+/// why that is refused.
 #[tactic(auto, unfolding(crate::specs::Edits::signal_renamed, crate::specs::Edits::at_message, crate::specs::Edits::refused_if))]
 pub(crate) fn rename_signal(
     database: &Database,
-    place: usize,
+    index: usize,
     old: &Name,
     new: &Name,
 ) -> Result<Database, Refusal>
-    ensures { IsAnswer (signal_renamed place old.now new.now database.now) result }
+    ensures { IsAnswer (signal_renamed index old.now new.now database.now) result }
 {
     let messages = database.messages.as_slice();
-    let Some(message) = messages.get(place) else {
+    let Some(message) = messages.get(index) else {
         return Err(Refusal::NoMessage);
     };
     let number = message.head.number;
@@ -92,29 +92,29 @@ pub(crate) fn rename_signal(
     if has_row_naming(database, number, new.as_bytes()) {
         return Err(Refusal::NameTaken);
     }
-    if another_has_signal(messages, place, number, old.as_bytes())
-        || another_has_signal(messages, place, number, new.as_bytes())
+    if another_has_signal(messages, index, number, old.as_bytes())
+        || another_has_signal(messages, index, number, new.as_bytes())
     {
         return Err(Refusal::NameShared);
     }
     let renaming = Renaming { number, old, new };
-    let edited = renamed_at(database, place, message, &renaming)?;
+    let edited = renamed_at(database, index, message, &renaming)?;
     Ok(edited)
 }
 
-/// The database with the new name of the signal of the old name in the message at the place, and in all rows of the message's
-/// number
-/// that name it, also as their switch: what [`Edit::RenameSignal`](crate::Edit::RenameSignal) gives where it isn't refused.
+/// The database with the new name of the signal of the old name in the message at the index, and in all entries of the
+/// message's CAN identifier that name it, also as their multiplexor: what [`Edit::RenameSignal`](crate::Edit::RenameSignal)
+/// gives if it isn't refused.
 pub fn renamed(
     database: &Database,
-    place: usize,
+    index: usize,
     old: &Name,
     new: &Name,
 ) -> Result<Database, Memory>
-    requires { IsOk (signal_renamed place old.now new.now database.now) }
-    ensures { IfOk result (λ renamed. signal_renamed place old.now new.now database.now ≡ Ok renamed) }
+    requires { IsOk (signal_renamed index old.now new.now database.now) }
+    ensures { IfOk result (λ renamed. signal_renamed index old.now new.now database.now ≡ Ok renamed) }
 {
-    match rename_signal(database, place, old, new) {
+    match rename_signal(database, index, old, new) {
         Ok(renamed) => Ok(renamed),
         Err(_) => Err(Memory),
     }

@@ -1,4 +1,4 @@
-//! Rows of a number that take another.
+//! Entries of a CAN identifier that take another.
 ghost use Rattle.std.specs.Prelude.{◌≡◌};
 ghost use Rattle.dbc_records.specs.Comments.{IsTarget};
 ghost use Rattle.dbc_edits.specs.Rows.{renumbered, target_renumbered, rows_renumbered};
@@ -6,7 +6,7 @@ ghost use Rattle.dbc_edits.specs.Rows.{renumbered, target_renumbered, rows_renum
 use dbc_records::{AttrRow, Comment, Database, FloatRow, MuxRow, Target, ValueRow};
 use dbc_values::Rewrite;
 
-/// One number takes the place of another.
+/// One CAN identifier replaces another.
 #[derive(Drop)]
 pub(crate) struct Renumbering {
     pub(crate) from: u32,
@@ -83,7 +83,7 @@ impl Rewrite<MuxRow> for Renumbering {
     }
 }
 
-/// Renumbers all rows of the database.
+/// Renumbers all entries of the database.
 #[tactic(auto, unfolding(crate::specs::Rows::rows_renumbered))]
 pub(crate) fn renumber_rows(database: &mut Database, change: &Renumbering)
     ensures { database.new ≡ rows_renumbered change.now.from change.now.to database.old }

@@ -1,4 +1,4 @@
-//! Edits of the multiplexer rows and the value descriptions of signals.
+//! Edits of the multiplexer entries and the value descriptions of signals.
 ghost use Rattle.std.specs.Prelude.{◌≡◌, IfOk, Result};
 ghost use Rattle.dbc_records.specs.Databases.{Database as PlainDatabase};
 ghost use Rattle.dbc_edits.specs.declared.refusal.Refusal.{Refusal as PlainRefusal};
@@ -14,7 +14,7 @@ use crate::signals::has_signal;
 use dbc_records::{Database, MuxRow, ValueRow};
 use dbc_values::{Copied, Memory};
 
-// Refuses where no message of the number has the signal.
+// Refuses the edit if no message of the CAN identifier has the signal.
 #[tactic(auto, unfolding(crate::specs::Edits::refused_if))]
 fn find_signal(database: &Database, number: u32, name: &[u8]) -> Result<(), Refusal>
     ensures { (change : Result PlainDatabase PlainRefusal) → for_signal number name.now database.now change ≡ unless_refused result
@@ -29,7 +29,7 @@ fn find_signal(database: &Database, number: u32, name: &[u8]) -> Result<(), Refu
     Ok(())
 }
 
-// The database with the multiplexer row set.
+// The database with the multiplexer entry set.
 fn with_mux(database: &Database, key: &OfSignal<'_>, row: &MuxRow) -> Result<Database, Memory>
     ensures { IfOk result (λ edited. edited ≡ record database.now {
       muxes = with_item (is_mux_of key.now.number key.now.name.now)
@@ -42,7 +42,7 @@ fn with_mux(database: &Database, key: &OfSignal<'_>, row: &MuxRow) -> Result<Dat
     Ok(edited)
 }
 
-/// The database with the multiplexer row set, where its message has its signal.
+/// The database with the multiplexer entry set, if its message has its signal.
 #[tactic(auto, unfolding(crate::specs::Edits::mux_set, crate::specs::Edits::refused_if))]
 pub(crate) fn set_mux(database: &Database, row: &MuxRow) -> Result<Database, Refusal>
     ensures { IsAnswer (mux_set row.now database.now) result }
@@ -54,7 +54,7 @@ pub(crate) fn set_mux(database: &Database, row: &MuxRow) -> Result<Database, Ref
     Ok(edited)
 }
 
-// The database with the entry of value descriptions set.
+// The database with the `VAL_` entry set.
 fn with_named(database: &Database, key: &OfSignal<'_>, row: &ValueRow) -> Result<Database, Memory>
     ensures { IfOk result (λ edited. edited ≡ record database.now {
       values = with_item (is_values_of key.now.number key.now.name.now)
@@ -67,7 +67,7 @@ fn with_named(database: &Database, key: &OfSignal<'_>, row: &ValueRow) -> Result
     Ok(edited)
 }
 
-/// The database with the entry of value descriptions set, where its message has its signal.
+/// The database with the `VAL_` entry set, if its message has its signal.
 #[tactic(auto, unfolding(crate::specs::Edits::values_set, crate::specs::Edits::refused_if))]
 pub(crate) fn set_values(database: &Database, row: &ValueRow) -> Result<Database, Refusal>
     ensures { IsAnswer (values_set row.now database.now) result }
@@ -79,7 +79,7 @@ pub(crate) fn set_values(database: &Database, row: &ValueRow) -> Result<Database
     Ok(edited)
 }
 
-/// The database without the multiplexer rows of the signal.
+/// The database without the multiplexer entries of the signal.
 #[tactic(auto, unfolding(crate::specs::Edits::mux_dropped, crate::specs::Edits::refused_if))]
 pub(crate) fn drop_mux(database: &Database, number: u32, name: &[u8]) -> Result<Database, Refusal>
     ensures { IsAnswer (mux_dropped number name.now database.now) result }
@@ -93,7 +93,7 @@ pub(crate) fn drop_mux(database: &Database, number: u32, name: &[u8]) -> Result<
     Ok(edited)
 }
 
-/// The database without the entries of value descriptions of the signal.
+/// The database without the `VAL_` entries of the signal.
 #[tactic(auto, unfolding(crate::specs::Edits::values_dropped, crate::specs::Edits::refused_if))]
 pub(crate) fn drop_values(
     database: &Database,

@@ -10,7 +10,7 @@ use crate::databases::{drop_rows, with_message};
 use crate::key::{OfName, OfSignal};
 use crate::messages::number_of;
 use crate::refusal::Refusal;
-use crate::rows::{drop_all, has_any, place_of};
+use crate::rows::{drop_all, has_any, index_of};
 use dbc_records::{Database, Message, Signal};
 use dbc_values::{Copied, List, Memory};
 
@@ -21,7 +21,7 @@ pub(crate) fn has_named(signals: &[Signal], name: &[u8]) -> bool
     has_any(signals, &OfName { name })
 }
 
-/// Whether a message of the number has a signal of the name.
+/// Whether a message of the CAN identifier has a signal of the name.
 pub(crate) fn has_signal(messages: &[Message], number: u32, name: &[u8]) -> bool
     ensures { result ≡ has_signal number name.now messages.now }
 {
@@ -42,11 +42,11 @@ pub(crate) fn with_signals(message: &Message, signals: List<Signal>) -> Result<M
     Ok(Message { head, signals })
 }
 
-// The message with one more signal, before that at the place.
+// The message with one more signal, inserted at the index.
 #[tactic(auto, using(crate::proofs::Fitting::fits_inserted))]
 fn with_signal(message: &Message, at: usize, signal: &Signal) -> Result<Message, Memory>
-    requires place { at ≤ length message.now.signals }
-    requires room { length message.now.signals < most_signals }
+    requires index { at ≤ length message.now.signals }
+    requires space { length message.now.signals < most_signals }
     requires new { has_named signal.now.name message.now.signals ≡ false }
     ensures { IfOk result (λ other. other ≡ record message.now { signals = insert message.now.signals at signal.now }) }
 {
@@ -56,17 +56,17 @@ fn with_signal(message: &Message, at: usize, signal: &Signal) -> Result<Message,
     with_signals(message, signals)
 }
 
-/// The database with one more signal of the message at the first place.
+/// The database with one more signal of the message at the first index.
 #[tactic(auto, unfolding(crate::specs::Edits::signal_added, crate::specs::Edits::at_message, crate::specs::Edits::refused_if))]
 pub(crate) fn add_signal(
     database: &Database,
-    place: usize,
+    index: usize,
     at: usize,
     signal: &Signal,
 ) -> Result<Database, Refusal>
-    ensures { IsAnswer (signal_added place at signal.now database.now) result }
+    ensures { IsAnswer (signal_added index at signal.now database.now) result }
 {
-    let Some(message) = database.messages.as_slice().get(place) else {
+    let Some(message) = database.messages.as_slice().get(index) else {
         return Err(Refusal::NoMessage);
     };
     let signals = message.signals.as_slice();
@@ -80,7 +80,7 @@ pub(crate) fn add_signal(
         return Err(Refusal::SignalsFull);
     }
     let message = with_signal(message, at, signal)?;
-    let edited = with_message(database, place, message)?;
+    let edited = with_message(database, index, message)?;
     Ok(edited)
 }
 
@@ -94,7 +94,7 @@ fn without_signal(message: &Message, name: &[u8]) -> Result<Message, Memory>
     with_signals(message, signals)
 }
 
-// Takes out the rows of the signal where no message of the number has it.
+// Removes the entries of the signal if no message of the CAN identifier has it.
 fn clear_signal(database: &mut Database, number: u32, name: &[u8])
     ensures { database.new ≡ cleared_of_signal number name.now database.old }
 {
@@ -103,47 +103,47 @@ fn clear_signal(database: &mut Database, number: u32, name: &[u8])
     }
 }
 
-// The database with this message, which comes to stand at the place, without the signal of the name, and without its
-// rows where no other message of the number has such a signal.
+// The database with this message, put at the index, without the signal of the name, and without its entries if no other message of
+// the CAN identifier has such a signal.
 fn removed_at(
     database: &Database,
-    place: usize,
+    index: usize,
     message: &Message,
     name: &[u8],
 ) -> Result<Database, Memory>
-    requires { place < length database.now.messages }
+    requires { index < length database.now.messages }
     ensures { IfOk result (λ edited. edited ≡ cleared_of_signal message.now.head.number name.now
-        (with_message place (record message.now { signals = without (is_named name.now) message.now.signals }) database.now)) }
+        (with_message index (record message.now { signals = without (is_named name.now) message.now.signals }) database.now)) }
 {
     let number = number_of(message);
     let other = without_signal(message, name)?;
-    let mut edited = with_message(database, place, other)?;
+    let mut edited = with_message(database, index, other)?;
     clear_signal(&mut edited, number, name);
     Ok(edited)
 }
 
-/// The database without the signal of the name in the message at the place, and without its rows where no other message
-/// of the number has such a signal.
+/// The database without the signal of the name in the message at the index, and without its entries if no other message of the CAN
+/// identifier has such a signal.
 #[tactic(auto, unfolding(crate::specs::Edits::signal_removed, crate::specs::Edits::at_message, crate::specs::Edits::refused_if))]
 pub(crate) fn remove_signal(
     database: &Database,
-    place: usize,
+    index: usize,
     name: &[u8],
 ) -> Result<Database, Refusal>
-    ensures { IsAnswer (signal_removed place name.now database.now) result }
+    ensures { IsAnswer (signal_removed index name.now database.now) result }
 {
-    let Some(message) = database.messages.as_slice().get(place) else {
+    let Some(message) = database.messages.as_slice().get(index) else {
         return Err(Refusal::NoMessage);
     };
     if !has_named(message.signals.as_slice(), name) {
         return Err(Refusal::NoSignal);
     }
-    let edited = removed_at(database, place, message, name)?;
+    let edited = removed_at(database, index, message, name)?;
     Ok(edited)
 }
 
-// The message with this signal in place of that of its name.
-#[tactic(auto, using(crate::proofs::Places::found, crate::proofs::Fitting::fits_set, crate::proofs::Fitting::replaced))]
+// The message with this signal instead of that of its name.
+#[tactic(auto, using(crate::proofs::Indexes::found, crate::proofs::Fitting::fits_set, crate::proofs::Fitting::replaced))]
 fn with_replaced(message: &Message, signal: &Signal) -> Result<Message, Memory>
     requires { has_named signal.now.name message.now.signals ≡ true }
     ensures { IfOk result (λ other. other ≡ record message.now { signals = map (replaced_by signal.now) message.now.signals }) }
@@ -153,27 +153,27 @@ fn with_replaced(message: &Message, signal: &Signal) -> Result<Message, Memory>
     };
     let other = signal.copy()?;
     let mut signals = message.signals.copy()?;
-    let at = place_of(signals.as_slice(), &key);
+    let at = index_of(signals.as_slice(), &key);
     signals.set(at, other);
     with_signals(message, signals)
 }
 
-/// The database with this signal in place of that of its name in the message at the place.
+/// The database with this signal in place of the one of its name in the message at the index.
 #[tactic(auto, unfolding(crate::specs::Edits::signal_changed, crate::specs::Edits::at_message, crate::specs::Edits::refused_if))]
 pub(crate) fn change_signal(
     database: &Database,
-    place: usize,
+    index: usize,
     signal: &Signal,
 ) -> Result<Database, Refusal>
-    ensures { IsAnswer (signal_changed place signal.now database.now) result }
+    ensures { IsAnswer (signal_changed index signal.now database.now) result }
 {
-    let Some(message) = database.messages.as_slice().get(place) else {
+    let Some(message) = database.messages.as_slice().get(index) else {
         return Err(Refusal::NoMessage);
     };
     if !has_named(message.signals.as_slice(), signal.name.as_bytes()) {
         return Err(Refusal::NoSignal);
     }
     let message = with_replaced(message, signal)?;
-    let edited = with_message(database, place, message)?;
+    let edited = with_message(database, index, message)?;
     Ok(edited)
 }

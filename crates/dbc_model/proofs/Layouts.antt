@@ -52,7 +52,7 @@ pub Sends-broke : {W X E : Type 0} (written : W → Written) (a b : Out W) (r : 
     → Sends written a b r (layout_text (xs ++ ys))
 Sends-broke written a b r xs ys e p = rw (layout_text-append xs ys) (Sends-stop written a b r (layout_text xs) (layout_text ys) e p)
 
--- nothing goes out where there is nothing to print
+-- nothing goes out if there is nothing to print
 pub Took-none : {W : Type 0} (written : W → Written) (a : Out W) → Took written a a (layout_text [])
 Took-none written a = subst (λ (t : List ℕ). Took written a a t) (sym layout_text-nil) (Took-nil written a)
 

@@ -1,8 +1,8 @@
 //! The model of a CAN database as a DBC file describes it: its records and their values, the printer, and the devices that
 //! texts come from and go to.
 //!
-//! The printer is here; the rest stands in crates below and is lent on: values in `dbc_values`, records in `dbc_records`,
-//! devices in `byte_devices`.
+//! The printer is here; the rest is in crates below and is re-exported: values in `dbc_values`, records in
+//! `dbc_records`, devices in `byte_devices`.
 #![tactic(auto)]
 
 mod printing;

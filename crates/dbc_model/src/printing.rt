@@ -166,10 +166,10 @@ fn send_database<W: Sink>(out: &mut Out<'_, W>, database: &Database) -> Result<(
     send_rows(out, database)
 }
 
-/// Writes the canonical text of the database: its statements in the format's order of kinds, each on a line of its own
-/// with the blanks that are usual, so that equal databases print alike. It takes no memory.
+/// Writes the canonical text of the database: its statements in the format's order of kinds, each on a line of its own with the
+/// usual blanks, so that equal databases print alike. It allocates nothing.
 ///
-/// Where the sink fails a beginning of the text was written. The text goes out in pieces of up to 16 KiB.
+/// If the sink fails, a prefix of the text was written. The text goes out in pieces of up to 16 KiB.
 #[tactic(auto, using(byte_devices::proofs::Outs::flushes), unfolding(dbc_records::specs::CanonicalText::canonical_text))]
 pub fn print<W: Sink>(database: &Database, sink: &mut W) -> Result<(), WriteFault>
     ensures { Prints (W.written sink.old) (W.written sink.new) result (canonical_text database.now) }

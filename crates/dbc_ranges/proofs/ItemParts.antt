@@ -1,4 +1,4 @@
--- The items of tokens that spell a form say its parts, one after another.
+-- The items of tokens that spell a form spell its parts, one after another.
 use Rattle.std.proofs.Common.{◌≡◌, ℕ, Bool, true, false, not, ◌&&◌, ◌||◌, List, [], ◌∷◌, ◌++◌, refl, sym, ap, subst, ◌∙◌}
 use Rattle.std.proofs.Common.{append_assoc, arith, ◌⊎◌, inl, inr}
 use Rattle.std.specs.Prelude.{codes, IsTrue}
@@ -13,7 +13,7 @@ use Rattle.dbc_tokens.specs.Tokens.{Token}
 use Rattle.dbc_tokens.proofs.Longest.{token_begins}
 use Rattle.dbc_reader.specs.Forms.{Part as FormPart, Is, Perhaps, Unsigned, SaysPart, Spelled, IsOne, IsSign}
 use Rattle.dbc_ranges.specs.Ranges.{Item, is_sign, begins_number, one_token, items_of}
-use Rattle.dbc_ranges.specs.PartLaws.{IsItem, AreOne, SaidBy, begins_with_mark, signs_apart, ItemsSayParts}
+use Rattle.dbc_ranges.specs.PartLaws.{IsItem, AreOne, StatedBy, begins_with_mark, signs_apart, ItemsSayParts}
 
 -- ---- tokens
 
@@ -107,113 +107,113 @@ alone_none tokens none = record { own = []; one = none; items = λ others. rw no
 
 -- ---- the parts of a form
 
-abbrev Said : List FormPart → List Token → List Token → Type 0
-Said parts tokens others = (items : List Item) × (items_of (tokens ++ others) ≡ items ++ items_of others) × SaidBy parts items
+abbrev Stated : List FormPart → List Token → List Token → Type 0
+Stated parts tokens others = (items : List Item) × (items_of (tokens ++ others) ≡ items ++ items_of others) × StatedBy parts items
 
-said_then : (part : FormPart) (parts : List FormPart) (front rest tokens others : List Token) → tokens ≡ front ++ rest
+stated_then : (part : FormPart) (parts : List FormPart) (front rest tokens others : List Token) → tokens ≡ front ++ rest
     → SaysPart part front → (own : List Item) → AreOne own front
-    → items_of (front ++ (rest ++ others)) ≡ own ++ items_of (rest ++ others) → Said parts rest others
-    → Said (part ∷ parts) tokens others
-said_then part parts front rest tokens others whole says own one front_items (items, same, said) = (
+    → items_of (front ++ (rest ++ others)) ≡ own ++ items_of (rest ++ others) → Stated parts rest others
+    → Stated (part ∷ parts) tokens others
+stated_then part parts front rest tokens others whole means own one front_items (items, same, stated) = (
   own ++ items,
   rw whole (ap (λ (t : List Token). items_of t) (append_assoc front rest others) ∙ front_items
       ∙ ap (λ (i : List Item). own ++ i) same ∙ sym (append_assoc own items (items_of others))),
-  (own, items, front, refl, one, says, said),
+  (own, items, front, refl, one, means, stated),
 )
 
 alone_then : (part : FormPart) (parts : List FormPart) (front rest tokens others : List Token) → tokens ≡ front ++ rest
-    → SaysPart part front → StandAlone front → Said parts rest others → Said (part ∷ parts) tokens others
-alone_then part parts front rest tokens others whole says alone said =
-    said_then part parts front rest tokens others whole says alone.own alone.one (alone.items (rest ++ others)) said
+    → SaysPart part front → StandAlone front → Stated parts rest others → Stated (part ∷ parts) tokens others
+alone_then part parts front rest tokens others whole means alone stated =
+    stated_then part parts front rest tokens others whole means alone.own alone.one (alone.items (rest ++ others)) stated
 
 -- a mark `+` or `-` before another mark
 mark_then : (mark : ℕ) (parts : List FormPart) (front rest tokens others : List Token) → tokens ≡ front ++ rest
-    → SaysPart (Is (Mark mark)) front → begins_with_mark parts ≡ true → Spelled parts rest → Said parts rest others
-    → Said (Is (Mark mark) ∷ parts) tokens others
+    → SaysPart (Is (Mark mark)) front → begins_with_mark parts ≡ true → Spelled parts rest → Stated parts rest others
+    → Stated (Is (Mark mark) ∷ parts) tokens others
 mark_then mark (Is (Mark next) ∷ parts) front rest tokens others whole (t, one, is) begins
-    (front2, rest2, whole2, (u, one2, is2), spelled) said =
+    (front2, rest2, whole2, (u, one2, is2), spelled) stated =
     let no_number : begins_number u.bytes ≡ false = rw is2 (not-true (begins_number (next ∷ [])) begins) in
     let here : rest ≡ u ∷ rest2 = whole2 ∙ ap (λ (x : List Token). x ++ rest2) one2 in
-    said_then (Is (Mark mark)) (Is (Mark next) ∷ parts) front rest tokens others whole (t, one, is) (one_token t ∷ [])
-    (inl (one, refl)) (rw (one, here) (lone_sign t u (rest2 ++ others) no_number)) said
-mark_then mark parts front rest tokens others whole says begins spelled said = absurd cc
+    stated_then (Is (Mark mark)) (Is (Mark next) ∷ parts) front rest tokens others whole (t, one, is) (one_token t ∷ [])
+    (inl (one, refl)) (rw (one, here) (lone_sign t u (rest2 ++ others) no_number)) stated
+mark_then mark parts front rest tokens others whole means begins spelled stated = absurd cc
 
 quoted_no_sign : (text bytes : List ℕ) → bytes ≡ quoted text → is_sign bytes ≡ false
 quoted_no_sign text bytes same = rw same refl
 
-said_so : (parts : List FormPart) (tokens others : List Token) → signs_apart parts ≡ true → Spelled parts tokens
-    → Said parts tokens others
-said_so [] tokens others apart none = ([], rw none refl, refl)
-said_so (Is (Word word) ∷ parts) tokens others apart (front, rest, whole, says, spelled) =
+stated_so : (parts : List FormPart) (tokens others : List Token) → signs_apart parts ≡ true → Spelled parts tokens
+    → Stated parts tokens others
+stated_so [] tokens others apart none = ([], rw none refl, refl)
+stated_so (Is (Word word) ∷ parts) tokens others apart (front, rest, whole, means, spelled) =
     let both = and_parts (not (is_sign word)) (signs_apart parts) apart in
-    alone_then (Is (Word word)) parts front rest tokens others whole says
-    (alone_one _ front (λ bytes same. rw same (not-true (is_sign word) both.0)) says)
-    (said_so parts rest others both.1 spelled)
-said_so (Is (Mark mark) ∷ parts) tokens others apart (front, rest, whole, says, spelled) =
+    alone_then (Is (Word word)) parts front rest tokens others whole means
+    (alone_one _ front (λ bytes same. rw same (not-true (is_sign word) both.0)) means)
+    (stated_so parts rest others both.1 spelled)
+stated_so (Is (Mark mark) ∷ parts) tokens others apart (front, rest, whole, means, spelled) =
     let both = and_parts (not (is_sign (mark ∷ [])) || begins_with_mark parts) (signs_apart parts) apart in
-    let more = said_so parts rest others both.1 spelled in
+    let more = stated_so parts rest others both.1 spelled in
     elim (cases_Bool (is_sign (mark ∷ []))) [
       | inl is ↦
           let begins : begins_with_mark parts ≡ true =
           sym (ap (λ (s : Bool). not s || begins_with_mark parts) is) ∙ both.0 in
-          mark_then mark parts front rest tokens others whole says begins spelled more
-      | inr isnt ↦ alone_then (Is (Mark mark)) parts front rest tokens others whole says
-          (alone_one _ front (λ bytes same. rw same isnt) says) more
+          mark_then mark parts front rest tokens others whole means begins spelled more
+      | inr isnt ↦ alone_then (Is (Mark mark)) parts front rest tokens others whole means
+          (alone_one _ front (λ bytes same. rw same isnt) means) more
     ]
-said_so (Is (Name name) ∷ parts) tokens others apart (front, rest, whole, says, spelled) =
-    alone_then (Is (Name name)) parts front rest tokens others whole says
-    (alone_one _ front (λ bytes are. rw are.0 (name_no_sign name are.1)) says)
-    (said_so parts rest others apart spelled)
-said_so (Is (Symbol word) ∷ parts) tokens others apart (front, rest, whole, says, spelled) =
-    alone_then (Is (Symbol word)) parts front rest tokens others whole says
-    (alone_one _ front (λ bytes are. rw are.0 (symbol_no_sign word are.1)) says)
-    (said_so parts rest others apart spelled)
-said_so (Is (Text text) ∷ parts) tokens others apart (front, rest, whole, says, spelled) =
-    alone_then (Is (Text text)) parts front rest tokens others whole says
-    (alone_one _ front (λ bytes are. quoted_no_sign text bytes are.0) says)
-    (said_so parts rest others apart spelled)
-said_so (Is (Whole n) ∷ parts) tokens others apart (front, rest, whole, says, spelled) =
-    alone_then (Is (Whole n)) parts front rest tokens others whole says
-    (alone_one _ front (λ bytes are. number_no_sign bytes are.0) says)
-    (said_so parts rest others apart spelled)
-said_so (Is (Int z) ∷ parts) tokens others apart
+stated_so (Is (Name name) ∷ parts) tokens others apart (front, rest, whole, means, spelled) =
+    alone_then (Is (Name name)) parts front rest tokens others whole means
+    (alone_one _ front (λ bytes are. rw are.0 (name_no_sign name are.1)) means)
+    (stated_so parts rest others apart spelled)
+stated_so (Is (Symbol word) ∷ parts) tokens others apart (front, rest, whole, means, spelled) =
+    alone_then (Is (Symbol word)) parts front rest tokens others whole means
+    (alone_one _ front (λ bytes are. rw are.0 (symbol_no_sign word are.1)) means)
+    (stated_so parts rest others apart spelled)
+stated_so (Is (Text text) ∷ parts) tokens others apart (front, rest, whole, means, spelled) =
+    alone_then (Is (Text text)) parts front rest tokens others whole means
+    (alone_one _ front (λ bytes are. quoted_no_sign text bytes are.0) means)
+    (stated_so parts rest others apart spelled)
+stated_so (Is (Whole n) ∷ parts) tokens others apart (front, rest, whole, means, spelled) =
+    alone_then (Is (Whole n)) parts front rest tokens others whole means
+    (alone_one _ front (λ bytes are. number_no_sign bytes are.0) means)
+    (stated_so parts rest others apart spelled)
+stated_so (Is (Int z) ∷ parts) tokens others apart
     (front, rest, whole, (negative, sign, number, both, is, (t, one, (n, spells, value))), spelled) =
     alone_then (Is (Int z)) parts front rest tokens others whole
     (negative, sign, number, both, is, (t, one, (n, spells, value)))
     (alone_signed negative sign front t (both ∙ ap (λ (x : List Token). sign ++ x) one) is spells.0)
-    (said_so parts rest others apart spelled)
-said_so (Is (Number d) ∷ parts) tokens others apart
+    (stated_so parts rest others apart spelled)
+stated_so (Is (Number d) ∷ parts) tokens others apart
     (front, rest, whole, (negative, sign, number, both, is, (t, one, spells)), spelled) =
     alone_then (Is (Number d)) parts front rest tokens others whole (negative, sign, number, both, is, (t, one, spells))
     (alone_signed negative sign front t (both ∙ ap (λ (x : List Token). sign ++ x) one) is spells.form)
-    (said_so parts rest others apart spelled)
-said_so (Is Switch ∷ parts) tokens others apart (front, rest, whole, says, spelled) =
-    alone_then (Is Switch) parts front rest tokens others whole says (alone_one _ front (λ bytes same. rw same refl) says)
-    (said_so parts rest others apart spelled)
-said_so (Is (Muxed n) ∷ parts) tokens others apart (front, rest, whole, says, spelled) =
-    alone_then (Is (Muxed n)) parts front rest tokens others whole says (alone_one _ front (λ bytes are. rw are.1 refl) says)
-    (said_so parts rest others apart spelled)
-said_so (Is (Both n) ∷ parts) tokens others apart (front, rest, whole, says, spelled) =
-    alone_then (Is (Both n)) parts front rest tokens others whole says (alone_one _ front (λ bytes are. rw are.1 refl) says)
-    (said_so parts rest others apart spelled)
-said_so (Is (Order intel) ∷ parts) tokens others apart (front, rest, whole, says, spelled) =
-    alone_then (Is (Order intel)) parts front rest tokens others whole says
-    (alone_one _ front (λ bytes are. number_no_sign bytes are.0) says)
-    (said_so parts rest others apart spelled)
-said_so (Is (Piece piece) ∷ parts) tokens others apart spelled = absurd cc
-said_so (Perhaps mark ∷ parts) tokens others apart (front, rest, whole, inl none, spelled) =
+    (stated_so parts rest others apart spelled)
+stated_so (Is Switch ∷ parts) tokens others apart (front, rest, whole, means, spelled) =
+    alone_then (Is Switch) parts front rest tokens others whole means (alone_one _ front (λ bytes same. rw same refl) means)
+    (stated_so parts rest others apart spelled)
+stated_so (Is (Muxed n) ∷ parts) tokens others apart (front, rest, whole, means, spelled) =
+    alone_then (Is (Muxed n)) parts front rest tokens others whole means (alone_one _ front (λ bytes are. rw are.1 refl) means)
+    (stated_so parts rest others apart spelled)
+stated_so (Is (Both n) ∷ parts) tokens others apart (front, rest, whole, means, spelled) =
+    alone_then (Is (Both n)) parts front rest tokens others whole means (alone_one _ front (λ bytes are. rw are.1 refl) means)
+    (stated_so parts rest others apart spelled)
+stated_so (Is (Order intel) ∷ parts) tokens others apart (front, rest, whole, means, spelled) =
+    alone_then (Is (Order intel)) parts front rest tokens others whole means
+    (alone_one _ front (λ bytes are. number_no_sign bytes are.0) means)
+    (stated_so parts rest others apart spelled)
+stated_so (Is (Piece piece) ∷ parts) tokens others apart spelled = absurd cc
+stated_so (Perhaps mark ∷ parts) tokens others apart (front, rest, whole, inl none, spelled) =
     let both = and_parts (not (is_sign (mark ∷ []))) (signs_apart parts) apart in
     alone_then (Perhaps mark) parts front rest tokens others whole (inl none) (alone_none front none)
-    (said_so parts rest others both.1 spelled)
-said_so (Perhaps mark ∷ parts) tokens others apart (front, rest, whole, inr says, spelled) =
+    (stated_so parts rest others both.1 spelled)
+stated_so (Perhaps mark ∷ parts) tokens others apart (front, rest, whole, inr means, spelled) =
     let both = and_parts (not (is_sign (mark ∷ []))) (signs_apart parts) apart in
-    alone_then (Perhaps mark) parts front rest tokens others whole (inr says)
-    (alone_one _ front (λ bytes same. rw same (not-true (is_sign (mark ∷ [])) both.0)) says)
-    (said_so parts rest others both.1 spelled)
-said_so (Unsigned d ∷ parts) tokens others apart (front, rest, whole, says, spelled) =
-    alone_then (Unsigned d) parts front rest tokens others whole says
-    (alone_one _ front (λ bytes are. number_no_sign bytes are.form) says)
-    (said_so parts rest others apart spelled)
+    alone_then (Perhaps mark) parts front rest tokens others whole (inr means)
+    (alone_one _ front (λ bytes same. rw same (not-true (is_sign (mark ∷ [])) both.0)) means)
+    (stated_so parts rest others both.1 spelled)
+stated_so (Unsigned d ∷ parts) tokens others apart (front, rest, whole, means, spelled) =
+    alone_then (Unsigned d) parts front rest tokens others whole means
+    (alone_one _ front (λ bytes are. number_no_sign bytes are.form) means)
+    (stated_so parts rest others apart spelled)
 
 pub items_say_parts : ItemsSayParts
-items_say_parts parts tokens others apart spelled = said_so parts tokens others apart spelled
+items_say_parts parts tokens others apart spelled = stated_so parts tokens others apart spelled

@@ -39,7 +39,7 @@ taken n items old new (Some item) one so = sym (get_one n items (item_of item) n
 
 -- ---- value descriptions
 
--- one of this number is passed by
+-- one of this raw value is skipped
 pub value_after_same : (number : ℤ) (before : ℕ) (item text : Item) (items : List Item) → is_value number (value_of item) ≡ true
     → (before ≡ 0 → ⊥) → described_value number before (item ∷ text ∷ items) ≡ described_value number (before - 1) items
 value_after_same number zero item text items is some = absurd (some refl)
@@ -47,7 +47,7 @@ value_after_same number (suc before) item text items is some =
     let one : suc before - 1 ≡ before = omega arith in
     rw (is, one) refl
 
--- one of another number is passed by
+-- one of another raw value is skipped
 pub value_after_other : (number : ℤ) (before : ℕ) (item text : Item) (items : List Item) → is_value number (value_of item) ≡ false
     → described_value number before (item ∷ text ∷ items) ≡ described_value number before items
 value_after_other number zero item text items isnt = rw isnt refl

@@ -16,19 +16,19 @@ AreOne [] tokens = tokens ≡ []
 AreOne (item ∷ []) tokens = IsItem item tokens
 AreOne (item ∷ other ∷ items) tokens = ⊥
 
--- the items say these parts, one after another
-abbrev pub SaidBy : List FormPart → List Item → Type 0
-SaidBy [] items = items ≡ []
-SaidBy (part ∷ parts) items =
+-- the items spell these parts, one after another
+abbrev pub StatedBy : List FormPart → List Item → Type 0
+StatedBy [] items = items ≡ []
+StatedBy (part ∷ parts) items =
     (own others : List Item) × (tokens : List Token) × (items ≡ own ++ others) × AreOne own tokens × SaysPart part tokens
-    × SaidBy parts others
+    × StatedBy parts others
 
 -- a mark that begins no number
 abbrev pub begins_with_mark : List FormPart → Bool
 begins_with_mark (Is (Mark mark) ∷ parts) = not (begins_number (mark ∷ []))
 begins_with_mark parts = false
 
--- after a mark `+` or `-` there is another mark, so that it is no sign of a number, and no word is a sign
+-- after a mark `+` or `-` there is another mark, so that it isn't the sign of a number, and no word is a sign
 abbrev pub signs_apart : List FormPart → Bool
 signs_apart [] = true
 signs_apart (Is (Mark mark) ∷ parts) = (not (is_sign (mark ∷ [])) || begins_with_mark parts) && signs_apart parts
@@ -37,8 +37,8 @@ signs_apart (Is (Piece piece) ∷ parts) = false
 signs_apart (Perhaps mark ∷ parts) = not (is_sign (mark ∷ [])) && signs_apart parts
 signs_apart (part ∷ parts) = signs_apart parts
 
--- tokens that spell a form are items that say it, whatever follows
+-- tokens that spell a form are items that spell it, whatever follows
 abbrev pub ItemsSayParts : Type 0
 ItemsSayParts =
     (parts : List FormPart) (tokens others : List Token) → IsTrue (signs_apart parts) → Spelled parts tokens
-    → (items : List Item) × (items_of (tokens ++ others) ≡ items ++ items_of others) × SaidBy parts items
+    → (items : List Item) × (items_of (tokens ++ others) ≡ items ++ items_of others) × StatedBy parts items

@@ -12,7 +12,7 @@ use Rattle.dbc_values.specs.declared.number.Whole.TheVariants as wholes
 use Rattle.dbc_values.specs.Lexical.{is_digit, is_point}
 use Rattle.dbc_tokens.specs.Tokens.{Token}
 use Rattle.dbc_tokens.specs.Places.{tokens_of}
-use Rattle.dbc_tokens.specs.Reading.Scanner.{cut_of}
+use Rattle.dbc_tokens.specs.inner.Scanner.{cut_of}
 use Rattle.dbc_tokens.specs.Views.{left, token_of}
 use Rattle.dbc_reader.specs.declared.start.Start.{Start}
 use Rattle.dbc_ranges.specs.declared.range.Range.{Range}
@@ -36,7 +36,7 @@ abbrev pub begins_number : List ℕ → Bool
 begins_number [] = false
 begins_number (b ∷ bytes) = is_digit b || is_point b
 
--- a sign, and the number that it is of
+-- a sign, and the number that it belongs to
 abbrev pub is_signed : Token → Token → Bool
 is_signed sign number = is_sign sign.bytes && begins_number number.bytes
 
@@ -50,7 +50,7 @@ items_of (t ∷ []) = one_token t ∷ []
 items_of (t ∷ u ∷ tokens) =
     if is_signed t u then record { first = t; last = u } ∷ items_of tokens else one_token t ∷ items_of (u ∷ tokens)
 
--- without where the tokens lie in memory
+-- without the tokens' location in memory
 abbrev pub item_of : CodedItem → Item
 item_of item = record { first = token_of item.first; last = token_of item.last }
 
@@ -77,7 +77,7 @@ pub data Part : Type 0 where
   Value : ℤ → ℕ → Part
   Key : ℕ → Part
 
--- without where a name lies in memory
+-- without a name's location in memory
 abbrev pub part_of : CodedPart → Part
 part_of coded.Number = Number
 part_of coded.Name = Name
@@ -105,7 +105,7 @@ without_mark mark (item ∷ items) = if bytes_eq item.first.bytes mark then item
 abbrev pub named : List ℕ → List Item → Option Item
 named name items = find (λ item. bytes_eq item.first.bytes name) items
 
--- an item with these bytes is the first
+-- the first item has these bytes
 abbrev pub begins_with : List ℕ → List Item → Bool
 begins_with word [] = false
 begins_with word (item ∷ items) = bytes_eq item.first.bytes word
@@ -114,7 +114,7 @@ abbrev pub signed_value : Bool → Option Whole → Option ℤ
 signed_value negative (Some (wholes.Value n)) = Some (if negative then neg_ℤ (pos n) else pos n)
 signed_value negative number = None
 
--- the whole number that an item is, if it is one
+-- the value of an item, if it is a whole number
 abbrev pub value_of : Item → Option ℤ
 value_of item = signed_value (bytes_eq item.first.bytes (codes "-")) (whole_of_number item.last.bytes)
 
@@ -122,13 +122,13 @@ abbrev pub is_value : ℤ → Option ℤ → Bool
 is_value number None = false
 is_value number (Some value) = int_eq value number
 
--- the numbers of value descriptions, each of which is followed by its text
+-- the raw values of value descriptions, each of which is followed by its text
 abbrev pub described_values : List Item → List Item
 described_values [] = []
 described_values (item ∷ []) = []
 described_values (item ∷ text ∷ items) = item ∷ described_values items
 
--- of value descriptions, the one at this index among those of this number
+-- of value descriptions, the one at this index among those of this raw value
 abbrev pub described_value : ℤ → ℕ → List Item → Option Item
 described_value number index items =
     slice_get (filter (λ item. is_value number (value_of item)) (described_values items)) index
@@ -140,7 +140,7 @@ Bounds = Option Item × Option Item
 abbrev pub single : Option Item → Bounds
 single item = (item, item)
 
--- without where the tokens lie in memory
+-- without the tokens' location in memory
 abbrev pub pair_of : Option CodedItem × Option CodedItem → Bounds
 pair_of pair = (option_map item_of pair.0, option_map item_of pair.1)
 
@@ -164,8 +164,8 @@ bounds_of (Key count) items = between 0 (count - 1) items
 
 -- ---- ranges
 
--- In a text of so many bytes, where the first token of the statement is in this line: from the first byte of the first item to the
--- last of the last, and nothing where there is no such part.
+-- In a text of this many bytes, if the first token of the statement is in this line: from the first byte of the first item to the
+-- last of the last, and nothing if there is no such part.
 abbrev pub range_between : ℕ → ℕ → Bounds → Range
 range_between size line (Some first, Some last) = record {
   line = (line + (first.first.line - 1)) % 2 ^ 64;

@@ -17,7 +17,7 @@ pub(crate) struct Item<'t> {
 }
 
 impl<'t> Item<'t> {
-    // The whole number that it is, if it is one.
+    // Its value, if it is a whole number.
     fn value(self) -> Option<i128>
         ensures { result ≡ value_of (item_of self.entry) }
     {
@@ -28,7 +28,7 @@ impl<'t> Item<'t> {
         }
     }
 
-    // Whether it is the number of this description.
+    // Whether it is the raw value of this description.
     fn is(self, wanted: DescribedValue) -> bool
         ensures { result ≡ is_value wanted.number (value_of (item_of self.entry)) }
     {
@@ -39,7 +39,7 @@ impl<'t> Item<'t> {
     }
 }
 
-/// The items that are left of a text.
+/// The remaining items of a text.
 #[derive(Clone, Copy)]
 pub(crate) struct Items<'t> {
     pub(crate) tokens: Tokens<'t>,
@@ -51,7 +51,7 @@ fn is_sign(bytes: &[u8]) -> bool
     same(bytes, b"+") || same(bytes, b"-")
 }
 
-// Whether a number begins so.
+// Whether a number begins with these bytes.
 fn begins_number(bytes: &[u8]) -> bool
     ensures { result ≡ begins_number bytes.now }
 {
@@ -61,7 +61,7 @@ fn begins_number(bytes: &[u8]) -> bool
     }
 }
 
-// Whether the first is a sign, and the second the number that it is of.
+// Whether the first is a sign and the second the number that it belongs to.
 fn is_signed(first: Token<'_>, second: Token<'_>) -> bool
     ensures { result ≡ is_signed (token_of first.entry) (token_of second.entry) }
 {
@@ -99,7 +99,7 @@ impl<'t> Items<'t> {
         }
     }
 
-    /// Skips so many items.
+    /// Skips this many items.
     pub(crate) fn skip(&mut self, count: usize)
         ensures { items_left self.new ≡ drop count (items_left self.old) }
     {
@@ -162,7 +162,7 @@ impl<'t> Items<'t> {
         None
     }
 
-    /// The number of this value description, of descriptions that are each a number and a text.
+    /// The raw value of this value description, among descriptions that are each a number and a text.
     pub(crate) fn described_value(mut self, wanted: DescribedValue) -> Option<Item<'t>>
         ensures { option_map item_of result ≡ described_value wanted.number wanted.index (items_left self.entry) }
     {

@@ -9,19 +9,19 @@ use crate::range::Range;
 use dbc_reader::Start;
 use dbc_tokens::tokens;
 
-/// A value description, by its number, and by its index among those of this number.
+/// A value description, by its raw value, and by its index among those of the same raw value.
 #[derive(Clone, Copy, Debug, PartialEq, Eq)]
 pub struct DescribedValue {
-    /// The number.
+    /// The raw value.
     pub number: i128,
     /// The index, from 0.
     pub index: usize,
 }
 
-/// A part of a statement or of a signal. The statement that has it is in parentheses.
+/// A part of a statement or of a signal. Its statement is in parentheses.
 #[derive(Clone, Copy)]
 pub enum Part<'a> {
-    /// The message's number (`BO_`).
+    /// The message's CAN identifier (`BO_`).
     Number,
     /// The message's name (`BO_`).
     Name,
@@ -35,13 +35,13 @@ pub enum Part<'a> {
     Scale,
     /// The receiver of this name (`SG_`).
     Receiver(&'a [u8]),
-    /// The multiplexor that is named (`SG_MUL_VAL_`), or the indicator `m1` of a signal (`SG_`).
+    /// The multiplexor (switch) that is named (`SG_MUL_VAL_`), or the indicator `m1` of a signal (`SG_`).
     Multiplexor,
     /// The kind of the values (`SIG_VALTYPE_`).
     FloatKind,
-    /// The number of a value description (`VAL_`).
+    /// The raw value of a value description (`VAL_`).
     Value(DescribedValue),
-    /// The first items, so many: its key.
+    /// The first items, this many of them: its key.
     Key(usize),
 }
 
@@ -129,7 +129,7 @@ fn bounds_of<'t>(part: Part<'_>, items: Items<'t>) -> Bounds<'t>
     }
 }
 
-// The bytes between two items of a text of so many bytes, where the first token of the statement is in this line.
+// The bytes between two items of a text of this many bytes, where the first token of the statement is in this line.
 fn range_between(size: usize, line: u64, bounds: Bounds<'_>) -> Range
     ensures { result ≡ range_between size line (pair_of bounds.entry) }
 {
@@ -147,7 +147,7 @@ fn range_between(size: usize, line: u64, bounds: Bounds<'_>) -> Range
     }
 }
 
-// The items of a text from the beginning of a statement on.
+// The items of a text from the start of a statement on.
 fn items_at(text: &[u8], start: Start) -> Items<'_>
     ensures { items_left result ≡ items_at text.now start }
 {

@@ -1,4 +1,4 @@
--- The layout of each statement: what its items are, and that each stands apart from what stands after it.
+-- The layout of each statement: what its items are, and that each is separated from what is after it.
 pub mod Statements
 use Rattle.std.proofs.Common.{◌≡◌, ℕ, Bool, true, false, ◌||◌, ◌&&◌, List, [], ◌∷◌, ◌++◌, append_assoc, refl, sym, subst}
 use Rattle.std.specs.Prelude.{All}
@@ -6,7 +6,7 @@ use Rattle.std.specs.List.{flat_map}
 use Rattle.std.proofs.lemmas.List.Elements.{All-head, All-tail}
 use Rattle.dbc_values.specs.Lexical.{is_word}
 use Rattle.dbc_records.specs.Layout.{Item, Word, Mark, Space, Tab, LineEnd, Is, Layout, separated}
-use Rattle.dbc_read.proofs.Items.{IsItem, is_closed, ends_item, stand_apart}
+use Rattle.dbc_read.proofs.Items.{IsItem, is_closed, ends_item, are_apart}
 
 -- ---- items
 
@@ -27,27 +27,27 @@ items_both (Is item ∷ xs) ys h k = (h.0, items_both xs ys h.1 k)
 
 -- ---- parts of lines
 
--- begins a line, and something that ends a word or a number has to stand after it
+-- begins a line, and must be followed by something that ends a word or a number
 pub record Start (layout : Layout) : Type 0 where
   pub items : AreItems layout
-  pub apart : (rest : Layout) → ends_item rest ≡ true → stand_apart rest ≡ true → stand_apart (layout ++ rest) ≡ true
+  pub apart : (rest : Layout) → ends_item rest ≡ true → are_apart rest ≡ true → are_apart (layout ++ rest) ≡ true
 
--- ends a word or a number before it, and something that does so has to stand after it
+-- ends a word or a number before it, and must be followed by something that does so
 pub record Middle (layout : Layout) : Type 0 where
   pub items : AreItems layout
   pub begins : (rest : Layout) → ends_item rest ≡ true → ends_item (layout ++ rest) ≡ true
-  pub apart : (rest : Layout) → ends_item rest ≡ true → stand_apart rest ≡ true → stand_apart (layout ++ rest) ≡ true
+  pub apart : (rest : Layout) → ends_item rest ≡ true → are_apart rest ≡ true → are_apart (layout ++ rest) ≡ true
 
--- ends a word or a number before it, and anything may stand after it
+-- ends a word or a number before it, and anything may be after it
 pub record Close (layout : Layout) : Type 0 where
   pub items : AreItems layout
   pub begins : (rest : Layout) → ends_item (layout ++ rest) ≡ true
-  pub apart : (rest : Layout) → stand_apart rest ≡ true → stand_apart (layout ++ rest) ≡ true
+  pub apart : (rest : Layout) → are_apart rest ≡ true → are_apart (layout ++ rest) ≡ true
 
--- stands between any others
+-- is between any others
 pub record Line (layout : Layout) : Type 0 where
   pub items : AreItems layout
-  pub apart : (rest : Layout) → stand_apart rest ≡ true → stand_apart (layout ++ rest) ≡ true
+  pub apart : (rest : Layout) → are_apart rest ≡ true → are_apart (layout ++ rest) ≡ true
 
 other_way : (P : Layout → Type 0) (xs ys rest : Layout) → P (xs ++ (ys ++ rest)) → P ((xs ++ ys) ++ rest)
 other_way P xs ys rest h = subst P (sym (append_assoc xs ys rest)) h
@@ -55,14 +55,14 @@ other_way P xs ys rest h = subst P (sym (append_assoc xs ys rest)) h
 pub start_then : {xs ys : Layout} → Start xs → Middle ys → Start (xs ++ ys)
 start_then {xs} {ys} h k = record {
   items = items_both xs ys h.items k.items;
-  apart = λ rest ends apart. other_way (λ l. stand_apart l ≡ true) xs ys rest (h.apart (ys ++ rest) (k.begins rest ends)
+  apart = λ rest ends apart. other_way (λ l. are_apart l ≡ true) xs ys rest (h.apart (ys ++ rest) (k.begins rest ends)
       (k.apart rest ends apart));
 }
 
 pub start_close : {xs ys : Layout} → Start xs → Close ys → Line (xs ++ ys)
 start_close {xs} {ys} h k = record {
   items = items_both xs ys h.items k.items;
-  apart = λ rest apart. other_way (λ l. stand_apart l ≡ true) xs ys rest (h.apart (ys ++ rest) (k.begins rest)
+  apart = λ rest apart. other_way (λ l. are_apart l ≡ true) xs ys rest (h.apart (ys ++ rest) (k.begins rest)
       (k.apart rest apart));
 }
 
@@ -70,7 +70,7 @@ pub middle_both : {xs ys : Layout} → Middle xs → Middle ys → Middle (xs ++
 middle_both {xs} {ys} h k = record {
   items = items_both xs ys h.items k.items;
   begins = λ rest ends. other_way (λ l. ends_item l ≡ true) xs ys rest (h.begins (ys ++ rest) (k.begins rest ends));
-  apart = λ rest ends apart. other_way (λ l. stand_apart l ≡ true) xs ys rest (h.apart (ys ++ rest) (k.begins rest ends)
+  apart = λ rest ends apart. other_way (λ l. are_apart l ≡ true) xs ys rest (h.apart (ys ++ rest) (k.begins rest ends)
       (k.apart rest ends apart));
 }
 
@@ -78,14 +78,14 @@ pub middle_close : {xs ys : Layout} → Middle xs → Close ys → Close (xs ++ 
 middle_close {xs} {ys} h k = record {
   items = items_both xs ys h.items k.items;
   begins = λ rest. other_way (λ l. ends_item l ≡ true) xs ys rest (h.begins (ys ++ rest) (k.begins rest));
-  apart = λ rest apart. other_way (λ l. stand_apart l ≡ true) xs ys rest (h.apart (ys ++ rest) (k.begins rest)
+  apart = λ rest apart. other_way (λ l. are_apart l ≡ true) xs ys rest (h.apart (ys ++ rest) (k.begins rest)
       (k.apart rest apart));
 }
 
 pub line_both : {xs ys : Layout} → Line xs → Line ys → Line (xs ++ ys)
 line_both {xs} {ys} h k = record {
   items = items_both xs ys h.items k.items;
-  apart = λ rest apart. other_way (λ l. stand_apart l ≡ true) xs ys rest (h.apart (ys ++ rest) (k.apart rest apart));
+  apart = λ rest apart. other_way (λ l. are_apart l ≡ true) xs ys rest (h.apart (ys ++ rest) (k.apart rest apart));
 }
 
 pub close_line : {xs : Layout} → Close xs → Line xs
@@ -123,7 +123,7 @@ pub spaced : (item : Item) → IsItem item → Middle (Space ∷ Is item ∷ [])
 spaced item is = record {
   items = (is, tt);
   begins = λ rest ends. refl;
-  apart = λ rest ends apart. both_true (is_closed item || ends_item rest) (stand_apart rest)
+  apart = λ rest ends apart. both_true (is_closed item || ends_item rest) (are_apart rest)
       (or_second (is_closed item) (ends_item rest) ends) apart;
 }
   where
@@ -135,7 +135,7 @@ spaced item is = record {
 pub word_start : (word : List ℕ) → is_word word ≡ true → Start (Is (Word word) ∷ [])
 word_start word is = record {
   items = (is, tt);
-  apart = λ rest ends apart. both_true (ends_item rest) (stand_apart rest) ends
+  apart = λ rest ends apart. both_true (ends_item rest) (are_apart rest) ends
       apart;
 }
 

@@ -18,12 +18,12 @@ canonical_rows d = flat_map (statements_of d) all_kinds
 abbrev pub canonical : Database → List AnyStatement
 canonical d = Symbols d.symbols ∷ Timing (three_numbers d.bit_timing) ∷ Nodes d.nodes ∷ canonical_rows d
 
--- ---- their places, and at most one bit timing
+-- ---- their order, and at most one bit timing
 
-records_placed : (kind : Kind) (rows : List (RecordOf kind)) (behind : List AnyStatement) → ArePlaced behind
-    → ArePlaced (map (OfKind kind) rows ++ behind)
-records_placed kind [] behind placed = placed
-records_placed kind (row ∷ rows) behind placed = (tt, records_placed kind rows behind placed)
+records_placed : (kind : Kind) (rows : List (RecordOf kind)) (following : List AnyStatement) → ArePlaced following
+    → ArePlaced (map (OfKind kind) rows ++ following)
+records_placed kind [] following placed = placed
+records_placed kind (row ∷ rows) following placed = (tt, records_placed kind rows following placed)
 
 kinds_placed : (kinds : List Kind) (d : Database) → ArePlaced (flat_map (statements_of d) kinds)
 kinds_placed [] d = tt
@@ -32,10 +32,10 @@ kinds_placed (kind ∷ kinds) d = records_placed kind (list_of kind d) _ (kinds_
 pub canonical_placed : (d : Database) → ArePlaced (canonical d)
 canonical_placed d = (tt, (tt, (tt, kinds_placed all_kinds d)))
 
-records_untimed : (kind : Kind) (rows : List (RecordOf kind)) (behind : List AnyStatement) → flat_map timings_of behind ≡ []
-    → flat_map timings_of (map (OfKind kind) rows ++ behind) ≡ []
-records_untimed kind [] behind e = e
-records_untimed kind (row ∷ rows) behind e = records_untimed kind rows behind e
+records_untimed : (kind : Kind) (rows : List (RecordOf kind)) (following : List AnyStatement) → flat_map timings_of following ≡ []
+    → flat_map timings_of (map (OfKind kind) rows ++ following) ≡ []
+records_untimed kind [] following e = e
+records_untimed kind (row ∷ rows) following e = records_untimed kind rows following e
 
 kinds_untimed : (kinds : List Kind) (d : Database) → flat_map timings_of (flat_map (statements_of d) kinds) ≡ []
 kinds_untimed [] d = refl

@@ -59,11 +59,11 @@ HaveLexemes [] tokens = tokens ≡ []
 HaveLexemes (l ∷ ls) [] = ⊥
 HaveLexemes (l ∷ ls) (t ∷ tokens) = (t.kind ≡ l.kind) × (t.bytes ≡ l.bytes) × HaveLexemes ls tokens
 
--- the item's text is that of its tokens, and they say the item
+-- the item's text is that of its tokens, and they spell the item
 pub record Printed (item : Item) : Type 0 where
   pub text : item_text item ≡ flat_map (λ (l : Lexeme). l.bytes) (lexemes item)
   pub are_tokens : AreTokens (lexemes item)
-  pub says : (tokens : List Token) → HaveLexemes (lexemes item) tokens → Says item tokens
+  pub means : (tokens : List Token) → HaveLexemes (lexemes item) tokens → Says item tokens
 
 -- what may be printed
 abbrev pub IsItem : Item → Type 0
@@ -92,23 +92,23 @@ ArePrinted (Tab ∷ layout) = ArePrinted layout
 ArePrinted (LineEnd ∷ layout) = ArePrinted layout
 ArePrinted (Is item ∷ layout) = Printed item × ArePrinted layout
 
--- a mark or a text ends where it ends, whatever stands after it
+-- a mark or a text ends where it ends, whatever is after it
 abbrev pub is_closed : Item → Bool
 is_closed (Mark mark) = true
 is_closed (Text text) = true
 is_closed item = false
 
--- what stands here ends a word or a number before it
+-- what is here ends a word or a number before it
 abbrev pub ends_item : Layout → Bool
 ends_item [] = true
 ends_item (Is item ∷ layout) = is_closed item
 ends_item (blank ∷ layout) = true
 
--- each item stands apart from what stands after it
-abbrev pub stand_apart : Layout → Bool
-stand_apart [] = true
-stand_apart (Is item ∷ layout) = (is_closed item || ends_item layout) && stand_apart layout
-stand_apart (blank ∷ layout) = stand_apart layout
+-- each item is separated from what is after it
+abbrev pub are_apart : Layout → Bool
+are_apart [] = true
+are_apart (Is item ∷ layout) = (is_closed item || ends_item layout) && are_apart layout
+are_apart (blank ∷ layout) = are_apart layout
 
 -- the tokens of all its items, in order
 abbrev pub all_lexemes : Layout → List Lexeme

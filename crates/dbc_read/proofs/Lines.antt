@@ -15,12 +15,12 @@ use Rattle.dbc_records.specs.CanonicalText.{attribute_layout, values_layout, flo
 use Rattle.dbc_tokens.specs.Tokens.{Token, Cut, End}
 use Rattle.dbc_reader.specs.Forms.{Part, Spelled}
 use Rattle.dbc_reader.specs.declared.statement.Statement.TheVariants as statements
-use Rattle.dbc_reader.specs.Reading.Readers.{Reader, starts}
-use Rattle.dbc_reader.specs.Reading.Databases.{empty_database}
+use Rattle.dbc_reader.specs.inner.Readers.{Reader, starts}
+use Rattle.dbc_reader.specs.inner.Databases.{empty_database}
 use Rattle.dbc_reader.specs.Spelling.{Symbols, Timing, Nodes, Table, OfMessage, OfComment, Definition, Default, Attribute, Values}
 use Rattle.dbc_reader.specs.Spelling.{Float, Mux, OfKept, form, form_alone, version_form, timing_of}
 use Rattle.dbc_read.specs.PrintLaws.{PrintedUniquely, IsTiming}
-use Rattle.dbc_reader.proofs.Turns.{ok_is}
+use Rattle.dbc_reader.proofs.Rounds.{ok_is}
 use Rattle.dbc_reader.proofs.Sound.Adding.{joined}
 use Rattle.dbc_read.proofs.Takes.{Takes, Stops}
 use Rattle.dbc_read.proofs.Takes.Rows.{table_takes, values_take, float_takes, mux_takes}
@@ -29,7 +29,7 @@ use Rattle.dbc_read.proofs.Takes.Messages.{message_takes, signal_takes}
 use Rattle.dbc_read.proofs.Takes.Kept.{kept_takes}
 use Rattle.dbc_read.proofs.Takes.Adding.{symbols_added, nodes_added}
 use Rattle.dbc_read.proofs.Takes.Databases.{version_takes, timing_takes}
-use Rattle.dbc_read.proofs.Items.{Shows, stand_apart}
+use Rattle.dbc_read.proofs.Items.{Shows, are_apart}
 use Rattle.dbc_read.proofs.Items.Lexemes.{printed}
 use Rattle.dbc_read.proofs.Apart.{Line}
 use Rattle.dbc_read.proofs.Apart.Statements.{version_neat, symbols_neat, timing_neat, nodes_neat, table_neat, message_neat}
@@ -50,7 +50,7 @@ read_alike {A} {r} {a} {b} h k may tokens first second =
     ap (λ (x : A × Cut). x.0) (ok_is (b, End 0) (a, End 0) (sym (k.takes tokens (End 0) second may)
     ∙ h.takes tokens (End 0) first may))
 
--- nothing stands at the end
+-- nothing comes at the end
 ends_stop : (test : Token → Bool) → Stops test (End 0)
 unfolding starts
 ends_stop test = refl
@@ -61,7 +61,7 @@ printed_uniquely : {A : Type 0} (IsSuch : A → Type 0) (layout : A → Layout) 
     → PrintedUniquely IsSuch layout form
 printed_uniquely IsSuch layout form neat shown alike a is line after =
     let line_neat = neat a is in
-    let apart : stand_apart (layout a) ≡ true = ap stand_apart (sym (append-nil (layout a))) ∙ line_neat.apart [] refl in
+    let apart : are_apart (layout a) ≡ true = ap are_apart (sym (append-nil (layout a))) ∙ line_neat.apart [] refl in
     let tokens = layout_tokens (layout a) (items_printed (layout a) line_neat.items) apart line after in
     let spelled = (shown a is).shows tokens.tokens tokens.have in
     (tokens.tokens, tokens.at, tokens.has, spelled, λ other is_other spells. alike a other is is_other tokens.tokens spelled spells)
@@ -116,7 +116,7 @@ nodes_line =
     (λ a b is other tokens first second. same_nodes b a (read_alike (nodes_added (empty_database []) a)
     (nodes_added (empty_database []) b) (ends_stop _) tokens first second))
 
--- ---- the rows
+-- ---- the entries
 
 pub table_line : PrintedUniquely IsTableRow table_layout (λ row. form (Table row))
 table_line =

@@ -1,4 +1,4 @@
--- Tokens have no first fault exactly where they spell something, and then they spell it alone.
+-- Tokens have no first fault exactly when they spell something, and then they spell it alone.
 pub mod OneReadings
 pub mod FaultLines
 use Rattle.std.proofs.Common.{◌≡◌, Option, Some, None, Result, Ok, Err, refl, sym, ap, subst, ◌∙◌}
@@ -7,8 +7,8 @@ use Rattle.dbc_tokens.specs.Tokens.{Cut, End}
 use Rattle.dbc_reader.specs.Pattern.{first_fault, nothing_seen}
 use Rattle.dbc_reader.specs.Grammar as grammar
 use Rattle.dbc_read.specs.Laws.{FaultOrDatabase, FaultOrStatement, OneDatabase, OneStatement}
-use Rattle.dbc_reader.specs.Reading.Databases.{database_at, statement_at}
-use Rattle.dbc_reader.proofs.Turns.{ok_is}
+use Rattle.dbc_reader.specs.inner.Databases.{database_at, statement_at}
+use Rattle.dbc_reader.proofs.Rounds.{ok_is}
 use Rattle.dbc_reader.proofs.Agrees.{Judges}
 use Rattle.dbc_reader.proofs.Agrees.Texts.{database_judges}
 use Rattle.dbc_reader.proofs.Agrees.Statements.{statement_judges}

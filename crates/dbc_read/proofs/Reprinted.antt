@@ -5,15 +5,15 @@ use Rattle.dbc_records.specs.CanonicalText.{canonical_text}
 use Rattle.dbc_tokens.specs.declared.fault.Cause.TheVariants as causes
 use Rattle.dbc_tokens.specs.declared.fault.ReadFault.{ReadFault}
 use Rattle.dbc_tokens.specs.Tokens.{Cut, End}
-use Rattle.dbc_tokens.specs.Reading.Scanner.{cut_of}
+use Rattle.dbc_tokens.specs.inner.Scanner.{cut_of}
 use Rattle.dbc_reader.specs.Forms.{◌▸▸◌}
 use Rattle.dbc_reader.specs.Grammar as grammar
 use Rattle.dbc_reader.specs.Pattern.{first_fault, nothing_seen, memory_fault}
-use Rattle.dbc_reader.specs.Reading.Databases.{database_at}
+use Rattle.dbc_reader.specs.inner.Databases.{database_at}
 use Rattle.dbc_reader.specs.Texts.{HasDatabase, HasFirstFault}
 use Rattle.dbc_read.specs.PrintLaws.{PrintLaw}
 use Rattle.dbc_tokens.proofs.CutLaws.{cut_unique}
-use Rattle.dbc_reader.proofs.Turns.{ok_is}
+use Rattle.dbc_reader.proofs.Rounds.{ok_is}
 use Rattle.dbc_read.proofs.Takes.Databases.{database_again}
 use Rattle.dbc_read.proofs.Readable.{fault_or_database}
 use Rattle.dbc_read.proofs.Shown.Databases.{canonical_has}

@@ -84,25 +84,25 @@ lexemes_alone : (item : Item) → all_lexemes (Is item ∷ []) ≡ lexemes item
 unfolding items_of
 lexemes_alone item = append-nil (lexemes item)
 
--- a part that the tokens of an item say
+-- a part that the tokens of an item spell
 pub shows_part : (item : Item) (part : Part) → ((tokens : List Token) → HaveLexemes (lexemes item) tokens → SaysPart part tokens)
     → Shows (Is item ∷ []) (part ∷ [])
-shows_part item part says = record {
+shows_part item part means = record {
   shows = λ tokens have. (
     tokens,
     [],
     sym (append-nil tokens),
-    says tokens (subst (λ (l : List Lexeme). HaveLexemes l tokens) (lexemes_alone item) have),
+    means tokens (subst (λ (l : List Lexeme). HaveLexemes l tokens) (lexemes_alone item) have),
     refl,
   );
 }
 
 module _ (printed : (item : Item) → IsItem item → Printed item) where
   pub shows_item : (item : Item) → IsItem item → Shows (Is item ∷ []) (Shown item ∷ [])
-  shows_item item is = shows_part item (Shown item) (printed item is).says
+  shows_item item is = shows_part item (Shown item) (printed item is).means
 
   pub shows_perhaps : (mark : ℕ) → IsItem (Mark mark) → Shows (Is (Mark mark) ∷ []) (Perhaps mark ∷ [])
-  shows_perhaps mark is = shows_part (Mark mark) (Perhaps mark) (λ tokens have. inr ((printed (Mark mark) is).says tokens have))
+  shows_perhaps mark is = shows_part (Mark mark) (Perhaps mark) (λ tokens have. inr ((printed (Mark mark) is).means tokens have))
 
   -- a number that isn't negative is printed without a sign
   pub shows_unsigned : (d : Decimal) → IsDecimal d → d.negative ≡ false → Shows (Is (Number d) ∷ []) (Unsigned d ∷ [])
@@ -135,11 +135,11 @@ module _ (printed : (item : Item) → IsItem item → Printed item) where
       unsigned : (tokens : List Token) → HaveLexemes (lexemes (Number d)) tokens → SaysPart (Unsigned d) tokens
       unsigned tokens have =
           let one = one_token tokens have in
-          let says = (printed (Number d) is).says tokens have in
+          let means = (printed (Number d) is).means tokens have in
           subst (λ (l : List Token). IsOne (λ bytes. SpellsDecimal false bytes d) l) (sym one.1)
-          (from_sign one.0 says.0 says.1 says.2 (sym one.1 ∙ says.3) says.4 says.5)
+          (from_sign one.0 means.0 means.1 means.2 (sym one.1 ∙ means.3) means.4 means.5)
 
-  -- all items of a layout, as they stand
+  -- all items of a layout, as they are
   pub shows_layout : (layout : Layout) → AreItems layout → Shows layout (of_layout layout)
   unfolding items_of
   shows_layout [] are = shows_none

@@ -19,9 +19,9 @@ use Rattle.dbc_tokens.specs.declared.fault.Cause.{Cause}
 use Rattle.dbc_tokens.specs.declared.fault.ReadFault.{ReadFault}
 use Rattle.dbc_tokens.specs.Tokens.{Token, Cut}
 use Rattle.dbc_reader.specs.Forms.{Part, SaysPart, IsOne, Spelled, ◌▸▸◌}
-use Rattle.dbc_reader.specs.Reading.Readers.{Reader, and_then, ◌>>=◌, value, token_at, answered, one, starts, choose, repeated}
+use Rattle.dbc_reader.specs.inner.Readers.{Reader, and_then, ◌>>=◌, value, token_at, answered, one, starts, choose, repeated}
 use Rattle.dbc_reader.proofs.Sound.{all_then_twice}
-use Rattle.dbc_reader.proofs.Turns.{Shrinks, goes_on, ends}
+use Rattle.dbc_reader.proofs.Rounds.{Shrinks, goes_on, ends}
 
 -- ---- parts, one list of them after the other
 
@@ -34,27 +34,27 @@ pub record Halves (xs ys : List Part) (tokens : List Token) : Type 0 where
 
 pub halves : (xs ys : List Part) (tokens : List Token) → Spelled (xs ++ ys) tokens → Halves xs ys tokens
 halves [] ys tokens h = record { front = []; rest = tokens; parts = refl; first = refl; second = h }
-halves (x ∷ xs) ys tokens (front, rest, parts, says, others) =
+halves (x ∷ xs) ys tokens (front, rest, parts, means, others) =
     let below = halves xs ys rest others in
     record {
       front = front ++ below.front;
       rest = below.rest;
       parts = parts ∙ ap (λ (t : List Token). front ++ t) below.parts ∙ sym (append_assoc front below.front below.rest);
-      first = (front, below.front, refl, says, below.first);
+      first = (front, below.front, refl, means, below.first);
       second = below.second;
     }
 
 -- ---- readers
 
--- nothing is asked of what stands after
+-- nothing is required of what is after
 abbrev pub Anything : Cut → Type 0
 Anything cut = Unit {0}
 
--- where tokens that spell these parts stand, and after them what may stand there, this is read and those are left
+-- if tokens that spell these parts are here, followed by what may be there, this is read and those remain
 pub record Takes {A : Type 0} (r : Reader A) (a : A) (parts : List Part) (May : Cut → Type 0) : Type 0 where
   pub takes : (tokens : List Token) (cut : Cut) → Spelled parts tokens → May cut → r (tokens ▸▸ cut) ≡ Ok (a, cut)
 
--- tokens that spell these parts may stand before what may stand after them
+-- tokens that spell these parts may be before what may be after them
 pub record Allows (parts : List Part) (May Before : Cut → Type 0) : Type 0 where
   pub allows : (tokens : List Token) (cut : Cut) → Spelled parts tokens → May cut → Before (tokens ▸▸ cut)
 
@@ -78,12 +78,12 @@ takes_then {A} {B} {r} {a} {b} {xs} {ys} {May} {Before} f h allow k = record {
 pub allows_anything : {parts : List Part} {May : Cut → Type 0} → Allows parts May Anything
 allows_anything {parts} {May} = record { allows = λ tokens cut spelled may. tt }
 
--- where anything may stand after the first
+-- if anything may be after the first
 pub takes_next : {A B : Type 0} {r : Reader A} {a : A} {b : B} {xs ys : List Part} {May : Cut → Type 0} (f : A → Reader B)
     → Takes r a xs Anything → Takes (f a) b ys May → Takes (r >>= f) b (xs ++ ys) May
 takes_next {A} {B} {r} {a} {b} {xs} {ys} {May} f h k = takes_then f h allows_anything k
 
--- where nothing is spelled after the first
+-- if nothing is spelled after the first
 pub takes_last : {A B : Type 0} {r : Reader A} {a : A} {b : B} {parts : List Part} {May : Cut → Type 0} (f : A → Reader B)
     → Takes r a parts May → Takes (f a) b [] Anything → Takes (r >>= f) b parts May
 takes_last {A} {B} {r} {a} {b} {parts} {May} f h k = record {
@@ -100,7 +100,7 @@ takes_as {A} {r} {a} {xs} {ys} {May} same h =
           may;
     }
 
--- where less may stand after
+-- if less may be after
 pub takes_where : {A : Type 0} {r : Reader A} {a : A} {parts : List Part} {May Before : Cut → Type 0} → Takes r a parts Before
     → ((cut : Cut) → May cut → Before cut) → Takes r a parts May
 takes_where {A} {r} {a} {parts} {May} {Before} h weaker =
@@ -110,8 +110,8 @@ takes_where {A} {r} {a} {parts} {May} {Before} h weaker =
 
 -- one part alone
 pub alone : (part : Part) (tokens : List Token) → Spelled (part ∷ []) tokens → SaysPart part tokens
-alone part tokens (front, rest, parts, says, none) =
-    subst (SaysPart part) (sym (parts ∙ ap (λ (t : List Token). front ++ t) none ∙ append-nil front)) says
+alone part tokens (front, rest, parts, means, none) =
+    subst (SaysPart part) (sym (parts ∙ ap (λ (t : List Token). front ++ t) none ∙ append-nil front)) means
 
 module _ {A : Type 0} (judge : Token → Result A Cause) (a : A) (P : List ℕ → Type 0) (is : (t : Token) → P t.bytes → judge t ≡ Ok a)
   where
@@ -131,22 +131,22 @@ module _ {A : Type 0} (judge : Token → Result A Cause) (a : A) (P : List ℕ �
 pub record Opens (test : Token → Bool) (passes : Bool) (parts : List Part) : Type 0 where
   pub opens : (tokens : List Token) (cut : Cut) → Spelled parts tokens → starts test (tokens ▸▸ cut) ≡ passes
 
--- the same of what stands after
+-- the same for what is after
 abbrev pub Stops : (Token → Bool) → Cut → Type 0
 Stops test cut = starts test cut ≡ false
 
-first_stands : (test : Token → Bool) (passes : Bool) (part : Part) (parts : List Part) (P : List ℕ → Type 0)
+first_occurs : (test : Token → Bool) (passes : Bool) (part : Part) (parts : List Part) (P : List ℕ → Type 0)
     → ((tokens : List Token) → SaysPart part tokens → IsOne P tokens) → ((t : Token) → P t.bytes → test t ≡ passes)
     → (tokens : List Token) (cut : Cut) → Spelled (part ∷ parts) tokens → starts test (tokens ▸▸ cut) ≡ passes
 unfolding starts
-first_stands test passes part parts P so is tokens cut (front, rest, same, says, others) =
-    let first = so front says in
+first_occurs test passes part parts P so is tokens cut (front, rest, same, means, others) =
+    let first = so front means in
     ap (λ (t : List Token). starts test (t ▸▸ cut)) (same ∙ ap (λ (t : List Token). t ++ rest) first.1) ∙ is first.0 first.2
 
 pub opens_one : {test : Token → Bool} {passes : Bool} {parts : List Part} (part : Part) (P : List ℕ → Type 0)
     → ((tokens : List Token) → SaysPart part tokens → IsOne P tokens) → ((t : Token) → P t.bytes → test t ≡ passes)
     → Opens test passes (part ∷ parts)
-opens_one {test} {passes} {parts} part P so is = record { opens = first_stands test passes part parts P so is }
+opens_one {test} {passes} {parts} part P so is = record { opens = first_occurs test passes part parts P so is }
 
 pub opens_as : {test : Token → Bool} {passes : Bool} {xs ys : List Part} → xs ≡ ys → Opens test passes ys → Opens test passes xs
 opens_as {test} {passes} {xs} {ys} same h =
@@ -163,7 +163,7 @@ allows_as {xs} {ys} {May} {Before} same h =
           spelled) may;
     }
 
--- two things that may stand there
+-- two things that may be there
 pub allows_both : {parts : List Part} {May One Two : Cut → Type 0} → Allows parts May One → Allows parts May Two
     → Allows parts May (λ cut. One cut × Two cut)
 allows_both {parts} {May} {One} {Two} h k = record {
@@ -195,7 +195,7 @@ takes_second {A} {test} {s} {a} {parts} {May} r opens h = record {
       (opens.opens tokens cut spelled) (h.takes tokens cut spelled may);
 }
 
--- where nothing is spelled, by what stands after
+-- if nothing is spelled, by what is after
 pub takes_none : {A : Type 0} {s : Reader A} {a : A} {May : Cut → Type 0} (test : Token → Bool) (r : Reader A)
     → ((cut : Cut) → May cut → Stops test cut) → Takes s a [] May → Takes (choose test r s) a [] May
 takes_none {A} {s} {a} {May} test r stops h = record {
@@ -210,10 +210,10 @@ abbrev pub all_put : {A S : Type 0} → (S → A → S) → S → List A → S
 all_put put s [] = s
 all_put put s (a ∷ more) = all_put put (put s a) more
 
--- one turn reads one item, spelled so, and puts it after those before; after each item may stand the next, or the end
+-- one turn reads one item, spelled so, and appends it to those before; after each item may be the next, or the end
 module _ {A S : Type 0} (test : Token → Bool) (r : S → Reader S) (shrinks : (s : S) → Shrinks (r s)) (part : A → List Part) (put : S
     → A → S) (Fits : S → List A → Type 0) (May Last : Cut → Type 0)
-    (turn : (s : S) (a : A) (more : List A) → Fits s (a ∷ more) → Takes (r s) (put s a) (part a) May)
+    (round : (s : S) (a : A) (more : List A) → Fits s (a ∷ more) → Takes (r s) (put s a) (part a) May)
     (fits : (s : S) (a : A) (more : List A) → Fits s (a ∷ more) → Fits (put s a) more)
     (opens : (s : S) (a : A) (more : List A) → Fits s (a ∷ more) → Opens test true (part a))
     (allows : (s : S) (a : A) (more : List A) → Fits s (a ∷ more) → Allows (part a) Anything May)
@@ -233,14 +233,15 @@ module _ {A S : Type 0} (test : Token → Bool) (r : S → Reader S) (shrinks : 
       (last cut end).1 refl
   all_taken s (a ∷ more) tokens cut fit spelled end =
       let half = halves (part a) (flat_map part more) tokens spelled in
-      let behind = half.rest ▸▸ cut in
+      let following = half.rest ▸▸ cut in
       let now = fits s a more fit in
-      let taken = (turn s a more fit).takes half.front behind half.first (may_follow (put s a) more half.rest cut now half.second
+      let taken = (round s a more fit).takes half.front following half.first (may_follow (put s a) more half.rest cut now
+      half.second
       end) in
       ap (λ (t : List Token). repeated test r s (t ▸▸ cut)) half.parts
       ∙ ap (repeated test r s) (all_then_twice half.front half.rest cut)
-      ∙ sym (goes_on test r shrinks s (put s a) (half.front ▸▸ behind) behind (repeated test r s (half.front ▸▸ behind))
-      ((opens s a more fit).opens half.front behind half.first) taken refl)
+      ∙ sym (goes_on test r shrinks s (put s a) (half.front ▸▸ following) following (repeated test r s (half.front ▸▸ following))
+      ((opens s a more fit).opens half.front following half.first) taken refl)
       ∙ all_taken (put s a) more half.rest cut now half.second end
 
   pub takes_repeated : (s : S) (more : List A) → Fits s more → Takes (repeated test r s) (all_put put s more) (flat_map part more)
@@ -258,7 +259,7 @@ all_pushed list (a ∷ more) = all_pushed (list ++ a ∷ []) more ∙ append_ass
 
 module _ {A : Type 0} (test : Token → Bool) (r : List A → Reader (List A)) (shrinks : (list : List A) → Shrinks (r list)) (part : A
     → List Part) (P : A → Type 0)
-    (turn : (list : List A) (a : A) → P a → Takes (r list) (list ++ a ∷ []) (part a) Anything) (opens : (a : A) → P a
+    (round : (list : List A) (a : A) → P a → Takes (r list) (list ++ a ∷ []) (part a) Anything) (opens : (a : A) → P a
     → Opens test true (part a)) where
   AllAre : List A → List A → Type 0
   AllAre list more = All P more
@@ -267,6 +268,6 @@ module _ {A : Type 0} (test : Token → Bool) (r : List A → Reader (List A)) (
   unfolding AllAre
   takes_list list more are =
       subst (λ (made : List A). Takes (repeated test r list) made (flat_map part more) (Stops test)) (all_pushed list more)
-      (takes_repeated test r shrinks part pushed AllAre Anything (Stops test) (λ list a more are. turn list a
+      (takes_repeated test r shrinks part pushed AllAre Anything (Stops test) (λ list a more are. round list a
       (All-head P a more are)) (λ list a more are. All-tail P a more are) (λ list a more are. opens a (All-head P a more are))
       (λ list a more are. allows_anything) (λ cut stops. (tt, stops)) list more are)

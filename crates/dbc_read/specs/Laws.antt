@@ -1,4 +1,4 @@
--- What is proved of tokens and of texts: they spell a database exactly where they have no fault, and then one alone.
+-- What is proved of tokens and of texts: they spell a database exactly when they have no fault, and then just one.
 use Rattle.std.specs.Prelude.{◌≡◌, ◌≢◌, ◌↔◌, ◌⊎◌, ℕ, ◌+◌, ◌≤◌, List, None}
 use Rattle.dbc_records.specs.Databases.{Database}
 use Rattle.dbc_tokens.specs.declared.fault.Cause.TheVariants as causes
@@ -32,7 +32,7 @@ OneDatabase = (tokens : List Token) (a b : Database) → Spells tokens a → Spe
 abbrev pub OneStatement : Type 0
 OneStatement = (tokens : List Token) (a b : Statement) → SpellsStatement tokens a → SpellsStatement tokens b → a ≡ b
 
--- ---- the same of texts
+-- ---- the same for texts
 
 -- there is such a value, and no other
 abbrev pub ExactlyOne : {A : Type 0} → (A → Type 0) → Type 0

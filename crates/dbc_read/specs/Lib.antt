@@ -1,7 +1,7 @@
 pub use Rattle.dbc_tokens.specs.Tokens
 pub use Rattle.dbc_tokens.specs.Places
 pub use Rattle.dbc_tokens.specs.Views
-pub use Rattle.dbc_tokens.specs.Reading.Scanner
+pub use Rattle.dbc_tokens.specs.inner.Scanner
 pub use Rattle.dbc_reader.specs.Classes
 pub use Rattle.dbc_reader.specs.Pattern
 pub use Rattle.dbc_reader.specs.Grammar

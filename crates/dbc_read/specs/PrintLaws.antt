@@ -10,14 +10,14 @@ use Rattle.dbc_reader.specs.Forms.{Part, Spelled, ◌▸▸◌}
 use Rattle.dbc_reader.specs.Spelling.{timing_of}
 use Rattle.dbc_reader.specs.Texts.{HasDatabase}
 
--- each such value is printed as a text whose tokens, wherever it stands, spell it by its form, and spell no other such value
+-- each such value is printed as a text whose tokens, wherever the text is, spell it by its form, and spell no other such value
 abbrev pub PrintedUniquely : {A : Type 0} → (A → Type 0) → (A → Layout) → (A → List Part) → Type 0
 PrintedUniquely {A} IsSuch layout form =
     (a : A) → IsSuch a → (line after : ℕ) → (tokens : List Token) × (at : ℕ)
     × HasTokens line after (layout_text (layout a)) (tokens ▸▸ End at) × Spelled (form a) tokens
     × ((other : A) → IsSuch other → Spelled (form other) tokens → other ≡ a)
 
--- the numbers of a bit timing: decimals, and none negative
+-- the values of a bit timing: decimals, none of them negative
 abbrev pub IsTiming : Option (Decimal × Decimal × Decimal) → Type 0
 IsTiming numbers = IfSome (timing_of (numbers ∷ [])) IsBitTiming × IsTrue (timing_fits (timing_of (numbers ∷ [])))
 

@@ -4,7 +4,7 @@ ghost use Rattle.dbc_read.specs.Laws.{OneReadingAlone, OneStatement};
 
 pub use dbc_tokens::laws::{one_cut, tokens_in_order};
 
-/// Tokens have no first fault exactly where they spell a database.
+/// Tokens have no first fault exactly when they spell a database.
 pub fn fault_or_database()
     ensures { FaultOrDatabase }
 {}
@@ -14,7 +14,7 @@ pub fn one_database()
     ensures { OneDatabase }
 {}
 
-/// Tokens have no first fault as one statement exactly where they spell one that may stand alone.
+/// Tokens have no first fault as one statement exactly when they spell one that may be on its own.
 pub fn fault_or_statement()
     ensures { FaultOrStatement }
 {}

@@ -1,8 +1,8 @@
 //! Reading of a DBC text: how it is cut into tokens, the database that they spell, and the fault that reading ends with.
 //!
-//! [`tokens`] gives the tokens of a text, [`read`] and [`read_one`] give what they spell, or the first fault; [`laws`]
-//! says that a text has the one or the other. These stand in `dbc_tokens` and `dbc_reader`. What stands here is printing and
-//! reading together: [`print_laws`] says that what is printed is spelled, and [`reread`] reads what was printed.
+//! [`tokens`] gives the tokens of a text, [`read`] and [`read_one`] give what they spell, or the first fault; [`laws`] states that
+//! a text has one or the other. These are in `dbc_tokens` and `dbc_reader`. This crate covers printing and reading together:
+//! [`print_laws`] states that what is printed is spelled, and [`reread`] reads what was printed.
 #![tactic(auto)]
 
 pub mod laws;

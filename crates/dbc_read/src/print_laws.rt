@@ -43,7 +43,7 @@ pub fn message_lines()
     ensures { PrintedUniquely IsMessage message_layout (λ message. form (OfMessage message)) }
 {}
 
-/// The line of a signal that stands alone has the tokens of its form, and they spell it and nothing else.
+/// The line of a signal on its own has the tokens of its form, and they spell it and nothing else.
 pub fn signal_line()
     ensures { PrintedUniquely IsSignal signal_layout (λ signal. form_alone (statements.Signal signal)) }
 {}
@@ -83,7 +83,7 @@ pub fn mux_line()
     ensures { PrintedUniquely IsMuxRow mux_layout (λ row. form (Mux row)) }
 {}
 
-/// The line of a statement that is kept as it stands has the tokens of its form, and they spell it and nothing else.
+/// The line of a statement kept verbatim has the tokens of its form, and they spell it and nothing else.
 pub fn kept_line()
     ensures { PrintedUniquely IsKept kept_layout (λ statement. form (OfKept statement)) }
 {}

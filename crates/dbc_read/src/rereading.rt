@@ -7,7 +7,7 @@ use dbc_reader::read;
 use dbc_tokens::Cause;
 use std::alloc::Global;
 
-// Memory as a sink: what is put to it stands at the end of its bytes. It fails where memory is refused.
+// Memory as a sink: bytes are appended to its own. It fails if memory runs out.
 #[derive(Drop)]
 struct Gathered {
     bytes: Vec<u8>,
@@ -40,13 +40,13 @@ fn printed(alloc: Global, database: &Database) -> Result<Vec<u8>, Memory>
     }
 }
 
-/// Prints the database into memory and reads that text. It fails only where memory is refused for the text or for the
-/// database read from it: what [`print`](dbc_model::print) wrote has no fault.
+/// Prints the database into memory and reads that text. It fails only if memory runs out for the text or for the database read from
+/// it: what [`print`](dbc_model::print) wrote has no fault.
 pub fn reread(alloc: Global, database: &Database) -> Result<Database, Memory>
     ensures same { IfOk result (λ again. again ≡ database.now) }
     ensures bytes { IfOk result (λ again. canonical_text again ≡ canonical_text database.now) }
 {
-    // opens the database, so that what its fields keep is known below
+    // opens the database, so that its fields' invariants are known below
     let _ = &database.version;
     let text = printed(alloc, database)?;
     match read(alloc, &text) {

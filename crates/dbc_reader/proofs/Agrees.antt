@@ -14,9 +14,9 @@ use Rattle.dbc_tokens.specs.declared.fault.ReadFault.{ReadFault}
 use Rattle.dbc_tokens.specs.Tokens.{Token, Cut, End, Fault, ◌▸◌}
 use Rattle.dbc_reader.specs.Pattern.{Class, Seen, verdict, is_of_class, has, Pattern, Done, ◌⇒◌, Either, Repeat, ◌then◌, may_end}
 use Rattle.dbc_reader.specs.Pattern.{Left, first_of, left_then, after, fault_in, ruled, judged, first_fault}
-use Rattle.dbc_reader.specs.Reading.Readers.{Reader, and_then, ◌>>=◌, value, token_at, answered, one, starts, choose, size, turns}
-use Rattle.dbc_reader.specs.Reading.Readers.{repeated}
-use Rattle.dbc_reader.proofs.Turns.{Shrinks}
+use Rattle.dbc_reader.specs.inner.Readers.{Reader, and_then, ◌>>=◌, value, token_at, answered, one, starts, choose, size, rounds}
+use Rattle.dbc_reader.specs.inner.Readers.{repeated}
+use Rattle.dbc_reader.proofs.Rounds.{Shrinks}
 
 -- ---- laws of patterns
 
@@ -86,7 +86,7 @@ abbrev pub Follows : {A : Type 0} → (A → Seen → Type 0) → Result (A × C
 Follows post (Ok x) go total = (seen : Seen) × post x.0 seen × (total ≡ go seen x.1)
 Follows post (Err e) go total = total ≡ Some e
 
--- the reader and the pattern agree, where this is seen before; what is read and what is seen after it are so
+-- the reader and the pattern agree, if this is seen before; what is read and what is seen after it are so
 pub record Agrees {A : Type 0} (seen : Seen) (r : Reader A) (p : Pattern) (post : A → Seen → Type 0) : Type 0 where
   pub follows : (q : Pattern) (cut : Cut) → Follows post (r cut) (first_fault q) (first_fault (p then q) seen cut)
 
@@ -136,7 +136,7 @@ agree_value {A} {seen} {a} {post} h = record { follows = λ q cut. (seen, h, ref
 
 -- ---- one token
 
--- what the token stands for, beside what the class says of it
+-- what the token represents, in addition to what the class states about it
 abbrev pub Rules : {A : Type 0} → (A → Seen → Type 0) → Result A Cause → Result Seen Cause → Type 0
 Rules post (Ok a) (Ok s) = post a s
 Rules post (Err c) (Err d) = d ≡ c
@@ -145,7 +145,7 @@ Rules post (Err c) (Ok s) = ⊥
 
 module _ {A : Type 0} (post : A → Seen → Type 0) (seen : Seen) (c : Class) (judge : Token → Result A Cause) (rules : (t : Token)
     → Rules post (judge t) (verdict c t seen)) where
-  -- where the class says this
+  -- if the class states this
   settled : (t : Token) (cut : Cut) (q : Pattern) (v : Result Seen Cause) → verdict c t seen ≡ v → (o : Result A Cause)
       → Rules post o v
       → Follows post (answered t o cut) (first_fault q) (judged (cond (is_of_class v) (Some (c, q)) None) t seen
@@ -178,7 +178,7 @@ module _ {A : Type 0} (post : A → Seen → Type 0) (seen : Seen) (c : Class) (
 
 -- ---- what a pattern begins with
 
--- a token passes the test where it begins the pattern
+-- a token passes the test if it begins the pattern
 pub record Begins (test : Token → Bool) (p : Pattern) : Type 0 where
   pub begins : (t : Token) (seen : Seen) → test t ≡ true → (x : Class × Pattern) × (after p t seen ≡ Some x)
   pub stops : (t : Token) (seen : Seen) → test t ≡ false → after p t seen ≡ None
@@ -192,7 +192,7 @@ stops_if : {X : Type 0} (x : X) (b : Bool) → b ≡ false → cond b (Some x) N
 stops_if x true e = absurd cc
 stops_if x false e = refl
 
--- the class says what the test says
+-- the class states what the test states
 pub begins_one : (test : Token → Bool) (c : Class) (p : Pattern) → ((t : Token) (seen : Seen) → has c t seen ≡ test t)
     → Begins test (c ⇒ p)
 begins_one test c p same = record {
@@ -289,66 +289,66 @@ repeat_fault a q seen line = refl
 
 -- ---- one turn of a loop
 
-turns_end : {S : Type 0} (n : ℕ) (test : Token → Bool) (r : S → Reader S) (s : S) (line : ℕ) → turns n test r s (End line)
+rounds_end : {S : Type 0} (n : ℕ) (test : Token → Bool) (r : S → Reader S) (s : S) (line : ℕ) → rounds n test r s (End line)
     ≡ Ok (s, End line)
 unfolding starts
-turns_end zero test r s line = refl
-turns_end (suc n) test r s line = refl
+rounds_end zero test r s line = refl
+rounds_end (suc n) test r s line = refl
 
-turns_fault : {S : Type 0} (n : ℕ) (test : Token → Bool) (r : S → Reader S) (s : S) (line : ℕ) → turns n test r s (Fault line)
+rounds_fault : {S : Type 0} (n : ℕ) (test : Token → Bool) (r : S → Reader S) (s : S) (line : ℕ) → rounds n test r s (Fault line)
     ≡ Ok (s, Fault line)
 unfolding starts
-turns_fault zero test r s line = refl
-turns_fault (suc n) test r s line = refl
+rounds_fault zero test r s line = refl
+rounds_fault (suc n) test r s line = refl
 
-turns_go : {S : Type 0} (n : ℕ) (test : Token → Bool) (r : S → Reader S) (s : S) (t : Token) (cut : Cut) → test t ≡ true
-    → turns (suc n) test r s (t ▸ cut) ≡ and_then (r s (t ▸ cut)) (turns n test r)
+rounds_go : {S : Type 0} (n : ℕ) (test : Token → Bool) (r : S → Reader S) (s : S) (t : Token) (cut : Cut) → test t ≡ true
+    → rounds (suc n) test r s (t ▸ cut) ≡ and_then (r s (t ▸ cut)) (rounds n test r)
 unfolding starts
-turns_go n test r s t cut e = rw e refl
+rounds_go n test r s t cut e = rw e refl
 
-turns_stop : {S : Type 0} (n : ℕ) (test : Token → Bool) (r : S → Reader S) (s : S) (t : Token) (cut : Cut) → test t ≡ false
-    → turns (suc n) test r s (t ▸ cut) ≡ Ok (s, t ▸ cut)
+rounds_stop : {S : Type 0} (n : ℕ) (test : Token → Bool) (r : S → Reader S) (s : S) (t : Token) (cut : Cut) → test t ≡ false
+    → rounds (suc n) test r s (t ▸ cut) ≡ Ok (s, t ▸ cut)
 unfolding starts
-turns_stop n test r s t cut e = rw e refl
+rounds_stop n test r s t cut e = rw e refl
 
 module _ {S : Type 0} (test : Token → Bool) (r : S → Reader S) (shrinks : (s : S) → Shrinks (r s)) (p : Pattern)
     (begins : Begins test p)
     (Inv : S → Seen → Type 0) (agrees : (s : S) (seen : Seen) (q : Pattern) (t : Token) (cut : Cut) → Inv s seen → test t ≡ true
     → Follows Inv (r s (t ▸ cut)) (first_fault q) (first_fault (p then q) seen (t ▸ cut))) where
-  -- so many turns follow
-  abbrev Turns : ℕ → Pattern → Type 0
-  Turns n q = (s : S) (seen : Seen) (cut : Cut) → size cut ≤ n → Inv s seen → Follows Inv (turns n test r s cut) (first_fault q)
+  -- this many turns follow
+  abbrev Rounds : ℕ → Pattern → Type 0
+  Rounds n q = (s : S) (seen : Seen) (cut : Cut) → size cut ≤ n → Inv s seen → Follows Inv (rounds n test r s cut) (first_fault q)
       (first_fault (Repeat p q) seen cut)
 
-  turn_follows : (n : ℕ) (q : Pattern) → Turns n q → (s : S) (seen : Seen) (cut : Cut) → size cut ≤ suc n
+  round_follows : (n : ℕ) (q : Pattern) → Rounds n q → (s : S) (seen : Seen) (cut : Cut) → size cut ≤ suc n
       → (o : Result (S × Cut) ReadFault) → r s cut ≡ o
       → Follows Inv o (first_fault (Repeat p q)) (first_fault (p then Repeat p q) seen cut)
-      → Follows Inv (and_then o (turns n test r)) (first_fault q) (first_fault (p then Repeat p q) seen cut)
-  turn_follows n q below s seen cut le (Err e) is h = h
-  turn_follows n q below s seen cut le (Ok x) is h =
+      → Follows Inv (and_then o (rounds n test r)) (first_fault q) (first_fault (p then Repeat p q) seen cut)
+  round_follows n q below s seen cut le (Err e) is h = h
+  round_follows n q below s seen cut le (Ok x) is h =
       let less = (shrinks s).less cut x is in
-      subst (λ total. Follows Inv (turns n test r x.0 x.1) (first_fault q) total) (sym h.2)
+      subst (λ total. Follows Inv (rounds n test r x.0 x.1) (first_fault q) total) (sym h.2)
       (below x.0 h.0 x.1 (omega (arith, le, less)) h.1)
 
-  turns_follow : (n : ℕ) (q : Pattern) → Turns n q
-  turns_follow n q s seen (End line) le inv = rw (turns_end n test r s line) (seen, inv, repeat_end p q seen line)
-  turns_follow n q s seen (Fault line) le inv = rw (turns_fault n test r s line) (seen, inv, repeat_fault p q seen line)
-  turns_follow zero q s seen (t ▸ cut) le inv = absurd (omega (arith, le))
-  turns_follow (suc n) q s seen (t ▸ cut) le inv =
+  rounds_follow : (n : ℕ) (q : Pattern) → Rounds n q
+  rounds_follow n q s seen (End line) le inv = rw (rounds_end n test r s line) (seen, inv, repeat_end p q seen line)
+  rounds_follow n q s seen (Fault line) le inv = rw (rounds_fault n test r s line) (seen, inv, repeat_fault p q seen line)
+  rounds_follow zero q s seen (t ▸ cut) le inv = absurd (omega (arith, le))
+  rounds_follow (suc n) q s seen (t ▸ cut) le inv =
       elim (cases_Bool (test t)) [
-        | inr stops ↦ rw (turns_stop n test r s t cut stops) (seen, inv, repeat_stops p q seen t cut (begins.stops t seen stops))
+        | inr stops ↦ rw (rounds_stop n test r s t cut stops) (seen, inv, repeat_stops p q seen t cut (begins.stops t seen stops))
         | inl goes ↦
             let x = begins.begins t seen goes in
-            rw (turns_go n test r s t cut goes, repeat_goes p q seen t cut x.0 x.1)
-            (turn_follows n q (turns_follow n q) s seen (t ▸ cut) le (r s (t ▸ cut)) refl (agrees s seen (Repeat p q) t cut inv
+            rw (rounds_go n test r s t cut goes, repeat_goes p q seen t cut x.0 x.1)
+            (round_follows n q (rounds_follow n q) s seen (t ▸ cut) le (r s (t ▸ cut)) refl (agrees s seen (Repeat p q) t cut inv
             goes))
       ]
 
   pub agree_repeated : (s : S) (seen : Seen) → Inv s seen → Agrees seen (repeated test r s) (Repeat p Done) Inv
   unfolding repeated
-  agree_repeated s seen inv = record { follows = λ q cut. turns_follow (size cut) q s seen cut (omega arith) inv }
+  agree_repeated s seen inv = record { follows = λ q cut. rounds_follow (size cut) q s seen cut (omega arith) inv }
 
--- the same, where what was seen stays
+-- the same, if what was seen stays
 pub agree_same : {S : Type 0} {seen : Seen} {p : Pattern} (test : Token → Bool) (r : S → Reader S) → ((s : S) → Shrinks (r s))
     → Begins test p → ((s : S) → Agrees seen (r s) p (Same seen)) → (s : S)
     → Agrees seen (repeated test r s) (Repeat p Done) (Same seen)
@@ -456,7 +456,7 @@ agree_choose {A} {seen} {r} {s} {a} {b} {post} test begins h k = record { follow
 
 -- ---- whole texts
 
--- what was read has no fault, and what was met is the first
+-- what was read has no fault, and the fault that was met is the first
 abbrev pub Judges : {A : Type 0} → Result (A × Cut) ReadFault → Option ReadFault → Type 0
 Judges (Ok x) fault = fault ≡ None
 Judges (Err e) fault = fault ≡ Some e

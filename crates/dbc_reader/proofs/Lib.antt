@@ -1,4 +1,4 @@
-pub mod Turns
+pub mod Rounds
 pub mod Facts
 pub mod Agrees
 pub mod Sound

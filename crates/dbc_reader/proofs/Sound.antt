@@ -18,9 +18,9 @@ use Rattle.dbc_tokens.specs.declared.fault.Cause.{Cause}
 use Rattle.dbc_tokens.specs.declared.fault.ReadFault.{ReadFault}
 use Rattle.dbc_tokens.specs.Tokens.{Token, Cut, End, Fault, ◌▸◌}
 use Rattle.dbc_reader.specs.Forms.{Part, SaysPart, Spelled, ◌▸▸◌}
-use Rattle.dbc_reader.specs.Reading.Readers.{Reader, and_then, ◌>>=◌, value, token_at, answered, one, starts, choose, size, turns}
-use Rattle.dbc_reader.specs.Reading.Readers.{repeated}
-use Rattle.dbc_reader.proofs.Turns.{and_then_ok, ok_is}
+use Rattle.dbc_reader.specs.inner.Readers.{Reader, and_then, ◌>>=◌, value, token_at, answered, one, starts, choose, size, rounds}
+use Rattle.dbc_reader.specs.inner.Readers.{repeated}
+use Rattle.dbc_reader.proofs.Rounds.{and_then_ok, ok_is}
 
 pub all_then_twice : (u v : List Token) (cut : Cut) → ((u ++ v) ▸▸ cut) ≡ (u ▸▸ (v ▸▸ cut))
 all_then_twice [] v cut = refl
@@ -28,24 +28,24 @@ all_then_twice (t ∷ u) v cut = ap (λ c. t ▸ c) (all_then_twice u v cut)
 
 pub spelled_both : (xs ys : List Part) (u v : List Token) → Spelled xs u → Spelled ys v → Spelled (xs ++ ys) (u ++ v)
 spelled_both [] ys u v h k = subst (λ (w : List Token). Spelled ys (w ++ v)) (sym h) k
-spelled_both (x ∷ xs) ys u v (front, rest, parts, says, others) k =
-    (front, rest ++ v, ap (λ (t : List Token). t ++ v) parts ∙ append_assoc front rest v, says, spelled_both xs ys rest v others k)
+spelled_both (x ∷ xs) ys u v (front, rest, parts, means, others) k =
+    (front, rest ++ v, ap (λ (t : List Token). t ++ v) parts ∙ append_assoc front rest v, means, spelled_both xs ys rest v others k)
 
--- tokens that spell the parts stand here, up to the rest
+-- tokens that spell the parts are here, up to the rest
 pub record Spelt (parts : List Part) (cut rest : Cut) : Type 0 where
   pub front : List Token
-  pub stands : cut ≡ (front ▸▸ rest)
+  pub occurs : cut ≡ (front ▸▸ rest)
   pub spelled : Spelled parts front
 
 pub spelt_both : {xs ys : List Part} {a b c : Cut} → Spelt xs a b → Spelt ys b c → Spelt (xs ++ ys) a c
 spelt_both {xs} {ys} {a} {b} {c} h k = record {
   front = h.front ++ k.front;
-  stands = h.stands ∙ ap (λ t. h.front ▸▸ t) k.stands ∙ sym (all_then_twice h.front k.front c);
+  occurs = h.occurs ∙ ap (λ t. h.front ▸▸ t) k.occurs ∙ sym (all_then_twice h.front k.front c);
   spelled = spelled_both xs ys h.front k.front h.spelled k.spelled;
 }
 
 pub spelt_none : (cut : Cut) → Spelt [] cut cut
-spelt_none cut = record { front = []; stands = refl; spelled = refl }
+spelt_none cut = record { front = []; occurs = refl; spelled = refl }
 
 pub record Sound {A : Type 0} (r : Reader A) (form : A → List Part) : Type 0 where
   pub spelt : (cut : Cut) (x : A × Cut) → r cut ≡ Ok x → Spelt (form x.0) cut x.1
@@ -82,13 +82,13 @@ sound_start {B} {r} {form} h =
 
 -- ---- one token
 
-module _ {A : Type 0} (judge : Token → Result A Cause) (part : A → Part) (says : (t : Token) (a : A) → judge t ≡ Ok a
+module _ {A : Type 0} (judge : Token → Result A Cause) (part : A → Part) (means : (t : Token) (a : A) → judge t ≡ Ok a
     → SaysPart (part a) (t ∷ [])) where
   answered_spelt : (t : Token) (cut : Cut) (o : Result A Cause) (x : A × Cut) → judge t ≡ o → answered t o cut ≡ Ok x
       → Spelt (part x.0 ∷ []) (t ▸ cut) x.1
   answered_spelt t cut (Ok a) x is e =
       subst (λ (y : A × Cut). Spelt (part y.0 ∷ []) (t ▸ cut) y.1) (ok_is (a, cut) x e)
-      (record { front = t ∷ []; stands = refl; spelled = (t ∷ [], [], refl, says t a is, refl) })
+      (record { front = t ∷ []; occurs = refl; spelled = (t ∷ [], [], refl, means t a is, refl) })
   answered_spelt t cut (Err cause) x is e = absurd cc
 
   one_spelt : (cut : Cut) (x : A × Cut) → one judge cut ≡ Ok x → Spelt (part x.0 ∷ []) cut x.1
@@ -140,13 +140,13 @@ module _ {A : Type 0} (test : Token → Bool) (r : List A → Reader (List A)) (
       subst (λ (y : List A × Cut). (more : List A) × (y.0 ≡ before ++ more) × Spelt (flat_map part more) cut y.1)
       (ok_is (before, cut) x e) ([], sym (append-nil before), spelt_none cut)
 
-  turn : (n : ℕ) → ((before : List A) (cut : Cut) (x : List A × Cut) → turns n test r before cut ≡ Ok x → (more : List A)
+  round : (n : ℕ) → ((before : List A) (cut : Cut) (x : List A × Cut) → rounds n test r before cut ≡ Ok x → (more : List A)
       × (x.0 ≡ before ++ more) × Spelt (flat_map part more) cut x.1)
-      → (before : List A) (b : Bool) (cut : Cut) (x : List A × Cut) → cond b (and_then (r before cut) (turns n test r))
+      → (before : List A) (b : Bool) (cut : Cut) (x : List A × Cut) → cond b (and_then (r before cut) (rounds n test r))
       (Ok (before, cut)) ≡ Ok x → (more : List A) × (x.0 ≡ before ++ more) × Spelt (flat_map part more) cut x.1
-  turn n below before false cut x e = stays before cut x e
-  turn n below before true cut x e =
-      let y = and_then_ok (r before cut) (turns n test r) x e in
+  round n below before false cut x e = stays before cut x e
+  round n below before true cut x e =
+      let y = and_then_ok (r before cut) (rounds n test r) x e in
       let first = grows.spelt before cut y.0 y.1 in
       let rest = below y.0.0 y.0.1 x y.2 in (
         first.0 ++ rest.0,
@@ -154,14 +154,14 @@ module _ {A : Type 0} (test : Token → Bool) (r : List A → Reader (List A)) (
         subst (λ (parts : List Part). Spelt parts cut x.1) (sym (flat_map-append part first.0 rest.0)) (spelt_both first.2 rest.2),
       )
 
-  turns_grow : (n : ℕ) (before : List A) (cut : Cut) (x : List A × Cut) → turns n test r before cut ≡ Ok x → (more : List A)
+  rounds_grow : (n : ℕ) (before : List A) (cut : Cut) (x : List A × Cut) → rounds n test r before cut ≡ Ok x → (more : List A)
       × (x.0 ≡ before ++ more) × Spelt (flat_map part more) cut x.1
-  turns_grow zero before cut x e = stays before cut x e
-  turns_grow (suc n) before cut x e = turn n (turns_grow n) before (starts test cut) cut x e
+  rounds_grow zero before cut x e = stays before cut x e
+  rounds_grow (suc n) before cut x e = round n (rounds_grow n) before (starts test cut) cut x e
 
   pub grows_repeated : Grows (λ before. repeated test r before) part
   unfolding repeated
-  grows_repeated = record { spelt = λ before cut x e. turns_grow (size cut) before cut x e }
+  grows_repeated = record { spelt = λ before cut x e. rounds_grow (size cut) before cut x e }
 
 -- a list from nothing
 pub sound_list : {A : Type 0} {r : List A → Reader (List A)} {part : A → List Part} → Grows r part → Sound (r []) (flat_map part)
@@ -172,7 +172,7 @@ sound_list {A} {r} {part} grows = record {
 
 -- ---- readers by what their tokens are
 
--- what is read stands for these tokens
+-- what is read represents these tokens
 pub record Reads {A : Type 0} (r : Reader A) (P : A → List Token → Type 0) : Type 0 where
   pub reads : (cut : Cut) (x : A × Cut) → r cut ≡ Ok x → (front : List Token) × (cut ≡ (front ▸▸ x.1)) × P x.0 front
 
@@ -181,7 +181,7 @@ sound_reads {A} {r} part h =
     record {
       spelt = λ cut x e. (let y = h.reads cut x e in record {
         front = y.0;
-        stands = y.1;
+        occurs = y.1;
         spelled = (y.0, [], sym (append-nil y.0), y.2, refl);
       });
     }

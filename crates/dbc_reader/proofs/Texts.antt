@@ -1,3 +1,3 @@
--- What the families say together: the clauses of the two readers of texts.
+-- What the families state together: the clauses of the two readers of texts.
 pub mod Readings
 pub mod LocatedReadings

@@ -7,8 +7,8 @@ use Rattle.std.proofs.Common.{◌≡◌, Bool, true, false, cond, List, [], ◌�
 use Rattle.std.proofs.lemmas.List.Elements.{All-push}
 use Rattle.dbc_tokens.specs.declared.fault.Cause.{Cause}
 use Rattle.dbc_tokens.specs.Tokens.{Token, Cut, End, Fault, ◌▸◌}
-use Rattle.dbc_reader.specs.Reading.Readers.{Reader, ◌>>=◌, value, token_at, answered, one, starts, choose, choose_by, repeated}
-use Rattle.dbc_reader.proofs.Turns.{and_then_ok, ok_is, repeated_holds}
+use Rattle.dbc_reader.specs.inner.Readers.{Reader, ◌>>=◌, value, token_at, answered, one, starts, choose, choose_by, repeated}
+use Rattle.dbc_reader.proofs.Rounds.{and_then_ok, ok_is, repeated_holds}
 
 -- all that is read is so
 pub record Yields {A : Type 0} (r : Reader A) (P : A → Type 0) : Type 0 where
@@ -70,7 +70,7 @@ pub yields_choose : {A : Type 0} (test : Token → Bool) {r s : Reader A} {P : A
     → Yields (choose test r s) P
 yields_choose {A} test {r} {s} {P} h k = record { holds = λ cut x e. chosen_holds h k (starts test cut) cut x e }
 
--- all that is read where the test is true is so
+-- all that is read if the test is true is so
 pub record YieldsWhere {A : Type 0} (test : Cut → Bool) (r : Reader A) (P : A → Type 0) : Type 0 where
   pub holds : (cut : Cut) (x : A × Cut) → test cut ≡ true → r cut ≡ Ok x → P x.0
 

@@ -1,7 +1,6 @@
--- What one token is by its bytes, and what it stands for where a class of tokens is wanted. The kind of a token need not
--- be asked: strings, words, numbers and marks begin with different bytes.
--- Source: the DBC file format, "General Definitions", and the sections that use the classes. The bounds, and that whole
--- numbers are judged by their value, are the profile of candesk.
+-- What one token is by its bytes, and what it represents if a class of tokens is expected. There is no need to check the kind of a
+-- token: strings, words, numbers and marks begin with different bytes. Source: the DBC file format, "General Definitions", and the
+-- sections that use the classes. The bounds, and that whole numbers are judged by their value, are the profile of candesk.
 use Rattle.std.specs.Prelude.{ℕ, ◌-◌, ◌^◌, nat_le, Bool, true, false, ◌&&◌, ◌==◌, List, [], ◌∷◌, ◌++◌, length, take, codes, Option}
 use Rattle.std.specs.Prelude.{Some, None, Result, Ok, Err, if◌then◌else◌}
 use Rattle.std.specs.Str.{bytes_eq}
@@ -12,6 +11,8 @@ use Rattle.dbc_values.specs.Names.{is_symbol}
 use Rattle.dbc_values.specs.Pieces.{is_string, inside, is_piece}
 use Rattle.dbc_values.specs.declared.number.Whole.{Whole}
 use Rattle.dbc_values.specs.declared.number.Whole.TheVariants.{Fraction, TooLarge, Value}
+use Rattle.dbc_records.specs.declared.byte_order.ByteOrder.{ByteOrder}
+use Rattle.dbc_records.specs.declared.byte_order.ByteOrder.TheVariants as orders
 use Rattle.dbc_records.specs.declared.tag.Tag.{Tag}
 use Rattle.dbc_records.specs.declared.tag.Tag.TheVariants as tags
 use Rattle.dbc_tokens.specs.declared.fault.Cause.{Cause}
@@ -49,7 +50,7 @@ is_whole_number (Some Fraction) = false
 is_whole_number (Some TooLarge) = true
 is_whole_number (Some (Value n)) = true
 
--- a number that is whole, of any size
+-- a number that is whole, of any magnitude
 unfoldable pub has_whole : Token → Bool
 has_whole t = is_whole_number (whole_of_number t.bytes)
 
@@ -57,13 +58,13 @@ abbrev pub is_there : {A : Type 0} → Option A → Bool
 is_there None = false
 is_there (Some x) = true
 
--- a number that is a decimal, negated where `negative` is true
+-- a number that is a decimal, negated if `negative` is true
 unfoldable pub has_number : Bool → Token → Bool
 has_number negative t = is_there (decimal_of_number negative t.bytes)
 
--- ---- what a token stands for, or why it can't stand there
+-- ---- what a token represents, or why it can't be there
 
--- the value where the token passes the test
+-- the value if the token passes the test
 abbrev pub where_true : {A : Type 0} → Bool → A → Result A Cause
 where_true true x = Ok x
 where_true false x = Err causes.Statement
@@ -91,26 +92,26 @@ there (Some x) = Ok x
 unfoldable pub number_of : Bool → List ℕ → Result Decimal Cause
 number_of negative bytes = there (decimal_of_number negative bytes)
 
-abbrev pub one_or_zero : ℕ → Result Bool Cause
-one_or_zero n = if n == 1 then Ok true else (if n == 0 then Ok false else Err causes.Statement)
+abbrev pub one_or_zero : ℕ → Result ByteOrder Cause
+one_or_zero n = if n == 1 then Ok orders.Intel else (if n == 0 then Ok orders.Motorola else Err causes.Statement)
 
-abbrev pub order_digit : Option Whole → Result Bool Cause
+abbrev pub order_digit : Option Whole → Result ByteOrder Cause
 order_digit None = Err causes.Statement
 order_digit (Some Fraction) = Err causes.Statement
 order_digit (Some TooLarge) = Err causes.Statement
 order_digit (Some (Value n)) = one_or_zero n
 
--- the byte order of a signal: a number of the value 1 for Intel or 0 for Motorola ("Signal Definitions", byte_order)
-unfoldable pub order_of : List ℕ → Result Bool Cause
+-- the byte order of a signal: a number with the value 1 for Intel or 0 for Motorola ("Signal Definitions", byte_order)
+unfoldable pub order_of : List ℕ → Result ByteOrder Cause
 order_of bytes = order_digit (whole_of_number bytes)
 
--- ---- tags of signals ("Signal Definitions", multiplexer_indicator)
+-- ---- multiplexer indicators of signals ("Signal Definitions", multiplexer_indicator)
 
 abbrev pub tagged : (ℕ → Tag) → Result ℕ Cause → Result Tag Cause
 tagged tag (Ok n) = Ok (tag n)
 tagged tag (Err cause) = Err cause
 
--- digits as the number of a tag
+-- digits as the value of a multiplexer indicator
 abbrev pub counted : (ℕ → Tag) → List ℕ → Result Tag Cause
 counted tag digits = tagged tag (whole_of 0 (2 ^ 64 - 1) digits)
 

@@ -1,6 +1,5 @@
--- What tokens say: the items of a statement, one after another.
--- Source: the DBC file format, "General Definitions" (C_identifier, char_string, signed_integer, unsigned_integer,
--- double). That numbers are judged by their value is the profile of candesk.
+-- What tokens spell: the items of a statement, one after another. Source: the DBC file format, "General Definitions" (C_identifier,
+-- char_string, signed_integer, unsigned_integer, double). That numbers are judged by their value is the profile of candesk.
 use Rattle.std.specs.Prelude.{◌≡◌, ℕ, ℤ, pos, neg_ℤ, Bool, true, false, IsTrue, List, [], ◌∷◌, ◌++◌, map, codes, ◌⊎◌, if◌then◌else◌}
 use Rattle.std.specs.Str.Parse.{digits_value}
 use Rattle.dbc_values.specs.Lexical.{quoted, is_text, is_name, is_digits, is_number}
@@ -38,10 +37,10 @@ signed negative n = if negative then neg_ℤ (pos n) else pos n
 
 -- digits after an `m`, and this after them
 abbrev pub SpellsTag : List ℕ → ℕ → List ℕ → Type 0
-SpellsTag bytes n behind = (digits : List ℕ) × (bytes ≡ codes "m" ++ (digits ++ behind)) × IsTrue (is_digits digits)
+SpellsTag bytes n following = (digits : List ℕ) × (bytes ≡ codes "m" ++ (digits ++ following)) × IsTrue (is_digits digits)
     × (digits_value 10 digits ≡ n)
 
--- the tokens say the item
+-- the tokens spell the item
 abbrev pub Says : Item → List Token → Type 0
 Says (Word word) tokens = IsOne (λ bytes. bytes ≡ word) tokens
 Says (Mark mark) tokens = IsOne (λ bytes. bytes ≡ mark ∷ []) tokens
@@ -71,7 +70,7 @@ SaysPart (Is item) tokens = Says item tokens
 SaysPart (Perhaps mark) tokens = (tokens ≡ []) ⊎ Says (Mark mark) tokens
 SaysPart (Unsigned d) tokens = IsOne (λ bytes. SpellsDecimal false bytes d) tokens
 
--- the tokens say these parts, one after another
+-- the tokens spell these parts, one after another
 abbrev pub Spelled : List Part → List Token → Type 0
 Spelled [] tokens = tokens ≡ []
 Spelled (part ∷ parts) tokens = (front rest : List Token) × (tokens ≡ front ++ rest) × SaysPart part front × Spelled parts rest

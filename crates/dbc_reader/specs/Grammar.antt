@@ -1,6 +1,5 @@
--- The forms and placing rules of a text as one pattern. Statements that begin alike stand together, so that each token
--- leaves one pattern.
--- Source: the DBC file format, the section of each statement.
+-- The forms and the ordering rules of a text as one pattern. Statements that begin alike are grouped, so that each token leaves one
+-- pattern. Source: the DBC file format, the section of each statement.
 use Rattle.std.specs.Prelude.{ℕ, ◌^◌, ◌-◌, true, false, codes}
 use Rattle.dbc_records.specs.Records.{most_bytes, most_bits}
 use Rattle.dbc_values.specs.Lexical.{opening_parenthesis, closing_parenthesis, plus, comma, minus, colon, semicolon, at_sign}
@@ -17,13 +16,13 @@ perhaps p = Either p Done Done
 abbrev pub decimal : Pattern
 decimal = Either (Mark minus ⇒ Number true ⇒ Done) (Either (Mark plus ⇒ Number false ⇒ Done) (Number false ⇒ Done) Done) Done
 
--- an entry's number: from -2^63 to 2^64 - 1
+-- the raw value of an entry: from -2^63 to 2^64 - 1
 abbrev pub entry_number : Pattern
 entry_number =
     Either (Mark minus ⇒ Whole 0 (2 ^ 63) ⇒ Done)
     (Either (Mark plus ⇒ Whole 0 (2 ^ 64 - 1) ⇒ Done) (Whole 0 (2 ^ 64 - 1) ⇒ Done) Done) Done
 
--- the number of a message
+-- the CAN identifier of a message
 abbrev pub number : Pattern
 number = Whole 0 (2 ^ 32 - 1) ⇒ Done
 
@@ -70,7 +69,7 @@ signal =
 abbrev pub message : Pattern
 message = head then Repeat signal Done
 
--- a node, a message or a signal that a comment or an attribute speaks of, or nothing
+-- a node, a message or a signal that a comment or an attribute is about, or nothing
 abbrev pub target : Pattern
 target =
     Either (Word (codes "BU_") ⇒ Name ⇒ Done)
@@ -129,7 +128,7 @@ kept = KeptWord ⇒ kept_rest
 
 -- ---- texts
 
--- what stands for nodes, messages and symbols
+-- the statements of nodes, messages and symbols
 abbrev pub objects : Pattern
 objects = Either symbols (Either nodes message Done) Done
 
@@ -149,7 +148,7 @@ text =
     Either (Word (codes "VERSION") ⇒ String ⇒ Done) Done
     (Repeat statement (Either (timing then Repeat statement Done) Done Done))
 
--- ---- one statement that stands alone
+-- ---- one statement on its own
 
 abbrev pub signal_values : Pattern
 signal_values = Word (codes "VAL_") ⇒ Whole 0 (2 ^ 32 - 1) ⇒ Name ⇒ entries

@@ -1,4 +1,4 @@
--- The kinds of row, in the order in which they are printed, and the list that a database has of each.
+-- The kinds of entry, in the order in which they are printed, and the list that a database has of each.
 use Rattle.std.specs.Prelude.{ℕ, List, [], ◌∷◌, None}
 use Rattle.dbc_records.specs.Records.{Message, TableRow, ValueRow, FloatRow, MuxRow}
 use Rattle.dbc_records.specs.Comments.{Comment}

@@ -7,5 +7,5 @@ pub mod Spelling
 pub mod Texts
 pub mod Starts
 pub mod Located
--- how the code goes through tokens: a middle step
-pub mod Reading
+-- how the code reads tokens: an intermediate step
+pub mod inner

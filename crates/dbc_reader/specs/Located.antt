@@ -1,4 +1,4 @@
--- What a text says, and where its statements begin.
+-- The database of a text, and where its statements begin.
 use Rattle.std.specs.Prelude.{◌≡◌, ◌⊎◌, ℕ, List, ◌++◌, map, Result, Ok, Err}
 use Rattle.dbc_records.specs.Databases.{Database}
 use Rattle.dbc_tokens.specs.declared.fault.ReadFault.{ReadFault}
@@ -11,9 +11,8 @@ use Rattle.dbc_reader.specs.Spelling.{Spells, version_form}
 use Rattle.dbc_reader.specs.Starts.{Located, AreLocated, gather_starts}
 use Rattle.dbc_reader.specs.Texts.{HasFirstFault}
 
--- The tokens spell the database. After those of the version they are the tokens of the very statements that the database is
--- gathered
--- from, and the starts of each kind are, in the same order, where the first tokens of these statements are.
+-- The tokens spell the database. After those of the version they are the tokens of the very statements from which the database is
+-- gathered, and the starts of each kind are, in the same order, where the first tokens of these statements are.
 pub record SpellsFrom (tokens : List Token) (database : Database) (starts : Starts) : Type 0 where
   pub spells : Spells tokens database
   pub version : List Token

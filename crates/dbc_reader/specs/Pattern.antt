@@ -24,9 +24,9 @@ pub data Class : Type 0 where
   String : Class
   -- a whole number from the least to the greatest
   Whole : ℕ → ℕ → Class
-  -- a number that is a decimal, negated where this is true
+  -- a number that is a decimal, negated if this is true
   Number : Bool → Class
-  -- a number of the value 0 or 1
+  -- a number with the value 0 or 1
   Order : Class
   -- `M`, `m5`, `m5M`
   Tag : Class
@@ -67,8 +67,8 @@ one_name_more name seen =
           ∷ [];
     })
 
--- What a token does where one of the class may stand: it is none of the class (a fault of the statement), it breaks a
--- rule, or this is seen from then on.
+-- What a token does where one of the class is allowed: it isn't of the class (a fault of the statement), it breaks a rule, or this
+-- is seen from then on.
 abbrev pub verdict : Class → Token → Seen → Result Seen Cause
 verdict (Word word) t seen = plain (has_word word t) seen
 verdict (Mark mark) t seen = plain (has_mark mark t) seen

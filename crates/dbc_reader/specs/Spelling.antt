@@ -15,7 +15,8 @@ use Rattle.dbc_records.specs.Kept.{Kept}
 use Rattle.dbc_records.specs.Databases.{Database, IsDatabase}
 use Rattle.dbc_records.specs.Layout.{Mark, Name, Whole}
 use Rattle.dbc_records.specs.CanonicalText.{version_layout, symbols_layout, timing_title, nodes_layout, table_layout, head_layout}
-use Rattle.dbc_records.specs.CanonicalText.{signal_name_layout, tag_layout, place_layout, scale_layout, limits_layout, spaced_text}
+use Rattle.dbc_records.specs.CanonicalText.{signal_name_layout, tag_layout, bit_field_layout, scale_layout, limits_layout}
+use Rattle.dbc_records.specs.CanonicalText.{spaced_text}
 use Rattle.dbc_records.specs.CanonicalText.{comment_layout, definition_layout, default_layout, attribute_layout, values_layout}
 use Rattle.dbc_records.specs.CanonicalText.{float_key, mux_layout, kept_layout}
 use Rattle.dbc_reader.specs.declared.statement.Statement.{Statement}
@@ -70,7 +71,7 @@ timing_form (Some numbers) =
     of_layout timing_title ++ (Unsigned numbers.0 ∷ Is (Mark colon) ∷ Unsigned numbers.1 ∷ Is (Mark comma) ∷ Unsigned numbers.2
     ∷ [])
 
--- a comma may stand before each receiver but the first
+-- a comma may be before each receiver but the first
 abbrev pub receivers_form : List (List ℕ) → List Part
 receivers_form [] = []
 receivers_form (name ∷ names) = Is (Name name) ∷ flat_map (λ further. Perhaps comma ∷ Is (Name further) ∷ []) names
@@ -79,10 +80,10 @@ abbrev pub signal_form : Signal → List Part
 signal_form signal =
     of_layout (signal_name_layout signal
     ++ (tag_layout signal.tag
-    ++ (place_layout signal ++ (scale_layout signal ++ (limits_layout signal ++ spaced_text signal.unit)))))
+    ++ (bit_field_layout signal ++ (scale_layout signal ++ (limits_layout signal ++ spaced_text signal.unit)))))
     ++ receivers_form signal.receivers
 
--- the form of each statement: the items of its printed line, but for marks that may be missing
+-- the form of each statement: the items of its printed line, except marks that may be missing
 abbrev pub form : AnyStatement → List Part
 form (Symbols symbols) = of_layout (symbols_layout symbols)
 form (Timing numbers) = timing_form numbers
@@ -112,7 +113,7 @@ abbrev pub FollowOn : AnyStatement → List AnyStatement → Type 0
 FollowOn (Symbols symbols) statements = EndsSymbols statements
 FollowOn statement statements = Unit {0}
 
--- each statement may stand before those after it
+-- each statement may be before those after it
 abbrev pub ArePlaced : List AnyStatement → Type 0
 ArePlaced [] = Unit {0}
 ArePlaced (statement ∷ statements) = FollowOn statement statements × ArePlaced statements
@@ -131,7 +132,7 @@ abbrev pub nodes_of : AnyStatement → List (List ℕ)
 nodes_of (Nodes nodes) = nodes
 nodes_of statement = []
 
--- the row, where it is one of this kind
+-- the entry, if it is one of this kind
 abbrev pub if_kind : (kind other : Kind) → RecordOf other → List (RecordOf kind)
 if_kind Tables Tables row = row ∷ []
 if_kind Messages Messages row = row ∷ []
@@ -172,8 +173,8 @@ gather version statements = with_lists (record (empty_database (version_text ver
   nodes = flat_map nodes_of statements;
 }) (λ kind. flat_map (records_of kind) statements)
 
--- The tokens spell the database: perhaps a version, and then statements in their places, at most one of them a bit
--- timing; and the database is within all bounds.
+-- The tokens spell the database: perhaps a version, and then statements in an allowed order, at most one of them a bit timing; and
+-- the database is within all bounds.
 pub record Spells (tokens : List Token) (database : Database) : Type 0 where
   pub version : Option (List ℕ)
   pub statements : List AnyStatement
@@ -183,9 +184,9 @@ pub record Spells (tokens : List Token) (database : Database) : Type 0 where
   pub gathered : database ≡ gather version statements
   pub proper : IsDatabase database
 
--- ---- one statement that stands alone
+-- ---- one statement on its own
 
--- a message without its signals, a signal, a table, a row of values or of multiplexing, or an attribute
+-- a message without its signals, a signal, a table, an entry of values or of multiplexing, or an attribute
 abbrev pub form_alone : Statement → List Part
 form_alone (statements.Head head) = of_layout (head_layout head)
 form_alone (statements.Signal signal) = signal_form signal

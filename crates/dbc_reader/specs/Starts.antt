@@ -15,17 +15,18 @@ use Rattle.dbc_reader.specs.Spelling.{AnyStatement, OfMessage, form, signal_form
 
 -- ---- one start
 
--- where a token is
+-- where a token begins
 abbrev pub start_of : Token → Start
 start_of t = record { line = t.line; left = t.left }
 
--- where the first of these tokens is; the last line, with nothing left, if there is none
+-- where the first of these tokens begins; the last line, with nothing left, if there is none
 unfoldable pub start_at : Cut → Start
 start_at (End line) = record { line = line; left = 0 }
 start_at (Fault line) = record { line = line; left = 0 }
 start_at (t ▸ cut) = start_of t
 
--- The tokens are those of these items, one after another, each spelled by its form; and each item begins where its first token is.
+-- The tokens are those of these items, one after another, each spelled by its form; and each item begins where
+-- its first token does.
 abbrev pub BeginAt : {A : Type 0} → (A → List Part) → List A → List Token → List Start → Type 0
 BeginAt form [] tokens starts = (tokens ≡ []) × (starts ≡ [])
 BeginAt form (item ∷ items) tokens starts =
@@ -47,7 +48,8 @@ SignalsBeginAt (OfMessage message) tokens starts =
     × BeginAt signal_form message.signals signals starts
 SignalsBeginAt statement tokens starts = starts ≡ []
 
--- The tokens are those of these statements, one after another, each spelled by its form; and each begins where its first token is.
+-- The tokens are those of these statements, one after another, each spelled by its form; and each begins where
+-- its first token does.
 abbrev pub AreLocated : List Located → List Token → Type 0
 AreLocated [] tokens = tokens ≡ []
 AreLocated (located ∷ others) tokens =

@@ -1,4 +1,4 @@
--- What a text says: the database, or the one statement, that its tokens spell, or else its first fault.
+-- What a text spells: the database, or the one statement, that its tokens spell, or else its first fault.
 use Rattle.std.specs.Prelude.{◌≡◌, ◌⊎◌, ℕ, List, Some, Result, Ok, Err}
 use Rattle.dbc_records.specs.Databases.{Database}
 use Rattle.dbc_tokens.specs.declared.fault.ReadFault.{ReadFault}

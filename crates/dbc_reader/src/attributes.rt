@@ -2,12 +2,12 @@
 ghost use Rattle.std.specs.Prelude.{◌≡◌, ◌<◌, codes, IfOk, IsTrue, Some, None};
 ghost use Rattle.dbc_records.specs.Attributes.{form_fits, IsForm, IsAttrValue};
 ghost use Rattle.dbc_records.specs.Comments.{IsTarget};
-ghost use Rattle.dbc_reader.specs.Reading.Cursors.{left_at, behind, with_word};
-ghost use Rattle.dbc_reader.specs.Reading.Readers.{GivesTo, starts};
-ghost use Rattle.dbc_reader.specs.Reading.Parts.{begins_decimal};
-ghost use Rattle.dbc_reader.specs.Reading.Attributes.{node_target_at, message_target_at, signal_target_at, target_at, comment_at};
-ghost use Rattle.dbc_reader.specs.Reading.Attributes.{object_at, limits_at, enumeration_at, form_at, definition_at, value_at};
-ghost use Rattle.dbc_reader.specs.Reading.Attributes.{default_at, attribute_at};
+ghost use Rattle.dbc_reader.specs.inner.Cursors.{left_at, following, with_word};
+ghost use Rattle.dbc_reader.specs.inner.Readers.{GivesTo, starts};
+ghost use Rattle.dbc_reader.specs.inner.Parts.{begins_decimal};
+ghost use Rattle.dbc_reader.specs.inner.Attributes.{node_target_at, message_target_at, signal_target_at, target_at, comment_at};
+ghost use Rattle.dbc_reader.specs.inner.Attributes.{object_at, limits_at, enumeration_at, form_at, definition_at, value_at};
+ghost use Rattle.dbc_reader.specs.inner.Attributes.{default_at, attribute_at};
 
 use crate::classes;
 use crate::cursor::Cursor;
@@ -20,7 +20,7 @@ use dbc_records::{
 use dbc_tokens::Next;
 use std::alloc::Global;
 
-#[tactic(auto, unfolding(crate::specs::Reading::Attributes::node_target_at))]
+#[tactic(auto, unfolding(crate::specs::inner::Attributes::node_target_at))]
 fn node_target(alloc: Global, at: &mut Cursor<'_>) -> Result<Target, Stopped>
     ensures { GivesTo result (left_at at.new) (node_target_at (left_at at.old)) }
 {
@@ -29,9 +29,9 @@ fn node_target(alloc: Global, at: &mut Cursor<'_>) -> Result<Target, Stopped>
     Ok(Target::Node(node))
 }
 
-/// Takes `BO_` and the number of a message.
-#[tactic(auto, unfolding(crate::specs::Reading::Attributes::message_target_at))]
-pub fn message_target(at: &mut Cursor<'_>) -> Result<Target, Stopped>
+/// Takes `BO_` and the CAN identifier of a message.
+#[tactic(auto, unfolding(crate::specs::inner::Attributes::message_target_at))]
+pub(crate) fn message_target(at: &mut Cursor<'_>) -> Result<Target, Stopped>
     ensures { GivesTo result (left_at at.new) (message_target_at (left_at at.old)) }
 {
     word(at, b"BO_")?;
@@ -39,7 +39,7 @@ pub fn message_target(at: &mut Cursor<'_>) -> Result<Target, Stopped>
     Ok(Target::Message(number))
 }
 
-#[tactic(auto, unfolding(crate::specs::Reading::Attributes::signal_target_at))]
+#[tactic(auto, unfolding(crate::specs::inner::Attributes::signal_target_at))]
 fn signal_target(alloc: Global, at: &mut Cursor<'_>) -> Result<Target, Stopped>
     ensures { GivesTo result (left_at at.new) (signal_target_at (left_at at.old)) }
 {
@@ -49,8 +49,8 @@ fn signal_target(alloc: Global, at: &mut Cursor<'_>) -> Result<Target, Stopped>
     Ok(Target::Signal(number, signal))
 }
 
-// Takes what a comment or an attribute speaks of: the whole database where nothing stands here.
-#[tactic(auto, unfolding(crate::specs::Reading::Attributes::target_at))]
+// Takes what a comment or an attribute is about: the whole database if there is no target here.
+#[tactic(auto, unfolding(crate::specs::inner::Attributes::target_at))]
 fn target(alloc: Global, at: &mut Cursor<'_>) -> Result<Target, Stopped>
     ensures { GivesTo result (left_at at.new) (target_at (left_at at.old)) }
 {
@@ -67,8 +67,8 @@ fn target(alloc: Global, at: &mut Cursor<'_>) -> Result<Target, Stopped>
 }
 
 /// Takes a comment, after `CM_`.
-#[tactic(auto, unfolding(crate::specs::Reading::Attributes::comment_at, crate::specs::Reading::Parts::word_at, crate::specs::Reading::Readers::token_at, crate::specs::Classes::has_word))]
-pub fn comment(alloc: Global, at: &mut Cursor<'_>) -> Result<Comment, Stopped>
+#[tactic(auto, unfolding(crate::specs::inner::Attributes::comment_at, crate::specs::inner::Parts::word_at, crate::specs::inner::Readers::token_at, crate::specs::Classes::has_word))]
+pub(crate) fn comment(alloc: Global, at: &mut Cursor<'_>) -> Result<Comment, Stopped>
     ensures { GivesTo result (left_at at.new) (comment_at (with_word (codes "CM_") (left_at at.old))) }
 {
     let target = target(alloc, at)?;
@@ -77,8 +77,8 @@ pub fn comment(alloc: Global, at: &mut Cursor<'_>) -> Result<Comment, Stopped>
     Ok(Comment { target, text })
 }
 
-// Takes the kind of object that an attribute belongs to, if one stands here.
-#[tactic(auto, unfolding(crate::specs::Reading::Attributes::object_at))]
+// Takes the kind of object that an attribute belongs to, if one is here.
+#[tactic(auto, unfolding(crate::specs::inner::Attributes::object_at))]
 fn object(at: &mut Cursor<'_>) -> Result<Option<Object>, Stopped>
     ensures { GivesTo result (left_at at.new) (object_at (left_at at.old)) }
 {
@@ -101,7 +101,7 @@ fn object(at: &mut Cursor<'_>) -> Result<Option<Object>, Stopped>
     Ok(None)
 }
 
-#[tactic(auto, unfolding(crate::specs::Reading::Cursors::left_at, crate::specs::Reading::Readers::starts))]
+#[tactic(auto, unfolding(crate::specs::inner::Cursors::left_at, crate::specs::inner::Readers::starts))]
 fn starts_decimal(at: Cursor<'_>) -> bool
     ensures { result ≡ starts begins_decimal (left_at at.entry) }
 {
@@ -111,8 +111,8 @@ fn starts_decimal(at: Cursor<'_>) -> bool
     }
 }
 
-// Takes two numbers, if any stand here.
-#[tactic(auto, unfolding(crate::specs::Reading::Attributes::limits_at))]
+// Takes two numbers, if any are here.
+#[tactic(auto, unfolding(crate::specs::inner::Attributes::limits_at))]
 fn limits(at: &mut Cursor<'_>) -> Result<Option<Limits>, Stopped>
     ensures { GivesTo result (left_at at.new) (limits_at (left_at at.old)) }
 {
@@ -125,7 +125,7 @@ fn limits(at: &mut Cursor<'_>) -> Result<Option<Limits>, Stopped>
 }
 
 // Takes the texts of an enumeration.
-#[tactic(auto, using(crate::proofs::Turns::Lists::some_texts), unfolding(crate::specs::Reading::Attributes::enumeration_at))]
+#[tactic(auto, using(crate::proofs::Rounds::Lists::some_texts), unfolding(crate::specs::inner::Attributes::enumeration_at))]
 fn enumeration(alloc: Global, at: &mut Cursor<'_>) -> Result<Form, Stopped>
     ensures value { GivesTo result (left_at at.new) (enumeration_at (left_at at.old)) }
     ensures fits { IfOk result (λ form. IsTrue (form_fits form)) }
@@ -136,8 +136,8 @@ fn enumeration(alloc: Global, at: &mut Cursor<'_>) -> Result<Form, Stopped>
     Ok(Form::Enumeration(texts))
 }
 
-// Takes what values an attribute has.
-#[tactic(auto, unfolding(crate::specs::Reading::Attributes::form_at, crate::specs::Reading::Attributes::string_form_at))]
+// Takes the form of an attribute's values.
+#[tactic(auto, unfolding(crate::specs::inner::Attributes::form_at, crate::specs::inner::Attributes::string_form_at))]
 fn form(alloc: Global, at: &mut Cursor<'_>) -> Result<Form, Stopped>
     ensures value { GivesTo result (left_at at.new) (form_at (left_at at.old)) }
     ensures fits { IfOk result (λ form. IsTrue (form_fits form)) }
@@ -162,8 +162,8 @@ fn form(alloc: Global, at: &mut Cursor<'_>) -> Result<Form, Stopped>
 }
 
 /// Takes the definition of an attribute, after `BA_DEF_`.
-#[tactic(auto, unfolding(crate::specs::Reading::Attributes::definition_at, crate::specs::Reading::Parts::word_at, crate::specs::Reading::Readers::token_at, crate::specs::Classes::has_word))]
-pub fn definition(alloc: Global, at: &mut Cursor<'_>) -> Result<AttrDef, Stopped>
+#[tactic(auto, unfolding(crate::specs::inner::Attributes::definition_at, crate::specs::inner::Parts::word_at, crate::specs::inner::Readers::token_at, crate::specs::Classes::has_word))]
+pub(crate) fn definition(alloc: Global, at: &mut Cursor<'_>) -> Result<AttrDef, Stopped>
     ensures { GivesTo result (left_at at.new) (definition_at (with_word (codes "BA_DEF_") (left_at at.old))) }
 {
     let object = object(at)?;
@@ -178,8 +178,8 @@ pub fn definition(alloc: Global, at: &mut Cursor<'_>) -> Result<AttrDef, Stopped
 }
 
 /// Takes the value of an attribute: a string or a number.
-#[tactic(auto, unfolding(crate::specs::Reading::Attributes::value_at))]
-pub fn value(alloc: Global, at: &mut Cursor<'_>) -> Result<AttrValue, Stopped>
+#[tactic(auto, unfolding(crate::specs::inner::Attributes::value_at))]
+pub(crate) fn value(alloc: Global, at: &mut Cursor<'_>) -> Result<AttrValue, Stopped>
     ensures { GivesTo result (left_at at.new) (value_at (left_at at.old)) }
 {
     if at.starts_string() {
@@ -190,8 +190,8 @@ pub fn value(alloc: Global, at: &mut Cursor<'_>) -> Result<AttrValue, Stopped>
 }
 
 /// Takes the default of an attribute, after `BA_DEF_DEF_`.
-#[tactic(auto, unfolding(crate::specs::Reading::Attributes::default_at, crate::specs::Reading::Parts::word_at, crate::specs::Reading::Readers::token_at, crate::specs::Classes::has_word))]
-pub fn default(alloc: Global, at: &mut Cursor<'_>) -> Result<AttrDefault, Stopped>
+#[tactic(auto, unfolding(crate::specs::inner::Attributes::default_at, crate::specs::inner::Parts::word_at, crate::specs::inner::Readers::token_at, crate::specs::Classes::has_word))]
+pub(crate) fn default(alloc: Global, at: &mut Cursor<'_>) -> Result<AttrDefault, Stopped>
     ensures { GivesTo result (left_at at.new) (default_at (with_word (codes "BA_DEF_DEF_") (left_at at.old))) }
 {
     let title = text(alloc, at)?;
@@ -200,10 +200,14 @@ pub fn default(alloc: Global, at: &mut Cursor<'_>) -> Result<AttrDefault, Stoppe
     Ok(AttrDefault { name: title, value })
 }
 
-/// Takes the value of an attribute of one object, after `BA_` and the title, which stands at another place.
-#[tactic(auto, unfolding(crate::specs::Reading::Attributes::attribute_at, crate::specs::Reading::Parts::word_at, crate::specs::Reading::Readers::token_at, crate::specs::Classes::has_word))]
-pub fn attribute(alloc: Global, title: Cursor<'_>, at: &mut Cursor<'_>) -> Result<AttrRow, Stopped>
-    requires { left_at at.old ≡ behind (left_at title) }
+/// Takes the value of an attribute of one object, after `BA_` and the title, which is at another cursor.
+#[tactic(auto, unfolding(crate::specs::inner::Attributes::attribute_at, crate::specs::inner::Parts::word_at, crate::specs::inner::Readers::token_at, crate::specs::Classes::has_word))]
+pub(crate) fn attribute(
+    alloc: Global,
+    title: Cursor<'_>,
+    at: &mut Cursor<'_>,
+) -> Result<AttrRow, Stopped>
+    requires { left_at at.old ≡ following (left_at title) }
     ensures { GivesTo result (left_at at.new) (attribute_at (with_word (codes "BA_") (left_at title.entry))) }
 {
     let title = text_here(alloc, title)?;

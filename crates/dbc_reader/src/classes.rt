@@ -2,7 +2,7 @@
 ghost use Rattle.std.specs.Prelude.{◌≡◌, false};
 ghost use Rattle.dbc_tokens.specs.Views.{token_of};
 ghost use Rattle.dbc_reader.specs.Classes.{has_word, has_mark, has_name, has_symbol, has_string, has_piece, has_number};
-ghost use Rattle.dbc_reader.specs.Reading.Parts.{begins_decimal, begins_receiver};
+ghost use Rattle.dbc_reader.specs.inner.Parts.{begins_decimal, begins_receiver};
 
 use dbc_tokens::Token;
 use dbc_values::{Decimal, is_name, is_piece, is_string, is_symbol, same};
@@ -55,23 +55,23 @@ pub fn has_piece(token: Token<'_>) -> bool
 
 /// Whether the token is a number that is a decimal.
 #[tactic(auto, unfolding(crate::specs::Classes::has_number))]
-pub fn has_number(token: Token<'_>) -> bool
+pub(crate) fn has_number(token: Token<'_>) -> bool
     ensures { result ≡ has_number false (token_of token.entry) }
 {
     Decimal::of_number(false, token.bytes).is_some()
 }
 
 /// Whether the token begins a decimal with a sign or without.
-#[tactic(auto, unfolding(crate::specs::Reading::Parts::begins_decimal))]
-pub fn begins_decimal(token: Token<'_>) -> bool
+#[tactic(auto, unfolding(crate::specs::inner::Parts::begins_decimal))]
+pub(crate) fn begins_decimal(token: Token<'_>) -> bool
     ensures { result ≡ begins_decimal (token_of token.entry) }
 {
     has_mark(token, b'-') || has_mark(token, b'+') || has_number(token)
 }
 
 /// Whether the token begins a further receiver.
-#[tactic(auto, unfolding(crate::specs::Reading::Parts::begins_receiver))]
-pub fn begins_receiver(token: Token<'_>) -> bool
+#[tactic(auto, unfolding(crate::specs::inner::Parts::begins_receiver))]
+pub(crate) fn begins_receiver(token: Token<'_>) -> bool
     ensures { result ≡ begins_receiver (token_of token.entry) }
 {
     has_mark(token, b',') || has_name(token)

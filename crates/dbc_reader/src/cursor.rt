@@ -1,22 +1,22 @@
-//! A place in a text: the token that stands there, and the tokens after it.
+//! A position in a text: the token that is there, and the tokens after it.
 ghost use Rattle.std.specs.Prelude.{◌≡◌, false};
-ghost use Rattle.dbc_tokens.specs.Reading.Scanner.{cut_of};
+ghost use Rattle.dbc_tokens.specs.inner.Scanner.{cut_of};
 ghost use Rattle.dbc_tokens.specs.Views.{left};
 ghost use Rattle.dbc_reader.specs.Classes.{has_word, has_mark, has_name, has_symbol, has_string, has_piece, has_number};
-ghost use Rattle.dbc_reader.specs.Reading.Cursors.{left_at, behind};
-ghost use Rattle.dbc_reader.specs.Reading.Keywords.{keyword_at};
-ghost use Rattle.dbc_reader.specs.Reading.Readers.{GivesTo, TakesTo, starts, token_at, end_at};
+ghost use Rattle.dbc_reader.specs.inner.Cursors.{left_at, following};
+ghost use Rattle.dbc_reader.specs.inner.Keywords.{keyword_at};
+ghost use Rattle.dbc_reader.specs.inner.Readers.{GivesTo, TakesTo, starts, token_at, end_at};
 ghost use Rattle.dbc_reader.specs.Starts.{start_at};
 
 use crate::classes;
-use crate::keyword::{Keyword, keyword_of};
+use crate::keyword::{StatementKeyword, keyword_of};
 use crate::start::Start;
 use crate::stopped::Stopped;
 use dbc_tokens::{Cause, Next, Token, Tokens, tokens};
 
-/// A place among the tokens of a text. Each token is looked for once, when the cursor comes to stand before it.
+/// A position among the tokens of a text. Each token is looked up once, when the cursor arrives before it.
 #[derive(Clone, Copy)]
-pub struct Cursor<'t> {
+pub(crate) struct Cursor<'t> {
     pub next: Next<'t>,
     pub after: Tokens<'t>,
 }
@@ -28,7 +28,7 @@ impl<'t> Cursor<'t> {
     const MAX_ITEMS_AHEAD: usize = 16;
 
     /// The beginning of a text.
-    #[tactic(auto, unfolding(crate::specs::Reading::Cursors::left_at))]
+    #[tactic(auto, unfolding(crate::specs::inner::Cursors::left_at))]
     pub fn new(text: &'t [u8]) -> Cursor<'t>
         ensures { left_at result ≡ cut_of 1 text.entry.now }
     {
@@ -36,10 +36,10 @@ impl<'t> Cursor<'t> {
         Cursor { next, after }
     }
 
-    /// The token that stands here.
-    #[tactic(auto, unfolding(crate::specs::Reading::Cursors::left_at, crate::specs::Reading::Readers::token_at))]
+    /// The token that is here.
+    #[tactic(auto, unfolding(crate::specs::inner::Cursors::left_at, crate::specs::inner::Readers::token_at))]
     pub fn token(self) -> Result<Token<'t>, Stopped>
-        ensures { TakesTo result (behind (left_at self.entry)) (token_at (left_at self.entry)) }
+        ensures { TakesTo result (following (left_at self.entry)) (token_at (left_at self.entry)) }
     {
         match self.next {
             Next::Token(token) => Ok(token),
@@ -48,7 +48,7 @@ impl<'t> Cursor<'t> {
         }
     }
 
-    /// Takes the token that stands here.
+    /// Takes the token that is here.
     pub fn take(&mut self) -> Result<Token<'t>, Stopped>
         ensures { TakesTo result (left_at self.new) (token_at (left_at self.old)) }
     {
@@ -58,10 +58,10 @@ impl<'t> Cursor<'t> {
     }
 
     /// Moves past the token here, or stays if there is none. It isn't inlined, and makes most tokens in place, without a call.
-    #[tactic(auto, unfolding(crate::specs::Reading::Cursors::left_at))]
+    #[tactic(auto, unfolding(crate::specs::inner::Cursors::left_at))]
     #[inline(never)]
     pub fn step(&mut self)
-        ensures { left_at self.new ≡ behind (left_at self.old) }
+        ensures { left_at self.new ≡ following (left_at self.old) }
     {
         if let Next::Token(_) = self.next {
             match self.after.take_plain_or_skip() {
@@ -72,7 +72,7 @@ impl<'t> Cursor<'t> {
     }
 
     // Moves to what comes next, a string in most cases. It isn't inlined, so that `step` saves no registers for it.
-    #[tactic(auto, unfolding(crate::specs::Reading::Cursors::left_at))]
+    #[tactic(auto, unfolding(crate::specs::inner::Cursors::left_at))]
     #[inline(never)]
     fn step_to_text(&mut self)
         ensures { left_at self.new ≡ left self.old.after }
@@ -84,7 +84,7 @@ impl<'t> Cursor<'t> {
     }
 
     // Moves to what comes next, whatever that is.
-    #[tactic(auto, unfolding(crate::specs::Reading::Cursors::left_at))]
+    #[tactic(auto, unfolding(crate::specs::inner::Cursors::left_at))]
     #[inline(never)]
     fn step_to_any(&mut self)
         ensures { left_at self.new ≡ left self.old.after }
@@ -92,11 +92,11 @@ impl<'t> Cursor<'t> {
         self.next = self.after.take_next();
     }
 
-    /// The place after the token that stands here; this place where none does.
-    #[tactic(auto, unfolding(crate::specs::Reading::Cursors::left_at))]
+    /// The position after the token that is here; this position if there is none.
+    #[tactic(auto, unfolding(crate::specs::inner::Cursors::left_at))]
     #[inline(always)]
-    pub fn behind(self) -> Cursor<'t>
-        ensures { left_at result ≡ behind (left_at self.entry) }
+    pub fn following(self) -> Cursor<'t>
+        ensures { left_at result ≡ following (left_at self.entry) }
     {
         match self.next {
             Next::Token(_) => {
@@ -108,7 +108,7 @@ impl<'t> Cursor<'t> {
     }
 
     /// Stays where the text ends, and is a fault elsewhere.
-    #[tactic(auto, unfolding(crate::specs::Reading::Cursors::left_at, crate::specs::Reading::Readers::end_at))]
+    #[tactic(auto, unfolding(crate::specs::inner::Cursors::left_at, crate::specs::inner::Readers::end_at))]
     pub fn end(&mut self) -> Result<(), Stopped>
         ensures { GivesTo result (left_at self.new) (end_at (left_at self.old)) }
     {
@@ -125,8 +125,8 @@ impl<'t> Cursor<'t> {
         }
     }
 
-    /// How many items the list has of which the first begins here: one more than there are commas in the rest of the line. It
-    /// counts no more than some sixteen items. The number is a hint of the memory that they need, and may be wrong.
+    /// How many items the list has whose first item begins here: one more than there are commas in the rest of the line. It counts
+    /// no more than about sixteen items. The count is a hint of the memory that they need, and may be wrong.
     pub fn items_ahead(self) -> usize {
         let mut items = 1;
         for byte in self.after.rest().iter().take(Self::MAX_BYTES_AHEAD) {
@@ -140,8 +140,8 @@ impl<'t> Cursor<'t> {
         items
     }
 
-    /// Where the token that is here begins; where the text ends if there is none.
-    #[tactic(auto, unfolding(crate::specs::Reading::Cursors::left_at, crate::specs::Starts::start_at))]
+    /// Where the token that is here begins; the end of the text if there is none.
+    #[tactic(auto, unfolding(crate::specs::inner::Cursors::left_at, crate::specs::Starts::start_at))]
     pub fn start(self) -> Start
         ensures { result ≡ start_at (left_at self.entry) }
     {
@@ -154,8 +154,8 @@ impl<'t> Cursor<'t> {
         }
     }
 
-    /// Whether this word stands here.
-    #[tactic(auto, unfolding(crate::specs::Reading::Cursors::left_at, crate::specs::Reading::Readers::starts))]
+    /// Whether this word is here.
+    #[tactic(auto, unfolding(crate::specs::inner::Cursors::left_at, crate::specs::inner::Readers::starts))]
     pub fn starts_word(self, word: &[u8]) -> bool
         ensures { result ≡ starts (has_word word.now) (left_at self.entry) }
     {
@@ -165,8 +165,8 @@ impl<'t> Cursor<'t> {
         }
     }
 
-    /// Whether this mark stands here.
-    #[tactic(auto, unfolding(crate::specs::Reading::Cursors::left_at, crate::specs::Reading::Readers::starts))]
+    /// Whether this mark is here.
+    #[tactic(auto, unfolding(crate::specs::inner::Cursors::left_at, crate::specs::inner::Readers::starts))]
     pub fn starts_mark(self, mark: u8) -> bool
         ensures { result ≡ starts (has_mark mark) (left_at self.entry) }
     {
@@ -176,9 +176,9 @@ impl<'t> Cursor<'t> {
         }
     }
 
-    /// The keyword that stands here, if one does.
-    #[tactic(auto, unfolding(crate::specs::Reading::Cursors::left_at, crate::specs::Reading::Keywords::keyword_at))]
-    pub fn keyword(self) -> Option<Keyword>
+    /// The keyword that is here, if there is one.
+    #[tactic(auto, unfolding(crate::specs::inner::Cursors::left_at, crate::specs::inner::Keywords::keyword_at))]
+    pub fn keyword(self) -> Option<StatementKeyword>
         ensures { result ≡ keyword_at (left_at self.entry) }
     {
         match self.next {
@@ -187,8 +187,8 @@ impl<'t> Cursor<'t> {
         }
     }
 
-    /// Whether a name stands here.
-    #[tactic(auto, unfolding(crate::specs::Reading::Cursors::left_at, crate::specs::Reading::Readers::starts))]
+    /// Whether a name is here.
+    #[tactic(auto, unfolding(crate::specs::inner::Cursors::left_at, crate::specs::inner::Readers::starts))]
     pub fn starts_name(self) -> bool
         ensures { result ≡ starts has_name (left_at self.entry) }
     {
@@ -198,8 +198,8 @@ impl<'t> Cursor<'t> {
         }
     }
 
-    /// Whether a word of the list of symbols stands here.
-    #[tactic(auto, unfolding(crate::specs::Reading::Cursors::left_at, crate::specs::Reading::Readers::starts))]
+    /// Whether a word of the list of symbols is here.
+    #[tactic(auto, unfolding(crate::specs::inner::Cursors::left_at, crate::specs::inner::Readers::starts))]
     pub fn starts_symbol(self) -> bool
         ensures { result ≡ starts has_symbol (left_at self.entry) }
     {
@@ -209,8 +209,8 @@ impl<'t> Cursor<'t> {
         }
     }
 
-    /// Whether a string stands here.
-    #[tactic(auto, unfolding(crate::specs::Reading::Cursors::left_at, crate::specs::Reading::Readers::starts))]
+    /// Whether a string is here.
+    #[tactic(auto, unfolding(crate::specs::inner::Cursors::left_at, crate::specs::inner::Readers::starts))]
     pub fn starts_string(self) -> bool
         ensures { result ≡ starts has_string (left_at self.entry) }
     {
@@ -220,8 +220,8 @@ impl<'t> Cursor<'t> {
         }
     }
 
-    /// Whether any token but a semicolon stands here.
-    #[tactic(auto, unfolding(crate::specs::Reading::Cursors::left_at, crate::specs::Reading::Readers::starts))]
+    /// Whether any token but a semicolon is here.
+    #[tactic(auto, unfolding(crate::specs::inner::Cursors::left_at, crate::specs::inner::Readers::starts))]
     pub fn starts_piece(self) -> bool
         ensures { result ≡ starts has_piece (left_at self.entry) }
     {
@@ -231,8 +231,8 @@ impl<'t> Cursor<'t> {
         }
     }
 
-    /// Whether a number that is a decimal stands here.
-    #[tactic(auto, unfolding(crate::specs::Reading::Cursors::left_at, crate::specs::Reading::Readers::starts))]
+    /// Whether a number that is a decimal is here.
+    #[tactic(auto, unfolding(crate::specs::inner::Cursors::left_at, crate::specs::inner::Readers::starts))]
     pub fn starts_number(self) -> bool
         ensures { result ≡ starts (has_number false) (left_at self.entry) }
     {

@@ -1,8 +1,8 @@
-//! Statements that are kept as they stand.
+//! Statements kept verbatim.
 ghost use Rattle.std.specs.Prelude.{◌≡◌, true};
-ghost use Rattle.dbc_reader.specs.Reading.Cursors.{left_at};
-ghost use Rattle.dbc_reader.specs.Reading.Readers.{GivesTo};
-ghost use Rattle.dbc_reader.specs.Reading.Databases.{begins_kept, kept_at};
+ghost use Rattle.dbc_reader.specs.inner.Cursors.{left_at};
+ghost use Rattle.dbc_reader.specs.inner.Readers.{GivesTo};
+ghost use Rattle.dbc_reader.specs.inner.Databases.{begins_kept, kept_at};
 
 use crate::cursor::Cursor;
 use crate::parts::{mark, pieces};
@@ -10,9 +10,9 @@ use crate::stopped::Stopped;
 use dbc_records::Kept;
 use std::alloc::Global;
 
-/// Takes a statement that is kept as it stands.
-#[tactic(auto, using(crate::proofs::Facts::KeptBeginnings::pieces_fit), unfolding(crate::specs::Reading::Databases::kept_at))]
-pub fn kept(alloc: Global, at: &mut Cursor<'_>) -> Result<Kept, Stopped>
+/// Takes a statement kept verbatim.
+#[tactic(auto, using(crate::proofs::Facts::KeptBeginnings::pieces_fit), unfolding(crate::specs::inner::Databases::kept_at))]
+pub(crate) fn kept(alloc: Global, at: &mut Cursor<'_>) -> Result<Kept, Stopped>
     requires { begins_kept (left_at at.old) ≡ true }
     ensures { GivesTo result (left_at at.new) (kept_at (left_at at.old)) }
 {

@@ -1,12 +1,12 @@
 //! The words that statements begin with.
 ghost use Rattle.std.specs.Prelude.{◌≡◌};
-ghost use Rattle.dbc_reader.specs.Reading.Keywords.{keyword_of};
+ghost use Rattle.dbc_reader.specs.inner.Keywords.{keyword_of};
 
 use dbc_values::{is_kept_word, same};
 
-/// What the first word of a statement says of it, for all but the bit timing and signals.
+/// What the first word of a statement is, for all statements except the bit timing and signals.
 #[derive(Clone, Copy)]
-pub enum Keyword {
+pub(crate) enum StatementKeyword {
     /// `NS_`.
     Symbols,
     /// `BU_`.
@@ -29,39 +29,39 @@ pub enum Keyword {
     Default,
     /// `BA_`.
     Attribute,
-    /// A word of statements that are kept as they stand.
+    /// A word of statements kept verbatim.
     Kept,
 }
 
 /// The keyword that a word is, if it is one.
-#[tactic(auto, unfolding(crate::specs::Reading::Keywords::keyword_of))]
-pub fn keyword_of(word: &[u8]) -> Option<Keyword>
+#[tactic(auto, unfolding(crate::specs::inner::Keywords::keyword_of))]
+pub(crate) fn keyword_of(word: &[u8]) -> Option<StatementKeyword>
     ensures { result ≡ keyword_of word.now }
 {
     if same(word, b"NS_") {
-        Some(Keyword::Symbols)
+        Some(StatementKeyword::Symbols)
     } else if same(word, b"BU_") {
-        Some(Keyword::Nodes)
+        Some(StatementKeyword::Nodes)
     } else if same(word, b"BO_") {
-        Some(Keyword::Message)
+        Some(StatementKeyword::Message)
     } else if same(word, b"VAL_TABLE_") {
-        Some(Keyword::Table)
+        Some(StatementKeyword::Table)
     } else if same(word, b"VAL_") {
-        Some(Keyword::Values)
+        Some(StatementKeyword::Values)
     } else if same(word, b"SIG_VALTYPE_") {
-        Some(Keyword::Float)
+        Some(StatementKeyword::Float)
     } else if same(word, b"SG_MUL_VAL_") {
-        Some(Keyword::Mux)
+        Some(StatementKeyword::Mux)
     } else if same(word, b"CM_") {
-        Some(Keyword::Comment)
+        Some(StatementKeyword::Comment)
     } else if same(word, b"BA_DEF_") {
-        Some(Keyword::Definition)
+        Some(StatementKeyword::Definition)
     } else if same(word, b"BA_DEF_DEF_") {
-        Some(Keyword::Default)
+        Some(StatementKeyword::Default)
     } else if same(word, b"BA_") {
-        Some(Keyword::Attribute)
+        Some(StatementKeyword::Attribute)
     } else if is_kept_word(word) {
-        Some(Keyword::Kept)
+        Some(StatementKeyword::Kept)
     } else {
         None
     }

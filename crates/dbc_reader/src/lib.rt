@@ -1,8 +1,7 @@
 //! Reading of a DBC text: the database that its tokens spell, and the fault that reading ends with.
 //!
-//! [`read`] and [`read_one`] give what the tokens spell by `specs/Spelling.antt`, or the first fault of
-//! `specs/Pattern.antt`. That a text has the one or the other is a law of `dbc_read`. [`read_with_starts`] reports besides where
-//! each statement begins.
+//! [`read`] and [`read_one`] return what the tokens spell by `specs/Spelling.antt`, or the first fault by `specs/Pattern.antt`. A
+//! law of `dbc_read` states that a text has one or the other. [`read_with_starts`] also reports where each statement begins.
 #![tactic(auto)]
 
 mod attributes;

@@ -1,18 +1,18 @@
-//! A database with where its statements begin.
+//! A database, with where its statements begin.
 ghost use Rattle.std.specs.Prelude.{◌≡◌, ◌<◌, [], true, codes, IfOk, OnOk, IsTrue, Some};
 ghost use Rattle.dbc_records.specs.Databases.{most_messages};
 ghost use Rattle.dbc_records.specs.Records.{signals_fit};
 ghost use Rattle.dbc_reader.specs.Classes.{has_word};
 ghost use Rattle.dbc_reader.specs.Located.{IsReadWithStarts};
-ghost use Rattle.dbc_reader.specs.Reading.Cursors.{left_at};
-ghost use Rattle.dbc_reader.specs.Reading.Keywords.{keyword_at};
-ghost use Rattle.dbc_reader.specs.Reading.Readers.{GivesTo, MakesTo, starts};
-ghost use Rattle.dbc_reader.specs.Reading.Located.{GivesWith, signals_with_starts, message_with_starts};
-ghost use Rattle.dbc_reader.specs.Reading.Located.{message_with_starts_into, with_signals_into};
-ghost use Rattle.dbc_reader.specs.Reading.Located.{located_into, all_located_into, timed_located_into, located_database_at};
+ghost use Rattle.dbc_reader.specs.inner.Cursors.{left_at};
+ghost use Rattle.dbc_reader.specs.inner.Keywords.{keyword_at};
+ghost use Rattle.dbc_reader.specs.inner.Readers.{GivesTo, MakesTo, starts};
+ghost use Rattle.dbc_reader.specs.inner.Located.{GivesWith, signals_with_starts, message_with_starts};
+ghost use Rattle.dbc_reader.specs.inner.Located.{message_with_starts_into, with_signals_into};
+ghost use Rattle.dbc_reader.specs.inner.Located.{located_into, all_located_into, timed_located_into, located_database_at};
 
 use crate::cursor::Cursor;
-use crate::keyword::Keyword;
+use crate::keyword::StatementKeyword;
 use crate::messages::{head, signal};
 use crate::reader::{empty_database, fault_of, set_timing, timing, version};
 use crate::start::{Start, Starts};
@@ -24,7 +24,7 @@ use dbc_values::List;
 use std::alloc::Global;
 
 // Takes the signals of a message, and adds where each begins.
-#[tactic(auto, using(crate::proofs::Turns::Located::signals_on, crate::proofs::Turns::Located::signals_end, crate::proofs::Turns::Signals::signals_less, crate::proofs::Facts::MessageNames::signals_fit_more), unfolding(dbc_records::specs::Records::signals_fit))]
+#[tactic(auto, using(crate::proofs::Rounds::Located::signals_on, crate::proofs::Rounds::Located::signals_end, crate::proofs::Rounds::Signals::signals_less, crate::proofs::Facts::MessageNames::signals_fit_more), unfolding(dbc_records::specs::Records::signals_fit))]
 fn signals(
     alloc: Global,
     at: &mut Cursor<'_>,
@@ -45,8 +45,8 @@ fn signals(
     Ok(signals)
 }
 
-// Takes a message with its signals, in a text that has had so many messages, and adds where each signal begins.
-#[tactic(auto, unfolding(crate::specs::Reading::Located::message_with_starts))]
+// Takes a message with its signals, in a text that already has this many messages, and adds where each signal begins.
+#[tactic(auto, unfolding(crate::specs::inner::Located::message_with_starts))]
 fn message(
     alloc: Global,
     at: &mut Cursor<'_>,
@@ -63,7 +63,7 @@ fn message(
     Ok(Message { head, signals })
 }
 
-#[tactic(auto, unfolding(crate::specs::Reading::Located::message_with_starts_into))]
+#[tactic(auto, unfolding(crate::specs::inner::Located::message_with_starts_into))]
 fn add_message(
     alloc: Global,
     at: &mut Cursor<'_>,
@@ -79,11 +79,11 @@ fn add_message(
     Ok(())
 }
 
-#[tactic(auto, unfolding(crate::specs::Reading::Located::with_signals_into, crate::specs::Reading::Located::without_signals_into))]
+#[tactic(auto, unfolding(crate::specs::inner::Located::with_signals_into, crate::specs::inner::Located::without_signals_into))]
 fn add_with_signals(
     alloc: Global,
     at: &mut Cursor<'_>,
-    keyword: Keyword,
+    keyword: StatementKeyword,
     read: &mut (Database, Starts),
 ) -> Result<(), Stopped>
     requires { keyword_at (left_at at.old) ≡ Some keyword }
@@ -97,11 +97,11 @@ fn add_with_signals(
 }
 
 // Takes a statement that begins with this keyword, and adds where it begins.
-#[tactic(auto, unfolding(crate::specs::Reading::Located::located_into))]
+#[tactic(auto, unfolding(crate::specs::inner::Located::located_into))]
 fn add_located(
     alloc: Global,
     at: &mut Cursor<'_>,
-    keyword: Keyword,
+    keyword: StatementKeyword,
     read: &mut (Database, Starts),
 ) -> Result<(), Stopped>
     requires { keyword_at (left_at at.old) ≡ Some keyword }
@@ -114,7 +114,7 @@ fn add_located(
 }
 
 // Takes the statements that are here, adds their values to the database, and where they begin.
-#[tactic(auto, using(crate::proofs::Facts::Keywords::statement_begins, crate::proofs::Turns::Located::located_on, crate::proofs::Turns::Located::located_over, crate::proofs::Turns::Located::located_less))]
+#[tactic(auto, using(crate::proofs::Facts::Keywords::statement_begins, crate::proofs::Rounds::Located::located_on, crate::proofs::Rounds::Located::located_over, crate::proofs::Rounds::Located::located_less))]
 fn add_all_located(
     alloc: Global,
     at: &mut Cursor<'_>,
@@ -129,7 +129,7 @@ fn add_all_located(
 }
 
 // Takes the bit timing and what follows it, if there is one.
-#[tactic(auto, unfolding(crate::specs::Reading::Located::timed_located_into))]
+#[tactic(auto, unfolding(crate::specs::inner::Located::timed_located_into))]
 fn add_timed_located(
     alloc: Global,
     at: &mut Cursor<'_>,
@@ -145,7 +145,7 @@ fn add_timed_located(
     Ok(())
 }
 
-#[tactic(auto, unfolding(crate::specs::Reading::Located::located_database_at))]
+#[tactic(auto, unfolding(crate::specs::inner::Located::located_database_at))]
 fn located_database(alloc: Global, at: &mut Cursor<'_>) -> Result<(Database, Starts), Stopped>
     ensures { GivesTo result (left_at at.new) (located_database_at (left_at at.old)) }
 {

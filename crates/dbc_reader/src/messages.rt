@@ -5,23 +5,23 @@ ghost use Rattle.std.specs.Str.{bytes_eq};
 ghost use Rattle.dbc_records.specs.Databases.{most_messages};
 ghost use Rattle.dbc_records.specs.Records.{most_signals, signal_fits, signals_fit, names_of};
 ghost use Rattle.dbc_reader.specs.Classes.{has_word};
-ghost use Rattle.dbc_reader.specs.Reading.Cursors.{left_at};
-ghost use Rattle.dbc_reader.specs.Reading.Readers.{GivesTo, starts};
-ghost use Rattle.dbc_reader.specs.Reading.Messages.{begin_message_at, head_at, begin_signal_at, signal_name_at, tag_at, sign_at};
-ghost use Rattle.dbc_reader.specs.Reading.Messages.{place_at, signal_at, signals_from, message_at};
+ghost use Rattle.dbc_reader.specs.inner.Cursors.{left_at};
+ghost use Rattle.dbc_reader.specs.inner.Readers.{GivesTo, starts};
+ghost use Rattle.dbc_reader.specs.inner.Messages.{begin_message_at, head_at, begin_signal_at, signal_name_at, tag_at, sign_at};
+ghost use Rattle.dbc_reader.specs.inner.Messages.{bit_field_at, signal_at, signals_from, message_at};
 
 use crate::cursor::Cursor;
 use crate::numerals::{id, order, pair, whole};
 use crate::parts::{mark, name, receivers, text};
 use crate::stopped::Stopped;
 use crate::{classes, tags};
-use dbc_records::{Database, Head, Message, Signal, Tag};
+use dbc_records::{ByteOrder, Database, Head, Message, Signal, Tag, ValueType};
 use dbc_tokens::Cause;
 use dbc_values::{List, Name};
 use std::alloc::Global;
 
-// Takes the keyword of a message, which stands here, in a text that has had so many.
-#[tactic(auto, unfolding(crate::specs::Reading::Messages::begin_message_at, crate::specs::Reading::Readers::starts, crate::specs::Reading::Readers::token_at))]
+// Takes the keyword of a message, which is here, in a text that already has this many.
+#[tactic(auto, unfolding(crate::specs::inner::Messages::begin_message_at, crate::specs::inner::Readers::starts, crate::specs::inner::Readers::token_at))]
 fn begin_message(at: &mut Cursor<'_>, count: usize) -> Result<(), Stopped>
     requires { starts (has_word (codes "BO_")) (left_at at.old) ≡ true }
     ensures value { GivesTo result (left_at at.new) (begin_message_at count (left_at at.old)) }
@@ -34,9 +34,9 @@ fn begin_message(at: &mut Cursor<'_>, count: usize) -> Result<(), Stopped>
     Ok(())
 }
 
-/// Takes the first line of a message, of which the keyword stands here, in a text that has had so many messages.
-#[tactic(auto, unfolding(crate::specs::Reading::Messages::head_at))]
-pub fn head(alloc: Global, at: &mut Cursor<'_>, count: usize) -> Result<Head, Stopped>
+/// Takes the first line of a message, whose keyword is here, in a text that already has this many messages.
+#[tactic(auto, unfolding(crate::specs::inner::Messages::head_at))]
+pub(crate) fn head(alloc: Global, at: &mut Cursor<'_>, count: usize) -> Result<Head, Stopped>
     requires { starts (has_word (codes "BO_")) (left_at at.old) ≡ true }
     ensures value { GivesTo result (left_at at.new) (head_at count (left_at at.old)) }
     ensures count { OnOk result (count < most_messages) }
@@ -55,8 +55,8 @@ pub fn head(alloc: Global, at: &mut Cursor<'_>, count: usize) -> Result<Head, St
     })
 }
 
-// Takes the keyword of a signal, which stands here, in a message that has so many.
-#[tactic(auto, unfolding(crate::specs::Reading::Messages::begin_signal_at, crate::specs::Reading::Readers::starts, crate::specs::Reading::Readers::token_at))]
+// Takes the keyword of a signal, which is here, in a message that already has this many.
+#[tactic(auto, unfolding(crate::specs::inner::Messages::begin_signal_at, crate::specs::inner::Readers::starts, crate::specs::inner::Readers::token_at))]
 fn begin_signal(at: &mut Cursor<'_>, count: usize) -> Result<(), Stopped>
     requires { starts (has_word (codes "SG_")) (left_at at.old) ≡ true }
     ensures value { GivesTo result (left_at at.new) (begin_signal_at count (left_at at.old)) }
@@ -81,8 +81,8 @@ fn has_signal(signals: &[Signal], name: &[u8]) -> bool
     false
 }
 
-// Takes the name of a signal, in a message that has these signals.
-#[tactic(auto, unfolding(crate::specs::Reading::Messages::signal_name_at, crate::specs::Classes::has_name))]
+// Takes the name of a signal, in a message that already has these signals.
+#[tactic(auto, unfolding(crate::specs::inner::Messages::signal_name_at, crate::specs::Classes::has_name))]
 fn signal_name(alloc: Global, at: &mut Cursor<'_>, signals: &[Signal]) -> Result<Name, Stopped>
     ensures value { GivesTo result (left_at at.new) (signal_name_at (names_of signals.now) (left_at at.old)) }
     ensures fresh { IfOk result (λ name. list_any (bytes_eq name) (names_of signals.now) ≡ false) }
@@ -100,8 +100,8 @@ fn signal_name(alloc: Global, at: &mut Cursor<'_>, signals: &[Signal]) -> Result
     }
 }
 
-// Takes the tag of a signal, if one stands before the colon.
-#[tactic(auto, unfolding(crate::specs::Reading::Messages::tag_at, crate::specs::Reading::Parts::tag_token_at))]
+// Takes the multiplexer indicator of a signal, if one is before the colon.
+#[tactic(auto, unfolding(crate::specs::inner::Messages::tag_at, crate::specs::inner::Parts::tag_token_at))]
 fn tag(at: &mut Cursor<'_>) -> Result<Tag, Stopped>
     ensures { GivesTo result (left_at at.new) (tag_at (left_at at.old)) }
 {
@@ -115,50 +115,54 @@ fn tag(at: &mut Cursor<'_>) -> Result<Tag, Stopped>
     }
 }
 
-// Takes the sign of a signal, and gives whether it is signed.
-#[tactic(auto, unfolding(crate::specs::Reading::Messages::sign_at))]
-fn sign(at: &mut Cursor<'_>) -> Result<bool, Stopped>
+// Takes the sign that is the value type of a signal.
+#[tactic(auto, unfolding(crate::specs::inner::Messages::sign_at))]
+fn sign(at: &mut Cursor<'_>) -> Result<ValueType, Stopped>
     ensures { GivesTo result (left_at at.new) (sign_at (left_at at.old)) }
 {
     if at.starts_mark(b'-') {
         mark(at, b'-')?;
-        return Ok(true);
+        return Ok(ValueType::Signed);
     }
     mark(at, b'+')?;
-    Ok(false)
+    Ok(ValueType::Unsigned)
 }
 
-/// Where a signal stands in its message, and how.
+/// Where a signal's bits are in its message, and how they are read.
 #[derive(Clone, Copy)]
-struct Place {
+struct BitField {
     start: u16,
     length: u16,
-    intel: bool,
-    signed: bool,
+    order: ByteOrder,
+    value_type: ValueType,
 }
 
-#[tactic(auto, unfolding(crate::specs::Reading::Messages::place_at))]
-fn place_here(at: &mut Cursor<'_>) -> Result<Place, Stopped>
-    ensures value { GivesTo result (left_at at.new) (place_at (left_at at.old)) }
-    ensures fits { IfOk result (λ place. IsTrue (signal_fits place.length)) }
+#[tactic(auto, unfolding(crate::specs::inner::Messages::bit_field_at))]
+fn bit_field_here(at: &mut Cursor<'_>) -> Result<BitField, Stopped>
+    ensures value { GivesTo result (left_at at.new) (bit_field_at (left_at at.old)) }
+    ensures fits { IfOk result (λ bit_field. IsTrue (signal_fits bit_field.length)) }
 {
     let start = whole(at, 0, u64::from(u16::MAX))?;
     mark(at, b'|')?;
     let length = whole(at, 1, u64::from(Signal::MAX_LENGTH))?;
     mark(at, b'@')?;
-    let intel = order(at)?;
-    let signed = sign(at)?;
-    Ok(Place {
+    let order = order(at)?;
+    let value_type = sign(at)?;
+    Ok(BitField {
         start: start as u16,
         length: length as u16,
-        intel,
-        signed,
+        order,
+        value_type,
     })
 }
 
-/// Takes a signal, of which the keyword stands here, in a message that has these signals.
-#[tactic(auto, unfolding(crate::specs::Reading::Messages::signal_at))]
-pub fn signal(alloc: Global, at: &mut Cursor<'_>, signals: &[Signal]) -> Result<Signal, Stopped>
+/// Takes a signal, whose keyword is here, in a message that already has these signals.
+#[tactic(auto, unfolding(crate::specs::inner::Messages::signal_at))]
+pub(crate) fn signal(
+    alloc: Global,
+    at: &mut Cursor<'_>,
+    signals: &[Signal],
+) -> Result<Signal, Stopped>
     requires { starts (has_word (codes "SG_")) (left_at at.old) ≡ true }
     ensures value { GivesTo result (left_at at.new) (signal_at signals.now (left_at at.old)) }
     ensures count { OnOk result (length signals.now < most_signals) }
@@ -168,7 +172,7 @@ pub fn signal(alloc: Global, at: &mut Cursor<'_>, signals: &[Signal]) -> Result<
     let title = signal_name(alloc, at, signals)?;
     let tag = tag(at)?;
     mark(at, b':')?;
-    let place = place_here(at)?;
+    let bit_field = bit_field_here(at)?;
     let (factor, offset) = pair(at, b'(', b',', b')')?;
     let (minimum, maximum) = pair(at, b'[', b'|', b']')?;
     let unit = text(alloc, at)?;
@@ -176,10 +180,10 @@ pub fn signal(alloc: Global, at: &mut Cursor<'_>, signals: &[Signal]) -> Result<
     Ok(Signal {
         name: title,
         tag,
-        start: place.start,
-        length: place.length,
-        intel: place.intel,
-        signed: place.signed,
+        start: bit_field.start,
+        length: bit_field.length,
+        intel: bit_field.order.is_intel(),
+        signed: bit_field.value_type.is_signed(),
         factor,
         offset,
         minimum,
@@ -190,7 +194,7 @@ pub fn signal(alloc: Global, at: &mut Cursor<'_>, signals: &[Signal]) -> Result<
 }
 
 // Takes the signals of a message.
-#[tactic(auto, using(crate::proofs::Turns::Signals::signals_on, crate::proofs::Turns::Signals::signals_end, crate::proofs::Turns::Signals::signals_less, crate::proofs::Facts::MessageNames::signals_fit_more), unfolding(dbc_records::specs::Records::signals_fit))]
+#[tactic(auto, using(crate::proofs::Rounds::Signals::signals_on, crate::proofs::Rounds::Signals::signals_end, crate::proofs::Rounds::Signals::signals_less, crate::proofs::Facts::MessageNames::signals_fit_more), unfolding(dbc_records::specs::Records::signals_fit))]
 fn signals(alloc: Global, at: &mut Cursor<'_>) -> Result<List<Signal>, Stopped>
     ensures value { GivesTo result (left_at at.new) (signals_from [] (left_at at.old)) }
     ensures fit { IfOk result (λ signals. IsTrue (signals_fit signals)) }
@@ -204,9 +208,9 @@ fn signals(alloc: Global, at: &mut Cursor<'_>) -> Result<List<Signal>, Stopped>
     Ok(signals)
 }
 
-/// Takes a message with its signals, of which the keyword stands here, in a text that has had so many messages.
-#[tactic(auto, unfolding(crate::specs::Reading::Messages::message_at))]
-pub fn message(alloc: Global, at: &mut Cursor<'_>, count: usize) -> Result<Message, Stopped>
+/// Takes a message with its signals, whose keyword is here, in a text that already has this many messages.
+#[tactic(auto, unfolding(crate::specs::inner::Messages::message_at))]
+pub(crate) fn message(alloc: Global, at: &mut Cursor<'_>, count: usize) -> Result<Message, Stopped>
     requires { starts (has_word (codes "BO_")) (left_at at.old) ≡ true }
     ensures value { GivesTo result (left_at at.new) (message_at count (left_at at.old)) }
     ensures count { OnOk result (count < most_messages) }

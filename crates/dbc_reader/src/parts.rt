@@ -4,10 +4,10 @@ ghost use Rattle.std.specs.Str.{bytes_eq};
 ghost use Rattle.dbc_values.specs.Lexical.{quoted};
 ghost use Rattle.dbc_values.specs.Pieces.{inside};
 ghost use Rattle.dbc_reader.specs.Classes.{has_name};
-ghost use Rattle.dbc_reader.specs.Reading.Cursors.{left_at, behind};
-ghost use Rattle.dbc_reader.specs.Reading.Readers.{GivesTo, MakesTo, MayGive, starts};
-ghost use Rattle.dbc_reader.specs.Reading.Parts.{word_at, mark_at, name_at, symbol_at, text_at, names_from, symbols_from};
-ghost use Rattle.dbc_reader.specs.Reading.Parts.{pieces_from, comma_at, begins_receiver, receivers_from, receivers_at, texts_from};
+ghost use Rattle.dbc_reader.specs.inner.Cursors.{left_at, following};
+ghost use Rattle.dbc_reader.specs.inner.Readers.{GivesTo, MakesTo, MayGive, starts};
+ghost use Rattle.dbc_reader.specs.inner.Parts.{word_at, mark_at, name_at, symbol_at, text_at, names_from, symbols_from};
+ghost use Rattle.dbc_reader.specs.inner.Parts.{pieces_from, comma_at, begins_receiver, receivers_from, receivers_at, texts_from};
 
 use crate::classes;
 use crate::cursor::Cursor;
@@ -17,8 +17,8 @@ use dbc_values::{List, Name, Pieces, Symbol, Text};
 use std::alloc::Global;
 
 /// Takes this word.
-#[tactic(auto, unfolding(crate::specs::Reading::Parts::word_at))]
-pub fn word(at: &mut Cursor<'_>, word: &[u8]) -> Result<(), Stopped>
+#[tactic(auto, unfolding(crate::specs::inner::Parts::word_at))]
+pub(crate) fn word(at: &mut Cursor<'_>, word: &[u8]) -> Result<(), Stopped>
     ensures { GivesTo result (left_at at.new) (word_at word.now (left_at at.old)) }
 {
     let token = at.take()?;
@@ -30,8 +30,8 @@ pub fn word(at: &mut Cursor<'_>, word: &[u8]) -> Result<(), Stopped>
 }
 
 /// Takes this mark.
-#[tactic(auto, unfolding(crate::specs::Reading::Parts::mark_at))]
-pub fn mark(at: &mut Cursor<'_>, mark: u8) -> Result<(), Stopped>
+#[tactic(auto, unfolding(crate::specs::inner::Parts::mark_at))]
+pub(crate) fn mark(at: &mut Cursor<'_>, mark: u8) -> Result<(), Stopped>
     ensures { GivesTo result (left_at at.new) (mark_at mark (left_at at.old)) }
 {
     let token = at.take()?;
@@ -43,8 +43,8 @@ pub fn mark(at: &mut Cursor<'_>, mark: u8) -> Result<(), Stopped>
 }
 
 /// Takes a name.
-#[tactic(auto, unfolding(crate::specs::Reading::Parts::name_at))]
-pub fn name(alloc: Global, at: &mut Cursor<'_>) -> Result<Name, Stopped>
+#[tactic(auto, unfolding(crate::specs::inner::Parts::name_at))]
+pub(crate) fn name(alloc: Global, at: &mut Cursor<'_>) -> Result<Name, Stopped>
     ensures { GivesTo result (left_at at.new) (name_at (left_at at.old)) }
 {
     let token = at.take()?;
@@ -54,8 +54,8 @@ pub fn name(alloc: Global, at: &mut Cursor<'_>) -> Result<Name, Stopped>
     }
 }
 
-/// Takes a name, if one stands here.
-#[tactic(auto, unfolding(crate::specs::Reading::Cursors::left_at, crate::specs::Reading::Readers::starts, crate::specs::Reading::Readers::token_at, crate::specs::Reading::Parts::name_at, crate::specs::Classes::has_name))]
+/// Takes a name, if one is here.
+#[tactic(auto, unfolding(crate::specs::inner::Cursors::left_at, crate::specs::inner::Readers::starts, crate::specs::inner::Readers::token_at, crate::specs::inner::Parts::name_at, crate::specs::Classes::has_name))]
 fn name_if_any(alloc: Global, at: &mut Cursor<'_>) -> Result<Option<Name>, Stopped>
     ensures { MayGive result has_name name_at (left_at at.new) (left_at at.old) }
 {
@@ -70,8 +70,8 @@ fn name_if_any(alloc: Global, at: &mut Cursor<'_>) -> Result<Option<Name>, Stopp
 }
 
 /// Takes a word of the list of symbols.
-#[tactic(auto, unfolding(crate::specs::Reading::Parts::symbol_at))]
-pub fn symbol(alloc: Global, at: &mut Cursor<'_>) -> Result<Symbol, Stopped>
+#[tactic(auto, unfolding(crate::specs::inner::Parts::symbol_at))]
+pub(crate) fn symbol(alloc: Global, at: &mut Cursor<'_>) -> Result<Symbol, Stopped>
     ensures { GivesTo result (left_at at.new) (symbol_at (left_at at.old)) }
 {
     let token = at.take()?;
@@ -81,7 +81,7 @@ pub fn symbol(alloc: Global, at: &mut Cursor<'_>) -> Result<Symbol, Stopped>
     }
 }
 
-// What stands between quotes.
+// What is between quotes.
 #[tactic(auto, using(dbc_values::proofs::Strings::quoted_by_ends))]
 fn between_quotes(bytes: &[u8]) -> Option<&[u8]>
     ensures { option_map (λ text. text.now) result ≡ (if bytes_eq bytes.now (quoted (inside bytes.now)) then Some (inside bytes.now)
@@ -99,10 +99,10 @@ fn between_quotes(bytes: &[u8]) -> Option<&[u8]>
     }
 }
 
-/// The text of the string that stands here; nothing is taken.
-#[tactic(auto, unfolding(crate::specs::Reading::Cursors::left_at, crate::specs::Reading::Parts::text_at, crate::specs::Reading::Readers::token_at, crate::specs::Classes::text_of, dbc_values::specs::Pieces::is_string))]
-pub fn text_here(alloc: Global, at: Cursor<'_>) -> Result<Text, Stopped>
-    ensures { GivesTo result (behind (left_at at.entry)) (text_at (left_at at.entry)) }
+/// The text of the string that is here; it takes nothing.
+#[tactic(auto, unfolding(crate::specs::inner::Cursors::left_at, crate::specs::inner::Parts::text_at, crate::specs::inner::Readers::token_at, crate::specs::Classes::text_of, dbc_values::specs::Pieces::is_string))]
+pub(crate) fn text_here(alloc: Global, at: Cursor<'_>) -> Result<Text, Stopped>
+    ensures { GivesTo result (following (left_at at.entry)) (text_at (left_at at.entry)) }
 {
     let token = at.token()?;
     let Some(text) = between_quotes(token.bytes) else {
@@ -115,7 +115,7 @@ pub fn text_here(alloc: Global, at: Cursor<'_>) -> Result<Text, Stopped>
 }
 
 /// Takes a string, and gives its text.
-pub fn text(alloc: Global, at: &mut Cursor<'_>) -> Result<Text, Stopped>
+pub(crate) fn text(alloc: Global, at: &mut Cursor<'_>) -> Result<Text, Stopped>
     ensures { GivesTo result (left_at at.new) (text_at (left_at at.old)) }
 {
     let text = text_here(alloc, *at)?;
@@ -123,9 +123,13 @@ pub fn text(alloc: Global, at: &mut Cursor<'_>) -> Result<Text, Stopped>
     Ok(text)
 }
 
-/// Takes the names that stand here, and puts them after the others.
-#[tactic(auto, using(crate::proofs::Turns::Lists::names_on, crate::proofs::Turns::Lists::names_fail, crate::proofs::Turns::Lists::names_end, crate::proofs::Turns::Lists::names_less))]
-pub fn names(alloc: Global, at: &mut Cursor<'_>, names: &mut List<Name>) -> Result<(), Stopped>
+/// Takes the names that are here, and appends them to the others.
+#[tactic(auto, using(crate::proofs::Rounds::Lists::names_on, crate::proofs::Rounds::Lists::names_fail, crate::proofs::Rounds::Lists::names_end, crate::proofs::Rounds::Lists::names_less))]
+pub(crate) fn names(
+    alloc: Global,
+    at: &mut Cursor<'_>,
+    names: &mut List<Name>,
+) -> Result<(), Stopped>
     ensures { MakesTo result names.new (left_at at.new) (names_from names.old (left_at at.old)) }
 {
     'names: while let Some(found) = name_if_any(alloc, at)? {
@@ -134,9 +138,9 @@ pub fn names(alloc: Global, at: &mut Cursor<'_>, names: &mut List<Name>) -> Resu
     Ok(())
 }
 
-/// Takes the words of the list of symbols that stand here, and puts them after the others.
-#[tactic(auto, using(crate::proofs::Turns::Lists::symbols_on, crate::proofs::Turns::Lists::symbols_fail, crate::proofs::Turns::Lists::symbols_end, crate::proofs::Turns::Lists::symbols_less))]
-pub fn symbols(
+/// Takes the words of the list of symbols that are here, and appends them to the others.
+#[tactic(auto, using(crate::proofs::Rounds::Lists::symbols_on, crate::proofs::Rounds::Lists::symbols_fail, crate::proofs::Rounds::Lists::symbols_end, crate::proofs::Rounds::Lists::symbols_less))]
+pub(crate) fn symbols(
     alloc: Global,
     at: &mut Cursor<'_>,
     symbols: &mut List<Symbol>,
@@ -151,8 +155,8 @@ pub fn symbols(
 }
 
 /// Takes all tokens up to a semicolon.
-#[tactic(auto, using(crate::proofs::Turns::Lists::taken_is, crate::proofs::Turns::Lists::taken_on, crate::proofs::Turns::Lists::taken_fails, crate::proofs::Turns::Lists::pieces_end, crate::proofs::Turns::Lists::taken_less))]
-pub fn pieces(alloc: Global, at: &mut Cursor<'_>) -> Result<Pieces, Stopped>
+#[tactic(auto, using(crate::proofs::Rounds::Lists::taken_is, crate::proofs::Rounds::Lists::taken_on, crate::proofs::Rounds::Lists::taken_fails, crate::proofs::Rounds::Lists::pieces_end, crate::proofs::Rounds::Lists::taken_less))]
+pub(crate) fn pieces(alloc: Global, at: &mut Cursor<'_>) -> Result<Pieces, Stopped>
     ensures { GivesTo result (left_at at.new) (pieces_from [] (left_at at.old)) }
 {
     let mut pieces = Pieces::new(alloc);
@@ -164,8 +168,8 @@ pub fn pieces(alloc: Global, at: &mut Cursor<'_>) -> Result<Pieces, Stopped>
     Ok(pieces)
 }
 
-// Takes a comma, if one stands here.
-#[tactic(auto, unfolding(crate::specs::Reading::Parts::comma_at))]
+// Takes a comma, if one is here.
+#[tactic(auto, unfolding(crate::specs::inner::Parts::comma_at))]
 fn comma(at: &mut Cursor<'_>) -> Result<(), Stopped>
     ensures { GivesTo result (left_at at.new) (comma_at (left_at at.old)) }
 {
@@ -175,7 +179,7 @@ fn comma(at: &mut Cursor<'_>) -> Result<(), Stopped>
     Ok(())
 }
 
-#[tactic(auto, unfolding(crate::specs::Reading::Cursors::left_at, crate::specs::Reading::Readers::starts))]
+#[tactic(auto, unfolding(crate::specs::inner::Cursors::left_at, crate::specs::inner::Readers::starts))]
 fn starts_receiver(at: Cursor<'_>) -> bool
     ensures { result ≡ starts begins_receiver (left_at at.entry) }
 {
@@ -185,8 +189,8 @@ fn starts_receiver(at: Cursor<'_>) -> bool
     }
 }
 
-// The first receiver and all further ones, with memory for so many to begin with.
-#[tactic(auto, using(crate::proofs::Turns::Lists::receivers_on, crate::proofs::Turns::Lists::receivers_fail_first, crate::proofs::Turns::Lists::receivers_fail, crate::proofs::Turns::Lists::receivers_end, crate::proofs::Turns::Lists::receivers_less))]
+// The first receiver and all further ones, with memory for this many at first.
+#[tactic(auto, using(crate::proofs::Rounds::Lists::receivers_on, crate::proofs::Rounds::Lists::receivers_fail_first, crate::proofs::Rounds::Lists::receivers_fail, crate::proofs::Rounds::Lists::receivers_end, crate::proofs::Rounds::Lists::receivers_less))]
 fn receivers_after(
     alloc: Global,
     at: &mut Cursor<'_>,
@@ -207,8 +211,8 @@ fn receivers_after(
 }
 
 /// Takes the receivers of a signal, with commas between them or without.
-#[tactic(auto, unfolding(crate::specs::Reading::Parts::receivers_at))]
-pub fn receivers(alloc: Global, at: &mut Cursor<'_>) -> Result<List<Name>, Stopped>
+#[tactic(auto, unfolding(crate::specs::inner::Parts::receivers_at))]
+pub(crate) fn receivers(alloc: Global, at: &mut Cursor<'_>) -> Result<List<Name>, Stopped>
     ensures { GivesTo result (left_at at.new) (receivers_at (left_at at.old)) }
 {
     let list = *at;
@@ -218,9 +222,9 @@ pub fn receivers(alloc: Global, at: &mut Cursor<'_>) -> Result<List<Name>, Stopp
     }
 }
 
-/// The first text and all further ones, which stand here after commas.
-#[tactic(auto, using(crate::proofs::Turns::Lists::texts_on, crate::proofs::Turns::Lists::texts_fail_first, crate::proofs::Turns::Lists::texts_fail, crate::proofs::Turns::Lists::texts_end, crate::proofs::Turns::Lists::texts_less))]
-pub fn texts(alloc: Global, at: &mut Cursor<'_>, first: Text) -> Result<List<Text>, Stopped>
+/// The first text and all further ones, which are here after commas.
+#[tactic(auto, using(crate::proofs::Rounds::Lists::texts_on, crate::proofs::Rounds::Lists::texts_fail_first, crate::proofs::Rounds::Lists::texts_fail, crate::proofs::Rounds::Lists::texts_end, crate::proofs::Rounds::Lists::texts_less))]
+pub(crate) fn texts(alloc: Global, at: &mut Cursor<'_>, first: Text) -> Result<List<Text>, Stopped>
     ensures { GivesTo result (left_at at.new) (texts_from (first ∷ []) (left_at at.old)) }
 {
     let mut texts = List::new(alloc);

@@ -2,10 +2,10 @@
 ghost use Rattle.std.specs.Prelude.{◌≡◌, [], IfOk, IfSome, IsTrue};
 ghost use Rattle.dbc_records.specs.Databases.{IsBitTiming, timing_fits};
 ghost use Rattle.dbc_reader.specs.Texts.{IsRead, IsReadAlone};
-ghost use Rattle.dbc_reader.specs.Reading.Cursors.{left_at};
-ghost use Rattle.dbc_reader.specs.Reading.Readers.{GivesTo, MakesTo, fault_of};
-ghost use Rattle.dbc_reader.specs.Reading.Databases.{version_at, timing_numbers_at, timing_at, timed_into, empty_database};
-ghost use Rattle.dbc_reader.specs.Reading.Databases.{database_at, message_attribute_at, standalone_statement_at, statement_at};
+ghost use Rattle.dbc_reader.specs.inner.Cursors.{left_at};
+ghost use Rattle.dbc_reader.specs.inner.Readers.{GivesTo, MakesTo, fault_of};
+ghost use Rattle.dbc_reader.specs.inner.Databases.{version_at, timing_numbers_at, timing_at, timed_into, empty_database};
+ghost use Rattle.dbc_reader.specs.inner.Databases.{database_at, message_attribute_at, standalone_statement_at, statement_at};
 
 use crate::attributes::{message_target, value};
 use crate::cursor::Cursor;
@@ -21,8 +21,8 @@ use dbc_tokens::{Cause, ReadFault};
 use dbc_values::{Decimal, List, Memory, Text};
 use std::alloc::Global;
 
-// Takes the version, or gives the empty text where none stands here.
-#[tactic(auto, unfolding(crate::specs::Reading::Databases::version_at))]
+// Takes the version, or returns the empty text if none is here.
+#[tactic(auto, unfolding(crate::specs::inner::Databases::version_at))]
 pub(crate) fn version(alloc: Global, at: &mut Cursor<'_>) -> Result<Text, Stopped>
     ensures { GivesTo result (left_at at.new) (version_at (left_at at.old)) }
 {
@@ -44,8 +44,8 @@ fn empty_text(alloc: Global) -> Result<Text, Memory>
     }
 }
 
-// Takes the three numbers of a bit timing.
-#[tactic(auto, unfolding(crate::specs::Reading::Databases::timing_numbers_at))]
+// Takes the three values of a bit timing.
+#[tactic(auto, unfolding(crate::specs::inner::Databases::timing_numbers_at))]
 fn timing_numbers(at: &mut Cursor<'_>) -> Result<Option<[Decimal; 3]>, Stopped>
     ensures value { GivesTo result (left_at at.new) (timing_numbers_at (left_at at.old)) }
     ensures fits { IfOk result (λ timing. IsTrue (timing_fits timing)) }
@@ -59,8 +59,8 @@ fn timing_numbers(at: &mut Cursor<'_>) -> Result<Option<[Decimal; 3]>, Stopped>
     Ok(Some([rate, first, second]))
 }
 
-// Takes the bit timing, with its numbers or without.
-#[tactic(auto, unfolding(crate::specs::Reading::Databases::timing_at))]
+// Takes the bit timing, with or without its values.
+#[tactic(auto, unfolding(crate::specs::inner::Databases::timing_at))]
 pub(crate) fn timing(at: &mut Cursor<'_>) -> Result<Option<[Decimal; 3]>, Stopped>
     ensures value { GivesTo result (left_at at.new) (timing_at (left_at at.old)) }
     ensures fits { IfOk result (λ timing. IsTrue (timing_fits timing)) }
@@ -106,8 +106,8 @@ pub(crate) fn empty_database(alloc: Global, version: Text) -> Database
     }
 }
 
-// Takes the bit timing and what stands after it, if there is one.
-#[tactic(auto, unfolding(crate::specs::Reading::Databases::timed_into))]
+// Takes the bit timing and what is after it, if there is one.
+#[tactic(auto, unfolding(crate::specs::inner::Databases::timed_into))]
 fn add_timed(alloc: Global, at: &mut Cursor<'_>, database: &mut Database) -> Result<(), Stopped>
     ensures { MakesTo result database.new (left_at at.new) (timed_into database.old (left_at at.old)) }
 {
@@ -119,7 +119,7 @@ fn add_timed(alloc: Global, at: &mut Cursor<'_>, database: &mut Database) -> Res
     Ok(())
 }
 
-#[tactic(auto, unfolding(crate::specs::Reading::Databases::database_at))]
+#[tactic(auto, unfolding(crate::specs::inner::Databases::database_at))]
 fn database(alloc: Global, at: &mut Cursor<'_>) -> Result<Database, Stopped>
     ensures { GivesTo result (left_at at.new) (database_at (left_at at.old)) }
 {
@@ -131,7 +131,7 @@ fn database(alloc: Global, at: &mut Cursor<'_>) -> Result<Database, Stopped>
     Ok(database)
 }
 
-// The fault that a reader stopped for.
+// The fault for which a reader stopped.
 pub(crate) fn fault_of(stopped: Stopped) -> ReadFault
     ensures { result ≡ fault_of stopped }
 {
@@ -144,8 +144,8 @@ pub(crate) fn fault_of(stopped: Stopped) -> ReadFault
     }
 }
 
-/// The database that a text spells, or the first fault of the text. Where memory runs out first, the fault is
-/// [`Cause::Memory`], and it names no line.
+/// The database that a text spells, or the first fault of the text. If memory runs out first, the fault is [`Cause::Memory`], and
+/// it names no line.
 #[tactic(auto, using(crate::proofs::Texts::Readings::database_read))]
 pub fn read(alloc: Global, text: &[u8]) -> Result<Database, ReadFault>
     ensures { IsRead text.now result }
@@ -158,7 +158,7 @@ pub fn read(alloc: Global, text: &[u8]) -> Result<Database, ReadFault>
 }
 
 // Takes a value of an attribute of a message.
-#[tactic(auto, unfolding(crate::specs::Reading::Databases::message_attribute_at))]
+#[tactic(auto, unfolding(crate::specs::inner::Databases::message_attribute_at))]
 fn message_attribute(alloc: Global, at: &mut Cursor<'_>) -> Result<AttrRow, Stopped>
     ensures { GivesTo result (left_at at.new) (message_attribute_at (left_at at.old)) }
 {
@@ -174,7 +174,7 @@ fn message_attribute(alloc: Global, at: &mut Cursor<'_>) -> Result<AttrRow, Stop
     })
 }
 
-#[tactic(auto, using(crate::proofs::Facts::Keywords::values_alone), unfolding(crate::specs::Reading::Databases::standalone_statement_at))]
+#[tactic(auto, using(crate::proofs::Facts::Keywords::values_alone), unfolding(crate::specs::inner::Databases::standalone_statement_at))]
 fn standalone_statement(alloc: Global, at: &mut Cursor<'_>) -> Result<Statement, Stopped>
     ensures { GivesTo result (left_at at.new) (standalone_statement_at (left_at at.old)) }
 {
@@ -185,21 +185,21 @@ fn standalone_statement(alloc: Global, at: &mut Cursor<'_>) -> Result<Statement,
         return Ok(Statement::Signal(signal(alloc, at, &[])?));
     }
     if at.starts_word(b"VAL_TABLE_") {
-        *at = at.behind();
+        *at = at.following();
         return Ok(Statement::Table(table(alloc, at)?));
     }
     if at.starts_word(b"VAL_") {
-        *at = at.behind();
+        *at = at.following();
         return Ok(Statement::Values(values(alloc, at)?));
     }
     if at.starts_word(b"SG_MUL_VAL_") {
-        *at = at.behind();
+        *at = at.following();
         return Ok(Statement::Mux(mux(alloc, at)?));
     }
     Ok(Statement::Attribute(message_attribute(alloc, at)?))
 }
 
-#[tactic(auto, unfolding(crate::specs::Reading::Databases::statement_at))]
+#[tactic(auto, unfolding(crate::specs::inner::Databases::statement_at))]
 fn statement(alloc: Global, at: &mut Cursor<'_>) -> Result<Statement, Stopped>
     ensures { GivesTo result (left_at at.new) (statement_at (left_at at.old)) }
 {
@@ -208,9 +208,8 @@ fn statement(alloc: Global, at: &mut Cursor<'_>) -> Result<Statement, Stopped>
     Ok(statement)
 }
 
-/// The one statement that a text is: a `BO_` without signals, a `SG_`, a `VAL_TABLE_`, a `VAL_` of a signal, a
-/// `SG_MUL_VAL_` or a `BA_` of a message. Blanks and comments may stand before it and after it. Any other text has a
-/// fault, as for [`read`].
+/// The one statement that a text is: a `BO_` without signals, a `SG_`, a `VAL_TABLE_`, a `VAL_` of a signal, a `SG_MUL_VAL_` or a
+/// `BA_` of a message. Blanks and comments may be before it and after it. Any other text has a fault, as for [`read`].
 #[tactic(auto, using(crate::proofs::Texts::Readings::statement_read))]
 pub fn read_one(alloc: Global, text: &[u8]) -> Result<Statement, ReadFault>
     ensures { IsReadAlone text.now result }

@@ -2,7 +2,7 @@
 
 use dbc_records::{AttrRow, Head, MuxRow, Signal, TableRow, ValueRow};
 
-/// A statement that stands alone, as an edit of a database names it.
+/// A statement on its own, as an edit of a database names it.
 #[derive(Drop)]
 pub enum Statement {
     /// `BO_`: a message without its signals.

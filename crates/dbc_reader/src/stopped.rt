@@ -7,8 +7,8 @@ use dbc_values::Memory;
 
 /// Why reading stopped.
 #[derive(Clone, Copy, Debug)]
-pub enum Stopped {
-    /// An allocation was refused.
+pub(crate) enum Stopped {
+    /// An allocation failed.
     Memory,
     /// The text has a fault.
     Fault(ReadFault),

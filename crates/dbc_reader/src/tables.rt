@@ -1,10 +1,10 @@
 //! Tables of value descriptions, float types and extended multiplexing.
 ghost use Rattle.std.specs.Prelude.{◌≡◌, [], ◌∷◌, codes, IfOk, IsTrue};
 ghost use Rattle.dbc_records.specs.Records.{ranges_fit};
-ghost use Rattle.dbc_reader.specs.Reading.Cursors.{left_at, with_word};
-ghost use Rattle.dbc_reader.specs.Reading.Readers.{GivesTo};
-ghost use Rattle.dbc_reader.specs.Reading.Tables.{table_at, values_at, colon_at, float_at, range_at, ranges_from, ranges_at};
-ghost use Rattle.dbc_reader.specs.Reading.Tables.{mux_at};
+ghost use Rattle.dbc_reader.specs.inner.Cursors.{left_at, with_word};
+ghost use Rattle.dbc_reader.specs.inner.Readers.{GivesTo};
+ghost use Rattle.dbc_reader.specs.inner.Tables.{table_at, values_at, colon_at, float_at, range_at, ranges_from, ranges_at};
+ghost use Rattle.dbc_reader.specs.inner.Tables.{mux_at};
 
 use crate::cursor::Cursor;
 use crate::numerals::{entries, id, whole};
@@ -14,9 +14,9 @@ use dbc_records::{Entries, FloatRow, MuxRow, Numbers, Range, TableRow, ValueRow}
 use dbc_values::List;
 use std::alloc::Global;
 
-/// Takes a table of its own name, after `VAL_TABLE_`.
-#[tactic(auto, unfolding(crate::specs::Reading::Tables::table_at, crate::specs::Reading::Parts::word_at, crate::specs::Reading::Readers::token_at, crate::specs::Classes::has_word))]
-pub fn table(alloc: Global, at: &mut Cursor<'_>) -> Result<TableRow, Stopped>
+/// Takes a named value table, after `VAL_TABLE_`.
+#[tactic(auto, unfolding(crate::specs::inner::Tables::table_at, crate::specs::inner::Parts::word_at, crate::specs::inner::Readers::token_at, crate::specs::Classes::has_word))]
+pub(crate) fn table(alloc: Global, at: &mut Cursor<'_>) -> Result<TableRow, Stopped>
     ensures { GivesTo result (left_at at.new) (table_at (with_word (codes "VAL_TABLE_") (left_at at.old))) }
 {
     let title = name(alloc, at)?;
@@ -29,8 +29,8 @@ pub fn table(alloc: Global, at: &mut Cursor<'_>) -> Result<TableRow, Stopped>
 }
 
 /// Takes the value descriptions of a signal, after `VAL_`.
-#[tactic(auto, unfolding(crate::specs::Reading::Tables::values_at, crate::specs::Reading::Parts::word_at, crate::specs::Reading::Readers::token_at, crate::specs::Classes::has_word))]
-pub fn values(alloc: Global, at: &mut Cursor<'_>) -> Result<ValueRow, Stopped>
+#[tactic(auto, unfolding(crate::specs::inner::Tables::values_at, crate::specs::inner::Parts::word_at, crate::specs::inner::Readers::token_at, crate::specs::Classes::has_word))]
+pub(crate) fn values(alloc: Global, at: &mut Cursor<'_>) -> Result<ValueRow, Stopped>
     ensures { GivesTo result (left_at at.new) (values_at (with_word (codes "VAL_") (left_at at.old))) }
 {
     let number = id(at)?;
@@ -45,8 +45,8 @@ pub fn values(alloc: Global, at: &mut Cursor<'_>) -> Result<ValueRow, Stopped>
     })
 }
 
-// Takes a colon, if one stands here.
-#[tactic(auto, unfolding(crate::specs::Reading::Tables::colon_at))]
+// Takes a colon, if one is here.
+#[tactic(auto, unfolding(crate::specs::inner::Tables::colon_at))]
 fn colon(at: &mut Cursor<'_>) -> Result<(), Stopped>
     ensures { GivesTo result (left_at at.new) (colon_at (left_at at.old)) }
 {
@@ -57,8 +57,8 @@ fn colon(at: &mut Cursor<'_>) -> Result<(), Stopped>
 }
 
 /// Takes the float type of a signal, after `SIG_VALTYPE_`.
-#[tactic(auto, unfolding(crate::specs::Reading::Tables::float_at, crate::specs::Reading::Parts::word_at, crate::specs::Reading::Readers::token_at, crate::specs::Classes::has_word))]
-pub fn float(alloc: Global, at: &mut Cursor<'_>) -> Result<FloatRow, Stopped>
+#[tactic(auto, unfolding(crate::specs::inner::Tables::float_at, crate::specs::inner::Parts::word_at, crate::specs::inner::Readers::token_at, crate::specs::Classes::has_word))]
+pub(crate) fn float(alloc: Global, at: &mut Cursor<'_>) -> Result<FloatRow, Stopped>
     ensures { GivesTo result (left_at at.new) (float_at (with_word (codes "SIG_VALTYPE_") (left_at at.old))) }
 {
     let number = id(at)?;
@@ -73,7 +73,7 @@ pub fn float(alloc: Global, at: &mut Cursor<'_>) -> Result<FloatRow, Stopped>
     })
 }
 
-#[tactic(auto, unfolding(crate::specs::Reading::Tables::range_at))]
+#[tactic(auto, unfolding(crate::specs::inner::Tables::range_at))]
 fn range(at: &mut Cursor<'_>) -> Result<Range, Stopped>
     ensures { GivesTo result (left_at at.new) (range_at (left_at at.old)) }
 {
@@ -83,8 +83,8 @@ fn range(at: &mut Cursor<'_>) -> Result<Range, Stopped>
     Ok(Range { first, last })
 }
 
-// The first range and all further ones, which stand here after commas, with memory for so many to begin with.
-#[tactic(auto, using(crate::proofs::Turns::Lists::ranges_on, crate::proofs::Turns::Lists::ranges_fail_first, crate::proofs::Turns::Lists::ranges_fail, crate::proofs::Turns::Lists::ranges_end, crate::proofs::Turns::Lists::ranges_less))]
+// The first range and all further ones, which are here after commas, with memory for this many at first.
+#[tactic(auto, using(crate::proofs::Rounds::Lists::ranges_on, crate::proofs::Rounds::Lists::ranges_fail_first, crate::proofs::Rounds::Lists::ranges_fail, crate::proofs::Rounds::Lists::ranges_end, crate::proofs::Rounds::Lists::ranges_less))]
 fn ranges_after(
     alloc: Global,
     at: &mut Cursor<'_>,
@@ -104,8 +104,8 @@ fn ranges_after(
     Ok(ranges)
 }
 
-// Takes the ranges of a switch, of which there is at least one.
-#[tactic(auto, using(crate::proofs::Turns::Lists::some_ranges), unfolding(crate::specs::Reading::Tables::ranges_at))]
+// Takes the ranges of a multiplexor (switch), of which there is at least one.
+#[tactic(auto, using(crate::proofs::Rounds::Lists::some_ranges), unfolding(crate::specs::inner::Tables::ranges_at))]
 fn ranges(alloc: Global, at: &mut Cursor<'_>) -> Result<List<Range>, Stopped>
     ensures value { GivesTo result (left_at at.new) (ranges_at (left_at at.old)) }
     ensures fits { IfOk result (λ ranges. IsTrue (ranges_fit ranges)) }
@@ -115,9 +115,9 @@ fn ranges(alloc: Global, at: &mut Cursor<'_>) -> Result<List<Range>, Stopped>
     ranges_after(alloc, at, first, list.items_ahead())
 }
 
-/// Takes a row of extended multiplexing, after `SG_MUL_VAL_`.
-#[tactic(auto, unfolding(crate::specs::Reading::Tables::mux_at, crate::specs::Reading::Parts::word_at, crate::specs::Reading::Readers::token_at, crate::specs::Classes::has_word))]
-pub fn mux(alloc: Global, at: &mut Cursor<'_>) -> Result<MuxRow, Stopped>
+/// Takes an entry of extended multiplexing, after `SG_MUL_VAL_`.
+#[tactic(auto, unfolding(crate::specs::inner::Tables::mux_at, crate::specs::inner::Parts::word_at, crate::specs::inner::Readers::token_at, crate::specs::Classes::has_word))]
+pub(crate) fn mux(alloc: Global, at: &mut Cursor<'_>) -> Result<MuxRow, Stopped>
     ensures { GivesTo result (left_at at.new) (mux_at (with_word (codes "SG_MUL_VAL_") (left_at at.old))) }
 {
     let number = id(at)?;

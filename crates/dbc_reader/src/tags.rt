@@ -1,4 +1,4 @@
-//! Tags of signals.
+//! Multiplexer indicators of signals.
 ghost use Rattle.std.specs.Prelude.{◌≡◌, ◌-◌, ◌^◌, ◌&&◌, ◌++◌, Some, None, Ok, Err, codes, option_map, if◌then◌else◌};
 ghost use Rattle.std.specs.Str.{bytes_eq};
 ghost use Rattle.dbc_values.specs.Lexical.{is_digits};
@@ -15,7 +15,7 @@ fn is_digits(bytes: &[u8]) -> bool
     !bytes.is_empty() && are_digits(bytes)
 }
 
-// The number of a tag.
+// The value of a multiplexer indicator.
 #[tactic(auto, unfolding(crate::specs::Classes::whole_of))]
 fn count(digits: &[u8]) -> Result<u64, Cause>
     ensures { result ≡ whole_of 0 (2 ^ 64 - 1) digits.now }
@@ -45,7 +45,7 @@ fn before_switch(bytes: &[u8]) -> Option<&[u8]>
     }
 }
 
-// What stands after an `m`.
+// What is after an `m`.
 #[tactic(auto, unfolding(crate::specs::Classes::muxed_of))]
 fn muxed(bytes: &[u8]) -> Result<Tag, Cause>
     ensures { result ≡ muxed_of bytes.now }
@@ -65,14 +65,14 @@ fn muxed(bytes: &[u8]) -> Result<Tag, Cause>
     }
 }
 
-/// The tag that a token is: `M`, `m5` or `m5M`.
+/// The multiplexer indicator that a token is: `M`, `m5` or `m5M`.
 #[tactic(auto, unfolding(crate::specs::Classes::tag_of))]
 pub fn tag(bytes: &[u8]) -> Result<Tag, Cause>
     ensures { result ≡ tag_of bytes.now }
 {
     match bytes {
         b"M" => Ok(Tag::Switch),
-        [b'm', behind @ ..] => muxed(behind),
+        [b'm', following @ ..] => muxed(following),
         _ => Err(Cause::Statement),
     }
 }

@@ -1,4 +1,4 @@
--- Ranges in order, each with the greatest last number of those up to it.
+-- Ranges in order, each with the greatest last number among the ranges up to it.
 use Rattle.std.proofs.Common.{◌≡◌, ℕ, zero, suc, ◌-◌, ◌<◌, ◌≤◌, nat_le, max, Bool, true, false, ◌&&◌, ◌||◌, List, [], ◌∷◌}
 use Rattle.std.proofs.Common.{◌++◌, length, get_or, refl, sym, ap, subst, ◌∙◌, arith, ⊎_elim}
 use Rattle.std.specs.List.{list_any}
@@ -8,7 +8,8 @@ use Rattle.std.proofs.lemmas.List.{get_or_default}
 use Rattle.std.proofs.lemmas.List.Folds.{list_any_at, list_any_none}
 use Rattle.std.proofs.lemmas.Grind.{common_steps}
 use Rattle.dbc_records.specs.declared.mux_row.Range.{Range}
-use Rattle.dbc_records.specs.Ranges.{in_range, reaching}
+use Rattle.dbc_records.specs.Ranges.{in_range}
+use Rattle.dbc_records.specs.inner.RangeIndexes.{reaching}
 
 -- ---- one range more
 
@@ -126,11 +127,11 @@ and_both true true p q = refl
 and_both false b p q = p
 and_both true false p q = q
 
-behind_first : (raw : ℕ) (range : Range) (ranges : List Range)
+following_first : (raw : ℕ) (range : Range) (ranges : List Range)
     → IsNonDecreasingBy (λ (range : Range). range.first) (range ∷ ranges)
     → IsFoundBefore raw range.last (in_range raw range) ranges
-behind_first raw range [] rise = tt
-behind_first raw range (next ∷ ranges) rise = λ begun reached.
+following_first raw range [] rise = tt
+following_first raw range (next ∷ ranges) rise = λ begun reached.
     let earlier : range.first ≤ next.first = rise 0 1 range (omega arith) (omega arith) in
     let first : nat_le range.first raw ≡ true = le-leb range.first raw (omega (arith, earlier, leb-true next.first raw begun)) in
     and_both (nat_le range.first raw) (nat_le raw range.last) first reached
@@ -146,11 +147,11 @@ same_numbers (range ∷ ranges) rise raw =
     (none_less range.last)
     ∙ same_after raw range.last (in_range raw range) ranges
     (λ i j d below within. rise (suc i) (suc j) d (omega (arith, below)) (omega (arith, within)))
-    (behind_first raw range ranges rise)
+    (following_first raw range ranges rise)
 
 -- ---- a number among ranges in order
 
--- none is found where the last that begins before it ends before it
+-- a number is in no range if the last range that begins before it ends before it
 no_first : (a b : Bool) → a ≡ false → (a && b) ≡ false
 no_first a b is = ap (λ a. a && b) is
 
@@ -177,13 +178,13 @@ outside_each raw ranges n within rise parted some d passed k e inner =
     (λ late. no_first (nat_le (get_or ranges k e).first raw) (nat_le raw (get_or ranges k e).last) (parted.1 k e late inner))
     (cases_lt k n)
 
--- where `n` of the ranges begin at the number or before it, the last of these tells
-pub last_tells : (raw : ℕ) (ranges : List Range) (n : ℕ) → n ≤ length ranges
+-- if `n` of the ranges begin at the number or before it, the last of these decides
+pub last_decides : (raw : ℕ) (ranges : List Range) (n : ℕ) → n ≤ length ranges
     → IsNonDecreasingBy (λ (range : Range). range.last) ranges
     → IsPartitionPoint (λ (range : Range). nat_le range.first raw ≡ true) (λ (range : Range). nat_le range.first raw ≡ false)
     ranges n
     → (d : Range) → 0 < n → nat_le raw (get_or ranges (n - 1) d).last ≡ list_any (in_range raw) ranges
-last_tells raw ranges n within rise parted d some =
+last_decides raw ranges n within rise parted d some =
     let inside : n - 1 < length ranges = omega (arith, within, some) in
     elim (nat_le raw (get_or ranges (n - 1) d).last) as (λ reached. nat_le raw (get_or ranges (n - 1) d).last ≡ reached
     → reached ≡ list_any (in_range raw) ranges) [

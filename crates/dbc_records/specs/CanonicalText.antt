@@ -1,6 +1,6 @@
--- The canonical text of a database: the layout of each kind of statement, and the order of the kinds.
--- Source: the DBC file format, the section of each statement. Where it leaves blanks free they are those that are usual in
--- files: one space between parts, none before a statement's last semicolon but after entries and kept tokens.
+-- The canonical text of a database: the layout of each kind of statement, and the order of the kinds. Source: the DBC file format,
+-- the section of each statement. Where the format leaves blanks free, they are the usual ones: one space between parts, none before
+-- a statement's last semicolon but after entries and kept tokens.
 use Rattle.std.specs.Prelude.{ℕ, Bool, List, [], ◌∷◌, ◌++◌, Option, Some, None, codes, if◌then◌else◌}
 use Rattle.std.specs.List.{flat_map}
 use Rattle.dbc_values.specs.Lexical.{opening_parenthesis, closing_parenthesis, plus, comma, minus, colon, semicolon, at_sign}
@@ -55,7 +55,7 @@ spaced_word word = Space ∷ Is (Word word) ∷ []
 unfoldable pub word_layout : List ℕ → Layout
 word_layout word = Is (Word word) ∷ []
 
--- ` id s`: what a row of a signal is for
+-- ` id s`: the key of a signal's entry
 unfoldable pub signal_key : ℕ → List ℕ → Layout
 signal_key number name = Space ∷ Is (Whole number) ∷ Space ∷ Is (Name name) ∷ []
 
@@ -117,7 +117,7 @@ nodes_layout nodes = nodes_title ++ (flat_map spaced_name nodes ++ line_end)
 unfoldable pub entry_layout : Entry → Layout
 entry_layout entry = Space ∷ Is (Int entry.number) ∷ Space ∷ Is (Text entry.text) ∷ []
 
--- `VAL_TABLE_ T`: the row up to its key
+-- `VAL_TABLE_ T`: the entry up to its key
 unfoldable pub table_key : TableRow → Layout
 table_key row = word_layout (codes "VAL_TABLE_") ++ spaced_name row.name
 
@@ -145,7 +145,7 @@ head_layout head =
 unfoldable pub signal_name_layout : Signal → Layout
 signal_name_layout signal = Space ∷ Is (Word (codes "SG_")) ∷ Space ∷ Is (Name signal.name) ∷ []
 
--- the tag between blanks, where there is one; the blank after it is that before the colon
+-- the multiplexer indicator between blanks, if there is one; the blank after it is the one before the colon
 unfoldable pub tag_layout : Tag → Layout
 tag_layout tags.Plain = []
 tag_layout tags.Switch = Space ∷ Is Switch ∷ []
@@ -157,8 +157,8 @@ abbrev pub sign_mark : Bool → ℕ
 sign_mark signed = if signed then minus else plus
 
 -- ` : start|length@order` and the sign
-unfoldable pub place_layout : Signal → Layout
-place_layout signal =
+unfoldable pub bit_field_layout : Signal → Layout
+bit_field_layout signal =
     Space ∷ Is (Mark colon) ∷ Space ∷ Is (Whole signal.start) ∷ Is (Mark bar) ∷ Is (Whole signal.length) ∷ Is (Mark at_sign)
     ∷ Is (Order signal.intel) ∷ Is (Mark (sign_mark signal.signed)) ∷ []
 
@@ -187,7 +187,7 @@ unfoldable pub signal_layout : Signal → Layout
 signal_layout signal =
     signal_name_layout signal
     ++ (tag_layout signal.tag
-    ++ (place_layout signal
+    ++ (bit_field_layout signal
     ++ (scale_layout signal
     ++ (limits_layout signal
     ++ (spaced_text signal.unit
@@ -314,7 +314,7 @@ kept_layout statement = flat_map piece_layout statement.tokens ++ statement_end
 
 -- ---- databases
 
--- what stands before the messages
+-- what is before the messages
 unfoldable pub front_layout : Database → Layout
 front_layout d = version_layout d.version
     ++ (symbols_layout d.symbols ++ (timing_layout d.bit_timing ++ (nodes_layout d.nodes ++ flat_map table_layout d.tables)))
@@ -323,7 +323,7 @@ unfoldable pub attributes_layout : Database → Layout
 attributes_layout d = flat_map definition_layout d.definitions ++ (flat_map default_layout d.defaults ++ flat_map attribute_layout
     d.attributes)
 
--- the rows of signals, and then the statements kept verbatim
+-- the entries of signals, and then the statements kept verbatim
 unfoldable pub rows_layout : Database → Layout
 rows_layout d = flat_map values_layout d.values ++ (flat_map float_layout d.floats ++ (flat_map mux_layout d.muxes
     ++ flat_map kept_layout d.kept))

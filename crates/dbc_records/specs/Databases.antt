@@ -10,7 +10,7 @@ use Rattle.dbc_records.specs.Comments.{Comment, IsComment}
 use Rattle.dbc_records.specs.Attributes.{AttrDef, IsAttrDef, AttrDefault, IsAttrDefault, AttrRow, IsAttrRow}
 use Rattle.dbc_records.specs.Kept.{Kept, IsKept}
 
--- the lists stand in the order in which they are printed
+-- the lists are in the order in which they are printed
 pub record Database : Type 0 where
   pub version : List ℕ
   pub symbols : List (List ℕ)
@@ -36,7 +36,7 @@ timing_fits (Some numbers) = list_all (λ number. not number.negative) numbers
 abbrev pub most_messages : ℕ
 most_messages = 65535
 
--- at most so many messages, and a bit timing without a negative number
+-- at most this many messages, and a bit timing without a negative number
 abbrev pub database_fits : Option (List Decimal) → List Message → Bool
 database_fits timing messages = timing_fits timing && nat_le (length messages) most_messages
 

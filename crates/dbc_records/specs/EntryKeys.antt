@@ -1,5 +1,5 @@
--- The keys of entries: what an entry is for, and how it is printed up to there.
--- Source: the DBC file format, the section of each statement.
+-- The keys of entries: what an entry describes, and how it is printed up to there. Source: the DBC file format, the
+-- section of each statement.
 use Rattle.std.specs.Prelude.{◌==◌, Bool, true, false, ◌&&◌, ◌++◌, codes}
 use Rattle.std.specs.Str.{bytes_eq}
 use Rattle.dbc_values.specs.Names.{IsName, IsText}
@@ -93,8 +93,8 @@ same_target (targets.Message m) (targets.Message n) = m == n
 same_target (targets.Signal m a) (targets.Signal n b) = (m == n) && bytes_eq a b
 same_target first second = false
 
--- Whether two entries are of one kind and have one key. An attribute is defined once, so the kind of object is no part of the key
--- of its definition.
+-- Whether two entries are of one kind and have the same key. An attribute is defined once, so the kind of object is no part of the
+-- key of its definition.
 abbrev pub same_key : EntryKey → EntryKey → Bool
 same_key (keys.Table a) (keys.Table b) = bytes_eq a b
 same_key (keys.Comment s) (keys.Comment t) = same_target s t
@@ -106,7 +106,7 @@ same_key (keys.Float m a) (keys.Float n b) = (m == n) && bytes_eq a b
 same_key (keys.Mux m a) (keys.Mux n b) = (m == n) && bytes_eq a b
 same_key first second = false
 
--- ---- what is printed of an entry up to and with its key
+-- ---- what is printed of an entry up to and including its key
 
 unfoldable pub key_layout : EntryKey → Layout
 key_layout (keys.Table name) = word_layout (codes "VAL_TABLE_") ++ spaced_name name

@@ -1,6 +1,6 @@
--- The statements that are kept as they stand: their tokens, as bytes, without the semicolon that ends them.
--- Source: the DBC file format, "General Definitions" for the tokens, and the sections that define the statements which
--- begin with these words. That they are kept without being judged is the profile of candesk.
+-- The statements kept verbatim: their tokens, as bytes, without the semicolon that ends them. Source: the DBC file format, "General
+-- Definitions" for the tokens, and the sections that define the statements which begin with these words. That they are kept without
+-- being judged is the profile of candesk.
 use Rattle.std.specs.Prelude.{ℕ, Bool, true, false, ◌&&◌, List, [], ◌∷◌, codes, All, IsTrue}
 use Rattle.std.specs.List.{list_any}
 use Rattle.std.specs.Str.{bytes_eq}
@@ -15,8 +15,8 @@ begins [] tokens = true
 begins (test ∷ tests) [] = false
 begins (test ∷ tests) (token ∷ tokens) = test token && begins tests tokens
 
--- how a statement kept verbatim may begin: with one of their words; as the value descriptions, the comment or the attribute of an
--- environment variable
+-- how a statement kept verbatim may begin: with one of their words, or as the value descriptions, the comment or the attribute
+-- of an environment variable
 abbrev pub kept_beginnings : List (List (List ℕ → Bool))
 kept_beginnings =
     (is_kept_word ∷ [])
@@ -29,7 +29,7 @@ kept_beginnings =
 unfoldable pub kept_fits : List (List ℕ) → Bool
 kept_fits tokens = list_any (λ tests. begins tests tokens) kept_beginnings
 
--- the tokens of a statement that is kept as it stands, without its semicolon
+-- the tokens of a statement kept verbatim, without its semicolon
 pub record Kept : Type 0 where
   pub tokens : List (List ℕ)
 

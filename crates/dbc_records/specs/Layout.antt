@@ -1,5 +1,4 @@
--- Layouts: what is printed, as blanks and items. An item is what one token of a statement says, or two where a number has
--- a sign.
+-- Layouts: what is printed, as blanks and items. An item is one token of a statement, or two if a number has a sign.
 use Rattle.std.specs.Prelude.{ℕ, ℤ, pos, negsuc, suc, ◌+◌, ◌-◌, nat_le, Bool, ◌&&◌, List, [], ◌∷◌, ◌++◌, length, take, drop}
 use Rattle.std.specs.Prelude.{replicate, codes, decimal, if◌then◌else◌}
 use Rattle.std.specs.List.{flat_map}
@@ -13,7 +12,7 @@ pub data Item : Type 0 where
   -- a keyword, or a word that names a form, such as `ENUM`
   Word : List ℕ → Item
   Mark : ℕ → Item
-  -- a name that stands for something of the database
+  -- a name that represents something of the database
   Name : List ℕ → Item
   -- a word of the list of symbols
   Symbol : List ℕ → Item
@@ -21,11 +20,11 @@ pub data Item : Type 0 where
   Whole : ℕ → Item
   Int : ℤ → Item
   Number : Decimal → Item
-  -- the tag of a signal in multiplexing: `M`, `m5`, `m5M`
+  -- the multiplexer indicator of a signal in multiplexing: `M`, `m5`, `m5M`
   Switch : Item
   Muxed : ℕ → Item
   Both : ℕ → Item
-  -- `1` for Intel order and `0` for Motorola order
+  -- `1` for Intel byte order and `0` for Motorola byte order
   Order : Bool → Item
   -- any token but a semicolon, by its bytes
   Piece : List ℕ → Item
@@ -43,14 +42,14 @@ zeros count = replicate count digit_zero
 abbrev pub with_exponent : List ℕ → ℤ → List ℕ
 with_exponent digits exponent = digits ++ (codes "E" ++ signed_decimal exponent)
 
--- zeros in front, so that at least one digit stands before the point
+-- zeros in front, so that at least one digit is before the point
 abbrev pub filled : ℕ → List ℕ → List ℕ
 filled after digits = zeros (after + 1 - length digits) ++ digits
 
 abbrev pub point_before_last : ℕ → List ℕ → List ℕ
 point_before_last count digits = take (length digits - count) digits ++ (point ∷ drop (length digits - count) digits)
 
--- `digits · 10^exponent`, without an exponent where at most 20 digits stand before the point and at most 20 after it
+-- `digits · 10^exponent`, without an exponent if at most 20 digits are before the point and at most 20 after it
 unfoldable pub magnitude_text : List ℕ → ℤ → List ℕ
 magnitude_text digits (pos count) = if nat_le (length digits + count) plain_digits then digits ++ zeros count else with_exponent
     digits (pos count)
@@ -100,7 +99,7 @@ Layout = List Element
 unfoldable pub layout_text : Layout → List ℕ
 layout_text layout = flat_map element_text layout
 
--- the items in order, the first laid out in one way and those after it in another; nothing where there is none
+-- the items in order, the first printed in one style and those after it in another; nothing if there is none
 abbrev pub separated : {X : Type 0} → (X → Layout) → (X → Layout) → List X → Layout
 separated first further [] = []
 separated first further (x ∷ xs) = first x ++ flat_map further xs

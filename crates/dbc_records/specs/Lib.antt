@@ -13,3 +13,4 @@ pub mod Layout
 pub mod CanonicalText
 pub mod EntryKeys
 pub mod DatabaseEntries
+pub mod inner

@@ -1,4 +1,4 @@
--- Entries in the order of their numbers.
+-- Entries in the order of their raw values.
 use Rattle.std.specs.Prelude.{ℤ, Bool, true, ◌&&◌, int_lt, List, [], ◌∷◌, Option, Some, None, if◌then◌else◌}
 use Rattle.dbc_records.specs.Records.{Entry}
 use Rattle.dbc_records.specs.declared.order.EntryOrder.{EntryOrder}

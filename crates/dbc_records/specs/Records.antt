@@ -1,20 +1,22 @@
--- The records of a database as plain data: numbers, lists and records of them, with no proof inside, so that
--- definitions may make such values freely. Beside each stands what every value of it is, and before that, as a test
--- that computes, what its constructor judges. Enums, and records that are bounded by their fields' types alone, are
--- plain data as the code declares them.
--- Source: the DBC file format, the section that is named with each. Bounds that no section gives are the profile of
--- candesk.
-use Rattle.std.specs.Prelude.{ℕ, ℤ, pos, negsuc, int_le, ◌-◌, ◌<◌, ◌^◌, Bool, true, not, ◌&&◌, nat_le, List, [], ◌∷◌, All, length}
-use Rattle.std.specs.Prelude.{map, IsTrue}
+-- The records of a database as plain data: numbers, lists and records of them, with no proof inside, so that definitions may make
+-- such values freely. With each comes what every value of it is, and before that, as a test that computes, what its constructor
+-- judges. Enums, and records that are bounded by their fields' types alone, are plain data as the code declares them. Source: the
+-- DBC file format, the section that is named with each. Bounds that no section gives are the profile of candesk.
+use Rattle.std.specs.Prelude.{ℕ, ℤ, pos, negsuc, int_le, ◌-◌, ◌<◌, ◌^◌, Bool, true, false, not, ◌&&◌, nat_le, List, [], ◌∷◌, All}
+use Rattle.std.specs.Prelude.{length, map, IsTrue}
 use Rattle.std.specs.List.{list_any}
 use Rattle.std.specs.Str.{bytes_eq}
 use Rattle.dbc_values.specs.Names.{IsName, IsText}
 use Rattle.dbc_values.specs.Decimals.{Decimal, IsDecimal}
+use Rattle.dbc_records.specs.declared.byte_order.ByteOrder.{ByteOrder}
+use Rattle.dbc_records.specs.declared.byte_order.ByteOrder.TheVariants as orders
 use Rattle.dbc_records.specs.declared.tag.Tag.{Tag}
 use Rattle.dbc_records.specs.declared.tag.Tag.TheVariants as tags
 use Rattle.dbc_records.specs.declared.mux_row.Range.{Range}
+use Rattle.dbc_records.specs.declared.value_type.ValueType.{ValueType}
+use Rattle.dbc_records.specs.declared.value_type.ValueType.TheVariants as types
 
--- the number of a message, which rows name it by
+-- the CAN identifier of a message, by which entries name it
 abbrev pub IsNumber : ℕ → Type 0
 IsNumber number = number < 2 ^ 32
 
@@ -27,7 +29,7 @@ pub record Head : Type 0 where
   pub size : ℕ
   pub sender : List ℕ
 
--- the most bytes of a message: the greatest size of a J1939 transport message
+-- the greatest length of a message: that of a J1939 transport message
 abbrev pub most_bytes : ℕ
 most_bytes = 1785
 
@@ -46,6 +48,24 @@ IsTag tags.Switch = Unit {0}
 IsTag (tags.Muxed n) = n < 2 ^ 64
 IsTag (tags.Both n) = n < 2 ^ 64
 
+-- the byte order of a signal ("Signal Definitions", byte_order)
+abbrev pub is_intel : ByteOrder → Bool
+is_intel orders.Motorola = false
+is_intel orders.Intel = true
+
+abbrev pub byte_order : Bool → ByteOrder
+byte_order false = orders.Motorola
+byte_order true = orders.Intel
+
+-- the value type of a signal ("Signal Definitions", value_type)
+abbrev pub is_signed : ValueType → Bool
+is_signed types.Unsigned = false
+is_signed types.Signed = true
+
+abbrev pub value_type : Bool → ValueType
+value_type false = types.Unsigned
+value_type true = types.Signed
+
 -- a signal ("Signal Definitions")
 pub record Signal : Type 0 where
   pub name : List ℕ
@@ -61,7 +81,7 @@ pub record Signal : Type 0 where
   pub unit : List ℕ
   pub receivers : List (List ℕ)
 
--- the most bits of a signal: those of the greatest message
+-- the most bits of a signal: those of the longest message
 abbrev pub most_bits : ℕ
 most_bits = 14280
 
@@ -140,7 +160,7 @@ pub record IsValueRow (row : ValueRow) : Type 0 where
   pub signal : IsName row.signal
   pub entries : All IsEntry row.entries
 
--- ---- further rows of a signal
+-- ---- further entries of a signal
 
 -- the float type of a signal ("Signal Definitions")
 pub record FloatRow : Type 0 where
@@ -157,12 +177,12 @@ pub record IsFloatRow (row : FloatRow) : Type 0 where
   pub signal : IsName row.signal
   pub fits : IsTrue (float_fits row.kind)
 
--- the numbers from first to last, and none where first is the greater
+-- the numbers from first to last, and none if first is the greater
 pub record IsRange (range : Range) : Type 0 where
   pub first : range.first < 2 ^ 64
   pub last : range.last < 2 ^ 64
 
--- a signal that is there where its switch has a number in one of the ranges ("Extended Multiplexing")
+-- a signal that is present if the raw value of its multiplexor (switch) is in one of the ranges ("Extended Multiplexing")
 pub record MuxRow : Type 0 where
   pub number : ℕ
   pub signal : List ℕ

@@ -5,7 +5,7 @@ use crate::target::Target;
 use dbc_values::{Checked, Copied, Decimal, Memory, Text};
 use std::marker::Model;
 
-/// The value of an attribute. It need not fit the attribute's definition.
+/// The value of an attribute. The value need not fit the attribute's definition.
 #[derive(Drop)]
 pub enum AttrValue {
     /// A string.
@@ -29,12 +29,12 @@ impl Copied for AttrValue {
     }
 }
 
-/// The value that an attribute has where no row gives another: `BA_DEF_DEF_ "name" value;`.
+/// The value that an attribute has if no entry gives another: `BA_DEF_DEF_ "name" value;`.
 #[derive(Drop)]
 pub struct AttrDefault {
     /// The attribute's name.
     pub name: Text,
-    /// The value where no row gives one.
+    /// The value if no entry gives one.
     pub value: AttrValue,
 }
 
@@ -49,7 +49,7 @@ impl Model for AttrDefault {
 }
 
 impl AttrDefault {
-    /// The default. It is always there.
+    /// The default; never `None`.
     pub fn new(name: Text, value: AttrValue) -> Option<AttrDefault>
         ensures { result ≡ Some (record { name = name; value = value }) }
     {
@@ -76,7 +76,7 @@ impl Copied for AttrDefault {
 pub struct AttrRow {
     /// The attribute's name.
     pub name: Text,
-    /// What has the attribute.
+    /// The object that has the attribute.
     pub target: Target,
     /// Its value.
     pub value: AttrValue,
@@ -93,7 +93,7 @@ impl Model for AttrRow {
 }
 
 impl AttrRow {
-    /// The row. It is always there.
+    /// The entry; never `None`.
     pub fn new(name: Text, target: Target, value: AttrValue) -> Option<AttrRow>
         ensures { result ≡ Some (record { name = name; target = target; value = value }) }
     {

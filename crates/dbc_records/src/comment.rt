@@ -8,9 +8,9 @@ use std::marker::Model;
 /// A comment: `CM_ target "text";`.
 #[derive(Drop)]
 pub struct Comment {
-    /// What it speaks of.
+    /// The object that the comment is about.
     pub target: Target,
-    /// What it says.
+    /// The text.
     pub text: Text,
 }
 
@@ -25,7 +25,7 @@ impl Model for Comment {
 }
 
 impl Comment {
-    /// The comment. It is always there.
+    /// The comment; never `None`.
     pub fn new(target: Target, text: Text) -> Option<Comment>
         ensures { result ≡ Some (record { target = target; text = text }) }
     {

@@ -15,12 +15,12 @@ use crate::value_row::ValueRow;
 use dbc_values::{Checked, Copied, Decimal, List, Memory, Name, Symbol, Text};
 use std::marker::Model;
 
-/// A database: the statements of a text by their kinds, each kind in the order of the text.
+/// A database: the statements of a text by kind, each kind in the order of the text.
 ///
 /// The bit timing is the baud rate and the two bit timing registers, as `BS_` gives them.
 #[derive(Drop)]
 pub struct Database {
-    /// What `VERSION` says, or the empty text.
+    /// The string of `VERSION`, or the empty text.
     pub version: Text,
     /// The words of `NS_`.
     pub symbols: List<Symbol>,
@@ -46,7 +46,7 @@ pub struct Database {
     pub floats: List<FloatRow>,
     /// Extended multiplexing, `SG_MUL_VAL_`.
     pub muxes: List<MuxRow>,
-    /// Statements that are kept as they stand.
+    /// Statements kept verbatim.
     pub kept: List<Kept>,
 }
 
@@ -113,8 +113,7 @@ impl Database {
     /// The most messages that a database may have.
     pub const MAX_MESSAGES: usize = 65_535;
 
-    /// The database, or `None` where a number of the bit timing is negative or there are more than
-    /// [`Database::MAX_MESSAGES`] messages.
+    /// The database, or `None` if a value of the bit timing is negative or there are more than [`Database::MAX_MESSAGES`] messages.
     pub fn new(
         version: Text,
         symbols: List<Symbol>,
@@ -178,10 +177,10 @@ impl Checked for Database {
     ghost IsValid = { IsDatabase };
 }
 
-// The parts of a database are copied some at a time: a function that holds thirteen copies lets go of each at each way out, and
+// Parts of a database are copied a few at a time: a function that holds thirteen copies drops each of them on every exit, and
 // takes minutes to prove.
 
-// What stands before the messages.
+// What precedes the messages.
 #[derive(Drop)]
 struct Preamble {
     version: Text,
@@ -210,7 +209,7 @@ fn copied_preamble(database: &Database) -> Result<Preamble, Memory>
     })
 }
 
-// The messages, their comments, and what attributes there may be.
+// The messages, their comments, and the definitions and defaults of attributes.
 #[derive(Drop)]
 struct Objects {
     messages: List<Message>,
@@ -239,7 +238,7 @@ fn copied_objects(database: &Database) -> Result<Objects, Memory>
     })
 }
 
-// The rows of messages and signals, and the statements that are kept as they stand.
+// The entries of messages and signals, and the statements kept verbatim.
 #[derive(Drop)]
 struct Rows {
     attributes: List<AttrRow>,

@@ -166,13 +166,13 @@ impl DatabaseEntry for MuxRow {
     }
 }
 
-/// What is done with the entries of a database, kind by kind.
+/// What a visitor does with the entries of a database, kind by kind.
 pub trait EntryVisitor<'a>: Drop {
     ghost use Rattle.std.specs.Prelude.{List};
     ghost use Rattle.dbc_records.specs.declared.entry_key.EntryKey.{EntryKey};
     ghost use Rattle.dbc_records.specs.declared.database_entry.EntryKind.{EntryKind};
 
-    // What it is once it has seen the entries of a kind, by their keys.
+    // The visitor once it has seen the entries of a kind, by their keys.
     ghost visited: { Self → EntryKind × List EntryKey → Self };
 
     /// Takes all entries of a kind.

@@ -19,7 +19,7 @@ pub enum Object {
     EnvironmentVariable,
 }
 
-/// The least and the greatest value of a number. That values lie between them is not asked.
+/// The least and the greatest value of a number. Values may be outside of them.
 #[derive(Clone, Copy, Debug, PartialEq, Eq)]
 pub struct Limits {
     /// The least value.
@@ -28,7 +28,7 @@ pub struct Limits {
     pub maximum: Decimal,
 }
 
-/// What values an attribute has.
+/// The values that an attribute may have.
 #[derive(Drop)]
 pub enum Form {
     /// `INT`, perhaps with limits.
@@ -69,8 +69,7 @@ impl Copied for Form {
     }
 }
 
-/// The definition of an attribute: `BA_DEF_ object "name" form;`. Without an object the attribute belongs to the
-/// database.
+/// The definition of an attribute: `BA_DEF_ object "name" form;`. Without an object the attribute belongs to the database.
 #[derive(Drop)]
 pub struct AttrDef {
     /// The kind of object that has the attribute, or none for the database.
@@ -101,7 +100,7 @@ fn form_fits(form: &Form) -> bool
 }
 
 impl AttrDef {
-    /// The definition, or `None` where the form is an enumeration without a text.
+    /// The definition, or `None` if the form is an enumeration without a text.
     pub fn new(object: Option<Object>, name: Text, form: Form) -> Option<AttrDef>
         ensures { result ≡ (if form_fits form then Some (record { object = object; name = name; form = form }) else None) }
     {

@@ -9,7 +9,7 @@ use std::alloc::Global;
 use std::marker::Model;
 use std::rc::Rc;
 
-// Value descriptions, and the order that their numbers are in, if they are in one.
+// Value descriptions, and the order of their raw values, if they are ordered.
 #[derive(Drop)]
 struct Ordered {
     entries: List<Entry>,
@@ -85,8 +85,8 @@ impl Entries {
         self.ordered.as_ref().entries.as_slice()
     }
 
-    /// The order that their numbers are in, if they are in one: then no two have the same number. Fewer than two are rising. How
-    /// many there are doesn't matter.
+    /// The order of their raw values, if they are ordered: then no two are the same. Fewer than two are rising. It takes the same
+    /// time for any number of them.
     pub fn order(&self) -> Option<EntryOrder>
         ensures order { result ≡ entry_order self.now }
         ensures in_order { IfSome result (λ order. IsTrue (are_in_order order self.now)) }

@@ -25,13 +25,13 @@ impl Model for Entry {
 }
 
 impl Entry {
-    /// The least number of an entry: that of a signed signal of 64 bits.
+    /// The least raw value of an entry: that of a signed 64-bit signal.
     pub const MIN_NUMBER: i128 = -9_223_372_036_854_775_808;
 
-    /// The greatest number of an entry: that of an unsigned signal of 64 bits.
+    /// The greatest raw value of an entry: that of an unsigned 64-bit signal.
     pub const MAX_NUMBER: i128 = 18_446_744_073_709_551_615;
 
-    /// The entry, or `None` where the number is below [`Entry::MIN_NUMBER`] or over [`Entry::MAX_NUMBER`].
+    /// The entry, or `None` if the raw value is below [`Entry::MIN_NUMBER`] or over [`Entry::MAX_NUMBER`].
     pub fn new(number: i128, text: Text) -> Option<Entry>
         ensures { result ≡ (if entry_fits number then Some (record { number = number; text = text }) else None) }
     {

@@ -1,4 +1,4 @@
-//! The keys of entries: what each statement of a database is for.
+//! The keys of entries: what each statement of a database describes.
 ghost use Rattle.std.specs.Prelude.{◌≡◌};
 ghost use Rattle.dbc_records.specs.EntryKeys.{target_of, entry_key, key_target};
 
@@ -19,11 +19,11 @@ pub enum EntryKey {
     Default(Text),
     /// The value of the attribute of this name at this: `BA_`.
     Attribute(Text, Target),
-    /// The value descriptions of the signal of this message number and name: `VAL_`.
+    /// The value descriptions of the signal of this message ID and name: `VAL_`.
     Values(u32, Name),
-    /// The float type of the signal of this message number and name: `SIG_VALTYPE_`.
+    /// The float type of the signal of this message ID and name: `SIG_VALTYPE_`.
     Float(u32, Name),
-    /// The multiplexing of the signal of this message number and name: `SG_MUL_VAL_`.
+    /// The multiplexing of the signal of this message ID and name: `SG_MUL_VAL_`.
     Mux(u32, Name),
 }
 
@@ -59,9 +59,9 @@ pub enum TargetRef<'a> {
     Whole,
     /// The node of this name.
     Node(&'a [u8]),
-    /// The message of this number.
+    /// The message of this CAN identifier.
     Message(u32),
-    /// The signal of this message number and name.
+    /// The signal of this message ID and name.
     Signal(u32, &'a [u8]),
 }
 

@@ -5,11 +5,11 @@ ghost use Rattle.dbc_records.specs.Records.{float_fits};
 use dbc_values::{Checked, Copied, Memory, Name};
 use std::marker::Model;
 
-/// What the raw bits of a signal are: `SIG_VALTYPE_ number signal : kind ;`. The kind is 0 for a whole number, 1 for an
-/// IEEE 754 float of 32 bits and 2 for one of 64.
+/// What the raw bits of a signal mean: `SIG_VALTYPE_ number signal : kind ;`. The kind is 0 for a whole number, 1 for an IEEE 754
+/// float of 32 bits and 2 for one of 64.
 #[derive(Drop)]
 pub struct FloatRow {
-    /// The number of the message.
+    /// The CAN identifier of the message.
     pub number: u32,
     /// The name of the signal.
     pub signal: Name,
@@ -31,7 +31,7 @@ impl FloatRow {
     /// The greatest kind: a float of 64 bits.
     pub const MAX_KIND: u8 = 2;
 
-    /// The row, or `None` where the kind is over [`FloatRow::MAX_KIND`].
+    /// The entry, or `None` if the kind is over [`FloatRow::MAX_KIND`].
     pub fn new(number: u32, signal: Name, kind: u8) -> Option<FloatRow>
         ensures { result ≡ (if float_fits kind then Some (record { number = number; signal = signal; kind = kind }) else None) }
     {

@@ -5,15 +5,15 @@ ghost use Rattle.dbc_records.specs.Records.{head_fits};
 use dbc_values::{Checked, Copied, Memory, Name};
 use std::marker::Model;
 
-/// The first line of a message: `BO_ number name: size sender`. Bit 31 of the number marks a 29-bit identifier, and
-/// the size is in bytes.
+/// The first line of a message: `BO_ number name: size sender`. Bit 31 of `number` marks an extended (29-bit) identifier, and
+/// `size` is the length (DLC) in bytes.
 #[derive(Drop)]
 pub struct Head {
-    /// The identifier, with bit 31 set where it has 29 bits.
+    /// The identifier, with bit 31 set if it is extended (29-bit).
     pub number: u32,
     /// The message's name.
     pub name: Name,
-    /// How many bytes of data the message has.
+    /// The length (DLC): how many bytes of data the message has.
     pub size: u16,
     /// The node that sends it, or `Vector__XXX`.
     pub sender: Name,
@@ -30,10 +30,10 @@ impl Model for Head {
 }
 
 impl Head {
-    /// The most bytes that a message may have.
+    /// The greatest length of a message in bytes.
     pub const MAX_SIZE: u16 = 1785;
 
-    /// The head, or `None` where the size is over [`Head::MAX_SIZE`].
+    /// The head, or `None` if the length is over [`Head::MAX_SIZE`].
     pub fn new(number: u32, name: Name, size: u16, sender: Name) -> Option<Head>
         ensures { result ≡ (if head_fits size then Some (record { number = number; name = name; size = size; sender = sender }) else
             None) }

@@ -1,4 +1,4 @@
-//! Statements that are kept as they stand.
+//! Statements kept verbatim.
 ghost use Rattle.std.specs.Prelude.{◌≡◌, [], ◌∷◌, Some, None, if◌then◌else◌, codes};
 ghost use Rattle.std.specs.Str.{bytes_eq};
 ghost use Rattle.dbc_values.specs.Lexical.{is_name, is_kept_word};
@@ -8,11 +8,10 @@ ghost use Rattle.dbc_values.specs.Pieces.{is_string};
 use dbc_values::{Checked, Copied, Memory, Pieces, is_kept_word, is_name, is_string, same};
 use std::marker::Model;
 
-/// A statement that is kept as it stands: its tokens without the `;` that ends it.
+/// A statement kept verbatim: its tokens without the `;` that ends it.
 ///
-/// It begins with one of the words of environment variables, signal groups, signal types, categories and relations
-/// (`EV_`, `SIG_GROUP_`, ..), with `VAL_` and a name, with `CM_` and `EV_`, or with `BA_`, a string and `EV_`. Any tokens
-/// may follow.
+/// It begins with one of the words of environment variables, signal groups, signal types, categories and relations (`EV_`,
+/// `SIG_GROUP_`, ..), with `VAL_` and a name, with `CM_` and `EV_`, or with `BA_`, a string and `EV_`. Any tokens may follow.
 #[derive(Drop)]
 pub struct Kept {
     /// Its tokens, without the semicolon that ends it.
@@ -78,7 +77,7 @@ fn kept_fits(tokens: &Pieces) -> bool
 }
 
 impl Kept {
-    /// The statement, or `None` where no statement kept verbatim begins with these tokens.
+    /// The statement, or `None` if no statement kept verbatim begins with these tokens.
     pub fn new(tokens: Pieces) -> Option<Kept>
         ensures { result ≡ (if kept_fits tokens then Some (record { tokens = tokens }) else None) }
     {

@@ -1,10 +1,11 @@
-//! The records of a CAN database as a DBC file describes them, and what each is printed as.
+//! The records of a CAN database as a DBC file describes them, and their printed forms.
 //!
-//! Every value of a type of this crate keeps the bounds of the format: a [`Head`] is at most 1,785 bytes long. So whoever
-//! holds one need not test it again. The canonical text of each stands in `specs/CanonicalText.antt`.
+//! Every value of a type of this crate keeps the bounds of the format: a [`Head`] has at most 1,785 bytes. So you need not test it
+//! again. The canonical text of each is in `specs/CanonicalText.antt`.
 #![tactic(auto)]
 
 mod attribute;
+mod byte_order;
 mod comment;
 mod database;
 mod database_entry;
@@ -25,8 +26,10 @@ mod table_row;
 mod tag;
 mod target;
 mod value_row;
+mod value_type;
 
 pub use attribute::{AttrDefault, AttrRow, AttrValue};
+pub use byte_order::ByteOrder;
 pub use comment::Comment;
 pub use database::Database;
 pub use database_entry::{DatabaseEntry, EntryKind, EntryVisitor};
@@ -46,3 +49,4 @@ pub use table_row::TableRow;
 pub use tag::Tag;
 pub use target::Target;
 pub use value_row::ValueRow;
+pub use value_type::ValueType;

@@ -9,7 +9,7 @@ use crate::signal::Signal;
 use dbc_values::{Checked, Copied, List, Memory, same};
 use std::marker::Model;
 
-/// A message: its first line, and its signals in the order of the text. No two signals have one name.
+/// A message: its first line, and its signals in the order of the text. No two signals have the same name.
 #[derive(Drop)]
 pub struct Message {
     /// Its first line.
@@ -39,7 +39,7 @@ fn has_name(name: &[u8], signals: &[Signal]) -> bool
     false
 }
 
-// Compares each name with the later ones, and takes no memory.
+// Compares each name with the later ones, without allocating.
 fn names_differ(signals: &[Signal]) -> bool
     ensures { result ≡ are_distinct (names_of signals.now) }
 {
@@ -57,7 +57,7 @@ impl Message {
     /// The most signals that a message may have.
     pub const MAX_SIGNALS: usize = 999;
 
-    /// The message, or `None` where there are more than [`Message::MAX_SIGNALS`] signals or two of them have one name.
+    /// The message, or `None` if there are more than [`Message::MAX_SIGNALS`] signals or two of them have the same name.
     #[tactic(auto, unfolding(crate::specs::Records::signals_fit))]
     pub fn new(head: Head, signals: List<Signal>) -> Option<Message>
         ensures { result ≡ (if signals_fit signals then Some (record { head = head; signals = signals }) else None) }

@@ -6,7 +6,7 @@ use crate::numbers::Numbers;
 use dbc_values::{Checked, Copied, Memory, Name};
 use std::marker::Model;
 
-/// The numbers from `first` to `last`, both included. There are none where `first` is the greater.
+/// The numbers from `first` to `last`, both included. There are none if `first` is the greater.
 #[derive(Clone, Copy, Debug, PartialEq, Eq)]
 pub struct Range {
     /// The first number.
@@ -15,17 +15,17 @@ pub struct Range {
     pub last: u64,
 }
 
-/// A signal that is there where its switch has a raw value in one of the ranges:
+/// A signal that is present if its multiplexor (switch) has a raw value in one of the ranges:
 /// `SG_MUL_VAL_ number signal switch ranges ;`.
 #[derive(Drop)]
 pub struct MuxRow {
-    /// The number of the message.
+    /// The CAN identifier of the message.
     pub number: u32,
-    /// The name of the signal that is switched.
+    /// The name of the multiplexed signal.
     pub signal: Name,
-    /// The name of the signal that switches it.
+    /// The name of its multiplexor.
     pub switch: Name,
-    /// The numbers of the switch with which the signal is there.
+    /// The raw values of the multiplexor for which the signal is present.
     pub ranges: Numbers,
 }
 
@@ -41,7 +41,7 @@ impl Model for MuxRow {
 }
 
 impl MuxRow {
-    /// The row, or `None` where there is no range.
+    /// The entry, or `None` if there is no range.
     pub fn new(number: u32, signal: Name, switch: Name, ranges: Numbers) -> Option<MuxRow>
         ensures { result ≡ (if ranges_fit ranges then Some (record {
           number = number;

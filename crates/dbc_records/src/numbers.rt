@@ -1,4 +1,4 @@
-//! The numbers of a switch.
+//! The raw values of a multiplexor (switch).
 ghost use Rattle.std.specs.Prelude.{◌≡◌, IfOk};
 ghost use Rattle.std.specs.List.{list_any};
 ghost use Rattle.dbc_records.specs.Ranges.{in_range, is_empty_range};
@@ -15,7 +15,7 @@ use std::rc::Rc;
 struct Found {
     ranges: List<Range>,
     has_empty: bool,
-    // Where the ranges are many, numbers are found by this.
+    // The index that finds numbers if there are many ranges.
     index: Option<Vec<Range>>,
 }
 
@@ -23,7 +23,8 @@ impl Model for Found {
     ghost use Rattle.std.specs.Prelude.{◌≡◌, List as Items, IfSome};
     ghost use Rattle.std.specs.List.{list_any};
     ghost use Rattle.dbc_records.specs.declared.mux_row.Range.{Range as PlainRange};
-    ghost use Rattle.dbc_records.specs.Ranges.{is_empty_range, IsRangeIndex};
+    ghost use Rattle.dbc_records.specs.Ranges.{is_empty_range};
+    ghost use Rattle.dbc_records.specs.inner.RangeIndexes.{IsRangeIndex};
 
     ghost Value = { Items PlainRange };
 
@@ -53,7 +54,7 @@ impl Found {
     }
 }
 
-/// Numbers of a switch, as ranges. Copies share them.
+/// Raw values of a multiplexor, as ranges. Copies share them.
 #[derive(Drop)]
 pub struct Numbers {
     found: Rc<Found>,
@@ -113,14 +114,14 @@ impl Numbers {
         self.found.as_ref().ranges.as_slice()
     }
 
-    /// Whether one of the ranges holds no number. How many there are doesn't matter.
+    /// Whether one of the ranges holds no number. It takes constant time.
     pub fn has_empty_range(&self) -> bool
         ensures { result ≡ list_any is_empty_range self.now }
     {
         self.found.as_ref().has_empty
     }
 
-    /// Whether a number is one of them. Of many ranges it is found in time with the logarithm of how many there are.
+    /// Whether a number is in one of them. If there are many ranges, this takes time logarithmic in their count.
     pub fn has(&self, raw: u64) -> bool
         ensures { result ≡ list_any (in_range raw) self.now }
     {

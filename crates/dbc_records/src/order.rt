@@ -1,4 +1,4 @@
-//! Entries in the order of their numbers.
+//! Entries in the order of their raw values.
 ghost use Rattle.std.specs.Prelude.{◌≡◌, IfSome, IsTrue};
 ghost use Rattle.dbc_records.specs.Orders.{precedes, are_in_order_after, are_in_order, entry_order};
 
@@ -25,7 +25,7 @@ impl EntryOrder {
     }
 }
 
-// Whether the numbers of entries are in an order, and come after a number.
+// Whether the raw values of entries are in an order, and come after a number.
 fn are_in_order_after(order: EntryOrder, number: i128, entries: &[Entry]) -> bool
     ensures { result ≡ are_in_order_after order number entries.now }
 {
@@ -48,8 +48,8 @@ fn are_in_order(order: EntryOrder, entries: &[Entry]) -> bool
     }
 }
 
-/// The order that the numbers of entries are in, if they are in one: then no two entries have the same number. Fewer than two
-/// entries are rising. It takes no memory, and stops at the first entry that is out of order.
+/// The order that the raw values of entries are in, if they are in one: then no two entries have the same raw value. Fewer than two
+/// entries are rising. It allocates nothing, and stops at the first entry that is out of order.
 pub fn entry_order(entries: &[Entry]) -> Option<EntryOrder>
     ensures order { result ≡ entry_order entries.now }
     ensures in_order { IfSome result (λ order. IsTrue (are_in_order order entries.now)) }

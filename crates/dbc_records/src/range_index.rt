@@ -1,15 +1,16 @@
-//! Many ranges, in which a number is found without going through all.
+//! Many ranges, in which a number is found without visiting all.
 ghost use Rattle.std.specs.Prelude.{◌≡◌, Bool, true, false, nat_le, max, ◌≤◌, length, IfOk, IfSome};
 ghost use Rattle.std.specs.List.{list_any};
 ghost use Rattle.std.specs.List.Sorted.{IsNonDecreasingBy, IsPartitionPoint};
 ghost use Rattle.dbc_records.specs.declared.mux_row.Range.{Range as PlainRange};
-ghost use Rattle.dbc_records.specs.Ranges.{in_range, reaching, IsRangeIndex};
+ghost use Rattle.dbc_records.specs.Ranges.{in_range};
+ghost use Rattle.dbc_records.specs.inner.RangeIndexes.{reaching, IsRangeIndex};
 
 use crate::mux_row::Range;
 use dbc_values::Memory;
 use std::alloc::Global;
 
-// At most so many ranges are gone through.
+// Up to this many ranges are searched one by one.
 const LINEAR_SEARCH_LIMIT: usize = 16;
 
 fn greater(a: u64, b: u64) -> u64
@@ -18,7 +19,7 @@ fn greater(a: u64, b: u64) -> u64
     a.max(b)
 }
 
-// Each range with the greatest last number of those up to it.
+// Each range with the greatest last number among the ranges up to it.
 fn reaching(alloc: Global, ordered: &[Range]) -> Result<Vec<Range>, Memory>
     ensures { IfOk result (λ index. index.items ≡ reaching 0 ordered.now) }
 {
@@ -43,7 +44,7 @@ fn in_order(alloc: Global, ranges: &[Range]) -> Result<Vec<Range>, Memory>
     Ok(ordered)
 }
 
-/// The ranges in the order of their first numbers, where there are many.
+/// The ranges in the order of their first numbers, if there are many.
 pub(crate) fn range_index(alloc: Global, ranges: &[Range]) -> Result<Option<Vec<Range>>, Memory>
     ensures { IfOk result (λ index. IfSome index (λ index. IsRangeIndex index.items ranges.now)) }
 {
@@ -55,7 +56,7 @@ pub(crate) fn range_index(alloc: Global, ranges: &[Range]) -> Result<Option<Vec<
     Ok(Some(index))
 }
 
-// How many ranges begin at a number or before it, where they are in order.
+// How many ranges begin at a number or before it, if the ranges are in order.
 fn begun(index: &[Range], raw: u64) -> usize
     requires { IsNonDecreasingBy (λ (range : PlainRange). range.first) index.now }
     ensures bound { result ≤ length index.now }
@@ -65,7 +66,7 @@ fn begun(index: &[Range], raw: u64) -> usize
     index.partition_point(|range| range.first <= raw)
 }
 
-/// Whether a number is in one of the ranges. It is found in time with the logarithm of how many there are.
+/// Whether a number is in one of the ranges. It takes time logarithmic in their count.
 pub(crate) fn is_in(index: &[Range], raw: u64) -> bool
     requires firsts { IsNonDecreasingBy (λ (range : PlainRange). range.first) index.now }
     requires lasts { IsNonDecreasingBy (λ (range : PlainRange). range.last) index.now }

@@ -1,36 +1,38 @@
 //! Signals.
 ghost use Rattle.std.specs.Prelude.{◌≡◌, Some, None, if◌then◌else◌};
-ghost use Rattle.dbc_records.specs.Records.{signal_fits};
+ghost use Rattle.dbc_records.specs.Records.{signal_fits, byte_order, value_type};
 
+use crate::byte_order::ByteOrder;
 use crate::tag::Tag;
+use crate::value_type::ValueType;
 use dbc_values::{Checked, Copied, Decimal, List, Memory, Name, Text};
 use std::marker::Model;
 
 /// A signal of a message: `SG_ name tag : start|length@order sign (factor,offset) [minimum|maximum] "unit" receivers`.
 ///
-/// `start` and `length` are in bits; `start` is the lowest bit in Intel order and the highest in Motorola order. The
-/// physical value is `factor · raw + offset`.
+/// `start` and `length` are in bits; `start` is the least significant bit in Intel byte order and the most significant bit in
+/// Motorola byte order. The physical value is `factor · raw + offset`.
 #[derive(Drop)]
 pub struct Signal {
     /// The signal's name.
     pub name: Name,
-    /// What it is in multiplexing.
+    /// The multiplexer indicator of the signal.
     pub tag: Tag,
-    /// The position of its start bit: the least significant bit in Intel order, the most significant in Motorola order.
+    /// The position of its start bit: the least significant bit in Intel byte order, the most significant in Motorola byte order.
     pub start: u16,
     /// How many bits it has.
     pub length: u16,
-    /// Whether the order is Intel's (`1`) and not Motorola's (`0`).
+    /// Whether the byte order is Intel (`1`) rather than Motorola (`0`).
     pub intel: bool,
-    /// Whether raw values are two's complement (`-`) and not unsigned (`+`).
+    /// Whether raw values are signed (`-`, two's complement) rather than unsigned (`+`).
     pub signed: bool,
     /// What a raw value is multiplied by.
     pub factor: Decimal,
-    /// What is then added.
+    /// What is added after that.
     pub offset: Decimal,
-    /// The least value, as the database says it; it bounds nothing.
+    /// The least value as the database gives it; it bounds nothing.
     pub minimum: Decimal,
-    /// The greatest value, as the database says it; it bounds nothing.
+    /// The greatest value as the database gives it; it bounds nothing.
     pub maximum: Decimal,
     /// The unit of values, or the empty text.
     pub unit: Text,
@@ -79,7 +81,7 @@ impl Signal {
     /// The most bits that a signal may have: those of a message of [`Head::MAX_SIZE`](crate::Head::MAX_SIZE) bytes.
     pub const MAX_LENGTH: u16 = 14_280;
 
-    /// The signal, or `None` where the length is 0 or over [`Signal::MAX_LENGTH`].
+    /// The signal, or `None` if the length is 0 or over [`Signal::MAX_LENGTH`].
     pub fn new(
         name: Name,
         tag: Tag,
@@ -126,6 +128,28 @@ impl Signal {
             unit,
             receivers,
         })
+    }
+
+    /// The byte order.
+    pub fn byte_order(&self) -> ByteOrder
+        ensures { result ≡ byte_order self.now.intel }
+    {
+        if self.intel {
+            ByteOrder::Intel
+        } else {
+            ByteOrder::Motorola
+        }
+    }
+
+    /// The value type.
+    pub fn value_type(&self) -> ValueType
+        ensures { result ≡ value_type self.now.signed }
+    {
+        if self.signed {
+            ValueType::Signed
+        } else {
+            ValueType::Unsigned
+        }
     }
 }
 

@@ -1,4 +1,4 @@
-//! Value tables of a name.
+//! Named value tables.
 ghost use Rattle.std.specs.Prelude.{◌≡◌, Some};
 
 use crate::entry::Entry;
@@ -25,7 +25,7 @@ impl Model for TableRow {
 }
 
 impl TableRow {
-    /// The table. It is always there.
+    /// The table; never `None`.
     pub fn new(name: Name, entries: List<Entry>) -> Option<TableRow>
         ensures { result ≡ Some (record { name = name; entries = entries }) }
     {

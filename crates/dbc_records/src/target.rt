@@ -1,10 +1,10 @@
-//! What comments and attributes speak of.
+//! What comments and attributes are about.
 ghost use Rattle.std.specs.Prelude.{◌≡◌};
 ghost use Rattle.dbc_records.specs.Comments.{is_for_message};
 
 use dbc_values::{Checked, Copied, Memory, Name};
 
-/// What a comment or an attribute speaks of.
+/// What a comment or an attribute is about.
 #[derive(Drop)]
 pub enum Target {
     /// The whole database.
@@ -18,7 +18,7 @@ pub enum Target {
 }
 
 impl Target {
-    /// Whether it is the message of this number. A signal of that message isn't.
+    /// Whether it is the message of this CAN identifier. A signal of that message isn't.
     pub fn is_for_message(&self, number: u32) -> bool
         ensures { result ≡ is_for_message number self.now }
     {

@@ -8,7 +8,7 @@ use std::marker::Model;
 /// The value descriptions of a signal: `VAL_ number signal entries ;`.
 #[derive(Drop)]
 pub struct ValueRow {
-    /// The number of the message.
+    /// The CAN identifier of the message.
     pub number: u32,
     /// The name of the signal.
     pub signal: Name,
@@ -27,7 +27,7 @@ impl Model for ValueRow {
 }
 
 impl ValueRow {
-    /// The row. It is always there.
+    /// The entry; never `None`.
     pub fn new(number: u32, signal: Name, entries: Entries) -> Option<ValueRow>
         ensures { result ≡ Some (record { number = number; signal = signal; entries = entries }) }
     {

@@ -1,4 +1,4 @@
-//! What no contract says: that calls succeed, and the text of the fault.
+//! What no contract states: that calls succeed, and the text of the fault.
 
 use byte_devices::limp::Limp;
 use byte_devices::{FromRead, FromWrite, Sink, Source, WriteFault, put_all};
@@ -20,8 +20,8 @@ fn std_devices(rt: HostRuntime) -> Result<(), Fail> {
 
 #[test]
 fn a_full_writer_fails(rt: HostRuntime) {
-    let mut room = [0u8; 2];
-    let mut sink = FromWrite::new(room.as_mut_slice());
+    let mut space = [0u8; 2];
+    let mut sink = FromWrite::new(space.as_mut_slice());
     assert_eq!(rt; put_all(&mut sink, b"abc"), Err(WriteFault));
     assert!(rt; sink.put(b"").is_ok());
 }

@@ -1,7 +1,9 @@
-//! Tests of the model and the reader together: what no contract says of them. They stand apart, as a crate with tests is
-//! proved once more with them. So do those of the devices, the values and the tokens below.
+//! Tests of the model and the reader together: what no contract states about them. They are separate, as a crate with tests is
+//! proved once more with them. So are those of the devices, the values and the tokens below.
 #![tactic(auto)]
 
+#[cfg(test)]
+mod constructors;
 #[cfg(test)]
 mod devices;
 #[cfg(test)]

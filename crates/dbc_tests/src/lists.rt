@@ -1,4 +1,4 @@
-//! What no contract says of lists that are changed in place: that the calls succeed, and that rewriting changes items.
+//! What no contract states about lists that are changed in place: that the calls succeed, and that rewriting changes items.
 ghost use Rattle.std.specs.Prelude.{◌-◌};
 
 use dbc_values::{Checked, List, Memory, Rewrite};

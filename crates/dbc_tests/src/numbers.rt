@@ -3,7 +3,7 @@
 use dbc_values::{Decimal, Scale, Whole, is_number, whole_of};
 use std::test::Fail;
 
-fn decimal(bytes: &[u8]) -> Result<Decimal, Fail> {
+pub(crate) fn decimal(bytes: &[u8]) -> Result<Decimal, Fail> {
     match Decimal::read(bytes) {
         Some(decimal) => Ok(decimal),
         None => Err(Fail::from("no decimal")),

@@ -1,4 +1,4 @@
-//! What no contract says: that a text is read with where its statements begin.
+//! What no contract states: that a text is read with where its statements begin.
 
 use dbc_reader::{Start, Starts, read_with_starts};
 use dbc_values::List;
@@ -9,7 +9,7 @@ const TEXT: &[u8] =
     b"VERSION \"1.0\"\nBU_: N\nBO_ 291 A: 8 N // SG_\n SG_ S : 7|8@0- (0.5,-1) [0|0.5] \"a\nb\" N SG_\n T : 0|1@1+ (1,0) [0|1] \"\"\n\
 BS_:\n\nBO_ 7 B: 0 N CM_ \"d\";\nCM_ EV_ e \"kept\";\nBA_ \"x\" 1;\nVAL_\n291 S -1 \"off\" ;\n";
 
-// A line, and how the text goes on where something begins in it.
+// A line, and how the text continues where something begins in it.
 type Begin = (u64, &'static [u8]);
 
 fn is_at(start: Start, begin: &Begin) -> bool {
@@ -17,7 +17,7 @@ fn is_at(start: Start, begin: &Begin) -> bool {
     start.line == begin.0 && rest.starts_with(begin.1)
 }
 
-// Whether something begins in these places.
+// Whether something begins at these locations.
 fn are_at(starts: &List<Start>, begins: &[Begin]) -> bool {
     let starts = starts.as_slice();
     if starts.len() != begins.len() {

@@ -1,8 +1,9 @@
-//! What no contract says: that reading, printing, reading again and copying succeed, on every kind of statement.
+//! What no contract states: that reading, printing, reading again and copying succeed, on every kind of statement.
 
 use dbc_model::limp::Limp;
 use dbc_model::{Copied, Database, FromWrite, WriteFault, print};
 use dbc_read::{Cause, ReadFault, Statement, read, read_one, reread};
+use dbc_records::{ByteOrder, ValueType};
 use std::alloc::Global;
 use std::test::Fail;
 
@@ -11,8 +12,10 @@ const TEXT: &[u8] =
     b"VERSION \"1.0\"\nNS_ :\n\tCM_\nBS_: 0.5 : 0 , 0.5\nBU_: N K\nVAL_TABLE_ T -1 \"off\" 2 \"on\" ;\n\
 BO_ 291 A: 8 N\n SG_ S m3M : 7|8@0- (0.5,-1) [0|0.5] \"km\" N,K\n SG_ M M : 0|1@1+ (1,0) [0|1] \"\"\nBO_ 7 B: 0 K\n\
 CM_ \"d\";\nCM_ BU_ N \"n\";\nCM_ BO_ 291 \"b\";\nCM_ SG_ 291 S \"speed\";\n\
-BA_DEF_ BO_ \"a\" ENUM \"yes\",\"no\";\nBA_DEF_ BU_ \"i\" INT 0 9;\nBA_DEF_ \"h\" HEX;\nBA_DEF_ SG_ \"f\" FLOAT -1 1;\nBA_DEF_ EV_ \"s\" STRING;\n\
-BA_DEF_DEF_ \"a\" \"yes\";\nBA_DEF_DEF_ \"i\" 3;\nBA_ \"a\" 1;\nBA_ \"i\" BU_ N 0.5;\nBA_ \"a\" BO_ 291 \"no\";\nBA_ \"f\" SG_ 291 S -1;\n\
+BA_DEF_ BO_ \"a\" ENUM \"yes\",\"no\";\nBA_DEF_ BU_ \"i\" INT 0 9;\nBA_DEF_ \"h\" HEX;\nBA_DEF_ SG_ \"f\" FLOAT -1 1;\n\
+BA_DEF_ EV_ \"s\" STRING;\n\
+BA_DEF_DEF_ \"a\" \"yes\";\nBA_DEF_DEF_ \"i\" 3;\nBA_ \"a\" 1;\nBA_ \"i\" BU_ N 0.5;\nBA_ \"a\" BO_ 291 \"no\";\n\
+BA_ \"f\" SG_ 291 S -1;\n\
 VAL_ 291 S -1 \"off\" ;\nSIG_VALTYPE_ 291 S : 2;\nSG_MUL_VAL_ 291 S M 5-18446744073709551615, 0-0;\nEV_ e : 0 ;\n";
 
 fn whole(alloc: Global) -> Result<Database, Fail> {
@@ -33,7 +36,7 @@ fn copied(database: &Database) -> Result<Database, Fail> {
     Ok(database.copy()?)
 }
 
-// Whoever has a database of its own and leaves in many ways is long in proving, so each is handed on at once.
+// A function that owns a database and has many exits takes long to prove, so each database is passed on at once.
 fn is_copied(alloc: Global, database: &Database) -> Result<bool, Fail> {
     let copy = copied(database)?;
     is_printed(alloc, &copy)
@@ -44,7 +47,7 @@ fn is_reread(alloc: Global, database: &Database) -> Result<bool, Fail> {
     is_printed(alloc, &again)
 }
 
-// Whether a copy is printed so, and a database that was printed and read again.
+// Whether a copy is printed in this way, and a database that was printed and read again.
 fn both_printed(alloc: Global, database: &Database) -> Result<(bool, bool), Fail> {
     Ok((is_copied(alloc, database)?, is_reread(alloc, database)?))
 }
@@ -62,6 +65,28 @@ fn copies_and_rereads(rt: HostRuntime) -> Result<(), Fail> {
     Ok(())
 }
 
+// The byte order and the value type of the signal at an index in the first message.
+fn bit_field_of(database: &Database, index: usize) -> Option<(ByteOrder, ValueType)> {
+    let message = database.messages.as_slice().first()?;
+    let signal = message.signals.as_slice().get(index)?;
+    Some((signal.byte_order(), signal.value_type()))
+}
+
+fn bit_fields(alloc: Global) -> Result<[Option<(ByteOrder, ValueType)>; 2], Fail> {
+    let database = whole(alloc)?;
+    Ok([bit_field_of(&database, 0), bit_field_of(&database, 1)])
+}
+
+#[test]
+fn orders_and_value_types(rt: HostRuntime) -> Result<(), Fail> {
+    let [first, second] = bit_fields(rt.alloc())?;
+    assert_eq!(rt; first, Some((ByteOrder::Motorola, ValueType::Signed)));
+    assert_eq!(rt; second, Some((ByteOrder::Intel, ValueType::Unsigned)));
+    assert!(rt; !ByteOrder::Motorola.is_intel() && ByteOrder::Intel.is_intel());
+    assert!(rt; !ValueType::Unsigned.is_signed() && ValueType::Signed.is_signed());
+    Ok(())
+}
+
 #[test]
 fn refuses_a_text(rt: HostRuntime) {
     let fault = ReadFault {
@@ -71,7 +96,7 @@ fn refuses_a_text(rt: HostRuntime) {
     assert_eq!(rt; read(rt.alloc(), b"BS_:\nBS_:").err(), Some(fault));
 }
 
-// The number of the message of which the text is the first line.
+// The CAN identifier of the message whose first line is the text.
 fn number_of(alloc: Global, text: &[u8]) -> Option<u32> {
     match read_one(alloc, text) {
         Ok(Statement::Head(head)) => Some(head.number),
@@ -85,7 +110,7 @@ fn reads_a_statement(rt: HostRuntime) {
     assert_eq!(rt; number, Some(291));
 }
 
-// The cause for which the text is refused as one statement, or nothing where it is one.
+// The cause for which the text is rejected as one statement, or nothing if it is one.
 fn cause_of(alloc: Global, text: &[u8]) -> Option<Cause> {
     match read_one(alloc, text) {
         Ok(_) => None,
@@ -132,7 +157,7 @@ fn is_printed_slowly(alloc: Global, database: &Database) -> bool {
     print(database, &mut slow) == Ok(()) && slow.bytes() == TEXT
 }
 
-// Where a sink that fails there doesn't end the printing so, if anywhere.
+// Where a sink that fails there doesn't end the printing in this way, if anywhere.
 fn unbroken(alloc: Global, database: &Database) -> Option<usize> {
     for limit in 0..TEXT.len() {
         if !breaks_at(alloc, database, limit) {

@@ -3,7 +3,7 @@
 use dbc_tokens::{Cause, Kind, ReadFault, Token, tokens};
 use std::alloc::AllocError;
 
-// A text, its tokens with their lines and how many bytes are left from each on, and the line of the fault that ends them.
+// A text, its tokens with their lines and how many bytes remain from each on, and the line of the fault that ends them.
 struct Case {
     text: &'static [u8],
     tokens: &'static [(Kind, &'static [u8], u64, usize)],

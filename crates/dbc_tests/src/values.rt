@@ -1,11 +1,11 @@
-//! What no contract says: that calls succeed, the text of the fault, and names, texts, symbols and tokens at their edges, with
+//! What no contract states: that calls succeed, the text of the fault, and names, texts, symbols and tokens at their edges, with
 //! the answers that a reader of the format gives.
 
 use dbc_values::{Copied, List, Memory, Name, Pieces, Symbol, Text, is_piece};
 use std::alloc::Global;
 use std::test::Fail;
 
-fn name(alloc: Global, bytes: &[u8]) -> Result<Name, Fail> {
+pub(crate) fn name(alloc: Global, bytes: &[u8]) -> Result<Name, Fail> {
     match Name::new(alloc, bytes)? {
         Some(name) => Ok(name),
         None => Err(Fail::from("no name")),
@@ -138,8 +138,8 @@ fn tokens(rt: HostRuntime) -> Result<(), Fail> {
     tokens.shrink_to_fit();
     let copy = tokens.copy()?;
     assert_eq!(rt; copy.len(), 3);
-    for (place, bytes) in wanted.iter().enumerate() {
-        assert_eq!(rt; copy.get(place), Some(*bytes));
+    for (index, bytes) in wanted.iter().enumerate() {
+        assert_eq!(rt; copy.get(index), Some(*bytes));
     }
     assert!(rt; copy.get(3).is_none());
     Ok(())

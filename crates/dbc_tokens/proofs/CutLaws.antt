@@ -9,7 +9,7 @@ use Rattle.dbc_tokens.specs.declared.token.Kind.{Kind}
 use Rattle.dbc_tokens.specs.declared.token.Kind.TheVariants.{Text, Word, Number, Mark}
 use Rattle.dbc_values.specs.Lexical.{quote, slash, is_blank}
 use Rattle.dbc_tokens.specs.Tokens.{IsGap, IsToken, IsLongest, BeginsNoToken, Cut, End, Fault, ◌▸◌, line_feeds, HasTokens}
-use Rattle.dbc_tokens.specs.Reading.Scanner.{gap_len, token_at, token_then, rest_then, cut_of}
+use Rattle.dbc_tokens.specs.inner.Scanner.{gap_len, token_at, token_then, rest_then, cut_of}
 use Rattle.dbc_tokens.proofs.CutStep.{cut_of-step, rest_some, rest_none, Positive, token_at_positive}
 use Rattle.dbc_tokens.proofs.Longest.{begins, any_all, token_begins, IsFound, token_found, token_only}
 use Rattle.dbc_tokens.proofs.Gaps.{gap_front, gap_only, gap_none, none_gap}
@@ -30,7 +30,7 @@ byte_no_gap b s h = let both = and_parts (not (is_blank b)) (not (eqb b slash)) 
   not-true (eqb b slash) both.1,
 ) refl
 
--- where a token begins no gap does
+-- no gap begins where a token does
 token_no_gap : (k : Kind) (t rest : List ℕ) → IsToken k t → gap_len false (t ++ rest) ≡ 0
 token_no_gap k t rest h =
     let x = token_begins k t h in

@@ -8,8 +8,8 @@ use Rattle.dbc_tokens.specs.declared.token.Kind.{Kind}
 use Rattle.dbc_tokens.specs.declared.token.Kind.TheVariants.{Text, Number}
 use Rattle.dbc_values.specs.Lexical.{quote, is_letter, is_mark}
 use Rattle.dbc_tokens.specs.Tokens.{Cut, End, Fault, ◌▸◌, line_feeds}
-use Rattle.dbc_tokens.specs.Reading.Scanner.{gap_len, text_len, number_len, token_at, token_then, rest_then, gap_then, cut_in}
-use Rattle.dbc_tokens.specs.Reading.Scanner.{cut_of}
+use Rattle.dbc_tokens.specs.inner.Scanner.{gap_len, text_len, number_len, token_at, token_then, rest_then, gap_then, cut_in}
+use Rattle.dbc_tokens.specs.inner.Scanner.{cut_of}
 
 -- a token has a byte
 abbrev pub Positive : Option (Kind × ℕ) → Type 0

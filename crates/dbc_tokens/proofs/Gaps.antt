@@ -6,7 +6,7 @@ use Rattle.std.proofs.lemmas.Bool.{eqb-true, cases_Bool, and_parts, not-true, no
 use Rattle.std.proofs.lemmas.List.{length-append, take-append-drop}
 use Rattle.dbc_values.specs.Lexical.{line_feed, slash, is_blank, is_line_feed}
 use Rattle.dbc_tokens.specs.Tokens.{Part, Blank, Comment, part_bytes, EndsLine, AreParts, IsGap, BeginsNoGap}
-use Rattle.dbc_tokens.specs.Reading.Scanner.{gap_len, begins_with_slash}
+use Rattle.dbc_tokens.specs.inner.Scanner.{gap_len, begins_with_slash}
 
 -- within a comment: its further bytes, and the gap after it
 pub record InComment (gap rest : List ℕ) : Type 0 where

@@ -12,7 +12,7 @@ use Rattle.dbc_values.specs.Lexical.{quote, line_feed, is_line_feed}
 use Rattle.dbc_tokens.specs.declared.token.Kind.{Kind}
 use Rattle.dbc_tokens.specs.declared.token.Kind.TheVariants.{Text}
 use Rattle.dbc_tokens.specs.Tokens.{line_feeds}
-use Rattle.dbc_tokens.specs.Reading.Scanner.{text_len, token_at, line_text_len, line_text_at}
+use Rattle.dbc_tokens.specs.inner.Scanner.{text_len, token_at, line_text_len, line_text_at}
 use Rattle.dbc_tokens.proofs.Searches.{before, closes, not_escaped, text_len-quote}
 use Rattle.dbc_tokens.proofs.LineFeeds.{no_feeds}
 use Rattle.dbc_tokens.proofs.PlainTokens.{Plain}
@@ -49,8 +49,8 @@ some_there (b ∷ s) (suc n) h = omega (arith, some_there s n h)
 line_text : (s : List ℕ) (n : ℕ) → prefix_len goes_on s ≡ n → eqb (get_or s n 0) quote ≡ true → closes s n ≡ true → LineText s n
 line_text s n is quoted closing =
     let at : get_or s n 0 ≡ quote = eqb-true _ _ quoted in
-    let place : 0 + n ≡ n = omega arith in
-    let none_before : before false s n ≡ false = not_escaped s 0 n (rw place closing) in
+    let index : 0 + n ≡ n = omega arith in
+    let none_before : before false s n ≡ false = not_escaped s 0 n (rw index closing) in
     let other : (k : ℕ) → k < n → (eqb (get_or s k 0) quote ≡ false) × (is_line_feed (get_or s k 0) ≡ false) =
     λ k l. or_parts _ _ (not-true _ (prefix_len_passes goes_on s k 0 (omega (arith, is)))) in
     let found = text_len-quote false s n (some_there s n at) (λ k l. eqb-false _ _ (other k l).0) at in record {

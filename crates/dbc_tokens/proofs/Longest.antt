@@ -1,4 +1,4 @@
--- The token that the scanner finds is the longest one at its place, and where it finds none no token begins.
+-- The token that the scanner finds is the longest one at its position, and where it finds none no token begins.
 use Rattle.std.proofs.Common.{◌≡◌, ◌≢◌, ℕ, zero, suc, ◌+◌, ◌<◌, ◌≤◌, Bool, true, false, not, cond, eqb, List, [], ◌∷◌, ◌++◌, length}
 use Rattle.std.proofs.Common.{take, drop, Option, Some, None, refl, sym, ap, subst, ◌∙◌, append_assoc, arith, one-add, inl, inr}
 use Rattle.std.specs.Prelude.{codes}
@@ -12,13 +12,13 @@ use Rattle.dbc_tokens.specs.declared.token.Kind.{Kind}
 use Rattle.dbc_tokens.specs.declared.token.Kind.TheVariants.{Text, Word, Number, Mark}
 use Rattle.dbc_values.specs.Lexical.{quote, is_letter, is_word_byte, is_mark, is_text, quoted, is_number}
 use Rattle.dbc_tokens.specs.Tokens.{IsToken, IsLongest, BeginsNoToken}
-use Rattle.dbc_tokens.specs.Reading.Scanner.{text_len, number_len, token_at}
+use Rattle.dbc_tokens.specs.inner.Scanner.{text_len, number_len, token_at}
 use Rattle.dbc_tokens.proofs.Runs.{all_le, prefix_all}
 use Rattle.dbc_tokens.proofs.NumberParts.{IsNumber, number_parts, number_test, is_mantissa_byte, mantissa_bytes}
 use Rattle.dbc_tokens.proofs.Numbers.{mantissa_some, number_with, number_is, number_le}
 use Rattle.dbc_tokens.proofs.Strings.{text_found, closes_at}
 
--- ---- the first byte tells the kind
+-- ---- the first byte determines the kind
 
 abbrev pub begins : Kind → ℕ → Bool
 begins Text b = eqb b quote
@@ -102,7 +102,7 @@ text_bound : (s front others : List ℕ) (n : ℕ) → text_len false s ≡ Some
 text_bound s front others n some whole h = let x = text_bytes s front others whole h in let e : Some n ≡ Some x.0 = sym some
     ∙ x.1 in let same : n ≡ x.0 = cc in omega (arith, x.2)
 
--- what stands up to the closing quote is a string
+-- what is up to the closing quote is a string
 text_is : (s : List ℕ) (n : ℕ) → text_len false s ≡ Some n → IsToken Text (take (2 + n) (quote ∷ s)) × (2 + n ≤ length (quote ∷ s))
 unfolding is_text
 text_is s n e =
@@ -151,7 +151,7 @@ number_bound s front others whole h = by (number_parts front h)
 mark_bound : (front : List ℕ) → IsToken Mark front → length front ≤ 1
 mark_bound front (mark, bytes, is) = rw bytes (omega arith)
 
--- the token that was found is the longest; where none was found none begins
+-- the token that was found is the longest; if none was found, none begins
 abbrev pub IsFound : List ℕ → Option (Kind × ℕ) → Type 0
 IsFound s None = BeginsNoToken s
 IsFound s (Some t) = (t.1 ≤ length s) × IsToken t.0 (take t.1 s) × NoLonger s t.1

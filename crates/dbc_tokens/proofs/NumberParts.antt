@@ -1,4 +1,4 @@
--- The parts of a number: what the test `is_number` says, in the parts that its bytes are made of.
+-- The parts of a number: the test `is_number` in terms of the parts of its bytes.
 use Rattle.std.proofs.Common.{◌≡◌, ℕ, suc, ◌+◌, ◌<◌, Bool, true, false, not, IsTrue, cond, ◌&&◌, ◌||◌, List, [], ◌∷◌, ◌++◌, length}
 use Rattle.std.proofs.Common.{take, drop, refl, sym, ap, subst, ◌∙◌, append-nil, arith, ◌⊎◌, inl, inr}
 use Rattle.std.specs.List.{list_all, list_any, position_or_len, before_first, after_first}
@@ -57,7 +57,7 @@ split_of : (p : ℕ → Bool) (s : List ℕ) → Split p s
 split_of p [] = inl refl
 split_of p (b ∷ s) = elim (cases_Bool (p b)) [ inl e ↦ inr ([], b, s, refl, e, refl) | inr e ↦ split_more p b s e (split_of p s) ]
 
--- what stands before and after that byte
+-- what is before and after that byte
 pub record Halves (p : ℕ → Bool) (s u v : List ℕ) (some : Bool) : Type 0 where
   pub before : before_first p s ≡ u
   pub after : after_first p s ≡ v

@@ -9,7 +9,7 @@ use Rattle.std.proofs.lemmas.List.{get_or_at, get_or-take}
 use Rattle.std.proofs.lemmas.List.Sums.{prefix_len-le-length}
 use Rattle.std.proofs.Math.Seq.{take-add}
 use Rattle.dbc_values.specs.Lexical.{point, is_digit, is_exponent_mark, is_sign}
-use Rattle.dbc_tokens.specs.Reading.Scanner.{fraction_len, mantissa_len, sign_len, exponent_len, number_len}
+use Rattle.dbc_tokens.specs.inner.Scanner.{fraction_len, mantissa_len, sign_len, exponent_len, number_len}
 use Rattle.dbc_tokens.proofs.NumberParts.{IsMantissa, IsSign, IsExponent, IsNumber, is_mantissa_byte, mantissa_bytes}
 use Rattle.dbc_tokens.proofs.Runs.{all_le, all_stop, prefix_all, all_at, take_past}
 

@@ -1,4 +1,4 @@
--- The tokens of a text stand in it in order.
+-- The tokens of a text are in it in order.
 use Rattle.std.proofs.Common.{ℕ, ◌+◌, List, ◌∙◌, arith}
 use Rattle.dbc_tokens.specs.Tokens.{Cut, End, Fault, ◌▸◌, line_feeds, HasTokens}
 use Rattle.dbc_tokens.specs.Places.{StandInOrder, tokens_of}

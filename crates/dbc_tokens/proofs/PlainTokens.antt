@@ -11,8 +11,8 @@ use Rattle.dbc_values.specs.Lexical.{quote, slash, is_blank, is_line_feed, is_di
 use Rattle.dbc_tokens.specs.declared.token.Kind.{Kind}
 use Rattle.dbc_tokens.specs.declared.token.Kind.TheVariants.{Text, Word, Number, Mark}
 use Rattle.dbc_tokens.specs.Tokens.{◌▸◌, line_feeds}
-use Rattle.dbc_tokens.specs.Reading.Scanner.{gap_len, mantissa_len, exponent_len, number_len, token_at, rest_then, cut_of}
-use Rattle.dbc_tokens.specs.Reading.Scanner.{begins_exponent, plain_number_len, plain_token_at}
+use Rattle.dbc_tokens.specs.inner.Scanner.{gap_len, mantissa_len, exponent_len, number_len, token_at, rest_then, cut_of}
+use Rattle.dbc_tokens.specs.inner.Scanner.{begins_exponent, plain_number_len, plain_token_at}
 use Rattle.dbc_tokens.proofs.Longest.{any_all, token_there}
 use Rattle.dbc_tokens.proofs.LineFeeds.{token_feeds}
 use Rattle.dbc_tokens.proofs.CutStep.{cut_token, cut_of-step}

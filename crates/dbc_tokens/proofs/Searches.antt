@@ -6,9 +6,9 @@ use Rattle.std.proofs.lemmas.Bool.{ne_eqb, eq-eqb, eqb-true, eqb-false, or_cases
 use Rattle.std.proofs.lemmas.List.{drop_more, drop-drop, get_or-drop, length-drop}
 use Rattle.dbc_values.specs.Lexical.{line_feed, quote, slash, backslash}
 use Rattle.memchr.specs.Find.{IsFirstByte, is_byte}
-use Rattle.dbc_tokens.specs.Reading.Scanner.{gap_len, text_len}
+use Rattle.dbc_tokens.specs.inner.Scanner.{gap_len, text_len}
 
--- whether the byte before place n is a backslash
+-- whether the byte before position n is a backslash
 abbrev pub before : Bool → List ℕ → ℕ → Bool
 before after s zero = after
 before after s (suc n) = eqb (get_or s n 0) backslash
@@ -23,7 +23,7 @@ pub is_before : (after : Bool) (b : ℕ) (s : List ℕ) (n : ℕ) → before aft
 is_before after b s zero = refl
 is_before after b s (suc n) = refl
 
--- the first quote closes, or stands directly after a backslash
+-- the first quote closes, or is directly after a backslash
 pub text_len-quote : (after : Bool) (s : List ℕ) (n : ℕ) → n < length s → ((k : ℕ) → k < n → get_or s k 0 ≢ quote)
     → get_or s n 0 ≡ quote
     → text_len after s ≡ cond (not (before after s n)) (Some n) (option_map (λ m. suc n + m) (text_len false (drop (suc n) s)))
@@ -69,34 +69,34 @@ no_byte b s h k l e = h k (omega arith) l (eq-eqb _ _ e)
 
 -- ---- the search for the closing quote
 
--- whether a quote at this place after the opening one closes
+-- whether a quote at this position after the opening one closes the string
 abbrev pub closes : List ℕ → ℕ → Bool
-closes s place = eqb place 0 || not (eqb (get_or s (place - 1) 0) backslash)
+closes s index = eqb index 0 || not (eqb (get_or s (index - 1) 0) backslash)
 
 pub not_escaped : (s : List ℕ) (at n : ℕ) → closes s (at + n) ≡ true → before false (drop at s) n ≡ false
 not_escaped s at zero h = refl
 not_escaped s at (suc n) h =
-    let place : at + suc n - 1 ≡ at + n = omega arith in
+    let index : at + suc n - 1 ≡ at + n = omega arith in
     elim (or_cases _ _ h) [
       | inl e ↦ absurd (let z = eqb-true (at + suc n) 0 e in omega arith)
-      | inr e ↦ ap (λ b. eqb b backslash) (get_or-drop at s n 0 ∙ ap (λ k. get_or s k 0) (sym place)) ∙ not-true _ e
+      | inr e ↦ ap (λ b. eqb b backslash) (get_or-drop at s n 0 ∙ ap (λ k. get_or s k 0) (sym index)) ∙ not-true _ e
     ]
 
--- the quote before this place was no backslash
+-- the quote before this position was no backslash
 pub escaped : (s : List ℕ) (at n : ℕ) → closes s (at + n) ≡ false → (0 < at → get_or s (at - 1) 0 ≡ quote)
     → before false (drop at s) n ≡ true
 escaped s at zero h quoted =
     let both = or_parts (eqb (at + 0) 0) (not (eqb (get_or s (at + 0 - 1) 0) backslash)) h in
-    let place : at + 0 - 1 ≡ at - 1 = omega arith in
+    let index : at + 0 - 1 ≡ at - 1 = omega arith in
     let some = eqb-false (at + 0) 0 both.0 in
     let one : get_or s (at + 0 - 1) 0 ≡ backslash = eqb-true _ _ (not-false _ both.1) in
     let two = quoted (omega arith) in
-    let three : get_or s (at - 1) 0 ≡ backslash = rw (← place) one in
+    let three : get_or s (at - 1) 0 ≡ backslash = rw (← index) one in
     absurd (omega arith)
 escaped s at (suc n) h quoted =
     let both = or_parts (eqb (at + suc n) 0) (not (eqb (get_or s (at + suc n - 1) 0) backslash)) h in
-    let place : at + suc n - 1 ≡ at + n = omega arith in
-    ap (λ b. eqb b backslash) (get_or-drop at s n 0 ∙ ap (λ k. get_or s k 0) (sym place)) ∙ not-false _ both.1
+    let index : at + suc n - 1 ≡ at + n = omega arith in
+    ap (λ b. eqb b backslash) (get_or-drop at s n 0 ∙ ap (λ k. get_or s k 0) (sym index)) ∙ not-false _ both.1
 
 pub text_ends : (s : List ℕ) (at n : ℕ) (r : Option ℕ) → IsFirstByte (is_byte quote) (drop at s) (Some n)
     → option_map (λ m. at + m) (text_len false (drop at s)) ≡ r
@@ -113,8 +113,8 @@ text_goes_on s at n r first so_far goes =
     let f = first_byte quote (drop at s) n first in
     let e : text_len false (drop at s) ≡ option_map (λ m. suc n + m) (text_len false (drop (suc n) (drop at s))) =
     text_len-quote false (drop at s) n f.0 f.1 f.2 ∙ rw goes refl in
-    let place : at + suc n ≡ at + n + 1 = omega arith in
-    let there : drop (suc n) (drop at s) ≡ drop (at + n + 1) s = drop-drop (suc n) at s ∙ ap (λ k. drop k s) place in
+    let index : at + suc n ≡ at + n + 1 = omega arith in
+    let there : drop (suc n) (drop at s) ≡ drop (at + n + 1) s = drop-drop (suc n) at s ∙ ap (λ k. drop k s) index in
     sym (both at n (text_len false (drop (at + n + 1) s)))
     ∙ ap (λ t. option_map (λ m. at + m) (option_map (λ m. suc n + m) (text_len false t))) (sym there)
     ∙ sym (ap (option_map (λ m. at + m)) e) ∙ so_far

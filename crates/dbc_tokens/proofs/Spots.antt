@@ -1,20 +1,20 @@
--- What stands after the gap at the front of a text.
+-- What is after the gap at the front of a text.
 use Rattle.std.proofs.Common.{◌≡◌, ℕ, ◌+◌, false, List, [], ◌++◌, length, take, drop, refl, sym, ap, subst, ◌∙◌, arith}
 use Rattle.std.proofs.lemmas.List.{take-append-drop}
 use Rattle.dbc_tokens.specs.Tokens.{IsGap, IsLongest, BeginsNoGap, Token, Cut, ◌▸◌, line_feeds, HasTokens}
-use Rattle.dbc_tokens.specs.Reading.Scanner.{gap_len, rest_then, cut_of}
+use Rattle.dbc_tokens.specs.inner.Scanner.{gap_len, rest_then, cut_of}
 use Rattle.dbc_tokens.proofs.Gaps.{gap_front, gap_none}
 use Rattle.dbc_tokens.proofs.CutLaws.{at_gap, cut_is, cut_unique}
 
 -- after this gap the text goes on here, with the same tokens
-pub record IsBehind (line : ℕ) (text gap here : List ℕ) : Type 0 where
+pub record IsFollowing (line : ℕ) (text gap here : List ℕ) : Type 0 where
   pub parts : text ≡ gap ++ here
   pub is_gap : IsGap gap here
   pub no_gap : BeginsNoGap here
   pub same : cut_of line text ≡ cut_of (line + line_feeds gap) here
 
 pub after_gap : (line : ℕ) (text gap here : List ℕ) → gap ≡ take (gap_len false text) text → here ≡ drop (gap_len false text) text
-    → IsBehind line text gap here
+    → IsFollowing line text gap here
 after_gap line text gap here gap_is here_is =
     let n = gap_len false text in
     let front = gap_front false text in
@@ -31,7 +31,7 @@ after_gap line text gap here gap_is here_is =
           ∙ sym (at_gap (line + line_feeds gap) [] here none stop ∙ ap (λ l. rest_then cut_of l here) at);
     }
 
--- this token stands at the front, before this rest with these tokens
+-- this token is at the front, before this rest with these tokens
 pub record IsFront (line : ℕ) (here : List ℕ) (t : Token) (cut : Cut) (rest : List ℕ) : Type 0 where
   pub parts : here ≡ t.bytes ++ rest
   pub in_line : t.line ≡ line
@@ -51,7 +51,7 @@ front_of line here gap rest t cut none whole e left longest others = record {
   others = cut_unique (t.line + line_feeds t.bytes) rest cut others;
 }
 
--- where no gap begins the first token stands at the front
+-- if no gap begins, the first token is at the front
 pub token_front : (line : ℕ) (here : List ℕ) (t : Token) (cut : Cut) → BeginsNoGap here → cut_of line here ≡ t ▸ cut
     → (rest : List ℕ) × IsFront line here t cut rest
 token_front line here t cut none is =

@@ -4,9 +4,9 @@ use Rattle.std.proofs.Common.{refl, ap, subst, arith, inl, inr}
 use Rattle.std.specs.Option.{option_map}
 use Rattle.std.proofs.lemmas.Bool.{eqb-true, cases_Bool, and_parts, and_from}
 use Rattle.dbc_values.specs.Lexical.{quote, backslash, is_text_after}
-use Rattle.dbc_tokens.specs.Reading.Scanner.{text_len}
+use Rattle.dbc_tokens.specs.inner.Scanner.{text_len}
 
--- a quote where none closes stands directly after a backslash
+-- a quote where none closes is directly after a backslash
 stays_open : (b : ℕ) (after : Bool) → cond (eqb b quote) after true ≡ true → (eqb b quote && not after) ≡ false
 stays_open b after h = by (eqb b quote) after h
   where

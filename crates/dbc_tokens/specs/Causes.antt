@@ -1,4 +1,4 @@
--- The numbers and words of the causes for which a text is rejected. They are the profile of candesk.
+-- The numbers and names of the causes for which a text is rejected. They are the profile of candesk.
 use Rattle.std.specs.Prelude.{ℕ, List, codes}
 use Rattle.dbc_tokens.specs.declared.fault.Cause.{Cause}
 use Rattle.dbc_tokens.specs.declared.fault.Cause.TheVariants as causes

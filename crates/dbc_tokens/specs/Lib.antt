@@ -1,6 +1,6 @@
 pub mod Causes
 pub mod Tokens
--- how the code goes through a text: a middle step
-pub mod Reading
+-- how the code reads a text: an intermediate step
+pub mod inner
 pub mod Places
 pub mod Views

@@ -1,7 +1,7 @@
--- The tokens of a text: gap, token, gap, .., token, gap. At its place each token is the longest that begins there.
--- Source: the DBC file format, "General Definitions": C_identifier, char_string, unsigned_integer and double are told
--- by the lexical forms of dbc_model. That a gap may be empty, that `//` begins a comment, that a sign is a mark of its
--- own and that the longest token is taken is the profile of candesk.
+-- The tokens of a text: gap, token, gap, .., token, gap. Each token is the longest that begins at its position. Source: the DBC
+-- file format, "General Definitions": C_identifier, char_string, unsigned_integer and double are given by the lexical forms of
+-- dbc_model. That a gap may be empty, that `//` begins a comment, that a sign is a mark of its own and that the longest token is
+-- taken is the profile of candesk.
 use Rattle.std.specs.Prelude.{◌≡◌, ◌≢◌, ℕ, ◌+◌, ◌≤◌, not, IsTrue, List, [], ◌∷◌, ◌++◌, length, count_by}
 use Rattle.std.specs.List.{list_all, flat_map}
 use Rattle.dbc_values.specs.Lexical.{line_feed, slash, is_blank, is_line_feed, is_word, is_text, quoted, is_number, is_mark}
@@ -17,7 +17,7 @@ IsToken Word bytes = IsTrue (is_word bytes)
 IsToken Number bytes = IsTrue (is_number bytes)
 IsToken Mark bytes = (mark : ℕ) × (bytes ≡ mark ∷ []) × IsTrue (is_mark mark)
 
--- the bytes are a token of this kind, and where they stand before rest no longer token of any kind begins
+-- the bytes are a token of this kind, and before rest no longer token of any kind begins where they do
 pub record IsLongest (kind : Kind) (bytes rest : List ℕ) : Type 0 where
   pub token : IsToken kind bytes
   pub longest : (k : Kind) (front others : List ℕ) → front ++ others ≡ bytes ++ rest → IsToken k front → length front ≤ length bytes
@@ -38,19 +38,19 @@ abbrev pub part_bytes : Part → List ℕ
 part_bytes (Blank b) = b ∷ []
 part_bytes (Comment body) = slash ∷ slash ∷ body
 
--- a line feed stands here, or the text ends
+-- a line feed is here, or the text ends
 abbrev pub EndsLine : List ℕ → Type 0
 EndsLine [] = Unit {0}
 EndsLine (b ∷ bytes) = b ≡ line_feed
 
--- these parts may stand before rest: a comment holds no line feed, and goes on up to one or to the end of the text
+-- these parts may come before rest: a comment holds no line feed, and runs up to one or to the end of the text
 abbrev pub AreParts : List Part → List ℕ → Type 0
 AreParts [] rest = Unit {0}
 AreParts (Blank b ∷ parts) rest = IsTrue (is_blank b) × AreParts parts rest
 AreParts (Comment body ∷ parts) rest = IsTrue (list_all (λ b. not (is_line_feed b)) body)
     × EndsLine (flat_map part_bytes parts ++ rest) × AreParts parts rest
 
--- blanks and comments, possibly none, where rest stands after them
+-- blanks and comments, possibly none, that may come before rest
 abbrev pub IsGap : List ℕ → List ℕ → Type 0
 IsGap gap rest = (parts : List Part) × (gap ≡ flat_map part_bytes parts) × AreParts parts rest
 
@@ -60,7 +60,7 @@ BeginsNoGap bytes = (gap rest : List ℕ) → gap ++ rest ≡ bytes → IsGap ga
 
 -- ---- the tokens of a text
 
--- a token with the line of its first byte, and with how many bytes are left of the text from that byte on
+-- a token with the line of its first byte, and with how many bytes of the text remain from that byte on
 pub record Token : Type 0 where
   pub kind : Kind
   pub bytes : List ℕ
@@ -78,7 +78,7 @@ pub data Cut : Type 0 where
 abbrev pub line_feeds : List ℕ → ℕ
 line_feeds bytes = count_by is_line_feed bytes
 
--- a text whose first byte stands in this line, with this many bytes after it, has these tokens
+-- a text whose first byte is in this line, with this many bytes after it, has these tokens
 abbrev pub HasTokens : ℕ → ℕ → List ℕ → Cut → Type 0
 HasTokens line after text (End at) = IsGap text [] × (at ≡ line + line_feeds text)
 HasTokens line after text (Fault at) =

@@ -1,4 +1,4 @@
--- What contracts see of tokens, of the step from one to the next, and of what is left of a text.
+-- What contracts see of tokens, of the step from one to the next, and of what remains of a text.
 use Rattle.std.specs.Prelude.{◌≡◌, ℕ, Bool, List, [], ◌∷◌, drop, Result, Ok, Err, is_some}
 use Rattle.std.specs.List.{prefix_len}
 use Rattle.dbc_values.specs.Lexical.{is_blank}
@@ -9,13 +9,13 @@ use Rattle.dbc_tokens.specs.declared.token.Next.TheVariants as nexts
 use Rattle.dbc_tokens.specs.declared.token.Token as tokens
 use Rattle.dbc_tokens.specs.declared.stream.Tokens.{Tokens}
 use Rattle.dbc_tokens.specs.Tokens.{Token, Cut, End, Fault, ◌▸◌}
-use Rattle.dbc_tokens.specs.Reading.Scanner.{line_text_at, plain_token_at, cut_of}
+use Rattle.dbc_tokens.specs.inner.Scanner.{line_text_at, plain_token_at, cut_of}
 
--- a token without where it lies in memory
+-- a token without its location in memory
 abbrev pub token_of : tokens.Token → Token
 token_of t = record { kind = t.kind; bytes = t.bytes.now; line = t.line; left = t.left }
 
--- the tokens that are left
+-- the remaining tokens
 abbrev pub left : Tokens → Cut
 left t = cut_of t.line t.rest.now
 
@@ -43,7 +43,7 @@ NothingAfter (nexts.Token t) cut = Unit {0}
 NothingAfter (nexts.End line) cut = cut ≡ End line
 NothingAfter (nexts.Fault line) cut = cut ≡ End line
 
--- the fault of a place in this line at which no token begins
+-- the fault of a position in this line at which no token begins
 abbrev pub token_fault : ℕ → ReadFault
 token_fault line = record { line = line; cause = causes.Token }
 
@@ -52,7 +52,7 @@ abbrev pub item : Result tokens.Token ReadFault → Result Token ReadFault
 item (Ok t) = Ok (token_of t)
 item (Err fault) = Err fault
 
--- the tokens, and the fault where one ends them
+-- the tokens, and the fault if one ends them
 abbrev pub items : Cut → List (Result Token ReadFault)
 items (End line) = []
 items (Fault line) = Err (token_fault line) ∷ []

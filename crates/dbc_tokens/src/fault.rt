@@ -4,20 +4,20 @@ ghost use Rattle.dbc_tokens.specs.Causes.{cause_number, cause_word};
 
 use std::fmt::{self, Formatter, Write};
 
-/// Why a text is rejected. Each cause is shown with its number, as `2 Statement`.
+/// Why a text is rejected. Each cause is displayed with its number, as in `2 Statement`.
 #[derive(Clone, Copy, Debug, PartialEq, Eq)]
 pub enum Cause {
     /// No token begins here, or a string has no end.
     Token = 1,
-    /// This token can't stand here, whatever follows it; or the text ends where it may not.
+    /// This token can't be here, whatever follows it; or the text ends where it may not.
     Statement = 2,
-    /// A second signal of one name in a message.
+    /// A second signal of the same name in a message.
     RepeatedSignal = 3,
     /// A message after the 65,535th.
     MessagesFull = 4,
     /// A signal of a message after its 999th.
     SignalsFull = 5,
-    /// A whole number, or that of a multiplexer indicator, outside its bound.
+    /// A whole number, or the value of a multiplexer indicator, outside its bound.
     Limit = 6,
     /// Out of memory, whatever the text.
     Memory = 90,
@@ -63,11 +63,11 @@ impl fmt::Display for Cause {
 
 impl std::error::Error for Cause {}
 
-/// Where and why reading a text ended. Lines count from 1, and a line ends at each LF; a fault because memory ran out has
-/// the line 0. It shows itself as `line 3: 2 Statement`, and running out of memory as `90 Memory`.
+/// Where and why reading a text ended. Lines count from 1, and a line ends at each LF; a fault because memory ran out has the line
+/// 0. It is displayed as `line 3: 2 Statement`, and running out of memory as `90 Memory`.
 #[derive(Clone, Copy, Debug, PartialEq, Eq)]
 pub struct ReadFault {
-    /// The line of the first byte of the token or place that the fault stands at, or of the end of the text.
+    /// The line of the first byte of the token or location of the fault, or of the end of the text.
     pub line: u64,
     /// What is wrong there.
     pub cause: Cause,

@@ -2,15 +2,15 @@
 ghost use Rattle.std.specs.Prelude.{◌≡◌, ◌↔◌, ℕ, List};
 ghost use Rattle.dbc_tokens.specs.Tokens.{Cut, HasTokens};
 ghost use Rattle.dbc_tokens.specs.Places.{TokensInOrder, TokensFromEach};
-ghost use Rattle.dbc_tokens.specs.Reading.Scanner.{cut_of};
+ghost use Rattle.dbc_tokens.specs.inner.Scanner.{cut_of};
 
 /// A text has exactly one list of tokens with its end or fault, and it is the one that the scanner finds.
 pub fn one_cut()
     ensures { (line : ℕ) (text : List ℕ) (cut : Cut) → HasTokens line 0 text cut ↔ (cut ≡ cut_of line text) }
 {}
 
-/// The tokens of a text are parts of it in rising order, none within another, each in the line that is told by the line
-/// feeds before it.
+/// The tokens of a text are parts of it in ascending order, none within another, each in the line that the line
+/// feeds before it determine.
 pub fn tokens_in_order()
     ensures { TokensInOrder }
 {}

@@ -1,9 +1,9 @@
-//! How long the gap or the token at the front of a text is.
+//! The length of the gap or the token at the front of a text.
 ghost use Rattle.std.specs.Prelude.{◌≡◌, ◌-◌, ◌<◌, ◌≤◌, false, not, ◌||◌, ◌==◌, length, slice_index, take, IfSome};
 ghost use Rattle.std.specs.List.{prefix_len};
 ghost use Rattle.dbc_values.specs.Lexical.{backslash, is_blank, is_letter, is_word_byte, is_mark, is_digit};
-ghost use Rattle.dbc_tokens.specs.Reading.Scanner.{gap_len, text_len, mantissa_len, sign_len, exponent_len, number_len, token_at};
-ghost use Rattle.dbc_tokens.specs.Reading.Scanner.{line_text_len, line_text_at, plain_number_len, plain_token_at};
+ghost use Rattle.dbc_tokens.specs.inner.Scanner.{gap_len, text_len, mantissa_len, sign_len, exponent_len, number_len, token_at};
+ghost use Rattle.dbc_tokens.specs.inner.Scanner.{line_text_len, line_text_at, plain_number_len, plain_token_at};
 ghost use Rattle.dbc_tokens.specs.Tokens.{line_feeds};
 
 use crate::token::Kind;
@@ -23,7 +23,7 @@ fn word_len(bytes: &[u8]) -> usize
     bytes.iter().take_while(|b| is_word_byte(**b)).count()
 }
 
-// How many bytes of digits with a point stand at the front.
+// How many bytes of digits with a point are at the front.
 fn mantissa_len(bytes: &[u8]) -> usize
     ensures value { result ≡ mantissa_len bytes.now }
     ensures in_range { result ≤ length bytes.now }
@@ -74,7 +74,7 @@ fn number_len(bytes: &[u8]) -> usize
     }
 }
 
-// How many bytes the number at the front has, or 0 where none begins or it may have an exponent.
+// How many bytes the number at the front has, or 0 if none begins or it may have an exponent.
 fn plain_number_len(bytes: &[u8]) -> usize
     ensures value { result ≡ plain_number_len bytes.now }
     ensures in_range { result ≤ length bytes.now }
@@ -86,7 +86,7 @@ fn plain_number_len(bytes: &[u8]) -> usize
     }
 }
 
-// Whether a quote at this place after the opening one closes: no backslash stands directly before it.
+// Whether a quote at this position after the opening one closes the string: no backslash is directly before it.
 fn closes(bytes: &[u8], end: usize) -> bool
     requires { end ≤ length bytes.now }
     ensures { result ≡ (end == 0 || not (slice_index bytes.now (end - 1) == backslash)) }
@@ -94,7 +94,7 @@ fn closes(bytes: &[u8], end: usize) -> bool
     end == 0 || bytes[end - 1] != b'\\'
 }
 
-// How many bytes stand before the first quote that closes.
+// How many bytes are before the first quote that closes.
 fn text_len(bytes: &[u8]) -> Option<usize>
     ensures value { result ≡ text_len false bytes.now }
     ensures in_range { IfSome result (λ n. n < length bytes.now) }
@@ -110,7 +110,7 @@ fn text_len(bytes: &[u8]) -> Option<usize>
     None
 }
 
-// How many bytes are before the first quote, if that closes and no LF is before it.
+// How many bytes are before the first quote, if that closes the string and no LF is before it.
 #[inline(never)]
 fn line_text_len(bytes: &[u8]) -> Option<usize>
     ensures value { result ≡ line_text_len bytes.now }
@@ -126,7 +126,7 @@ fn line_text_len(bytes: &[u8]) -> Option<usize>
 
 /// How many blanks are at the front, and how many LF are among them.
 #[inline(always)]
-pub fn leading_blanks(bytes: &[u8]) -> (usize, usize)
+pub(crate) fn leading_blanks(bytes: &[u8]) -> (usize, usize)
     ensures count { result.0 ≡ prefix_len is_blank bytes.now }
     ensures line_feeds { result.1 ≡ line_feeds (take result.0 bytes.now) }
     ensures in_range { (result.1 ≤ result.0) × (result.0 ≤ length bytes.now) }
@@ -142,7 +142,7 @@ pub fn leading_blanks(bytes: &[u8]) -> (usize, usize)
     (count, feeds)
 }
 
-/// How many bytes of blanks and comments stand at the front.
+/// How many bytes of blanks and comments are at the front.
 pub fn gap_len(bytes: &[u8]) -> usize
     ensures value { result ≡ gap_len false bytes.now }
     ensures in_range { result ≤ length bytes.now }
@@ -163,10 +163,10 @@ pub fn gap_len(bytes: &[u8]) -> usize
     at
 }
 
-/// The kind of the token at the front and how many bytes it has, or `None` where no token begins.
-#[tactic(auto, unfolding(crate::specs::Reading::Scanner::token_at))]
+/// The kind of the token at the front and how many bytes it has, or `None` if no token begins.
+#[tactic(auto, unfolding(crate::specs::inner::Scanner::token_at))]
 #[inline(always)]
-pub fn token_at(bytes: &[u8]) -> Option<(Kind, usize)>
+pub(crate) fn token_at(bytes: &[u8]) -> Option<(Kind, usize)>
     ensures value { result ≡ token_at bytes.now }
     ensures in_range { IfSome result (λ t. (0 < t.1) × (t.1 ≤ length bytes.now)) }
 {
@@ -185,11 +185,11 @@ pub fn token_at(bytes: &[u8]) -> Option<(Kind, usize)>
     }
 }
 
-/// The kind of the token at the front and how many bytes it has, if it is a word, a mark, or a number that begins with a digit and
-/// has no exponent.
-#[tactic(auto, unfolding(crate::specs::Reading::Scanner::plain_token_at))]
+/// The kind of the token at the front and how many bytes it has, if it is a word, a mark, or a number that begins with a digit
+/// and has no exponent.
+#[tactic(auto, unfolding(crate::specs::inner::Scanner::plain_token_at))]
 #[inline(always)]
-pub fn plain_token_at(bytes: &[u8]) -> Option<(Kind, usize)>
+pub(crate) fn plain_token_at(bytes: &[u8]) -> Option<(Kind, usize)>
     ensures value { result ≡ plain_token_at bytes.now }
     ensures in_range { IfSome result (λ t. t.1 ≤ length bytes.now) }
 {
@@ -205,9 +205,9 @@ pub fn plain_token_at(bytes: &[u8]) -> Option<(Kind, usize)>
 }
 
 /// The kind of the string at the front and how many bytes it has, if it ends at its first quote and in the line in which it begins.
-#[tactic(auto, unfolding(crate::specs::Reading::Scanner::line_text_at))]
+#[tactic(auto, unfolding(crate::specs::inner::Scanner::line_text_at))]
 #[inline(always)]
-pub fn line_text_at(bytes: &[u8]) -> Option<(Kind, usize)>
+pub(crate) fn line_text_at(bytes: &[u8]) -> Option<(Kind, usize)>
     ensures value { result ≡ line_text_at bytes.now }
     ensures in_range { IfSome result (λ t. t.1 ≤ length bytes.now) }
 {

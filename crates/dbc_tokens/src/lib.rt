@@ -1,7 +1,7 @@
 //! The tokens of a DBC text.
 //!
-//! [`tokens`] gives the tokens of a text one after another and takes no memory. Which tokens a text has is told by the
-//! definitions of `specs/Tokens.antt`, apart from how they are found; [`laws`] says that both agree.
+//! [`tokens`] gives the tokens of a text one after another without allocating. The definitions of `specs/Tokens.antt` determine
+//! which tokens a text has, independently of how they are found; [`laws`] states that both agree.
 #![tactic(auto)]
 
 mod cutting;

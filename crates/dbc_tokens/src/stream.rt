@@ -1,9 +1,9 @@
-//! The tokens that are left of a text.
+//! The remaining tokens of a text.
 ghost use Rattle.std.specs.Prelude.{◌+◌, ◌<◌, ◌^◌, length};
 
 mod stepping;
 
-/// The tokens that are left of a text, as an iterator. After a fault it gives nothing more.
+/// The remaining tokens of a text, as an iterator. After a fault it yields nothing more.
 #[derive(Clone, Copy, Debug)]
 pub struct Tokens<'a> {
     rest: &'a [u8],

@@ -18,11 +18,11 @@ pub enum Kind {
 pub struct Token<'a> {
     /// What it is.
     pub kind: Kind,
-    /// Its bytes where they stand in the text, of a string with both quotes.
+    /// Its bytes as they are in the text, for a string with both quotes.
     pub bytes: &'a [u8],
     /// The line of its first byte: 1 and the number of LF before it.
     pub line: u64,
-    /// How many bytes are left of the text from its first byte on.
+    /// How many bytes of the text remain from its first byte on.
     pub left: usize,
 }
 
@@ -33,6 +33,6 @@ pub enum Next<'a> {
     Token(Token<'a>),
     /// The end of the text, in this line: 1 and the number of all its LF.
     End(u64),
-    /// In this line a byte at which no token begins, or the opening quote of a string without an end.
+    /// In this line, a byte at which no token begins, or the opening quote of a string without an end.
     Fault(u64),
 }

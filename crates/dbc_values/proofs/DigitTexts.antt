@@ -17,7 +17,7 @@ value_append m (x ∷ xs) ys = value_append (m * 10 + digit_value x) xs ys
 pub digit_is : (c : ℕ) → is_digit c ≡ true → digit_value c ≡ c - 48
 digit_is c h = grind (arith, nat_tests)
 
--- the digit at a place, read after those before it
+-- the digit at an index, read after those before it
 pub value_more : (m : ℕ) (ds : List ℕ) (i : ℕ) → i < length ds → IsTrue (list_all is_digit ds)
     → digits_value_after 10 m (take (i + 1) ds) ≡ digits_value_after 10 m (take i ds) * 10 + (get_or ds i 0 - 48)
 value_more m ds i less digits =

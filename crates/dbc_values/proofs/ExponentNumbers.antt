@@ -1,4 +1,4 @@
--- What a number with an exponent spells, where what is before its exponent is read by itself.
+-- What a number with an exponent means, where what is before its exponent is read by itself.
 use Rattle.std.proofs.Common.{◌≡◌, ℕ, ◌+◌, ◌<◌, Bool, true, false, IsTrue, List, [], ◌∷◌, ◌++◌, ℤ, pos, ◌-ℤ◌, suc}
 use Rattle.std.proofs.Common.{length, get_or, take, drop, refl, sym, ap, subst, ◌∙◌, arith, inl, inr}
 use Rattle.std.specs.Prelude.{Option, Some, None, MatchOption}
@@ -18,10 +18,10 @@ none_before : (p : ℕ → Bool) (xs : List ℕ) → list_any p (before_first p 
 none_before p [] = refl
 none_before p (x ∷ xs) =
     elim (cases_Bool (p x)) [
-      | inl y ↦ let place : position_or_len p (x ∷ xs) ≡ 0 = rw y (omega arith) in rw place refl
+      | inl y ↦ let index : position_or_len p (x ∷ xs) ≡ 0 = rw y (omega arith) in rw index refl
       | inr n ↦
-          let place : position_or_len p (x ∷ xs) ≡ suc (position_or_len p xs) = rw n (omega arith) in
-          rw (place, n) (none_before p xs)
+          let index : position_or_len p (x ∷ xs) ≡ suc (position_or_len p xs) = rw n (omega arith) in
+          rw (index, n) (none_before p xs)
     ]
 
 some_there : (p : ℕ → Bool) (xs : List ℕ) → position_or_len p xs < length xs → list_any p xs ≡ true

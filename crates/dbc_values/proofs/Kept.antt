@@ -15,4 +15,4 @@ picked P (false ∷ bs) (x ∷ xs) all = picked P bs xs (rest P x xs all)
 
 pub kept : {X S : Type 0} (R : S → X → Bool → S → Type 0) (P : X → Type 0) (s : S) (xs ys : List X) → IsFiltered R s xs ys
     → All P xs → All P ys
-kept R P s xs ys told all = rw (told.4) (picked P told.0 xs all)
+kept R P s xs ys given all = rw (given.4) (picked P given.0 xs all)

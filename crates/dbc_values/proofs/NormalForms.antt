@@ -1,4 +1,4 @@
--- The normal form of a number is one, and it is there where the digits and the exponent are within the bounds.
+-- A number has one normal form, and it exists if the digits and the exponent are within the bounds.
 use Rattle.std.proofs.Common.{List, MatchOption, ◌≡◌, ◌≢◌, ℕ, ℤ, pos, negsuc, zero, suc, ◌+◌, ◌*◌, ◌^◌, ◌/◌, ◌%◌, ◌<◌, ◌≤◌, ◌+ℤ◌}
 use Rattle.std.proofs.Common.{◌-ℤ◌, ◌≤ℤ◌, inl, inr, nat_lt, Option, Some, None, refl, sym, ap, subst, ◌∙◌, arith, true, false, Bool}
 use Rattle.std.proofs.Common.{IsTrue, not, ◌&&◌, eqb}
@@ -12,7 +12,7 @@ use Rattle.std.proofs.lemmas.Nat.{div-add-mod'}
 use Rattle.dbc_values.specs.Decimals.{Decimal, decimal_fits, IsDecimalOf, without_zeros, where_fits, decimal_of, decimal_of_number}
 use Rattle.dbc_values.specs.Decimals.{SpellsDecimal}
 use Rattle.dbc_values.specs.Lexical.{is_number}
-use Rattle.dbc_values.specs.Numbers.{IsReduced, StandsFor, mantissa_of, exponent_of}
+use Rattle.dbc_values.specs.Numbers.{IsReduced, OccursFor, mantissa_of, exponent_of}
 use Rattle.dbc_values.proofs.Powers.{one_way, SameTens, at_least_itself, tens_more, tens_none}
 use Rattle.dbc_values.proofs.Digits.{kept_is, kept_small, dropped_is}
 
@@ -100,7 +100,7 @@ no_decimal_long negative m e x r d is =
     let same = same_parts negative m r.front.front r.zeros e d r.front.value last is in
     absurd (omega (arith, same.within.digits))
 
--- the last digit is not zero where the digits are not 0
+-- the last digit is not zero if the digits are not 0
 last_of : (m n : ℕ) (e x : ℤ) (r : IsReduced m e (Some n) x) → n ≢ 0 → n % 10 ≢ 0
 last_of m n e x r some at_zero =
     let front : n ≡ r.front.front = kept_is n r.front.front r.front.kept in
@@ -109,12 +109,12 @@ last_of m n e x r some at_zero =
 value_of : (m n : ℕ) (e x : ℤ) (r : IsReduced m e (Some n) x) → m ≡ n * 10 ^ r.zeros
 value_of m n e x r = r.front.value ∙ ap (λ (i : ℕ). i * 10 ^ r.zeros) (sym (kept_is n r.front.front r.front.kept))
 
-near_is : (e x : ℤ) → StandsFor 1000 e x → (pos 0 -ℤ pos 400) ≤ℤ e → e ≤ℤ pos 400 → x ≡ e
+near_is : (e x : ℤ) → OccursFor 1000 e x → (pos 0 -ℤ pos 400) ≤ℤ e → e ≤ℤ pos 400 → x ≡ e
 near_is e x (inl same) low high = same
 near_is e x (inr (inl above)) low high = absurd (omega (arith, ints, above.1))
 near_is e x (inr (inr below)) low high = absurd (omega (arith, ints, below.1))
 
-is_near : (e x : ℤ) → StandsFor 1000 e x → (pos 0 -ℤ pos 400) ≤ℤ x → x ≤ℤ pos 400 → x ≡ e
+is_near : (e x : ℤ) → OccursFor 1000 e x → (pos 0 -ℤ pos 400) ≤ℤ x → x ≤ℤ pos 400 → x ≡ e
 is_near e x (inl same) low high = same
 is_near e x (inr (inl above)) low high = absurd (omega (arith, ints, above.0))
 is_near e x (inr (inr below)) low high = absurd (omega (arith, ints, below.0))
@@ -165,7 +165,7 @@ zero_parts d none fits =
     let both = and_parts (not d.negative) (int_eq d.exponent (pos 0)) parts in
     record { negative = not-true d.negative both.0; mantissa = none; exponent = (Decides-int_eq d.exponent (pos 0)).0 both.1 }
 
--- a number is 0 exactly where its decimal is
+-- a number is 0 exactly when its decimal is
 zero_from : (negative : Bool) (m : ℕ) (e : ℤ) (d : Decimal) → d.mantissa ≡ 0 → IsDecimalOf negative m e d → m ≡ 0
 zero_from negative m e d none is = elim is.value [
   | inl at_zero ↦ at_zero.0
@@ -282,7 +282,7 @@ none_from : (made : Option Decimal) → ((d : Decimal) → made ≡ Some d → �
 none_from None no_such = refl
 none_from (Some d) no_such = absurd (no_such d refl)
 
--- what a number's decimal is told to be is what the function gives
+-- what a number's decimal is defined to be is what the function gives
 pub decimal_is_made : (negative : Bool) (number : List ℕ) (made : Option Decimal)
     → MatchOption made ((d : Decimal) → SpellsDecimal negative number d → ⊥) (SpellsDecimal negative number)
     → made ≡ decimal_of_number negative number

@@ -11,7 +11,7 @@ use Rattle.std.proofs.lemmas.List.Sums.{passes_at_first}
 use Rattle.std.proofs.Math.ListN.{drop_of_length-le}
 use Rattle.dbc_values.specs.Lexical.{is_digit, is_point, is_exponent_mark, is_signed_digits, is_number}
 use Rattle.dbc_values.specs.Numbers.{digits_before_point, digits_after_point, written_exponent, mantissa_of, exponent_of}
-use Rattle.dbc_values.specs.Numbers.{HasDigits, StandsFor, IsReduced}
+use Rattle.dbc_values.specs.Numbers.{HasDigits, OccursFor, IsReduced}
 use Rattle.dbc_values.proofs.DigitTexts.{value_append}
 
 pub digits_before : (number : List ℕ) → IsTrue (is_number number) → IsTrue (list_all is_digit (digits_before_point number))
@@ -22,9 +22,9 @@ pub digits_after : (number : List ℕ) → IsTrue (is_number number) → IsTrue 
 unfolding is_number
 digits_after number h = (and_parts _ _ (and_parts _ _ (and_parts _ _ h).0).0).1
 
-pub behind_sign : (text : List ℕ) → is_signed_digits text ≡ true → IsTrue (list_all is_digit (without_leading_sign text))
-behind_sign [] h = refl
-behind_sign (b ∷ text) h = grind (arith, nat_tests)
+pub following_sign : (text : List ℕ) → is_signed_digits text ≡ true → IsTrue (list_all is_digit (without_leading_sign text))
+following_sign [] h = refl
+following_sign (b ∷ text) h = grind (arith, nat_tests)
 
 nothing_after : (p : ℕ → Bool) (xs : List ℕ) → list_any p xs ≡ false → after_first p xs ≡ []
 nothing_after p xs none =
@@ -49,7 +49,7 @@ digits_of_exponent number h =
     let exponent : (if list_any is_exponent_mark number then is_signed_digits (after_first is_exponent_mark number) else true)
     ≡ true = (and_parts _ _ h).1 in
     elim (cases_Bool (list_any is_exponent_mark number)) [
-      | inl some ↦ behind_sign (after_first is_exponent_mark number) (rw some at exponent)
+      | inl some ↦ following_sign (after_first is_exponent_mark number) (rw some at exponent)
       | inr none ↦ rw (nothing_after is_exponent_mark number none) refl
     ]
 
@@ -74,10 +74,10 @@ exponent_is number part i i-is part-is = part-is ∙ ap (λ (n : ℕ). drop (n +
 pub reduced : (number before after : List ℕ) (digits : Option ℕ) (zeros : ℕ) (x : ℤ) → before ≡ digits_before_point number
     → after ≡ digits_after_point number
     → HasDigits (digits_value_after 10 (digits_value_after 10 0 before) after) digits zeros
-    → StandsFor 1000 ((written_exponent number -ℤ pos (length after)) +ℤ pos zeros) x
+    → OccursFor 1000 ((written_exponent number -ℤ pos (length after)) +ℤ pos zeros) x
     → IsReduced (mantissa_of number) (exponent_of number) digits x
 unfolding mantissa_of exponent_of
-reduced number before after digits zeros x before-is after-is has stands = record {
+reduced number before after digits zeros x before-is after-is has occurs = record {
   zeros = zeros;
   front =
       let e : digits_value_after 10 (digits_value_after 10 0 before) after ≡ digits_value 10 (digits_before_point number
@@ -85,7 +85,7 @@ reduced number before after digits zeros x before-is after-is has stands = recor
       sym (value_append 0 before after) ∙ ap (λ (t : List ℕ). digits_value 10 (t ++ after)) before-is
       ∙ ap (λ (t : List ℕ). digits_value 10 (digits_before_point number ++ t)) after-is in
       rw e at has;
-  power = rw after-is at stands;
+  power = rw after-is at occurs;
 }
 
 -- nothing read yet

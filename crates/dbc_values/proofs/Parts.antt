@@ -1,48 +1,48 @@
--- Parts of bytes, one after the other: their number, each by its place, and one more.
+-- Parts of bytes, one after the other: their count, each by its index, and one more.
 use Rattle.std.proofs.Common.{◌≡◌, ℕ, ◌+◌, ◌<◌, ◌≤◌, List, [], ◌∷◌, ◌++◌, length, get_or, ap, arith, suc, zero, refl, length-append}
 use Rattle.std.proofs.lemmas.Grind.{common_steps}
 use Rattle.std.specs.Prelude.{Some, None, slice_get}
 use Rattle.std.specs.List.{slice_range}
 use Rattle.std.proofs.lemmas.List.Elements.{All-push}
 use Rattle.dbc_values.specs.Pieces.{IsPiece}
-use Rattle.dbc_values.specs.Parts.{parts_from, ArePlaces, HoldPieces}
+use Rattle.dbc_values.specs.inner.Parts.{parts_from, ArePlaces, HoldPieces}
 
 pub parts_count : (start : ℕ) (ends bytes : List ℕ) → length (parts_from start ends bytes) ≡ length ends
 parts_count start [] bytes = refl
 parts_count start (end ∷ ends) bytes = ap suc (parts_count end ends bytes)
 
--- no place is after the last
+-- no part ends after the last
 pub starts_within : (start : ℕ) (ends : List ℕ) (total : ℕ) → ArePlaces start ends total → start ≤ total
 starts_within start [] total are = omega (arith, are)
 starts_within start (end ∷ ends) total are = omega (arith, are.0, starts_within end ends total are.1)
 
 -- a part ends after its beginning
-pub part_rises : (start : ℕ) (ends : List ℕ) (total place : ℕ) → ArePlaces start ends total → place < length ends
-    → get_or (start ∷ ends) place 0 ≤ get_or ends place 0
-part_rises start [] total place are few = absurd (omega (arith, few))
+pub part_rises : (start : ℕ) (ends : List ℕ) (total index : ℕ) → ArePlaces start ends total → index < length ends
+    → get_or (start ∷ ends) index 0 ≤ get_or ends index 0
+part_rises start [] total index are few = absurd (omega (arith, few))
 part_rises start (end ∷ ends) total zero are few = are.0
-part_rises start (end ∷ ends) total (suc place) are few = part_rises end ends total place are.1 (omega (arith, few))
+part_rises start (end ∷ ends) total (suc index) are few = part_rises end ends total index are.1 (omega (arith, few))
 
 -- and within all bytes
-pub part_within : (start : ℕ) (ends : List ℕ) (total place : ℕ) → ArePlaces start ends total → place < length ends
-    → get_or ends place 0 ≤ total
-part_within start [] total place are few = absurd (omega (arith, few))
+pub part_within : (start : ℕ) (ends : List ℕ) (total index : ℕ) → ArePlaces start ends total → index < length ends
+    → get_or ends index 0 ≤ total
+part_within start [] total index are few = absurd (omega (arith, few))
 part_within start (end ∷ ends) total zero are few = starts_within end ends total are.1
-part_within start (end ∷ ends) total (suc place) are few = part_within end ends total place are.1 (omega (arith, few))
+part_within start (end ∷ ends) total (suc index) are few = part_within end ends total index are.1 (omega (arith, few))
 
-pub no_part : (start : ℕ) (ends bytes : List ℕ) (place : ℕ) → length ends ≤ place → slice_get (parts_from start ends bytes) place
+pub no_part : (start : ℕ) (ends bytes : List ℕ) (index : ℕ) → length ends ≤ index → slice_get (parts_from start ends bytes) index
     ≡ None
-no_part start [] bytes place few = refl
+no_part start [] bytes index few = refl
 no_part start (end ∷ ends) bytes zero few = absurd (omega (arith, few))
-no_part start (end ∷ ends) bytes (suc place) few = no_part end ends bytes place (omega (arith, few))
+no_part start (end ∷ ends) bytes (suc index) few = no_part end ends bytes index (omega (arith, few))
 
-pub part_is : (start : ℕ) (ends bytes : List ℕ) (place : ℕ) → place < length ends
-    → slice_get (parts_from start ends bytes) place ≡ Some (slice_range bytes (get_or (start ∷ ends) place 0) (get_or ends place 0))
-part_is start [] bytes place few = absurd (omega (arith, few))
+pub part_is : (start : ℕ) (ends bytes : List ℕ) (index : ℕ) → index < length ends
+    → slice_get (parts_from start ends bytes) index ≡ Some (slice_range bytes (get_or (start ∷ ends) index 0) (get_or ends index 0))
+part_is start [] bytes index few = absurd (omega (arith, few))
 part_is start (end ∷ ends) bytes zero few = refl
-part_is start (end ∷ ends) bytes (suc place) few = part_is end ends bytes place (omega (arith, few))
+part_is start (end ∷ ends) bytes (suc index) few = part_is end ends bytes index (omega (arith, few))
 
--- a part that lies within the bytes is the same of more bytes
+-- a part that is within the bytes is the same of more bytes
 same_part : (bytes more : List ℕ) (start end : ℕ) → start ≤ end → end ≤ length bytes
     → slice_range (bytes ++ more) start end ≡ slice_range bytes start end
 same_part bytes more start end rises within = grind (arith, common_steps)

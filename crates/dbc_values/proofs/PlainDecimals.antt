@@ -67,13 +67,13 @@ pointed : (front fraction : List ℕ) → IsTrue (list_all is_digit front) → I
     → Pointed (front ++ point ∷ fraction) front fraction
 pointed front fraction before after =
     let mark = no_mark_in front fraction before after in
-    let place = first_point front fraction (none_among is_point front no_point before) in
+    let index = first_point front fraction (none_among is_point front no_point before) in
     record {
       mantissa = all_before is_exponent_mark (front ++ point ∷ fraction) mark;
       nothing = none_after is_exponent_mark (front ++ point ∷ fraction) mark;
       no_exponent = mark;
-      before = ap (λ (n : ℕ). take n (front ++ point ∷ fraction)) place ∙ take-append_seam front (point ∷ fraction);
-      after = ap (λ (n : ℕ). drop (n + 1) (front ++ point ∷ fraction)) place ∙ drop-append-add front (point ∷ fraction) 1;
+      before = ap (λ (n : ℕ). take n (front ++ point ∷ fraction)) index ∙ take-append_seam front (point ∷ fraction);
+      after = ap (λ (n : ℕ). drop (n + 1) (front ++ point ∷ fraction)) index ∙ drop-append-add front (point ∷ fraction) 1;
     }
 
 any_digit : (front fraction : List ℕ) → IsTrue (list_all is_digit front) → IsTrue (list_all is_digit fraction)
@@ -83,7 +83,7 @@ any_digit (b ∷ front) fraction before after some =
     let first : is_digit b ≡ true = (and_parts _ _ before).0 in
     rw first refl
 
--- what digits with at most one point among them spell: so many are after it
+-- what digits with at most one point among them spell: this many are after it
 pub record Plain (number : List ℕ) (value after : ℕ) : Type 0 where
   pub form : IsTrue (is_number number)
   pub digits : mantissa_of number ≡ value

@@ -1,4 +1,4 @@
--- Scaled values are within the bound, and a scale is there exactly where it fits.
+-- Scaled values are within the bound, and a scale exists exactly when it fits.
 use mir.Syntax.{w128}
 use mir.Val.{SFits}
 use Rattle.std.proofs.Common.{◌≡◌, ℕ, ℤ, zero, suc, ◌+◌, ◌*◌, ◌^◌, ◌<◌, ◌≤◌, ◌+ℤ◌, ◌*ℤ◌, nat_lt, nat_le, Option, Some, None, refl}
@@ -81,7 +81,7 @@ factor_far factor offset length far =
 offset_far : (factor offset length : ℕ) → 10 ^ 38 ≤ offset → reach_fits factor offset length ≡ false
 offset_far factor offset length far = le-ltb (factor * 2 ^ length + offset) (10 ^ 38) (omega arith)
 
--- a whole number that is there, or is not, by its magnitude
+-- a whole number that exists, or doesn't, by its magnitude
 abbrev pub where_short : ℕ → ℤ → Option ℤ
 where_short n z = if nat_lt n (10 ^ 38) then Some z else None
 

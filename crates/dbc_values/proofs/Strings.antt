@@ -1,4 +1,4 @@
--- A string by its first byte, its last byte and what stands between.
+-- A string by its first byte, its last byte and what is between them.
 use Rattle.std.proofs.Common.{◌≡◌, ℕ, ◌-◌, ◌≤◌, ◌==◌, ◌&&◌, Bool, List, [], ◌∷◌, ◌++◌, length, get_or, take, ap, ◌∙◌, arith}
 use Rattle.std.proofs.lemmas.Grind.{common_steps}
 use Rattle.std.proofs.lemmas.List.{take_more}
@@ -18,7 +18,7 @@ split_ends : (xs : List ℕ) → 2 ≤ length xs → xs ≡ get_or xs 0 0 ∷ (i
 split_ends [] h = grind arith
 split_ends (x ∷ xs) h = grind (arith, common_steps, split_last xs)
 
--- a list of two bytes or more is a string's where its ends are quotes
+-- a list of two bytes or more is a string's if its ends are quotes
 pub quoted_by_ends : (bytes : List ℕ) → 2 ≤ length bytes → bytes_eq bytes (quoted (inside bytes))
     ≡ (get_or bytes 0 0 == quote && get_or bytes (length bytes - 1) 0 == quote)
 quoted_by_ends bytes h =

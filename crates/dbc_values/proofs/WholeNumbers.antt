@@ -8,13 +8,13 @@ use Rattle.std.proofs.Math.Nat.{zero-mul, mul-mod_left}
 use Rattle.std.proofs.lemmas.Nat.{div-add-mod'}
 use Rattle.dbc_values.specs.declared.number.Whole.{Whole}
 use Rattle.dbc_values.specs.declared.number.Whole.TheVariants.{Fraction, TooLarge, Value}
-use Rattle.dbc_values.specs.Numbers.{IsWholeNumber, IsWhole, IsReduced, StandsFor, as_whole, whole_value, whole_of_number}
+use Rattle.dbc_values.specs.Numbers.{IsWholeNumber, IsWhole, IsReduced, OccursFor, as_whole, whole_value, whole_of_number}
 use Rattle.dbc_values.specs.Numbers.{mantissa_of, exponent_of, SpellsWhole}
 use Rattle.dbc_values.specs.Lexical.{is_number}
 use Rattle.dbc_values.proofs.Powers.{same_tens, tens_apart, ends_in_zero, at_least_itself, tens_at_least}
 use Rattle.dbc_values.proofs.Digits.{kept_is, dropped_is}
 
--- the digits of the front with fewer zeros, where the exponent takes some away, or with more
+-- the digits of the front with fewer zeros, if the exponent takes some away, or with more
 with_exponent : (n zeros t : ℕ) (e : ℤ) → (e +ℤ pos zeros) ≡ pos t → IsWholeNumber (n * 10 ^ zeros) e (n * 10 ^ t)
 unfolding IsWholeNumber
 with_exponent n zeros t (pos a) h =
@@ -27,18 +27,18 @@ with_exponent n zeros t (negsuc k) h =
 same_number : (m n k : ℕ) (e : ℤ) → m ≡ n → IsWholeNumber n e k → IsWholeNumber m e k
 same_number m n k e h w = let P : ℕ → Type 0 = λ i. IsWholeNumber i e k in subst P (sym h) w
 
--- no whole number, where the exponent takes away more zeros than there are
+-- no whole number, if the exponent takes away more zeros than there are
 no_whole : (n m zeros : ℕ) (e : ℤ) → n % 10 ≢ 0 → (e +ℤ pos zeros) <ℤ pos 0 → IsWholeNumber (n * 10 ^ zeros) e m → ⊥
 unfolding IsWholeNumber
 no_whole n m z (pos a) last less w = absurd (omega (arith, ints))
 no_whole n m z (negsuc k) last less w = last (ends_in_zero n m z (k + 1) w (omega (arith, ints)))
 
-below_zero : (e x : ℤ) → StandsFor 1000 e x → x <ℤ pos 0 → e <ℤ pos 0
+below_zero : (e x : ℤ) → OccursFor 1000 e x → x <ℤ pos 0 → e <ℤ pos 0
 below_zero e x (inl same) less = omega (arith, ints)
 below_zero e x (inr (inl above)) less = omega (arith, ints, above.0)
 below_zero e x (inr (inr below)) less = omega (arith, ints, below.1)
 
-not_below_zero : (e x : ℤ) → StandsFor 1000 e x → pos 0 ≤ℤ x → pos 0 ≤ℤ e
+not_below_zero : (e x : ℤ) → OccursFor 1000 e x → pos 0 ≤ℤ x → pos 0 ≤ℤ e
 not_below_zero e x (inl same) more = omega (arith, ints)
 not_below_zero e x (inr (inl above)) more = omega (arith, ints, above.1)
 not_below_zero e x (inr (inr below)) more = absurd (omega (arith, ints, below.0))
@@ -146,7 +146,7 @@ whole_from m e whole is = one_whole m e (whole_value m e) whole (whole_value_is 
 pub whole_to : (m : ℕ) (e : ℤ) (whole : Whole) → whole_value m e ≡ whole → IsWhole m e whole
 whole_to m e whole same = subst (IsWhole m e) same (whole_value_is m e)
 
--- what a number is told to be as a whole number is what the function gives
+-- what a number is defined to be as a whole number is what the function gives
 pub whole_is_made : (number : List ℕ) (made : Option Whole) → MatchOption made (is_number number ≡ false) (SpellsWhole number)
     → made ≡ whole_of_number number
 unfolding whole_of_number

@@ -29,19 +29,19 @@ decimal_fits negative mantissa exponent =
 pub record IsDecimal (decimal : Decimal) : Type 0 where
   pub fits : IsTrue (decimal_fits decimal.negative decimal.mantissa decimal.exponent)
 
--- The decimal is the number `m · 10^e`, negated where `negative` is true: `m` is its mantissa and some zeros at the
--- end, which its exponent counts. A zero is one with any exponent and sign.
+-- The decimal is the number `m · 10^e`, negated if `negative` is true: `m` is its mantissa and some zeros at the end, which its
+-- exponent counts. A zero is zero with any exponent and sign.
 abbrev pub HasValue : Bool → ℕ → ℤ → Decimal → Type 0
 HasValue negative m e decimal =
     ((m ≡ 0) × (decimal.mantissa ≡ 0))
     ⊎ ((zeros : ℕ) × (m ≡ decimal.mantissa * 10 ^ zeros) × (decimal.exponent ≡ (e +ℤ pos zeros)) × (decimal.negative ≡ negative))
 
--- the decimal, in normal form, that is the number `m · 10^e`, negated where `negative` is true; there is at most one
+-- the decimal, in normal form, that is the number `m · 10^e`, negated if `negative` is true; there is at most one
 pub record IsDecimalOf (negative : Bool) (m : ℕ) (e : ℤ) (decimal : Decimal) : Type 0 where
   pub fits : IsTrue (decimal_fits decimal.negative decimal.mantissa decimal.exponent)
   pub value : HasValue negative m e decimal
 
--- the same as a function: the decimal with the zeros at the end of m, up to that many, counted by its exponent
+-- the same as a function: the decimal whose exponent counts up to this many zeros at the end of m
 abbrev pub without_zeros : ℕ → Bool → ℕ → ℤ → Decimal
 without_zeros zero negative m e = record { negative = negative; mantissa = m; exponent = e }
 without_zeros (suc steps) negative m e =
@@ -61,11 +61,11 @@ decimal_of negative m e =
 unfoldable pub decimal_of_number : Bool → List ℕ → Option Decimal
 decimal_of_number negative number = if is_number number then decimal_of negative (mantissa_of number) (exponent_of number) else None
 
--- the bytes are a number, and the decimal is that number, negated where `negative` is true
+-- the bytes are a number, and the decimal is that number, negated if `negative` is true
 pub record SpellsDecimal (negative : Bool) (number : List ℕ) (decimal : Decimal) : Type 0 where
   pub form : IsTrue (is_number number)
   pub is : IsDecimalOf negative (mantissa_of number) (exponent_of number) decimal
 
--- the same of bytes that may begin with a sign
+-- the same for bytes that may begin with a sign
 abbrev pub SpellsSigned : List ℕ → Decimal → Type 0
 SpellsSigned bytes decimal = SpellsDecimal (starts_with_minus bytes) (without_leading_sign bytes) decimal

@@ -1,8 +1,7 @@
--- The lexical forms of a database text, as tests on bytes: which bytes are a blank, a mark, a word, a keyword, a name,
--- a string and a number. Names, texts and decimals are told by the same words as tokens are.
--- Source: the DBC file format, "General Definitions" (C_identifier, char_string, unsigned_integer, double) and the
--- keywords that its later sections begin with. That strings are bytes without an encoding, that `//` begins a comment
--- and that a text may not end in a backslash is the profile of candesk.
+-- The lexical forms of a database text, as tests on bytes: which bytes are a blank, a mark, a word, a keyword, a name, a string and
+-- a number. Names, texts and decimals are defined in the same terms as tokens. Source: the DBC file format, "General Definitions"
+-- (C_identifier, char_string, unsigned_integer, double) and the keywords that its later sections begin with. That strings are bytes
+-- without an encoding, that `//` begins a comment and that a text may not end in a backslash is the profile of candesk.
 use Rattle.std.specs.Prelude.{ℕ, ◌-◌, Bool, true, false, not, ◌||◌, ◌&&◌, ◌==◌, nat_le, List, [], ◌∷◌, ◌++◌, length, slice_index}
 use Rattle.std.specs.Prelude.{codes, if◌then◌else◌}
 use Rattle.std.specs.List.{list_any, list_all, before_first, after_first}
@@ -136,14 +135,14 @@ abbrev pub is_word : List ℕ → Bool
 is_word [] = false
 is_word (b ∷ bytes) = is_letter b && list_all is_word_byte bytes
 
--- the words that begin the lists and statements whose parts are judged
+-- the words that begin the lists and statements whose parts are checked
 abbrev pub statement_words : List (List ℕ)
 statement_words =
     codes "NS_" ∷ codes "BS_" ∷ codes "BU_" ∷ codes "BO_" ∷ codes "SG_" ∷ codes "CM_" ∷ codes "BA_" ∷ codes "VAL_"
     ∷ codes "VAL_TABLE_"
     ∷ codes "BA_DEF_" ∷ codes "BA_DEF_DEF_" ∷ codes "SIG_VALTYPE_" ∷ codes "SG_MUL_VAL_" ∷ []
 
--- the words that begin the statements which are kept as they stand
+-- the words that begin the statements which are kept verbatim
 abbrev pub kept_words : List (List ℕ)
 kept_words =
     codes "BO_TX_BU_" ∷ codes "EV_" ∷ codes "ENVVAR_DATA_" ∷ codes "EV_DATA_" ∷ codes "SIG_GROUP_" ∷ codes "SGTYPE_"
@@ -155,7 +154,7 @@ kept_words =
 abbrev pub is_kept_word : List ℕ → Bool
 is_kept_word word = list_any (bytes_eq word) kept_words
 
--- the words that stand only inside other statements
+-- the words that are only inside other statements
 abbrev pub relation_words : List (List ℕ)
 relation_words = codes "BU_SG_REL_" ∷ codes "BU_EV_REL_" ∷ codes "BU_BO_REL_" ∷ []
 
@@ -173,12 +172,12 @@ is_name word = is_word word && not (is_keyword word)
 
 -- ---- texts and strings
 
--- each quote stands directly after a backslash, and the last byte is no backslash; `after` says whether the byte before is one
+-- each quote is directly after a backslash, and the last byte is no backslash; `after` is true if the byte before is one
 abbrev pub is_text_after : Bool → List ℕ → Bool
 is_text_after after [] = not after
 is_text_after after (b ∷ bytes) = (if b == quote then after else true) && is_text_after (b == backslash) bytes
 
--- what may stand between the quotes of a string
+-- what may be between the quotes of a string
 unfoldable pub is_text : List ℕ → Bool
 is_text bytes = is_text_after false bytes
 

@@ -1,8 +1,7 @@
 pub mod Lexical
 pub mod Names
 pub mod Pieces
-pub mod Parts
-pub mod Stores
 pub mod Numbers
 pub mod Decimals
 pub mod Scales
+pub mod inner

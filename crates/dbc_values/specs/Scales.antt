@@ -33,7 +33,7 @@ signed negative n = if negative then neg_ℤ (pos n) else pos n
 abbrev pub whole_at : ℕ → Decimal → ℤ
 whole_at places decimal = signed decimal.negative (magnitude_at places decimal)
 
--- the fewest places at which both factor and offset are whole
+-- the least number of decimal places at which both factor and offset are whole
 abbrev pub places_of : Decimal → Decimal → ℕ
 places_of factor offset = max (digits_after factor.exponent) (digits_after offset.exponent)
 

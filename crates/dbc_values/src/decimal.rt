@@ -6,14 +6,13 @@ ghost use Rattle.dbc_values.specs.Decimals.{Decimal as Decimals, SpellsDecimal, 
 use crate::number::Reduced;
 use std::marker::Model;
 
-/// The number `mantissa · 10^exponent`, negated where it is negative, in normal form: at most 36 digits of which the
-/// last is not zero, and an exponent from -400 to 400. Zero has no sign and the exponent 0, so equal numbers are equal
-/// values.
+/// The number `mantissa · 10^exponent`, negated if it is negative, in normal form: at most 36 digits of which the last is not zero,
+/// and an exponent from -400 to 400. Zero has no sign and the exponent 0, so equal numbers are equal values.
 #[derive(Clone, Copy, Debug, PartialEq, Eq)]
 pub struct Decimal {
     /// Its digits as a whole number, without zeros at their end.
     pub mantissa: u128,
-    /// The power of ten that the mantissa is multiplied by.
+    /// The power of ten by which the mantissa is multiplied.
     pub exponent: i16,
     /// Whether the number is below zero.
     pub negative: bool,
@@ -59,9 +58,9 @@ impl Decimal {
         })
     }
 
-    /// The decimal that a number without a sign is, negated where `negative` is true, or `None` where the bytes are no
-    /// number, where it takes more than 36 digits, or where its exponent, the zeros at the end of its digits counted
-    /// with it, is beyond [`Decimal::MAX_EXPONENT`]. A zero is 0 whatever its sign and exponent.
+    /// The decimal that a number without a sign is, negated if `negative` is true, or `None` if the bytes are no number, if it
+    /// takes more than 36 digits, or if its exponent, the zeros at the end of its digits counted with it, is beyond
+    /// [`Decimal::MAX_EXPONENT`]. A zero is 0 whatever its sign and exponent.
     pub fn of_number(negative: bool, number: &[u8]) -> Option<Decimal>
         ensures spells { MatchOption result ((d : Decimals) → SpellsDecimal negative number.now d
             → ⊥) (SpellsDecimal negative number.now) }
@@ -70,7 +69,7 @@ impl Decimal {
         Decimal::spelled(negative, number)
     }
 
-    /// The decimal of a number that may have a sign before it; [`Decimal::of_number`] says when there is none.
+    /// The decimal of a number that may have a sign before it; [`Decimal::of_number`] states when there is none.
     pub fn read(bytes: &[u8]) -> Option<Decimal>
         ensures spells { MatchOption result ((d : Decimals) → SpellsSigned bytes.now d → ⊥) (SpellsSigned bytes.now) }
         ensures value { result ≡ decimal_of_number (starts_with_minus bytes.now) (without_leading_sign bytes.now) }

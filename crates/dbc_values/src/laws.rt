@@ -14,7 +14,7 @@ pub fn one_whole()
     ensures { (m : ℕ) (e : ℤ) (whole : Whole) → IsWhole m e whole ↔ (whole_value m e ≡ whole) }
 {}
 
-/// What some numbers spell, computed by the definitions: 1250 · 10^-5, 5 · 10^-1, 7 · 10^2 and 10 · 10^-12.
+/// What some number texts mean, computed by the definitions: 1250 · 10^-5, 5 · 10^-1, 7 · 10^2 and 10 · 10^-12.
 #[tactic(auto, unfolding(crate::specs::Numbers::mantissa_of, crate::specs::Numbers::exponent_of))]
 pub fn worked_numbers()
     ensures fraction { (mantissa_of (codes "12.50e-3") ≡ 1250) × (exponent_of (codes "12.50e-3") ≡ negsuc 4) }

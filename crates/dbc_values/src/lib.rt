@@ -1,8 +1,8 @@
-//! The values that the records of a database are made of: names, texts, symbols, tokens, exact decimals and scales, and
+//! The values of which database records consist: names, texts, symbols, tokens, exact decimals and scales, and
 //! lists of such values.
 //!
-//! Every value of a type of this crate keeps the bounds of the format: a [`Name`] is no keyword, a [`Decimal`] has one form.
-//! So whoever holds one need not test it again.
+//! Every value of a type of this crate keeps the bounds of the format: a [`Name`] is no keyword, a [`Decimal`] has one form. So you
+//! need not test it again.
 #![tactic(auto)]
 
 mod class;

@@ -11,7 +11,7 @@ use std::alloc::Global;
 use std::marker::Model;
 use std::slice::Iter;
 
-/// A type each of whose values meets a condition.
+/// A type each of whose values satisfies a condition.
 pub trait Checked: Drop {
     // What every value is.
     ghost IsValid: { Self → Type 0 };
@@ -24,7 +24,7 @@ pub trait Copied: Checked {
         ensures { IfOk result (λ copy. copy ≡ self.now) };
 }
 
-/// A change that each item of a list can be put through.
+/// A change that can be applied to each item of a list.
 pub trait Rewrite<T: Checked>: Drop {
     // The item, changed.
     ghost rewritten: { Self → T → T };
@@ -36,7 +36,7 @@ pub trait Rewrite<T: Checked>: Drop {
         ensures valid { T.IsValid item.new };
 }
 
-/// A list, which contracts see as the list of its items. It keeps the allocator that it was made with.
+/// A list, which contracts see as the list of its items. It keeps the allocator with which it was made.
 #[derive(Drop)]
 pub struct List<T: Checked> {
     items: Vec<T>,
@@ -53,7 +53,7 @@ impl<T: Checked> Model for List<T> {
 }
 
 impl<T: Checked> List<T> {
-    /// The empty list. It takes no memory.
+    /// The empty list. It allocates nothing.
     pub fn new(alloc: Global) -> List<T>
         ensures { result ≡ [] }
     {
@@ -62,7 +62,7 @@ impl<T: Checked> List<T> {
         }
     }
 
-    /// The empty list, with room for as many items.
+    /// The empty list, with space for this many items.
     pub fn with_capacity(alloc: Global, count: usize) -> Result<List<T>, Memory>
         ensures { IfOk result (λ list. list ≡ []) }
     {
@@ -100,7 +100,7 @@ impl<T: Checked> List<T> {
         self.items.is_empty()
     }
 
-    /// Puts an item after the others. An `Err` changes nothing.
+    /// Appends an item. An `Err` changes nothing.
     pub fn push(&mut self, item: T) -> Result<(), Memory>
         requires { T.IsValid item }
         ensures ok { OnOk result (self.new ≡ self.old ++ item ∷ []) }
@@ -111,38 +111,38 @@ impl<T: Checked> List<T> {
         Ok(())
     }
 
-    /// Puts an item before that at the place, or after all others. An `Err` changes nothing.
-    pub fn insert(&mut self, place: usize, item: T) -> Result<(), Memory>
-        requires place { place ≤ length self.old }
+    /// Inserts an item before the one at the index, or after all others. An `Err` changes nothing.
+    pub fn insert(&mut self, index: usize, item: T) -> Result<(), Memory>
+        requires index { index ≤ length self.old }
         requires item { T.IsValid item }
-        ensures ok { OnOk result (self.new ≡ insert self.old place item) }
+        ensures ok { OnOk result (self.new ≡ insert self.old index item) }
         ensures err { OnErr result (self.new ≡ self.old) }
         ensures valid { All T.IsValid self.new }
     {
-        self.items.insert(place, item)?;
+        self.items.insert(index, item)?;
         Ok(())
     }
 
-    /// Takes out the item at the place.
-    pub fn remove(&mut self, place: usize)
-        requires { place < length self.old }
-        ensures new { self.new ≡ remove self.old place }
+    /// Removes the item at the index.
+    pub fn remove(&mut self, index: usize)
+        requires { index < length self.old }
+        ensures new { self.new ≡ remove self.old index }
         ensures valid { All T.IsValid self.new }
     {
-        self.items.remove(place);
+        self.items.remove(index);
     }
 
-    /// Puts an item in place of that at the place.
-    pub fn set(&mut self, place: usize, item: T)
-        requires place { place < length self.old }
+    /// Replaces the item at the index.
+    pub fn set(&mut self, index: usize, item: T)
+        requires index { index < length self.old }
         requires item { T.IsValid item }
-        ensures new { self.new ≡ slice_set self.old place item }
+        ensures new { self.new ≡ slice_set self.old index item }
         ensures valid { All T.IsValid self.new }
     {
-        self.items[place] = item;
+        self.items[index] = item;
     }
 
-    /// Keeps the items of which the closure says `true`, in their order, and takes out the others.
+    /// Keeps the items for which the closure returns `true`, in their order, and removes the others.
     pub fn retain<F: FnMut(&T) -> bool>(&mut self, keeps: F)
         requires { F.IsAlwaysCallable keeps }
         ensures kept { IsFiltered (CalledAt F.FnMut) keeps self.old self.new }
@@ -151,7 +151,7 @@ impl<T: Checked> List<T> {
         self.items.retain(keeps);
     }
 
-    /// Puts each item through the change.
+    /// Applies the change to each item.
     pub fn rewrite_all<R: Rewrite<T>>(&mut self, change: &R)
         ensures new { self.new ≡ map (R.rewritten change.now) self.old }
         ensures valid { All T.IsValid self.new }
@@ -159,7 +159,7 @@ impl<T: Checked> List<T> {
         rewrite_items(self.items.as_mut_slice(), change);
     }
 
-    /// Gives back the room that was kept for further items.
+    /// Releases the capacity reserved for further items.
     pub fn shrink_to_fit(&mut self)
         ensures new { self.new ≡ self.old }
         ensures valid { All T.IsValid self.new }
@@ -177,7 +177,7 @@ impl<T: Checked> List<T> {
     }
 }
 
-// Puts each item through the change.
+// Applies the change to each item.
 fn rewrite_items<T: Checked, R: Rewrite<T>>(items: &mut [T], change: &R)
     requires { All T.IsValid items.old }
     ensures new { items.new ≡ map (R.rewritten change.now) items.old }

@@ -3,7 +3,7 @@
 use std::alloc::{AllocError, AllocFailed};
 use thiserror::Error;
 
-/// An allocation was refused: fault 90 of every call that takes memory.
+/// An allocation failed: fault 90 of every call that allocates.
 #[derive(Clone, Copy, Debug, PartialEq, Eq, Error)]
 #[error("90 Memory")]
 pub struct Memory;

@@ -45,7 +45,7 @@ pub fn is_word(bytes: &[u8]) -> bool
     }
 }
 
-/// Whether both are the same bytes.
+/// Whether the two have the same bytes.
 pub fn same(a: &[u8], b: &[u8]) -> bool
     ensures { result ≡ bytes_eq a.now b.now }
 {
@@ -70,7 +70,7 @@ fn is_statement_word(word: &[u8]) -> bool
         || same(word, b"SG_MUL_VAL_")
 }
 
-/// Whether statements that begin with this word are kept as they stand.
+/// Whether statements that begin with this word are kept verbatim.
 pub fn is_kept_word(word: &[u8]) -> bool
     ensures { result ≡ is_kept_word word.now }
 {
@@ -98,9 +98,9 @@ fn is_relation_word(word: &[u8]) -> bool
     same(word, b"BU_SG_REL_") || same(word, b"BU_EV_REL_") || same(word, b"BU_BO_REL_")
 }
 
-/// Whether the word is a keyword of the format. `VERSION` is none here.
+/// Whether the word is a keyword of the format. `VERSION` isn't one here.
 #[tactic(auto, unfolding(crate::specs::Lexical::is_keyword))]
-pub fn is_keyword(word: &[u8]) -> bool
+pub(crate) fn is_keyword(word: &[u8]) -> bool
     ensures { result ≡ is_keyword word.now }
 {
     is_statement_word(word) || is_kept_word(word) || is_relation_word(word)
@@ -124,7 +124,7 @@ pub fn is_name(bytes: &[u8]) -> bool
 }
 
 impl Name {
-    /// The name of these bytes, or `None` where they are no name. A name of at most 22 bytes takes no memory.
+    /// The name of these bytes, or `None` if they are no name. A name of at most 22 bytes needs no allocation.
     pub fn new(alloc: Global, bytes: &[u8]) -> Result<Option<Name>, Memory>
         ensures made { IfOk result (λ made. made ≡ (if is_name bytes.now then Some bytes.now else None)) }
         ensures memory_for_one { OnErr result (IsTrue (is_name bytes.now)) }

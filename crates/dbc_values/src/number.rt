@@ -1,4 +1,4 @@
-//! Numbers: which bytes are one, and what its digits and its exponent say, exactly.
+//! Numbers: which bytes are one, and what its digits and its exponent mean, exactly.
 ghost use Rattle.std.specs.Prelude.{◌≡◌, ℕ, ℤ, pos, ◌+ℤ◌, ◌-ℤ◌, unsigned_abs, ◌+◌, ◌*◌, ◌^◌, ◌<◌, ◌≤◌, false, take, drop, length};
 ghost use Rattle.std.specs.Prelude.{nat_lt, Some, None, IfSome, MatchOption, IsTrue, min, if◌then◌else◌};
 ghost use Rattle.std.specs.List.{list_any, list_all, position_or_len, prefix_len};
@@ -6,28 +6,28 @@ ghost use Rattle.std.specs.Str.Parse.{digits_value, digits_value_after, signed_d
 ghost use Rattle.dbc_values.specs.Lexical.{is_digit, is_sign, is_point, is_exponent_mark, is_mantissa, is_digits, is_signed_digits};
 ghost use Rattle.dbc_values.specs.Lexical.{is_number};
 ghost use Rattle.dbc_values.specs.Numbers.{mantissa_of, exponent_of, IsWhole, SpellsWhole, whole_of_number, at_most_36_digits};
-ghost use Rattle.dbc_values.specs.Numbers.{HasDigits, StandsFor, IsReduced, IsDigitsThen};
+ghost use Rattle.dbc_values.specs.Numbers.{HasDigits, OccursFor, IsReduced, IsDigitsThen};
 
 /// What a number is as a whole number.
 #[derive(Clone, Copy, Debug, PartialEq, Eq)]
 pub enum Whole {
-    /// It is not whole, as `1.5`.
+    /// It is not whole, like `1.5`.
     Fraction,
     /// It is whole and over `u64::MAX`.
     TooLarge,
-    /// It is this number, as 8 for `80E-1`.
+    /// It is this number, like 8 for `80E-1`.
     Value(u64),
 }
 
-/// A number as `digits · 10^exponent`, where the digits end in no zero. They are `None` where there are more than 36.
-/// An exponent beyond 1,000, either way, may be another one beyond 1,000.
+/// A number as `digits · 10^exponent`, where the digits end in no zero. They are `None` if there are more than 36. An exponent
+/// beyond 1,000, either way, may be replaced by another one beyond 1,000.
 #[derive(Clone, Copy)]
-pub struct Reduced {
+pub(crate) struct Reduced {
     pub digits: Option<u128>,
     pub exponent: i128,
 }
 
-/// A whole number as some digits and the zeros at its end. The digits are `None` where there are more than 36.
+/// A whole number as some digits and the zeros at its end. The digits are `None` if there are more than 36.
 #[derive(Clone, Copy)]
 struct Digits {
     front: Option<u128>,
@@ -37,13 +37,13 @@ struct Digits {
 /// One more than the greatest number of 36 digits.
 const DIGITS_LIMIT: u128 = 1_000_000_000_000_000_000_000_000_000_000_000_000;
 
-/// One more than the greatest number of 18 digits: ten times such a number and a digit are a number of one word.
+/// One more than the greatest number of 18 digits: ten times such a number plus a digit fits in one word.
 const WORD_LIMIT: u128 = 1_000_000_000_000_000_000;
 
 /// One more than the greatest number of 38 digits.
-pub const LIMIT: u128 = 100_000_000_000_000_000_000_000_000_000_000_000_000;
+pub(crate) const LIMIT: u128 = 100_000_000_000_000_000_000_000_000_000_000_000_000;
 
-/// Greater than any length of a text, so that no count of digits makes up for an exponent of this size.
+/// Greater than any length of a text, so that no count of digits makes up for an exponent as large as this.
 const SATURATED: u128 = 1_000_000_000_000_000_000_000_000_000_000;
 
 fn is_sign(b: u8) -> bool
@@ -65,7 +65,7 @@ pub fn are_digits(bytes: &[u8]) -> bool
     bytes.iter().all(|b| b.is_ascii_digit())
 }
 
-/// How many digits stand at the front.
+/// How many digits are at the front.
 pub fn digits_len(bytes: &[u8]) -> usize
     ensures value { result ≡ prefix_len is_digit bytes.now }
     ensures in_range { result ≤ length bytes.now }
@@ -85,29 +85,29 @@ fn has_exponent_mark(bytes: &[u8]) -> bool
     bytes.iter().any(|b| is_exponent_mark(*b))
 }
 
-/// Where the `E` stands, or the length where there is none.
-fn exponent_place(bytes: &[u8]) -> usize
+/// The position of the `E`, or the length if there is none.
+fn exponent_index(bytes: &[u8]) -> usize
     ensures value { result ≡ position_or_len is_exponent_mark bytes.now }
     ensures in_range { result ≤ length bytes.now }
 {
     bytes.iter().take_while(|b| !is_exponent_mark(**b)).count()
 }
 
-/// Where the point stands, or the length where there is none.
-fn point_place(bytes: &[u8]) -> usize
+/// The position of the point, or the length if there is none.
+fn point_index(bytes: &[u8]) -> usize
     ensures value { result ≡ position_or_len is_point bytes.now }
     ensures in_range { result ≤ length bytes.now }
 {
     bytes.iter().take_while(|b| **b != b'.').count()
 }
 
-/// What stands before the byte at the place, and what stands after it.
-fn split_around(bytes: &[u8], place: usize) -> (&[u8], &[u8])
-    requires { place ≤ length bytes.now }
-    ensures front { result.0.now ≡ take place bytes.now }
-    ensures back { result.1.now ≡ drop (place + 1) bytes.now }
+/// What is before the byte at the position, and what is after it.
+fn split_around(bytes: &[u8], index: usize) -> (&[u8], &[u8])
+    requires { index ≤ length bytes.now }
+    ensures front { result.0.now ≡ take index bytes.now }
+    ensures back { result.1.now ≡ drop (index + 1) bytes.now }
 {
-    let (front, back) = bytes.split_at(place);
+    let (front, back) = bytes.split_at(index);
     match back {
         [] => (front, back),
         [_, rest @ ..] => (front, rest),
@@ -117,7 +117,7 @@ fn split_around(bytes: &[u8], place: usize) -> (&[u8], &[u8])
 fn is_mantissa(bytes: &[u8]) -> bool
     ensures { result ≡ is_mantissa bytes.now }
 {
-    let (before_point, after_point) = split_around(bytes, point_place(bytes));
+    let (before_point, after_point) = split_around(bytes, point_index(bytes));
     are_digits(before_point) && are_digits(after_point) && has_digit(bytes)
 }
 
@@ -131,17 +131,17 @@ fn is_signed_digits(bytes: &[u8]) -> bool
     }
 }
 
-/// Whether the bytes are a number without a sign, as `12`, `.5` or `1.e-3`.
+/// Whether the bytes are a number without a sign, like `12`, `.5` or `1.e-3`.
 #[tactic(auto, unfolding(crate::specs::Lexical::is_number))]
 pub fn is_number(bytes: &[u8]) -> bool
     ensures { result ≡ is_number bytes.now }
 {
-    let (mantissa, exponent) = split_around(bytes, exponent_place(bytes));
+    let (mantissa, exponent) = split_around(bytes, exponent_index(bytes));
     is_mantissa(mantissa) && (!has_exponent_mark(bytes) || is_signed_digits(exponent))
 }
 
-/// The number and that many zeros after it, where that has at most 38 digits.
-pub fn with_zeros(number: u128, zeros: u128) -> Option<u128>
+/// The number followed by that many zeros, if the result has at most 38 digits.
+pub(crate) fn with_zeros(number: u128, zeros: u128) -> Option<u128>
     ensures { result ≡ (if nat_lt (number * 10 ^ zeros) (10 ^ 38) then Some (number * 10 ^ zeros) else None) }
 {
     if number == 0 {
@@ -157,7 +157,7 @@ pub fn with_zeros(number: u128, zeros: u128) -> Option<u128>
     if product < LIMIT { Some(product) } else { None }
 }
 
-/// The number and that many zeros after it, as far as it can be told.
+/// The number followed by that many zeros, as far as it can be determined.
 fn whole_with_zeros(number: u128, zeros: u128) -> Whole
     ensures { result ≡ (if nat_lt (number * 10 ^ zeros) (2 ^ 64) then Whole.Value (number * 10 ^ zeros) else Whole.TooLarge) }
 {
@@ -167,7 +167,7 @@ fn whole_with_zeros(number: u128, zeros: u128) -> Whole
     }
 }
 
-/// The digits, zeros and one more digit, where these are at most 36 digits.
+/// The digits, zeros and one more digit, if together they are at most 36 digits.
 fn appended(digits: u128, zeros: u128, digit: u8) -> Option<u128>
     requires { digit < 10 }
     ensures { result ≡ at_most_36_digits (digits * 10 ^ zeros + digit) }
@@ -185,7 +185,7 @@ impl Digits {
         zeros: 0,
     };
 
-    /// With one more digit after.
+    /// With one more digit appended.
     fn then(self, digit: u8) -> Digits
         requires digit { digit < 10 }
         requires few { self.zeros < 2 ^ 100 }
@@ -206,7 +206,7 @@ impl Digits {
         Digits { front, zeros: 0 }
     }
 
-    /// With these digits after.
+    /// With these digits appended.
     fn then_all(self, digits: &[u8]) -> Digits
         requires digits { IsTrue (list_all is_digit digits.now) }
         requires few { self.zeros < 2 ^ 99 }
@@ -222,8 +222,8 @@ impl Digits {
     }
 }
 
-/// The number that the digits at the front write after those of another one, and what comes after them; `None` if the number
-/// isn't one of a word.
+/// The number that the digits at the front write after those of another number, and what comes after them; `None` if the number
+/// doesn't fit in one word.
 #[inline(always)]
 fn leading_digits(start: u64, bytes: &[u8]) -> Option<(u64, &[u8])>
     ensures { IfSome result (λ r. IsDigitsThen start bytes.now r.0 r.1.now) }
@@ -243,8 +243,8 @@ fn leading_digits(start: u64, bytes: &[u8]) -> Option<(u64, &[u8])>
     Some((value, rest))
 }
 
-/// The number that digits with at most one point among them write without it, and how many are after the point; `None` for
-/// other bytes, and if the number isn't one of a word.
+/// The number that digits with at most one point among them write without the point, and how many are after it; `None` for other
+/// bytes, and if the number doesn't fit in one word.
 fn plain_decimal(number: &[u8]) -> Option<(u64, usize)>
     ensures form { IfSome result (λ _. IsTrue (is_number number.now)) }
     ensures digits { IfSome result (λ r. mantissa_of number.now ≡ r.0) }
@@ -265,7 +265,7 @@ fn plain_decimal(number: &[u8]) -> Option<(u64, usize)>
     }
 }
 
-/// A number of a word, and the zeros at its end.
+/// A number of one word, and the zeros at its end.
 fn word_digits(value: u64) -> Digits
     ensures value { HasDigits value result.front result.zeros }
     ensures few { result.zeros < 2 ^ 64 }
@@ -293,8 +293,8 @@ fn mantissa_digits(before_point: &[u8], after_point: &[u8]) -> Digits
     Digits::NONE.then_all(before_point).then_all(after_point)
 }
 
-/// The value of the digits, or [`SATURATED`] where it is greater.
-fn value_up_to_far(digits: &[u8]) -> u128
+/// The value of the digits, or [`SATURATED`] if it is greater.
+fn value_up_to_saturated(digits: &[u8]) -> u128
     requires { IsTrue (list_all is_digit digits.now) }
     ensures { result ≡ min (digits_value 10 digits.now) (10 ^ 30) }
 {
@@ -305,30 +305,30 @@ fn value_up_to_far(digits: &[u8]) -> u128
     value
 }
 
-/// The number that perhaps a sign, and digits write.
+/// The number that digits, perhaps after a sign, write.
 fn signed_up_to_far(text: &[u8]) -> i128
     requires { IsTrue (list_all is_digit (without_leading_sign text.now)) }
-    ensures value { StandsFor (10 ^ 30) (signed_digits_value 10 text.now) result }
+    ensures value { OccursFor (10 ^ 30) (signed_digits_value 10 text.now) result }
     ensures in_range { unsigned_abs result ≤ 10 ^ 30 }
 {
     match text {
-        [b'-', digits @ ..] => -(value_up_to_far(digits) as i128),
-        [b'+', digits @ ..] => value_up_to_far(digits) as i128,
-        digits => value_up_to_far(digits) as i128,
+        [b'-', digits @ ..] => -(value_up_to_saturated(digits) as i128),
+        [b'+', digits @ ..] => value_up_to_saturated(digits) as i128,
+        digits => value_up_to_saturated(digits) as i128,
     }
 }
 
-/// The exponent of digits that have some after the point, once the zeros at their end are taken off.
+/// The exponent of digits of which some are after the point, once the zeros at their end are removed.
 fn reduced_exponent(written: i128, after_point: usize, zeros: u128) -> i128
     requires written { unsigned_abs written ≤ 10 ^ 30 }
     requires zeros { zeros ≤ 2 ^ 66 }
-    ensures { (e : ℤ) → StandsFor (10 ^ 30) e written → StandsFor 1000 ((e -ℤ pos after_point) +ℤ pos zeros) result }
+    ensures { (e : ℤ) → OccursFor (10 ^ 30) e written → OccursFor 1000 ((e -ℤ pos after_point) +ℤ pos zeros) result }
 {
     written - after_point as i128 + zeros as i128
 }
 
 impl Reduced {
-    /// A number of a word, of which so many digits are after the point.
+    /// A number of one word with this many digits after the point.
     fn of_word(value: u64, after_point: usize) -> Reduced
         ensures { IsReduced value (pos 0 -ℤ pos after_point) result.digits result.exponent }
     {
@@ -339,7 +339,7 @@ impl Reduced {
         }
     }
 
-    /// A number of a word, of which so many digits are after the point, with a written exponent; `None` if that is none.
+    /// A number of one word with this many digits after the point and a written exponent; `None` if that is no exponent.
     fn of_word_and_exponent(value: u64, after_point: usize, exponent: &[u8]) -> Option<Reduced>
         ensures { MatchOption result (is_signed_digits exponent.now ≡ false) (λ r. IsTrue (is_signed_digits exponent.now)
             × IsReduced value (signed_digits_value 10 exponent.now -ℤ pos after_point) r.digits r.exponent) }
@@ -355,7 +355,7 @@ impl Reduced {
         })
     }
 
-    /// What the bytes spell, or `None` where they are no number.
+    /// The number that the bytes write, or `None` if they are no number.
     pub fn read(number: &[u8]) -> Option<Reduced>
         ensures { MatchOption result (is_number number.now ≡ false) (λ r. IsTrue (is_number number.now)
             × IsReduced (mantissa_of number.now) (exponent_of number.now) r.digits r.exponent) }
@@ -366,15 +366,15 @@ impl Reduced {
         Reduced::read_any(number)
     }
 
-    /// What the bytes spell, if [`plain_decimal`] doesn't tell: most have an exponent.
+    /// The number that the bytes write, if [`plain_decimal`] doesn't read them: most such numbers have an exponent.
     #[inline(never)]
     fn read_any(number: &[u8]) -> Option<Reduced>
         ensures { MatchOption result (is_number number.now ≡ false) (λ r. IsTrue (is_number number.now)
             × IsReduced (mantissa_of number.now) (exponent_of number.now) r.digits r.exponent) }
     {
-        let place = exponent_place(number);
-        let (mantissa, exponent) = split_around(number, place);
-        if place < number.len() {
+        let index = exponent_index(number);
+        let (mantissa, exponent) = split_around(number, index);
+        if index < number.len() {
             if let Some((value, after_point)) = plain_decimal(mantissa) {
                 return Reduced::of_word_and_exponent(value, after_point, exponent);
             }
@@ -382,7 +382,7 @@ impl Reduced {
         if !is_number(number) {
             return None;
         }
-        let (before_point, after_point) = split_around(mantissa, point_place(mantissa));
+        let (before_point, after_point) = split_around(mantissa, point_index(mantissa));
         let digits = mantissa_digits(before_point, after_point);
         let written = signed_up_to_far(exponent);
         Some(Reduced {
@@ -411,7 +411,7 @@ impl Reduced {
     }
 }
 
-/// The whole number that digits alone are, where they are one of a word, as most whole numbers are.
+/// The whole number that digits alone write, if it fits in one word, as most whole numbers do.
 fn plain_whole(number: &[u8]) -> Option<u64>
     ensures spells { IfSome result (λ value. SpellsWhole number.now (Whole.Value value)) }
     ensures digits { IfSome result (λ value. mantissa_of number.now ≡ value) }
@@ -424,7 +424,7 @@ fn plain_whole(number: &[u8]) -> Option<u64>
     Some(value)
 }
 
-/// The whole number that a number without a sign is, by its value, or `None` where the bytes are no number.
+/// The whole number that a number without a sign is by value, or `None` if the bytes are no number.
 pub fn whole_of(number: &[u8]) -> Option<Whole>
     ensures spells { MatchOption result (is_number number.now ≡ false) (SpellsWhole number.now) }
     ensures value { result ≡ whole_of_number number.now }

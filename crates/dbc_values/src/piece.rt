@@ -1,7 +1,7 @@
-//! Tokens of the statements that are kept as they stand.
+//! Tokens of the statements kept verbatim.
 ghost use Rattle.std.specs.Prelude.{◌≡◌, ◌<◌, get_or, [], ◌∷◌, ◌++◌, All, IsTrue, OnOk, OnErr, length, option_map, slice_get};
 ghost use Rattle.dbc_values.specs.Pieces.{is_piece, is_string, is_mark_but_semicolon, IsPiece};
-ghost use Rattle.dbc_values.specs.Parts.{parts_from, ArePlaces};
+ghost use Rattle.dbc_values.specs.inner.Parts.{parts_from, ArePlaces};
 
 use crate::list::{Checked, Copied};
 use crate::memory::Memory;
@@ -11,11 +11,11 @@ use crate::text::is_text;
 use std::alloc::Global;
 use std::marker::Model;
 
-/// Tokens, one after the other: each is a string with its quotes, a word, a number without a sign, or a mark other than
-/// `;`. Contracts see the list of them.
+/// Tokens, one after the other: each is a string with its quotes, a word, a number without a sign, or a mark other than `;`.
+/// Contracts see a list of tokens.
 #[derive(Drop)]
 pub struct Pieces {
-    // The bytes of all tokens, without anything between.
+    // The bytes of all tokens, without anything between them.
     bytes: Vec<u8>,
     // Where each token ends.
     ends: Vec<usize>,
@@ -23,7 +23,7 @@ pub struct Pieces {
 
 impl Model for Pieces {
     ghost use Rattle.std.specs.Prelude.{ℕ, List};
-    ghost use Rattle.dbc_values.specs.Parts.{parts_from, HoldPieces};
+    ghost use Rattle.dbc_values.specs.inner.Parts.{parts_from, HoldPieces};
 
     ghost Value = { List (List ℕ) };
 
@@ -60,30 +60,30 @@ pub fn is_piece(bytes: &[u8]) -> bool
     is_string(bytes) || is_word(bytes) || is_number(bytes) || is_mark_but_semicolon(bytes)
 }
 
-// Where the part at the place begins: where the one before it ends, if there is one.
-fn start_of(ends: &[usize], place: usize) -> usize
-    requires { place < length ends.now }
-    ensures { result ≡ get_or (0 ∷ ends.now) place 0 }
+// Where the part at the index begins: where the part before it ends, if there is one.
+fn start_of(ends: &[usize], index: usize) -> usize
+    requires { index < length ends.now }
+    ensures { result ≡ get_or (0 ∷ ends.now) index 0 }
 {
-    if place == 0 { 0 } else { ends[place - 1] }
+    if index == 0 { 0 } else { ends[index - 1] }
 }
 
-// The part at the place, if there are as many.
+// The part at the index, if there are that many.
 #[tactic(auto, using(crate::proofs::Parts::part_rises, crate::proofs::Parts::part_within, crate::proofs::Parts::part_is, crate::proofs::Parts::no_part))]
-fn part_at<'b>(bytes: &'b [u8], ends: &[usize], place: usize) -> Option<&'b [u8]>
+fn part_at<'b>(bytes: &'b [u8], ends: &[usize], index: usize) -> Option<&'b [u8]>
     requires { ArePlaces 0 ends.now (length bytes.now) }
-    ensures { option_map (λ part. part.now) result ≡ slice_get (parts_from 0 ends.now bytes.now) place }
+    ensures { option_map (λ part. part.now) result ≡ slice_get (parts_from 0 ends.now bytes.now) index }
 {
-    if ends.len() <= place {
+    if ends.len() <= index {
         return None;
     }
-    let start = start_of(ends, place);
-    let end = ends[place];
+    let start = start_of(ends, index);
+    let end = ends[index];
     Some(&bytes[start..end])
 }
 
 impl Pieces {
-    /// No token. It takes no memory.
+    /// No token. It allocates nothing.
     pub fn new(alloc: Global) -> Pieces
         ensures { result ≡ [] }
     {
@@ -101,15 +101,15 @@ impl Pieces {
         self.ends.len()
     }
 
-    /// The token at the place, if there are as many.
-    pub fn get(&self, place: usize) -> Option<&[u8]>
-        ensures value { option_map (λ piece. piece.now) result ≡ slice_get self.now place }
+    /// The token at the index, if there are that many.
+    pub fn get(&self, index: usize) -> Option<&[u8]>
+        ensures value { option_map (λ piece. piece.now) result ≡ slice_get self.now index }
         ensures valid { All IsPiece self.now }
     {
-        part_at(self.bytes.as_slice(), self.ends.as_slice(), place)
+        part_at(self.bytes.as_slice(), self.ends.as_slice(), index)
     }
 
-    /// Puts a token after the others. An `Err` changes nothing.
+    /// Appends a token. An `Err` changes nothing.
     #[tactic(auto, using(crate::proofs::Parts::one_more_part, crate::proofs::Parts::one_more_held))]
     pub fn push(&mut self, piece: &[u8]) -> Result<(), Memory>
         requires { IsTrue (is_piece piece.now) }
@@ -123,7 +123,7 @@ impl Pieces {
         Ok(())
     }
 
-    /// Gives back the room that was kept for further tokens.
+    /// Releases the capacity reserved for further tokens.
     pub fn shrink_to_fit(&mut self)
         ensures { self.new ≡ self.old }
     {

@@ -7,8 +7,8 @@ use crate::decimal::Decimal;
 use crate::number::{LIMIT, with_zeros};
 use std::marker::Model;
 
-/// What turns the raw number of a signal into its value: `factor · raw + offset`, both as whole numbers, with the
-/// point that many places from the right. No value is rounded, and each has at most 38 digits.
+/// Turns the raw number of a signal into its value: `factor · raw + offset`, both as whole numbers, with the point that many places
+/// from the right. No value is rounded, and each has at most 38 digits.
 #[derive(Clone, Copy, Debug, PartialEq, Eq)]
 pub struct Scale {
     factor: i128,
@@ -40,7 +40,7 @@ fn digits_after(exponent: i16) -> u16
     }
 }
 
-/// The fewest places at which both decimals are whole.
+/// The least number of decimal places at which both decimals are whole.
 fn places_of(factor: &Decimal, offset: &Decimal) -> u16
     ensures { result ≡ places_of factor.now offset.now }
 {
@@ -58,7 +58,7 @@ fn signed(negative: bool, number: u128) -> i128
     }
 }
 
-/// The decimal as a whole number once its point is moved that many places, where that has at most 38 digits.
+/// The decimal as a whole number once its point is moved that many places, if that has at most 38 digits.
 fn whole_at(places: u16, decimal: &Decimal) -> Option<i128>
     requires { digits_after decimal.now.exponent ≤ places }
     ensures { result ≡ (if nat_lt (magnitude_at places decimal.now) (10 ^ 38) then Some (whole_at places decimal.now) else None) }
@@ -89,9 +89,9 @@ impl Scale {
     /// The most digits after the point of a value.
     pub const MAX_PLACES: u16 = 36;
 
-    /// The scale of a signal with this factor, offset and length in bits, or `None` where the length is over
-    /// [`Scale::MAX_LENGTH`], where factor or offset has more than [`Scale::MAX_PLACES`] digits after its point, or
-    /// where some value could have more than 38 digits.
+    /// The scale of a signal with this factor, offset and length in bits, or `None` if the length is over
+    /// [`Scale::MAX_LENGTH`], if factor or offset has more than [`Scale::MAX_PLACES`] digits after its point, or if some value
+    /// could have more than 38 digits.
     pub fn of(factor: &Decimal, offset: &Decimal, length: u16) -> Option<Scale>
         ensures { result ≡ (if scale_fits factor.now offset.now length then Some (scale_of factor.now offset.now length) else
             None) }
@@ -117,7 +117,7 @@ impl Scale {
         })
     }
 
-    /// The value of a raw number, as a whole number whose point stands [`Scale::places`] digits from the right.
+    /// The value of a raw number, as a whole number whose point is [`Scale::places`] digits from the right.
     pub fn value(self, raw: i128) -> i128
         requires { unsigned_abs raw ≤ 2 ^ self.length }
         ensures { result ≡ (self.factor *ℤ raw) +ℤ self.offset }
@@ -125,7 +125,7 @@ impl Scale {
         self.factor * raw + self.offset
     }
 
-    /// How many digits of a value stand after its point.
+    /// How many digits of a value are after its point.
     pub fn places(self) -> u8
         ensures { result ≡ self.places }
     {

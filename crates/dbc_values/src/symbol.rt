@@ -10,8 +10,8 @@ use crate::name::{is_word, same};
 use std::alloc::Global;
 use std::marker::Model;
 
-/// A word of the list of symbols that `NS_` begins: any word, a keyword too, but `BS_`, `BU_` and `BO_`, at which the
-/// list ends.
+/// A word of the list of symbols that `NS_` begins: any word, also a keyword, except `BS_`, `BU_` and `BO_`, at
+/// which the list ends.
 #[derive(Drop)]
 pub struct Symbol {
     bytes: Vec<u8>,
@@ -34,7 +34,7 @@ fn ends_symbols(word: &[u8]) -> bool
     same(word, b"BS_") || same(word, b"BU_") || same(word, b"BO_")
 }
 
-/// Whether the bytes may stand in the list of symbols.
+/// Whether the bytes may be in the list of symbols.
 #[tactic(auto, unfolding(crate::specs::Names::is_symbol))]
 pub fn is_symbol(bytes: &[u8]) -> bool
     ensures { result ≡ is_symbol bytes.now }
@@ -43,7 +43,7 @@ pub fn is_symbol(bytes: &[u8]) -> bool
 }
 
 impl Symbol {
-    /// The symbol of these bytes, or `None` where they are no word or end the list.
+    /// The symbol of these bytes, or `None` if they are no word or end the list.
     pub fn new(alloc: Global, bytes: &[u8]) -> Result<Option<Symbol>, Memory>
         ensures made { IfOk result (λ made. made ≡ (if is_symbol bytes.now then Some bytes.now else None)) }
         ensures memory_for_one { OnErr result (IsTrue (is_symbol bytes.now)) }

@@ -1,4 +1,4 @@
-//! Texts: what stands between the quotes of a string.
+//! Texts: what is between the quotes of a string.
 ghost use Rattle.std.specs.Prelude.{◌≡◌, ◌<◌, length, IfOk, OnErr, IsTrue, Some, None, if◌then◌else◌};
 ghost use Rattle.dbc_values.specs.Lexical.{is_text};
 
@@ -8,9 +8,9 @@ use crate::stored::Stored;
 use std::alloc::Global;
 use std::marker::Model;
 
-/// The bytes of a string, without an assumed encoding and with its backslashes as they stand: each quote stands
-/// directly after a backslash, and the last byte is no backslash, so that quotes around them end where they should.
-/// Copies share the bytes of a long one.
+/// The bytes of a string, without an assumed encoding and with its backslashes as they are: each quote is directly after a
+/// backslash, and the last byte is no backslash, so that quotes around them end where they should. Copies share the bytes
+/// of a long one.
 #[derive(Drop)]
 pub struct Text {
     bytes: Stored,
@@ -27,7 +27,7 @@ impl Model for Text {
     ghost invariant = { λ text. IsTrue (is_text text.bytes) };
 }
 
-/// Whether the bytes may stand between the quotes of a string.
+/// Whether the bytes may be between the quotes of a string.
 #[tactic(auto, unfolding(crate::specs::Lexical::is_text))]
 pub fn is_text(bytes: &[u8]) -> bool
     ensures { result ≡ is_text bytes.now }
@@ -43,7 +43,7 @@ pub fn is_text(bytes: &[u8]) -> bool
 }
 
 impl Text {
-    /// The text of these bytes, or `None` where they can't stand between quotes. A text of at most 22 bytes takes no memory.
+    /// The text of these bytes, or `None` if they can't be between quotes. A text of at most 22 bytes needs no allocation.
     pub fn new(alloc: Global, bytes: &[u8]) -> Result<Option<Text>, Memory>
         ensures made { IfOk result (λ made. made ≡ (if is_text bytes.now then Some bytes.now else None)) }
         ensures memory_for_one { OnErr result (IsTrue (is_text bytes.now)) }

@@ -4,7 +4,7 @@ use Rattle.std.specs.Prelude.{if◌then◌else◌}
 use Rattle.std.specs.List.{onto_first, AllByRecursion}
 use Rattle.std.proofs.lemmas.Bool.{eqb-true, eqb-false}
 use Rattle.dbc_values.specs.Lexical.{line_feed}
-use Rattle.line_stream.specs.Lines.{lines_of}
+use Rattle.can_line_stream.specs.Lines.{lines_of}
 use Rattle.session_laws.specs.Lines.{closed, joined, LinesJoin}
 
 -- ---- joined

@@ -5,25 +5,25 @@ use Rattle.dbc_reader.specs.declared.statement.Statement.{Statement}
 use Rattle.dbc_reader.specs.Grammar as grammar
 use Rattle.dbc_reader.specs.Texts.{HasStatement, HasFirstFault}
 use Rattle.dbc_read.specs.Laws.{ExactlyOne, NoSuch, OneReadingAlone}
-use Rattle.log_frames.specs.LogLines.{body_of}
-use Rattle.script_commands.specs.Words.{word_of, rest_of, verb_of}
-use Rattle.script_commands.specs.Commands.{Command, Says, Sense, Plain, Reads, HasSense, line_sense, Means}
-use Rattle.script_commands.specs.ScriptGrammar.{IsScriptLine}
+use Rattle.can_frames.specs.LogLines.{body_of}
+use Rattle.session_commands.specs.Words.{word_of, rest_of, verb_of}
+use Rattle.session_commands.specs.Commands.{Command, Says, Sense, Plain, Reads, HasSense, line_sense, Means}
+use Rattle.session_commands.specs.ScriptGrammar.{IsScriptLine}
 use Rattle.session_laws.specs.Meanings.{OneMeaning}
 
 -- ---- the statement that a text is
 
 statement_alone : (text : List ℕ) (one : ExactlyOne (HasStatement text)) → NoSuch (HasFirstFault grammar.one_statement text)
-    → (said : Option Statement) → Says text said → said ≡ Some one.0
-statement_alone text one none (Some statement) says = ap Some (one.2 statement says)
-statement_alone text one none None says = absurd (none says.0 says.1)
+    → (stated : Option Statement) → Says text stated → stated ≡ Some one.0
+statement_alone text one none (Some statement) states = ap Some (one.2 statement states)
+statement_alone text one none None states = absurd (none states.0 states.1)
 
-fault_alone : (text : List ℕ) → NoSuch (HasStatement text) → (said : Option Statement) → Says text said → said ≡ None
-fault_alone text none (Some statement) says = absurd (none statement says)
-fault_alone text none None says = refl
+fault_alone : (text : List ℕ) → NoSuch (HasStatement text) → (stated : Option Statement) → Says text stated → stated ≡ None
+fault_alone text none (Some statement) states = absurd (none statement states)
+fault_alone text none None states = refl
 
-one_said : OneReadingAlone → (text : List ℕ) → ExactlyOne (Says text)
-one_said law text =
+one_stated : OneReadingAlone → (text : List ℕ) → ExactlyOne (Says text)
+one_stated law text =
     elim (law text) [
       | inl has ↦ (Some has.0.0, has.0.1, statement_alone text has.0 has.1)
       | inr has ↦ (None, (has.0.0, has.0.1), fault_alone text has.1)
@@ -34,7 +34,7 @@ one_said law text =
 one_sense : OneReadingAlone → (sense : Sense) → ExactlyOne (HasSense sense)
 one_sense law (Plain command) = (command, refl, λ other is. is)
 one_sense law (Reads text command) =
-    let one : ExactlyOne (Says text) = one_said law text in (
+    let one : ExactlyOne (Says text) = one_stated law text in (
       option_and_then command one.0,
       (one.0, one.1, refl),
       λ other is. is.2 ∙ ap (option_and_then command) (one.2 is.0 is.1),

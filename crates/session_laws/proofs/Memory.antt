@@ -12,10 +12,10 @@ use Rattle.dbc_edits.specs.Edits.{message_renumbered, signal_added, signal_remov
 use Rattle.dbc_edits.specs.Edits.{values_set, mux_dropped, values_dropped, table_set, table_dropped, attribute_set}
 use Rattle.dbc_edits.specs.Edits.{attribute_dropped}
 use Rattle.can_session.specs.States.{State, longest_line, with_line}
-use Rattle.kept_lines.specs.Keeping.{is_full}
+use Rattle.session_kept_lines.specs.Keeping.{is_full}
 use Rattle.session_laws.specs.Runs.{Change, Retain, with_database, with_lines, unless_stopped, answer_of, OnlyStopped}
 
--- where it is refused, then for a cause
+-- if it is refused, then for a cause
 abbrev pub HasCause : {A : Type 0} → Result A Refusal → Type 0
 HasCause result = MatchResult result (λ _. Unit {0}) (λ refusal. ¬ (refusal ≡ refusals.Memory))
 
@@ -31,23 +31,23 @@ unfolding refused_if
 refused true refusal otherwise cause h = cause
 refused false refusal otherwise cause h = h
 
--- an edit that a message's place, a test or two come before
+-- an edit after the lookup of a message's index, a test or two tests
 edited-has-cause : (database : Database) (edit : Edit) → HasCause (edited database edit)
 unfolding message_added message_removed message_changed message_renumbered signal_added signal_removed signal_changed signal_renamed
     mux_set values_set mux_dropped values_dropped table_set table_dropped attribute_set attribute_dropped
-edited-has-cause database (edits.AddMessage place head) = refused _ refusals.BadPlace _ (λ is. cc) (refused _ refusals.MessagesFull
+edited-has-cause database (edits.AddMessage index head) = refused _ refusals.BadPlace _ (λ is. cc) (refused _ refusals.MessagesFull
     _ (λ is. cc) tt)
-edited-has-cause database (edits.RemoveMessage place) = at-message _ _ (λ message. tt)
-edited-has-cause database (edits.ChangeMessage place change) = at-message _ _ (λ message. tt)
-edited-has-cause database (edits.Renumber place number) =
+edited-has-cause database (edits.RemoveMessage index) = at-message _ _ (λ message. tt)
+edited-has-cause database (edits.ChangeMessage index change) = at-message _ _ (λ message. tt)
+edited-has-cause database (edits.Renumber index number) =
     at-message _ _ (λ message. refused _ refusals.IdTaken _ (λ is. cc) (refused _ refusals.IdShared _ (λ is. cc) tt))
-edited-has-cause database (edits.AddSignal place at signal) =
+edited-has-cause database (edits.AddSignal index at signal) =
     at-message _ _ (λ message. refused _ refusals.BadPlace _ (λ is. cc) (refused _ refusals.SignalExists _ (λ is. cc)
     (refused _ refusals.SignalsFull _ (λ is. cc) tt)))
-edited-has-cause database (edits.RemoveSignal place name) = at-message _ _ (λ message. refused _ refusals.NoSignal _ (λ is. cc) tt)
-edited-has-cause database (edits.ChangeSignal place signal) =
+edited-has-cause database (edits.RemoveSignal index name) = at-message _ _ (λ message. refused _ refusals.NoSignal _ (λ is. cc) tt)
+edited-has-cause database (edits.ChangeSignal index signal) =
     at-message _ _ (λ message. refused _ refusals.NoSignal _ (λ is. cc) tt)
-edited-has-cause database (edits.RenameSignal place old new) =
+edited-has-cause database (edits.RenameSignal index old new) =
     at-message _ _ (λ message. refused _ refusals.NoSignal _ (λ is. cc) (refused _ refusals.SignalExists _ (λ is. cc)
     (refused _ refusals.NameTaken _ (λ is. cc) (refused _ refusals.NameShared _ (λ is. cc) tt))))
 edited-has-cause database (edits.SetMux row) = refused _ refusals.NoMessage _ (λ is. cc)

@@ -3,7 +3,7 @@ use Rattle.std.proofs.Common.{sym, ap}
 use Rattle.dbc_records.specs.Databases.{Database, IsDatabase}
 use Rattle.dbc_read.specs.PrintLaws.{PrintLaw}
 use Rattle.can_session.specs.States.{State}
-use Rattle.session_laws.specs.Shown.{shown, FromScratch}
+use Rattle.session_laws.specs.SessionView.{shown, FromScratch}
 
 pub from_scratch : PrintLaw → (state : State) → IsDatabase state.database
     → FromScratch state (shown state.options.short state.database state.lines)

@@ -3,12 +3,12 @@ use Rattle.std.proofs.Common.{◌≡◌, ◌<◌, inl, inr, ℕ, List, [], ◌�
 use Rattle.std.proofs.lemmas.List.{append-nil}
 use Rattle.std.specs.Prelude.{Option, Some, None, Ok, Err}
 use Rattle.byte_devices.specs.Device.{Written, Wrote}
-use Rattle.line_stream.specs.declared.fault.StreamFault.TheVariants as faults
-use Rattle.line_stream.specs.Lines.{lines_of, whole_lines}
-use Rattle.line_stream.specs.Runs.{Breaks, BreaksInside, BreaksBehind}
-use Rattle.line_stream.specs.Runs as streams
+use Rattle.can_line_stream.specs.declared.fault.StreamFault.TheVariants as faults
+use Rattle.can_line_stream.specs.Lines.{lines_of, whole_lines}
+use Rattle.can_line_stream.specs.Runs.{Breaks, BreaksInside, BreaksFollowing}
+use Rattle.can_line_stream.specs.Runs as streams
 use Rattle.can_session.specs.States.{State}
-use Rattle.script_commands.specs.Commands as script
+use Rattle.session_commands.specs.Commands as script
 use Rattle.session_script.specs.Replies.{Replies, Does, answer_text}
 use Rattle.session_script.specs.Serving.{longest_line, script_rules}
 use Rattle.session_laws.specs.Runs.{Command, Answer, Runs}
@@ -25,7 +25,7 @@ asked_so (Some (script.Log line)) before after text does =
 asked_so (Some (script.Change edit)) before after text does =
     (does.0 ∷ [], runs_edit edit before after does.0 does.1, does.2 ∙ sym (append-nil (answer_text does.0)))
 asked_so (Some script.ShowDiagnostics) before after text does = ([], runs_none before after does.0, does.1)
-asked_so (Some (script.ShowLayout place)) before after text does = ([], runs_none before after does.0, does.1)
+asked_so (Some (script.ShowLayout index)) before after text does = ([], runs_none before after does.0, does.1)
 asked_so (Some script.ShowLines) before after text does = ([], runs_none before after does.0, does.1)
 asked_so (Some script.Print) before after text does = ([], runs_none before after does.0, does.1)
 
@@ -94,29 +94,29 @@ breaks_inside input before old after new inside =
     }
 
 breaks_after : (input : List ℕ) (before : State) (old : Written) (after : State) (new : Written)
-    → BreaksBehind script_rules longest_line before old (lines_of input) after new → BreaksAtLine input before old after new
-breaks_after input before old after new behind =
-    let none : length behind.waiting ≡ 0 = ap length behind.waits in
-    absurd (omega (arith, none, behind.some))
+    → BreaksFollowing script_rules longest_line before old (lines_of input) after new → BreaksAtLine input before old after new
+breaks_after input before old after new following =
+    let none : length following.waiting ≡ 0 = ap length following.waits in
+    absurd (omega (arith, none, following.some))
 
 pub serve_follows_run : ServeFollowsRun
-serve_follows_run input before after unread left old new (Ok count) told served =
-    let all = rw told at served.1 in
+serve_follows_run input before after unread left old new (Ok count) given served =
+    let all = rw given at served.1 in
     (lead_and_reply (lines_of input) before old after new all.handled.text all.handled.ran all.handled.wrote, all.counted)
-serve_follows_run input before after unread left old new (Err faults.LongLine) told served =
-    let long = rw told at served.1 in (
+serve_follows_run input before after unread left old new (Err faults.LongLine) given served =
+    let long = rw given at served.1 in (
       long.lines,
       (long.long, long.more, long.parts, long.is_long, long.handled.short),
       lead_and_reply long.lines before old after new long.handled.text long.handled.ran long.handled.wrote,
     )
-serve_follows_run input before after unread left old new (Err faults.Read) told served = (
+serve_follows_run input before after unread left old new (Err faults.Read) given served = (
   served.read,
   served.failed,
   lead_and_reply (whole_lines served.read) before old after new served.handled.text served.handled.ran served.handled.wrote,
 )
-serve_follows_run input before after unread left old new (Err faults.Write) told served =
-    elim (rw told at served.2) [
+serve_follows_run input before after unread left old new (Err faults.Write) given served =
+    elim (rw given at served.2) [
       | inl inside ↦ breaks_inside input before old after new inside
-      | inr behind ↦ breaks_after input before old after new behind
+      | inr following ↦ breaks_after input before old after new following
     ]
-serve_follows_run input before after unread left old new (Err faults.Memory) told served = (served.0, served.2)
+serve_follows_run input before after unread left old new (Err faults.Memory) given served = (served.0, served.2)

@@ -23,7 +23,7 @@ module _ (command : Command) (before after : State) (reply : Answer) where
     givens = record { command = command; is_stopped = is_stopped } ∷ [];
     given = refl;
     answered = ap (λ first. first ∷ []) so.0;
-    stands = so.1;
+    occurs = so.1;
   }
 
 -- what is defined as a variable
@@ -74,7 +74,7 @@ runs_line line before after reply is =
 -- ---- one after another
 
 pub runs_none : (first last : State) → last ≡ first → Runs first [] [] last
-runs_none first last same = record { givens = []; given = refl; answered = refl; stands = same }
+runs_none first last same = record { givens = []; given = refl; answered = refl; occurs = same }
 
 answers-append : (state : State) (givens more : List Given) → answers state (givens ++ more) ≡ answers state givens
     ++ answers (run state givens) more
@@ -84,12 +84,12 @@ answers-append state (first ∷ givens) more = ap (λ rest. answer state first �
 pub runs-append : (first between last : State) (commands more : List Command) (replies others : List Answer)
     → Runs first commands replies between → Runs between more others last → Runs first (commands ++ more) (replies ++ others) last
 runs-append first between last commands more replies others ran then_ran =
-    let at : between ≡ run first ran.givens = ran.stands in
+    let at : between ≡ run first ran.givens = ran.occurs in
     record {
       givens = ran.givens ++ then_ran.givens;
       given = rw (map-append (λ (g : Given). g.command) ran.givens then_ran.givens, ran.given, then_ran.given) refl;
       answered = rw (answers-append first ran.givens then_ran.givens, ← at, ran.answered, then_ran.answered) refl;
-      stands = rw (fold-append step first ran.givens then_ran.givens, ← at) then_ran.stands;
+      occurs = rw (fold-append step first ran.givens then_ran.givens, ← at) then_ran.occurs;
     }
 
 -- ---- what is shown

@@ -1,8 +1,8 @@
--- The lines of an input give it back.
+-- The lines of an input reproduce it.
 use Rattle.std.specs.Prelude.{◌≡◌, ◌≢◌, ◌==◌, ℕ, List, [], ◌∷◌, ◌++◌, if◌then◌else◌}
 use Rattle.std.specs.List.{flat_map, AllByRecursion}
 use Rattle.dbc_values.specs.Lexical.{line_feed}
-use Rattle.line_stream.specs.Lines.{lines_of}
+use Rattle.can_line_stream.specs.Lines.{lines_of}
 
 -- the input with a line feed at its end, if it has bytes
 abbrev pub closed : List ℕ → List ℕ

@@ -2,20 +2,20 @@
 ghost use Rattle.std.specs.Prelude.{◌≡◌, IfOk, IfErr, Err, map};
 ghost use Rattle.dbc_reader.specs.Texts.{IsRead};
 ghost use Rattle.session_laws.specs.Runs.{command_of};
-ghost use Rattle.session_laws.specs.Shown.{lent};
+ghost use Rattle.session_laws.specs.SessionView.{view_of};
 ghost use Rattle.session_laws.specs.Transcripts.{Shows};
 
 use crate::command::Command;
 use crate::running::{Answers, run_all};
-use crate::showing::{Shown, show};
+use crate::showing::{SessionView, show};
 use can_session::{Options, Refusal, Session};
 use dbc_tokens::ReadFault;
 use dbc_values::Memory;
 use std::alloc::Global;
 use std::marker::Model;
 
-/// A run: a text, options and commands, what was answered to these, and the session that they led to. Contracts see all but the
-/// session, which is what the rest defines.
+/// A run: a text, options and commands, the answers to these, and the session that they led to. Contracts see all but the session,
+/// which is what the rest defines.
 #[derive(Drop)]
 pub struct Ran<'a> {
     text: &'a [u8],
@@ -43,8 +43,8 @@ impl<'a> Model for Ran<'a> {
 }
 
 impl<'a> Ran<'a> {
-    /// Opens a session on the text with these options, and does the commands in it. If the text has no database, returns its first
-    /// fault; that memory ran out for the database or for the answers is a fault of line 0.
+    /// Opens a session on the text with these options, and performs the commands in it. If the text has no database, returns its
+    /// first fault; running out of memory for the database or for the answers is a fault of line 0.
     pub fn of(
         alloc: Global,
         text: &'a [u8],
@@ -67,19 +67,19 @@ impl<'a> Ran<'a> {
         })
     }
 
-    /// What was answered to each command.
+    /// The answer to each command.
     pub fn answers(&self) -> &[Result<(), Refusal>]
         ensures { result.now ≡ self.now.answers }
     {
         self.answers.as_slice()
     }
 
-    /// All that is shown after the run, or memory ran out for the lists. For this text, these options and these commands the
-    /// answers and the state are what the definitions give, command by command, and a refused command leaves all as it was. The
-    /// diagnostics, plans, layout diagrams and decoded lines are what the printed database, read anew, and each line by itself
-    /// define.
-    pub fn show(&self, alloc: Global) -> Result<Shown<'_>, Memory>
-        ensures { IfOk result (λ all. Shows self.now (lent all)) }
+    /// All that is shown after the run, or memory ran out for the lists. For this text, these options and these commands
+    /// the answers and the state are what the definitions give, command by command, and a refused command leaves all as it
+    /// was. The diagnostics, plans, layout diagrams and decoded lines are what the printed database, read again, and each
+    /// line by itself define.
+    pub fn show(&self, alloc: Global) -> Result<SessionView<'_>, Memory>
+        ensures { IfOk result (λ all. Shows self.now (view_of all)) }
     {
         show(alloc, &self.session)
     }

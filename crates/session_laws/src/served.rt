@@ -2,13 +2,13 @@
 ghost use Rattle.std.specs.Prelude.{◌≡◌, IfOk, IfErr, Err};
 ghost use Rattle.dbc_reader.specs.Texts.{IsRead};
 ghost use Rattle.session_laws.specs.Scripts.{ServesText};
-ghost use Rattle.session_laws.specs.Shown.{shown, FromScratch};
+ghost use Rattle.session_laws.specs.SessionView.{shown, FromScratch};
 
 use crate::laws::{lines_lead, serve_follows_run, shown_from_scratch};
 use byte_devices::{Sink, Source};
+use can_line_stream::StreamFault;
 use can_session::{Options, Session};
 use dbc_tokens::ReadFault;
-use line_stream::StreamFault;
 use session_script::serve;
 use std::alloc::Global;
 
@@ -22,7 +22,7 @@ pub struct Served {
 }
 
 /// Opens a session on a text with these options, and runs a script in it. If the text has no database, returns its first fault;
-/// that memory ran out for the database is a fault of line 0.
+/// running out of memory for the database is a fault of line 0.
 pub fn serve_text<R: Source, W: Sink>(
     alloc: Global,
     text: &[u8],

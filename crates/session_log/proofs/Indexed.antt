@@ -3,46 +3,46 @@ use Rattle.std.proofs.Common.{◌≡◌, ◌<◌, ◌+◌, ◌%◌, ◌^◌, ◌
 use Rattle.std.proofs.Common.{◌∙◌, arith}
 use Rattle.std.specs.Prelude.{Some, None, ◌&&◌, if◌then◌else◌}
 use Rattle.std.proofs.lemmas.List.{append-nil, map_push}
-use Rattle.can_rows.specs.Groups.{is_extended, group_number_of}
+use Rattle.can_entries.specs.Groups.{is_extended, group_number_of}
 use Rattle.session_log.specs.declared.log_index.LogIndex.{LogIndex}
 use Rattle.can_choice.specs.Choices.{data_number}
-use Rattle.session_log.specs.Places.{places_from, place_from}
-use Rattle.session_log.specs.Indexes.{has_number, has_group, serials_at, SameSerials, Puts, Drops, IsIndexed}
-use Rattle.session_log.proofs.Places.{places-push}
+use Rattle.session_log.specs.Positions.{positions_from, position_from}
+use Rattle.session_log.specs.inner.Indexes.{has_number, has_group, serials_at, SameSerials, Puts, Drops, IsIndexed}
+use Rattle.session_log.proofs.Positions.{positions-push}
 use Rattle.session_log.proofs.Serials.{without_first}
 
 pub same_serials : (first : ℕ) (lines : List (List ℕ)) (before after : LogIndex) → IsIndexed first lines before
     → SameSerials before after → IsIndexed first lines after
 same_serials first lines before after h same = record {
-  by_number = λ number. ap (map (place_from first)) (same.by_number number) ∙ h.by_number number;
-  by_group = λ group. ap (map (place_from first)) (same.by_group group) ∙ h.by_group group;
+  by_number = λ number. ap (map (position_from first)) (same.by_number number) ∙ h.by_number number;
+  by_group = λ group. ap (map (position_from first)) (same.by_group group) ∙ h.by_group group;
 }
 
 -- a line without a data frame
 pub unlisted : (first : ℕ) (lines : List (List ℕ)) (line : List ℕ) (index : LogIndex) → data_number line ≡ None
     → IsIndexed first lines index → IsIndexed first (lines ++ line ∷ []) index
 unlisted first lines line index none h = record {
-  by_number = λ number. h.by_number number ∙ sym (places-push (has_number number) 0 lines line ∙ rw none (append-nil _));
-  by_group = λ group. h.by_group group ∙ sym (places-push (has_group group) 0 lines line ∙ rw none (append-nil _));
+  by_number = λ number. h.by_number number ∙ sym (positions-push (has_number number) 0 lines line ∙ rw none (append-nil _));
+  by_group = λ group. h.by_group group ∙ sym (positions-push (has_group group) 0 lines line ∙ rw none (append-nil _));
 }
 
--- the places of the items that pass, with those of one item more
+-- the indexes of the items that pass, with those of one item more
 one_more : {X : Type 0} (first : ℕ) (test : X → Bool) (items : List X) (item : X) (serial : ℕ) (before after : List ℕ)
-    → place_from first serial ≡ length items
-    → map (place_from first) before ≡ places_from test 0 items → (passes : Bool) → test item ≡ passes
+    → position_from first serial ≡ length items
+    → map (position_from first) before ≡ positions_from test 0 items → (passes : Bool) → test item ≡ passes
     → after ≡ before ++ (if passes then serial ∷ [] else [])
-    → map (place_from first) after ≡ places_from test 0 (items ++ item ∷ [])
+    → map (position_from first) after ≡ positions_from test 0 (items ++ item ∷ [])
 one_more first test items item serial before after at h true t is =
-    let here : place_from first serial ≡ 0 + length items = omega (arith, at) in
-    ap (map (place_from first)) is ∙ map_push (place_from first) before serial
-    ∙ ap (λ places. places ++ place_from first serial ∷ []) h
-    ∙ ap (λ place. places_from test 0 items ++ place ∷ []) here ∙ sym (places-push test 0 items item ∙ rw t refl)
+    let here : position_from first serial ≡ 0 + length items = omega (arith, at) in
+    ap (map (position_from first)) is ∙ map_push (position_from first) before serial
+    ∙ ap (λ positions. positions ++ position_from first serial ∷ []) h
+    ∙ ap (λ position. positions_from test 0 items ++ position ∷ []) here ∙ sym (positions-push test 0 items item ∙ rw t refl)
 one_more first test items item serial before after at h false f is =
-    ap (map (place_from first)) (is ∙ append-nil before) ∙ h ∙ sym (places-push test 0 items item ∙ rw f (append-nil _))
+    ap (map (position_from first)) (is ∙ append-nil before) ∙ h ∙ sym (positions-push test 0 items item ∙ rw f (append-nil _))
 
 -- a line with one
 pub listed : (first : ℕ) (lines : List (List ℕ)) (line : List ℕ) (number serial : ℕ) (before after : LogIndex)
-    → data_number line ≡ Some number → place_from first serial ≡ length lines → IsIndexed first lines before
+    → data_number line ≡ Some number → position_from first serial ≡ length lines → IsIndexed first lines before
     → Puts number serial before after → IsIndexed first (lines ++ line ∷ []) after
 listed first lines line number serial before after is at h puts = record {
   by_number = λ other. one_more first (has_number other) lines line serial (serials_at other before.numbers)

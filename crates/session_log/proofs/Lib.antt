@@ -1,5 +1,5 @@
 pub mod Exchanges
-pub mod Places
+pub mod Positions
 pub mod Reached
 pub mod Covered
 pub mod Serials

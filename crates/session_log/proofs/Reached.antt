@@ -1,19 +1,19 @@
--- Which lines numbers touch, by the numbers of the lines' data frames.
+-- Which lines CAN identifiers touch, by the CAN identifiers of the lines' data frames.
 use Rattle.std.proofs.Common.{◌≡◌, ℕ, Bool, true, false, not, List, [], ◌∷◌, ◌++◌, map, refl, sym, ap, ◌∙◌, inl, inr}
 use Rattle.std.specs.Prelude.{◌==◌, ◌||◌, ◌&&◌, Option, Some, None, option_and_then, if◌then◌else◌}
 use Rattle.std.specs.Option.{option_map_or}
 use Rattle.std.proofs.lemmas.Bool.{cases_Bool, eqb-true, eq-eqb, and_parts}
 use Rattle.std.proofs.lemmas.List.Folds.{list_any-append}
-use Rattle.log_frames.specs.Frames.{Frame, body_of, frame_of, is_data}
-use Rattle.can_rows.specs.Groups.{is_extended, is_bad_number, group_number_of}
-use Rattle.edit_reach.specs.Touched.{may_have_group, concerns, is_touched, line_touched, number_touched}
+use Rattle.can_frames.specs.Frames.{Frame, body_of, frame_of, is_data}
+use Rattle.can_entries.specs.Groups.{is_extended, is_bad_number, group_number_of}
+use Rattle.session_edit_reach.specs.Touched.{may_have_group, concerns, is_touched, line_touched, number_touched}
 use Rattle.session_log.specs.declared.log_index.LogIndex.{LogIndex}
 use Rattle.can_choice.specs.Choices.{number_of_data, data_number}
 use Rattle.session_log.specs.declared.line.Line.{Line}
 use Rattle.session_log.specs.Logs.{bytes_of, IsNumbered}
-use Rattle.session_log.specs.Indexes.{has_number, has_group, serials_of, IsIndexed}
-use Rattle.session_log.specs.Places.{places_from, place_from}
-use Rattle.session_log.proofs.Places.{places_same}
+use Rattle.session_log.specs.inner.Indexes.{has_number, has_group, serials_of, IsIndexed}
+use Rattle.session_log.specs.Positions.{positions_from, position_from}
+use Rattle.session_log.proofs.Positions.{positions_same}
 
 by_frame : (numbers : List ℕ) (frame : Option Frame) → option_map_or (is_touched numbers) frame false ≡ number_touched numbers
     (option_and_then number_of_data frame)
@@ -25,13 +25,13 @@ pub touched_by : (numbers : List ℕ) (line : List ℕ) → line_touched numbers
 unfolding line_touched data_number
 touched_by numbers line = by_frame numbers (frame_of (body_of line))
 
--- by the number that is kept with the line
+-- by the CAN identifier that is stored with the line
 pub untouched_by_number : (numbers : List ℕ) (line : Line) → IsNumbered line → not (number_touched numbers line.number)
     ≡ not (line_touched numbers (bytes_of line))
 untouched_by_number numbers line is = ap (λ n. not (number_touched numbers n)) is
     ∙ ap not (sym (touched_by numbers (bytes_of line)))
 
--- ---- one more number
+-- ---- one more CAN identifier
 
 one_more : (earlier : List ℕ) (number : ℕ) (other : Option ℕ) → number_touched (earlier ++ number ∷ []) other
     ≡ (number_touched earlier other || number_touched (number ∷ []) other)
@@ -49,7 +49,7 @@ of_none (Some other) = refl
 pub touched_by_none : (line : List ℕ) → line_touched [] line ≡ false
 touched_by_none line = touched_by [] line ∙ of_none (data_number line)
 
--- ---- one key for each number
+-- ---- one key for each CAN identifier
 
 or_false : (b : Bool) → (b || false) ≡ b
 or_false true = refl
@@ -59,7 +59,7 @@ and_false : (b : Bool) → (b && false) ≡ false
 and_false true = refl
 and_false false = refl
 
--- a number that may have a group has 29 bits
+-- a CAN identifier that may have a parameter group is extended (29-bit)
 wide : (number : ℕ) → may_have_group number ≡ true → is_extended number ≡ true
 unfolding may_have_group
 wide number t = (and_parts (is_extended number) (not (is_bad_number number)) t).0
@@ -72,7 +72,7 @@ of_itself number =
       | inr f ↦ rw f refl
     ]
 
--- a number that may have a group concerns the frames of its group, and another those of that number
+-- a CAN identifier that may have a parameter group concerns the frames of its group, and another those of that CAN identifier
 one_key : (other number : ℕ) → concerns other number ≡ (if may_have_group number then is_extended other && group_number_of number ==
     group_number_of other else number == other)
 unfolding concerns
@@ -96,13 +96,13 @@ pub touched_by_key : (number : ℕ) (line : List ℕ) → line_touched (number �
     ≡ (if may_have_group number then has_group (group_number_of number) line else has_number number line)
 touched_by_key number line = touched_by (number ∷ []) line ∙ by_key number (data_number line)
 
--- the places under the key are those of the lines that the number touches
+-- the indexes for the key are those of the lines that the CAN identifier touches
 pub found_by_key : (first : ℕ) (lines : List (List ℕ)) (index : LogIndex) (number : ℕ) → IsIndexed first lines index
-    → map (place_from first) (serials_of number index) ≡ places_from (line_touched (number ∷ [])) 0 lines
+    → map (position_from first) (serials_of number index) ≡ positions_from (line_touched (number ∷ [])) 0 lines
 found_by_key first lines index number h =
     elim (cases_Bool (may_have_group number)) [
-      | inl t ↦ rw t (h.by_group (group_number_of number) ∙ places_same (has_group (group_number_of number))
+      | inl t ↦ rw t (h.by_group (group_number_of number) ∙ positions_same (has_group (group_number_of number))
           (line_touched (number ∷ [])) (λ line. sym (touched_by_key number line ∙ rw t refl)) 0 lines)
-      | inr f ↦ rw f (h.by_number number ∙ places_same (has_number number) (line_touched (number ∷ []))
+      | inr f ↦ rw f (h.by_number number ∙ positions_same (has_number number) (line_touched (number ∷ []))
           (λ line. sym (touched_by_key number line ∙ rw f refl)) 0 lines)
     ]

@@ -1,5 +1,4 @@
-pub mod Hashes
-pub mod Places
-pub mod Indexes
+pub mod Positions
 pub mod Logs
 pub mod Kept
+pub mod inner

@@ -1,7 +1,7 @@
 //! Serial numbers of lines by a key.
 ghost use Rattle.std.specs.Prelude.{◌≡◌, ◌==◌, ◌-◌, ℕ, [], ◌∷◌, ◌++◌, OnOk, OnErr, IfOk, drop, take, length, map, if◌then◌else◌};
-ghost use Rattle.session_log.specs.Places.{place_from};
-ghost use Rattle.session_log.specs.Indexes.{numbers_in, serials_at};
+ghost use Rattle.session_log.specs.Positions.{position_from};
+ghost use Rattle.session_log.specs.inner.Indexes.{numbers_in, serials_at};
 
 use crate::log_hash::LogHash;
 use dbc_values::Memory;
@@ -12,16 +12,16 @@ use std::collections::VecDeque;
 /// The serial numbers of lines, of which there is at least one, in order of arrival.
 #[derive(Drop)]
 pub(crate) struct Serials {
-    /// That of the oldest line.
+    /// The serial number of the oldest line.
     pub first: usize,
-    /// Those of the others.
+    /// The serial numbers of the others.
     pub later: VecDeque<usize>,
 }
 
-/// Those under each key that has any.
+/// The serial numbers for each key that has any.
 pub(crate) type KeyedSerials = IndexMap<u32, Serials, LogHash>;
 
-/// Adds one after those under a key. If there is no memory, none changes.
+/// Adds one after those for a key. If memory runs out, none changes.
 pub(crate) fn add(
     alloc: Global,
     serials: &mut KeyedSerials,
@@ -44,16 +44,16 @@ pub(crate) fn add(
     Ok(())
 }
 
-// Room for so few is never given back.
-const LEAST_ROOM: usize = 64;
+// Capacity for this few is never released.
+const MIN_CAPACITY: usize = 64;
 
-// Gives half the room of a queue back where not even a quarter of it is used, and all if it is empty. Where there is no memory for
-// the smaller block, all of the room stays.
+// Releases half the capacity of a queue if not even a quarter of it is used, and all of it if it is empty. If there is no memory
+// for the smaller block, all of the capacity stays.
 fn give_back(queue: &mut VecDeque<usize>)
     ensures { queue.new.items ≡ queue.old.items }
 {
-    let room = queue.capacity();
-    if room < LEAST_ROOM || queue.len() >= room / 4 {
+    let space = queue.capacity();
+    if space < MIN_CAPACITY || queue.len() >= space / 4 {
         return;
     }
     let alloc = *queue.allocator();
@@ -61,14 +61,14 @@ fn give_back(queue: &mut VecDeque<usize>)
         *queue = VecDeque::new(alloc);
         return;
     }
-    if let Ok(mut smaller) = VecDeque::with_capacity(alloc, room / 2) {
+    if let Ok(mut smaller) = VecDeque::with_capacity(alloc, space / 2) {
         if smaller.append(queue).is_ok() {
             *queue = smaller;
         }
     }
 }
 
-/// Removes the first under a key, and with the last of them the key. Where memory is refused, only more room is kept.
+/// Removes the first one for a key, and the key with the last of them. If memory runs out, only more capacity is kept.
 pub(crate) fn drop_first(serials: &mut KeyedSerials, key: u32)
     ensures { (other : ℕ) → serials_at other serials.new ≡ (if other == key then drop 1 (serials_at other serials.old) else
         serials_at other serials.old) }
@@ -83,7 +83,7 @@ pub(crate) fn drop_first(serials: &mut KeyedSerials, key: u32)
     let _only = serials.swap_remove(&key);
 }
 
-/// Removes the last under a key, and with the first of them the key.
+/// Removes the last one for a key, and the key with the first of them.
 pub(crate) fn drop_last(serials: &mut KeyedSerials, key: u32)
     ensures { (other : ℕ) → serials_at other serials.new ≡ (if other == key then take (length (serials_at other serials.old) - 1)
         (serials_at other serials.old) else serials_at other serials.old) }
@@ -97,15 +97,15 @@ pub(crate) fn drop_last(serials: &mut KeyedSerials, key: u32)
 }
 
 impl Serials {
-    /// The places of the lines that they are of, where the first of all lines has the serial number `first`.
-    pub(crate) fn places(&self, alloc: Global, first: usize) -> Result<Vec<usize>, Memory>
-        ensures { IfOk result (λ places. places.items ≡ map (place_from first) (numbers_in self.now)) }
+    /// The indexes of their lines, where the first of all lines has the serial number `first`.
+    pub(crate) fn positions(&self, alloc: Global, first: usize) -> Result<Vec<usize>, Memory>
+        ensures { IfOk result (λ positions. positions.items ≡ map (position_from first) (numbers_in self.now)) }
     {
-        let mut places = Vec::new(alloc);
-        places.push(self.first.wrapping_sub(first))?;
+        let mut positions = Vec::new(alloc);
+        positions.push(self.first.wrapping_sub(first))?;
         for serial in self.later.iter() {
-            places.push(serial.wrapping_sub(first))?;
+            positions.push(serial.wrapping_sub(first))?;
         }
-        Ok(places)
+        Ok(positions)
     }
 }

@@ -2,23 +2,23 @@
 ghost use Rattle.std.specs.Prelude.{◌≡◌, ◌<◌, ◌+◌, ◌%◌, ◌^◌, [], ◌∷◌, ◌++◌, IfOk, OnOk, OnErr, All, Some, drop, filter, length};
 ghost use Rattle.std.specs.Prelude.{map, slice_get};
 ghost use Rattle.can_decode.specs.DecodedLines.{Bus};
-ghost use Rattle.edit_reach.specs.Touched.{line_touched};
+ghost use Rattle.session_edit_reach.specs.Touched.{line_touched};
 ghost use Rattle.session_log.specs.Logs.{bytes_of, IsNumbered, IsDecoded, Completes};
-ghost use Rattle.session_log.specs.Places.{places_from};
-ghost use Rattle.session_log.specs.Indexes.{is_untouched_at, Covers};
+ghost use Rattle.session_log.specs.Positions.{positions_from};
+ghost use Rattle.session_log.specs.inner.Indexes.{is_untouched_at, Covers};
 
 use crate::line::{Line, RedecodedLine, exchange};
 use crate::log_hash::LogHash;
 use crate::log_index::LogIndex;
 use dbc_values::Memory;
-use edit_reach::number_touched;
+use session_edit_reach::number_touched;
 use std::alloc::Global;
 use std::collections::VecDeque;
 use std::hash::RandomState;
 use std::marker::Model;
 
-/// The lines that are kept in order of arrival, each with the number of its frame, and the index of them by their serial numbers,
-/// which stay while older lines go. Contracts see the lines.
+/// The lines of a session's log in order of arrival, each with the CAN identifier of its frame, and the index of them by their
+/// serial numbers, which don't change when older lines are removed. Contracts see the lines.
 #[derive(Drop)]
 pub struct Log {
     // the serial number of the first line
@@ -40,7 +40,7 @@ impl Model for Log {
 }
 
 impl Log {
-    // That of no lines, whose index hashes so.
+    // The empty log, whose index hashes in this way.
     fn hashed(alloc: Global, hash: LogHash) -> Log
         ensures { result ≡ [] }
     {
@@ -51,15 +51,15 @@ impl Log {
         }
     }
 
-    /// That of no lines. Its index hashes the same way in each run, so identifiers can be chosen that make it slow.
+    /// The empty log. Its index hashes the same way in each run, so identifiers can be crafted that make it slow.
     pub fn new(alloc: Global) -> Log
         ensures { result ≡ [] }
     {
         Log::hashed(alloc, LogHash::Fixed)
     }
 
-    /// That of no lines, whose index hashes with these keys, so that nobody who doesn't know them can choose identifiers that make
-    /// it slow. Its answers are the same.
+    /// The empty log, whose index hashes with these keys, so that nobody who doesn't know them can craft identifiers that make it
+    /// slow. Its answers are the same.
     pub fn keyed(alloc: Global, keys: RandomState) -> Log
         ensures { result ≡ [] }
     {
@@ -73,16 +73,16 @@ impl Log {
         self.lines.len()
     }
 
-    /// The line at a place.
-    pub fn line(&self, place: usize) -> &Line
-        requires { place < length self.now }
-        ensures line { Some result.now ≡ slice_get self.now place }
+    /// The line at an index.
+    pub fn line(&self, position: usize) -> &Line
+        requires { position < length self.now }
+        ensures line { Some result.now ≡ slice_get self.now position }
         ensures numbered { IsNumbered result.now }
     {
-        &self.lines[place]
+        &self.lines[position]
     }
 
-    /// Keeps a line after the others, and puts it into the index. Where memory is refused, the lines are as they were.
+    /// Appends a line to the others, and adds it to the index. If memory runs out, the lines are as they were.
     pub fn retain(&mut self, alloc: Global, line: Line) -> Result<(), Memory>
         requires { IsNumbered line }
         ensures ok { OnOk result (self.new ≡ self.old ++ line ∷ []) }
@@ -97,7 +97,7 @@ impl Log {
         Ok(())
     }
 
-    /// Lets the first line go.
+    /// Removes the first line.
     pub fn drop_first(&mut self)
         ensures { self.new ≡ drop 1 self.old }
     {
@@ -110,63 +110,64 @@ impl Log {
         self.first = self.first.wrapping_add(1);
     }
 
-    // The places of the lines that a number touches.
-    fn places_of(&self, alloc: Global, number: u32) -> Result<Vec<usize>, Memory>
-        ensures { IfOk result (λ places. places.items ≡ places_from (line_touched (number ∷ [])) 0 (map bytes_of self.now)) }
+    // The indexes of the lines that a CAN identifier touches.
+    fn positions_of(&self, alloc: Global, number: u32) -> Result<Vec<usize>, Memory>
+        ensures { IfOk result (λ found. found.items ≡ positions_from (line_touched (number ∷ [])) 0 (map bytes_of self.now)) }
     {
         match self.index.serials_of(number) {
-            Some(serials) => serials.places(alloc, self.first),
+            Some(serials) => serials.positions(alloc, self.first),
             None => Ok(Vec::new(alloc)),
         }
     }
 
-    // Whether the line at a place is touched by none of the numbers.
-    fn is_untouched_at(&self, numbers: &[u32], place: usize) -> bool
-        ensures { result ≡ is_untouched_at numbers.now (map bytes_of self.now) place }
+    // Whether the line at an index is touched by none of the CAN identifiers.
+    fn is_untouched_at(&self, numbers: &[u32], position: usize) -> bool
+        ensures { result ≡ is_untouched_at numbers.now (map bytes_of self.now) position }
     {
-        if place < self.len() {
-            !number_touched(numbers, self.line(place).number)
+        if position < self.len() {
+            !number_touched(numbers, self.line(position).number)
         } else {
             false
         }
     }
 
-    // Adds the places of lines that none of the earlier numbers touches.
-    fn add_places(
+    // Adds the indexes of lines that none of the earlier CAN identifiers touches.
+    fn add_positions(
         &self,
-        places: &mut Vec<usize>,
+        positions: &mut Vec<usize>,
         found: &[usize],
         earlier: &[u32],
     ) -> Result<(), Memory>
-        ensures { OnOk result (places.new.items ≡ places.old.items ++ filter (is_untouched_at earlier.now (map bytes_of self.now))
+        ensures { OnOk result (positions.new.items ≡ positions.old.items ++ filter (is_untouched_at earlier.now (map bytes_of
+            self.now))
             found.now) }
     {
-        for place in found {
-            if self.is_untouched_at(earlier, *place) {
-                places.push(*place)?;
+        for position in found {
+            if self.is_untouched_at(earlier, *position) {
+                positions.push(*position)?;
             }
         }
         Ok(())
     }
 
-    /// The places of the lines that the numbers touch, each once. No line is read again.
+    /// The indexes of the lines that the CAN identifiers touch, each once. No line is read again.
     pub fn touched(&self, alloc: Global, numbers: &[u32]) -> Result<Vec<usize>, Memory>
-        ensures { IfOk result (λ places. Covers numbers.now (map bytes_of self.now) places.items) }
+        ensures { IfOk result (λ positions. Covers numbers.now (map bytes_of self.now) positions.items) }
     {
-        let mut places = Vec::new(alloc);
+        let mut positions = Vec::new(alloc);
         for (at, number) in numbers.iter().enumerate() {
-            let found = self.places_of(alloc, *number)?;
-            self.add_places(&mut places, found.as_slice(), &numbers[..at])?;
+            let found = self.positions_of(alloc, *number)?;
+            self.add_positions(&mut positions, found.as_slice(), &numbers[..at])?;
         }
-        Ok(places)
+        Ok(positions)
     }
 
-    /// Gives each text to the line at its place. It takes no memory.
-    pub fn exchange(&mut self, fresh: Vec<RedecodedLine>)
-        requires { All (λ text. text.place < length self.old) fresh.items }
+    /// Gives each text to the line at its index. It allocates nothing.
+    pub fn exchange(&mut self, redecoded: Vec<RedecodedLine>)
+        requires { All (λ text. text.position < length self.old) redecoded.items }
         ensures lines { map bytes_of self.new ≡ map bytes_of self.old }
-        ensures decoded { (bus : Bus) → Completes bus self.old fresh.items → All (IsDecoded bus) self.new }
+        ensures decoded { (bus : Bus) → Completes bus self.old redecoded.items → All (IsDecoded bus) self.new }
     {
-        exchange(&mut self.lines, fresh);
+        exchange(&mut self.lines, redecoded);
     }
 }

@@ -1,21 +1,21 @@
-//! The lines that are kept by the numbers and by the parameter groups of their data frames.
+//! The lines of the log by the CAN identifiers and by the parameter groups of their data frames.
 ghost use Rattle.std.specs.Prelude.{◌≡◌, [], OnOk, OnErr};
 ghost use Rattle.std.specs.Option.{option_map_or};
 ghost use Rattle.indexmap.specs.IndexMap.{hasher_of};
-ghost use Rattle.can_rows.specs.Groups.{is_extended, group_number_of};
-ghost use Rattle.edit_reach.specs.Touched.{may_have_group};
-ghost use Rattle.session_log.specs.Indexes.{numbers_in, SameSerials, Puts, Drops, serials_of, IsIndexed};
+ghost use Rattle.can_entries.specs.Groups.{is_extended, group_number_of};
+ghost use Rattle.session_edit_reach.specs.Touched.{may_have_group};
+ghost use Rattle.session_log.specs.inner.Indexes.{numbers_in, SameSerials, Puts, Drops, serials_of, IsIndexed};
 
 use crate::keyed_serials::{KeyedSerials, Serials, add, drop_first, drop_last};
 use crate::log_hash::LogHash;
 use can_decode::group_number;
 use dbc_values::Memory;
-use edit_reach::{is_extended, may_have_group};
 use indexmap::IndexMap;
+use session_edit_reach::{is_extended, may_have_group};
 use std::alloc::Global;
 
-/// The serial numbers of lines by the numbers of their data frames, and of those with identifiers of 29 bits by their groups. A
-/// number or group is there as long as it has a line.
+/// The serial numbers of lines by the CAN identifiers of their data frames, and of those with extended (29-bit) identifiers by
+/// their parameter groups. A CAN identifier or parameter group has an entry as long as it has a line.
 #[derive(Drop)]
 pub(crate) struct LogIndex {
     numbers: KeyedSerials,
@@ -23,7 +23,7 @@ pub(crate) struct LogIndex {
 }
 
 impl LogIndex {
-    /// That of no lines, which hashes so.
+    /// The index of no lines, which hashes in this way.
     pub(crate) fn new(alloc: Global, hash: LogHash) -> LogIndex
         ensures none { IsIndexed 0 [] result }
         ensures numbers { hasher_of result.numbers ≡ hash }
@@ -35,7 +35,7 @@ impl LogIndex {
         }
     }
 
-    /// Adds a line with a data frame of the number, after the others.
+    /// Appends a line with a data frame of the CAN identifier to the others.
     pub(crate) fn add(&mut self, alloc: Global, number: u32, serial: usize) -> Result<(), Memory>
         ensures ok { OnOk result (Puts number serial self.old self.new) }
         ensures err { OnErr result (SameSerials self.old self.new) }
@@ -51,7 +51,7 @@ impl LogIndex {
         Ok(())
     }
 
-    /// Takes out the first line with a data frame of the number.
+    /// Removes the first line with a data frame of the CAN identifier.
     pub(crate) fn drop_first(&mut self, number: u32)
         ensures { Drops number self.old self.new }
     {
@@ -61,7 +61,8 @@ impl LogIndex {
         }
     }
 
-    /// The serial numbers of the lines that a number concerns: those of its group, or else those with that number.
+    /// The serial numbers of the lines that a CAN identifier concerns: those of its parameter group, otherwise those
+    /// with that CAN identifier.
     pub(crate) fn serials_of(&self, number: u32) -> Option<&Serials>
         ensures { option_map_or (λ serials. numbers_in serials.now) result [] ≡ serials_of number self.now }
     {

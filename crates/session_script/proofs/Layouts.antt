@@ -10,7 +10,7 @@ pub by_picture : {X : Type 0} (f : X → List ℕ) (message : Option X) (picture
 by_picture f None picture ok refused is = rw is refl
 by_picture f (Some m) picture ok refused is = rw is refl
 
--- what is lent of a place is what stands there
-pub at_place : {X Y : Type 0} (f : X → Y) (xs : List X) (i : ℕ) (y d : Y) → Some y ≡ option_map f (slice_get xs i)
+-- what is returned by reference for an index is what is there
+pub at_index : {X Y : Type 0} (f : X → Y) (xs : List X) (i : ℕ) (y d : Y) → Some y ≡ option_map f (slice_get xs i)
     → y ≡ get_or (map f xs) i d
-at_place f xs i y d is = sym (get_or_from_slice_get (map f xs) i y d (slice_get-map f xs i ∙ sym is))
+at_index f xs i y d is = sym (get_or_from_slice_get (map f xs) i y d (slice_get-map f xs i ∙ sym is))

@@ -1,6 +1,6 @@
 pub use Rattle.can_session.specs.States
-pub use Rattle.script_commands.specs.Words
-pub use Rattle.script_commands.specs.Commands
+pub use Rattle.session_commands.specs.Words
+pub use Rattle.session_commands.specs.Commands
 pub mod Replies
 pub mod Serving
 pub mod Running

@@ -5,17 +5,18 @@ use Rattle.std.specs.List.{flat_map}
 use Rattle.std.specs.Option.{option_map_or}
 use Rattle.dbc_records.specs.Databases.{Database}
 use Rattle.dbc_records.specs.CanonicalText.{canonical_text}
-use Rattle.can_layout.specs.Pictures.{picture_of}
+use Rattle.can_layout.specs.Diagrams.{picture_of}
 use Rattle.can_diagnostics.specs.Lines.{line_text}
 use Rattle.can_check.specs.AllFaults.{all_faults}
 use Rattle.can_decode.specs.DecodedLines.{decoded_line}
-use Rattle.log_frames.specs.LogLines.{body_of}
+use Rattle.can_frames.specs.LogLines.{body_of}
 use Rattle.dbc_edits.specs.declared.refusal.Refusal.{Refusal}
 use Rattle.dbc_edits.specs.declared.refusal.Refusal.TheVariants as refusals
 use Rattle.dbc_edits.specs.Refusals.{refusal_number, refusal_word}
 use Rattle.can_session.specs.States.{State, Applies, Adds}
-use Rattle.script_commands.specs.Words.{word_of, verb_of}
-use Rattle.script_commands.specs.Commands.{Command, Log, Change, ShowDiagnostics, ShowLayout, ShowLines, Print, Means, takes_memory}
+use Rattle.session_commands.specs.Words.{word_of, verb_of}
+use Rattle.session_commands.specs.Commands.{Command, Log, Change, ShowDiagnostics, ShowLayout, ShowLines, Print, Means}
+use Rattle.session_commands.specs.Commands.{takes_memory}
 
 -- ---- texts
 
@@ -38,9 +39,9 @@ answer_text (Err refusal) = refused_text refusal
 unfoldable pub diagnostics_text : Database → List ℕ
 diagnostics_text database = flat_map (λ diagnostic. line_text diagnostic ++ codes "\n") (all_faults database) ++ ok_text
 
--- the diagram and `ok`, where a message stands at the place
+-- the diagram and `ok`, if a message is at the index
 unfoldable pub layout_text : Database → ℕ → List ℕ
-layout_text database place = option_map_or (λ message. picture_of database message ++ ok_text) (slice_get database.messages place)
+layout_text database index = option_map_or (λ message. picture_of database message ++ ok_text) (slice_get database.messages index)
     (refused_text refusals.NoMessage)
 
 -- the decoded text of each line
@@ -63,7 +64,7 @@ Does (Some (Log line)) before after text = (answer : Result (Unit {0}) Refusal) 
 Does (Some (Change edit)) before after text = (answer : Result (Unit {0}) Refusal) × Applies edit before answer after
     × (text ≡ answer_text answer)
 Does (Some ShowDiagnostics) before after text = (after ≡ before) × (text ≡ diagnostics_text before.database)
-Does (Some (ShowLayout place)) before after text = (after ≡ before) × (text ≡ layout_text before.database place)
+Does (Some (ShowLayout index)) before after text = (after ≡ before) × (text ≡ layout_text before.database index)
 Does (Some ShowLines) before after text = (after ≡ before) × (text ≡ lines_text before)
 Does (Some Print) before after text = (after ≡ before) × (text ≡ print_text before.database)
 

@@ -2,14 +2,14 @@
 use Rattle.std.specs.Prelude.{◌≡◌, ℕ, List, [], Result, Ok, Err}
 use Rattle.byte_devices.specs.Device.{Unread, Written}
 use Rattle.dbc_reader.specs.Texts.{HasDatabase, IsRead}
-use Rattle.line_stream.specs.declared.fault.StreamFault.{StreamFault}
+use Rattle.can_line_stream.specs.declared.fault.StreamFault.{StreamFault}
 use Rattle.can_session.specs.declared.options.Options.{Options}
 use Rattle.can_session.specs.States.{State}
 use Rattle.session_script.specs.declared.fault.SessionFault.{SessionFault}
 use Rattle.session_script.specs.declared.fault.SessionFault.TheVariants as faults
 use Rattle.session_script.specs.Serving.{Serves}
 
--- the script was run in a session that stood so before, and stands so after
+-- the script was run in a session that was so before, and is so after
 abbrev pub ServesSession : State → State → Unread → Unread → Written → Written → Result ℕ SessionFault → Type 0
 ServesSession first last unread left old new (Ok count) = Serves first old unread left last new (Ok count)
 ServesSession first last unread left old new (Err (faults.Stream fault)) = Serves first old unread left last new (Err fault)

@@ -1,10 +1,10 @@
 -- What a script has done and written when it ends.
 use Rattle.std.specs.Prelude.{◌≡◌, ℕ, List, [], Result, Ok, Err}
 use Rattle.byte_devices.specs.Device.{Unread, Written}
-use Rattle.line_stream.specs.declared.fault.StreamFault.{StreamFault}
-use Rattle.line_stream.specs.declared.fault.StreamFault.TheVariants as faults
-use Rattle.line_stream.specs.Runs.{Rules}
-use Rattle.line_stream.specs.Stream.{StreamEnds}
+use Rattle.can_line_stream.specs.declared.fault.StreamFault.{StreamFault}
+use Rattle.can_line_stream.specs.declared.fault.StreamFault.TheVariants as faults
+use Rattle.can_line_stream.specs.Runs.{Rules}
+use Rattle.can_line_stream.specs.Stream.{StreamEnds}
 use Rattle.can_session.specs.States.{State}
 use Rattle.session_script.specs.Replies.{Replies}
 

@@ -1,13 +1,13 @@
-//! What can go wrong, as the program says it.
+//! What can go wrong, as the program reports it.
 
+use can_line_stream::StreamFault;
 use dbc_tokens::ReadFault;
-use line_stream::StreamFault;
 use thiserror::Error;
 
 /// Why a run of `session` failed.
 #[derive(Clone, Copy, Debug, PartialEq, Eq, Error)]
 pub enum SessionFault {
-    /// The database is refused, or there was no memory for it. Nothing was read from the script, and nothing was written.
+    /// The database was rejected, or there was no memory for it. Nothing was read from the script, and nothing was written.
     #[error("{0}")]
     Read(ReadFault),
     /// The script or its replies met a fault.

@@ -1,6 +1,6 @@
-//! The script of an open session: a command a line, and a reply to each.
+//! The script of an open session: a command per line, and a reply to each.
 //!
-//! [`serve`] runs a script. What a line asks for is read by script_commands; what is done and replied in `specs/Replies.antt`.
+//! [`serve`] runs a script. session_commands reads what a line asks for; `specs/Replies.antt` defines what is done and replied.
 #![tactic(auto)]
 
 mod fault;
@@ -12,5 +12,5 @@ mod serving;
 pub use can_session::{Edit, Keep, KeyedOptions, LineCount, Options, Refusal, Session};
 pub use fault::SessionFault;
 pub use running::{keyed_run, session_run};
-pub use script_commands::Verb;
 pub use serving::serve;
+pub use session_commands::Verb;

@@ -1,7 +1,7 @@
 //! What is done with a line.
 ghost use Rattle.std.specs.Prelude.{◌≡◌, ℕ, List, Some, None, option_map};
 ghost use Rattle.byte_devices.specs.Device.{Prints};
-ghost use Rattle.script_commands.specs.Commands.{seen, Means};
+ghost use Rattle.session_commands.specs.Commands.{seen, Means};
 ghost use Rattle.session_script.specs.Replies.{Does, Replies};
 
 use crate::replies::{
@@ -9,7 +9,7 @@ use crate::replies::{
 };
 use byte_devices::{Sink, WriteFault};
 use can_session::{Refusal, Session};
-use script_commands::{Command, command_of, log_line};
+use session_commands::{Command, command_of, log_line};
 use std::alloc::Global;
 
 // Does what a command asks for, and writes the reply.
@@ -26,7 +26,7 @@ fn perform<W: Sink>(
         Some(Command::Log(line)) => put_answer(sink, session.add_line(line)),
         Some(Command::Change(edit)) => put_answer(sink, session.apply(&edit)),
         Some(Command::ShowDiagnostics) => show_diagnostics(sink, session),
-        Some(Command::ShowLayout(place)) => show_layout(sink, session, place as usize),
+        Some(Command::ShowLayout(index)) => show_layout(sink, session, index as usize),
         Some(Command::ShowLines) => show_lines(sink, session),
         Some(Command::Print) => show_print(sink, session),
     }

@@ -1,6 +1,6 @@
 //! Replies.
 ghost use Rattle.std.specs.Prelude.{◌≡◌, ◌++◌, codes, option_map, slice_get};
-ghost use Rattle.can_layout.specs.Pictures.{picture_of};
+ghost use Rattle.can_layout.specs.Diagrams.{picture_of};
 ghost use Rattle.std.specs.List.{flat_map};
 ghost use Rattle.byte_devices.specs.Device.{Prints};
 ghost use Rattle.byte_devices.specs.Outs.{Sends};
@@ -45,7 +45,7 @@ pub(crate) fn put_refusal<W: Sink>(sink: &mut W, refusal: Refusal) -> Result<(),
     out.flush()
 }
 
-/// What is answered to a command.
+/// The answer to a command.
 pub(crate) fn put_answer<W: Sink>(
     sink: &mut W,
     answer: Result<(), Refusal>,
@@ -75,13 +75,13 @@ fn put_picture<W: Sink>(sink: &mut W, picture: &[u8]) -> Result<(), WriteFault>
     put_ok(sink)
 }
 
-// The diagram of the message at an index, where there is one.
-fn picture_at(session: &Session, place: usize) -> Option<&[u8]>
+// The diagram of the message at an index, if there is one.
+fn picture_at(session: &Session, index: usize) -> Option<&[u8]>
     ensures { option_map (λ picture. picture.now) result ≡ option_map (picture_of session.now.state.database)
-        (slice_get session.now.state.database.messages place) }
+        (slice_get session.now.state.database.messages index) }
 {
-    if place < session.database().messages.len() {
-        Some(session.picture(place))
+    if index < session.database().messages.len() {
+        Some(session.picture(index))
     } else {
         None
     }
@@ -92,11 +92,11 @@ fn picture_at(session: &Session, place: usize) -> Option<&[u8]>
 pub(crate) fn show_layout<W: Sink>(
     sink: &mut W,
     session: &Session,
-    place: usize,
+    index: usize,
 ) -> Result<(), WriteFault>
-    ensures { Prints (W.written sink.old) (W.written sink.new) result (layout_text session.now.state.database place) }
+    ensures { Prints (W.written sink.old) (W.written sink.new) result (layout_text session.now.state.database index) }
 {
-    match picture_at(session, place) {
+    match picture_at(session, index) {
         Some(picture) => put_picture(sink, picture),
         None => put_refusal(sink, Refusal::NoMessage),
     }

@@ -1,20 +1,20 @@
 //! The script as a stream of lines.
 ghost use Rattle.std.specs.Prelude.{◌≡◌, [], IfOk};
-ghost use Rattle.line_stream.specs.Runs.{Leads};
+ghost use Rattle.can_line_stream.specs.Runs.{Leads};
 ghost use Rattle.session_script.specs.Replies.{Replies};
 ghost use Rattle.session_script.specs.Serving.{Serves};
 
 use crate::performing::reply;
 use arrayvec::ArrayVec;
 use byte_devices::{Out, Sink, Source, WriteFault};
+use can_line_stream::{Handler, Stop, StreamFault, stream_lines};
 use can_session::Session;
+use dbc_text_buffer::TextBuffer;
 use dbc_values::Memory;
-use line_stream::{Handler, Stop, StreamFault, stream_lines};
-use ready_texts::TextBuffer;
 use std::alloc::Global;
 
 // The most bytes of a line of a script.
-const LONGEST: usize = 65_536;
+const MAX_LINE_SIZE: usize = 65_536;
 
 // Lines are handled as commands.
 #[derive(Drop)]
@@ -38,7 +38,7 @@ impl Handler for Script {
     fn handle<W: Sink>(
         &self,
         session: &mut Session,
-        _room: &mut TextBuffer,
+        _space: &mut TextBuffer,
         out: &mut Out<'_, W>,
         line: &[u8],
     ) -> Result<(), Stop> {
@@ -51,9 +51,9 @@ impl Handler for Script {
     ghost nothing_waits = { λ handler. refl };
 }
 
-// Room for a line. It is made on the stack and then moved, which nothing else should have to stand on.
+// Space for a line. It is made on the stack and then moved, so nothing else should be on that stack frame.
 #[inline(never)]
-fn line_room(alloc: Global) -> Result<Box<ArrayVec<u8, LONGEST>>, Memory>
+fn line_space(alloc: Global) -> Result<Box<ArrayVec<u8, MAX_LINE_SIZE>>, Memory>
     ensures { IfOk result (λ line. line.value.items ≡ []) }
 {
     match Box::new(alloc, ArrayVec::new()) {
@@ -62,11 +62,11 @@ fn line_room(alloc: Global) -> Result<Box<ArrayVec<u8, LONGEST>>, Memory>
     }
 }
 
-/// Runs a script to its end: each line is a command, and its reply is written before the next is done. It answers how many commands
+/// Runs a script to its end: each line is a command, and its reply is written before the next is done. It returns how many commands
 /// there are, up to `u64::MAX`. A line has at most 65,536 bytes.
 ///
 /// If the script ends earlier, the session is as after the commands whose replies were written, or, if a write failed, as after the
-/// one whose reply could not be written whole. Even if the source doesn't tell its bytes, some lines led to it.
+/// one whose reply could not be written whole. Even if the source's bytes are unknown, some lines led to it.
 pub fn serve<R: Source, W: Sink>(
     alloc: Global,
     session: &mut Session,
@@ -77,7 +77,7 @@ pub fn serve<R: Source, W: Sink>(
         (W.written sink.new) result }
     ensures leads { Leads Replies session.old.state session.new.state }
 {
-    let Ok(mut line) = line_room(alloc) else {
+    let Ok(mut line) = line_space(alloc) else {
         return Err(StreamFault::Memory);
     };
     let script = Script { alloc };

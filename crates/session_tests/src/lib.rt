@@ -1,5 +1,5 @@
-//! Tests of sessions and their scripts: what no contract says of them. They stand apart, as a crate with tests is proved once
-//! more with them. So do those of the streams of lines below.
+//! Tests of sessions and their scripts: what no contract states about them. They are separate, as a crate with tests is proved once
+//! more with them. So are those of the streams of lines below.
 #![tactic(auto)]
 
 #[cfg(test)]

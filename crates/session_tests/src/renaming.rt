@@ -1,4 +1,4 @@
-//! That a renamed database is answered where memory is there.
+//! That renaming in a database succeeds if there is enough memory.
 
 use dbc_edits::{Edit, edited, renamed};
 use dbc_reader::read;
@@ -36,14 +36,14 @@ fn names_so(database: &Database, name: &[u8]) -> bool {
     signal.name.as_bytes() == name && row.switch.as_bytes() == name
 }
 
-// Whether an edit that renames S gives a database in which it is so named, and the call of its own the same.
+// Whether an edit that renames S gives a database in which it has that name, and its separate call gives the same.
 fn is_renamed(alloc: Global, database: &Database, edit: &Edit) -> Result<bool, Fail> {
-    let Edit::RenameSignal(place, old, new) = edit else {
+    let Edit::RenameSignal(index, old, new) = edit else {
         return Ok(false);
     };
     match edited(alloc, database, edit) {
         Ok(edited) => {
-            let renamed = renamed(database, *place, old, new)?;
+            let renamed = renamed(database, *index, old, new)?;
             Ok(names_so(&edited, b"U") && names_so(&renamed, b"U"))
         }
         Err(_) => Ok(false),

@@ -1,8 +1,8 @@
 //! Runs of a session: commands, what it replies, and what it shows after them.
 
 use byte_devices::limp::Limp;
+use can_line_stream::StreamFault;
 use can_session::Short;
-use line_stream::StreamFault;
 use session_script::{Keep, Options, Session, serve};
 use std::alloc::Global;
 use std::test::Fail;
@@ -10,10 +10,10 @@ use std::test::Fail;
 /// More than any run reads or writes.
 pub const ALL: usize = usize::MAX;
 
-/// Where a session stands: how many messages it has, how many signals the plan of the first has, how many diagnostics are told,
+/// The state of a session: how many messages it has, how many signals the plan of the first has, how many diagnostics are reported,
 /// and the first line with its text.
 #[derive(Clone, Copy)]
-pub struct Standing {
+pub struct SessionState {
     pub messages: usize,
     pub signals: usize,
     pub diagnostics: usize,
@@ -27,12 +27,12 @@ pub struct Run {
     pub commands: &'static [u8],
     pub replies: &'static [u8],
     pub ended: Result<u64, StreamFault>,
-    pub standing: Standing,
+    pub standing: SessionState,
     /// How many plans and diagrams were made since the session was opened, and how many lines decoded.
     pub made: (u64, u64),
 }
 
-/// How commands are read and replies written: so many bytes at once are read, and so many in all can be read and written.
+/// How commands are read and replies written: this many bytes are read at a time, and this many in all can be read and written.
 #[derive(Clone, Copy)]
 pub struct Devices {
     pub at_once: usize,
@@ -40,17 +40,17 @@ pub struct Devices {
     pub written: usize,
 }
 
-// Whether the first message has a plan of so many signals.
+// Whether the first message has a plan of this many signals.
 fn plans(session: &Session, signals: usize) -> bool {
     !session.database().messages.as_slice().is_empty() && session.plan(0).signals() == signals
 }
 
-// Whether the first line is this, and decoded so.
+// Whether the first line is this one, and decoded in this way.
 fn shows(session: &Session, line: &[u8], decoded: &[u8]) -> bool {
     0 < session.line_count() && session.line(0) == line && session.decoded(0) == decoded
 }
 
-fn stands(session: &Session, standing: &Standing) -> bool {
+fn occurs(session: &Session, standing: &SessionState) -> bool {
     session.database().messages.len() == standing.messages
         && session.diagnostics().len() == standing.diagnostics
         && plans(session, standing.signals)
@@ -62,7 +62,7 @@ fn counts(session: &Session, (made, decoded): (u64, u64)) -> bool {
     meter.plans() == made && meter.pictures() == made && meter.lines() == decoded
 }
 
-// Whether the session does the commands so.
+// Whether the session performs the commands as expected.
 fn does(alloc: Global, session: &mut Session, devices: &Devices, run: &Run) -> Result<bool, Fail> {
     let commands = run.commands.to_vec(alloc)?;
     let mut source = Limp::new(commands, devices.at_once.max(1), u64::MAX, devices.read);
@@ -71,12 +71,12 @@ fn does(alloc: Global, session: &mut Session, devices: &Devices, run: &Run) -> R
     Ok(
         ended == run.ended
             && sink.bytes() == run.replies
-            && stands(session, &run.standing)
+            && occurs(session, &run.standing)
             && counts(session, run.made),
     )
 }
 
-// Whether the session does the runs so, one after another.
+// Whether the session performs the runs as expected, one after another.
 fn does_all(
     alloc: Global,
     session: &mut Session,
@@ -107,8 +107,8 @@ fn open(alloc: Global, text: &[u8], keep: Keep) -> Option<Session> {
     }
 }
 
-/// Whether a session of the text, which keeps these lines, does the runs so. No other function has a session of its own, and
-/// this one hands it on at once: whoever has one and leaves in many ways is long in proving.
+/// Whether a session of the text, which keeps these lines, performs the runs as expected. No other function owns a session, and
+/// this one passes it on at once: a function that owns one and has many exits takes long to prove.
 pub fn all_done(
     alloc: Global,
     text: &[u8],

@@ -1,12 +1,12 @@
-//! What no contract says: that commands are done where memory is there. The replies, and where a session stands when a device
+//! What no contract states: that commands are done if there is enough memory. The replies, and the state of a session when a device
 //! has failed, are worked out by hand.
 
-use crate::runs::{ALL, Devices, Run, Standing, all_done};
-use line_stream::StreamFault;
+use crate::runs::{ALL, Devices, Run, SessionState, all_done};
+use can_line_stream::StreamFault;
 use session_script::Keep;
 use std::test::Fail;
 
-/// Two messages of one number.
+/// Two messages of one CAN identifier.
 pub(crate) const SHARED: &[u8] = b"\
 BU_: E
 BO_ 83 A: 1 E
@@ -21,7 +21,7 @@ const SCRIPT: &[u8] = b"log (1.5) can0 053#2A\nremove-message 0\nshow lines\n";
 const REPLIES: &[u8] = b"ok\nok\n(1.5) can0 053#2A :: B(S: 84)\nok\n";
 
 // After its first command.
-const BOTH: Standing = Standing {
+const BOTH: SessionState = SessionState {
     messages: 2,
     signals: 1,
     diagnostics: 2,
@@ -30,7 +30,7 @@ const BOTH: Standing = Standing {
 };
 
 // After its second.
-const SECOND: Standing = Standing {
+const SECOND: SessionState = SessionState {
     messages: 1,
     signals: 1,
     diagnostics: 0,
@@ -38,11 +38,11 @@ const SECOND: Standing = Standing {
     decoded: b"(1.5) can0 053#2A :: B(S: 84)",
 };
 
-// The script, ended so.
+// The script, ended in this way.
 fn script_ended(
     ended: Result<u64, StreamFault>,
     replies: &'static [u8],
-    standing: Standing,
+    standing: SessionState,
     made: (u64, u64),
 ) -> Run {
     Run {
@@ -58,7 +58,7 @@ fn script_ended(
 fn scripts(rt: HostRuntime) -> Result<(), Fail> {
     let table: [((usize, usize), Run); 4] = [
         ((ALL, ALL), script_ended(Ok(3), REPLIES, SECOND, (3, 2))),
-        // the first line was read, and then the second too but for its LF
+        // the first line was read, and then the second too except its LF
         (
             (22, ALL),
             script_ended(Err(StreamFault::Read), b"ok\n", BOTH, (2, 1)),

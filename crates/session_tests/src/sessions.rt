@@ -1,7 +1,7 @@
-//! What no contract says: that edits are accepted where memory is there, what a session then shows, and that the meter rises as
-//! far as it has to. `tests/session_rows` tries the refusals over the built program.
+//! What no contract states: that edits are accepted if there is enough memory, what a session then shows, and that the meter rises
+//! as far as it has to. `tests/test_session_rows.py` tries the refusals over the built program.
 
-use crate::runs::{ALL, Devices, Run, Standing, all_done};
+use crate::runs::{ALL, Devices, Run, SessionState, all_done};
 use session_script::{Keep, LineCount};
 use std::test::Fail;
 
@@ -98,7 +98,7 @@ fn all_edits(rt: HostRuntime) -> Result<(), Fail> {
         commands: EDITS,
         replies: EDITED,
         ended: Ok(25),
-        standing: Standing {
+        standing: SessionState {
             messages: 1,
             signals: 2,
             diagnostics: 0,
@@ -127,7 +127,7 @@ log (0.0) c 12C#0105
 log (0.0) c 12D#00
 ";
 
-// An entry of a multiplexor touches the two lines of its message, a table none.
+// A multiplexer entry touches the two lines of its message, a value table none.
 const ROW: &[u8] = b"\
 set-mux SG_MUL_VAL_ 300 B M 0-1;
 set-table VAL_TABLE_ T 0 \"zero\" ;
@@ -161,7 +161,7 @@ fn done(
     commands: &'static [u8],
     replies: &'static [u8],
     count: u64,
-    standing: Standing,
+    standing: SessionState,
     made: (u64, u64),
 ) -> Run {
     Run {
@@ -173,8 +173,8 @@ fn done(
     }
 }
 
-fn muxed(diagnostics: usize, decoded: &'static [u8]) -> Standing {
-    Standing {
+fn muxed(diagnostics: usize, decoded: &'static [u8]) -> SessionState {
+    SessionState {
         messages: 2,
         signals: 3,
         diagnostics,
@@ -230,16 +230,16 @@ ok
 ok
 ";
 
-// An entry of a multiplexor touches the one line of its message that is still there.
+// A multiplexer entry touches the one line of its message that is still there.
 #[test]
 fn last_lines(rt: HostRuntime) -> Result<(), Fail> {
     let line = b"(0.0) c 12C#0105".as_slice();
     let decoded = b"(0.0) c 12C#0105 :: X(M: 1, B: 5)".as_slice();
-    let before = Standing {
+    let before = SessionState {
         line,
         ..muxed(0, decoded)
     };
-    let after = Standing {
+    let after = SessionState {
         line,
         ..muxed(1, decoded)
     };
@@ -289,8 +289,8 @@ ok
 
 const AGAIN: &[u8] = b"remove-message 0\n";
 
-fn standing(messages: usize, signals: usize, decoded: &'static [u8]) -> Standing {
-    Standing {
+fn standing(messages: usize, signals: usize, decoded: &'static [u8]) -> SessionState {
+    SessionState {
         messages,
         signals,
         diagnostics: 0,
@@ -303,7 +303,7 @@ const BY_GROUP: &[u8] = b"(0.0) c 18FEF131#FF0014FFFFFFFFFF :: CCVS[p6 s49](Spee
 
 const BY_NUMBER: &[u8] = b"(0.0) c 18FEF131#FF0014FFFFFFFFFF :: Own()";
 
-// An exact message takes the frames of its number from a group message; others are not decoded again.
+// An exact message takes the frames of its CAN identifier from a J1939 message; others are not decoded again.
 #[test]
 fn exact_before_group(rt: HostRuntime) -> Result<(), Fail> {
     let runs = [

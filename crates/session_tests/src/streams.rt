@@ -1,10 +1,10 @@
-//! What no contract says: that runs succeed, and the texts of faults.
+//! What no contract states: that runs succeed, and the texts of faults.
 ghost use Rattle.std.specs.Prelude.{ℕ, List, ◌++◌};
 
 use byte_devices::limp::Limp;
+use can_line_stream::{LineText, StreamFault, stream_texts};
+use dbc_text_buffer::{TextBuffer, push_bytes};
 use dbc_values::Memory;
-use line_stream::{LineText, StreamFault, stream_texts};
-use ready_texts::{TextBuffer, push_bytes};
 use std::marker::Model;
 use std::test::Fail;
 
@@ -24,7 +24,7 @@ impl<'t> Model for Marked<'t> {
 
 impl<'t> LineText for Marked<'t> {
     ghost use Rattle.std.proofs.Common.{refl};
-    ghost use Rattle.line_stream.specs.LineTexts.{line_text};
+    ghost use Rattle.can_line_stream.specs.LineTexts.{line_text};
 
     ghost text_of = { λ mark. line_text (λ line. mark ++ line) };
 

@@ -1,4 +1,4 @@
-//! Whole runs: what is answered, and what is shown after them, where memory is there.
+//! Whole runs: the answers, and what is shown after them, if there is enough memory.
 
 use crate::scripts::SHARED;
 use byte_devices::limp::Limp;
@@ -22,7 +22,7 @@ fn options() -> Options {
     }
 }
 
-// A line, the first message removed, and one that isn't there.
+// A line, the first message removed, and one that doesn't exist.
 fn commands(alloc: Global) -> Result<[Command; 3], Fail> {
     Ok([
         Command::Retain(LINE.to_vec(alloc)?),
@@ -58,7 +58,7 @@ fn a_run(rt: HostRuntime) -> Result<(), Fail> {
 }
 
 // Whether the session of a script has one message and the line.
-fn stands(session: &Session) -> bool {
+fn occurs(session: &Session) -> bool {
     session.database().messages.len() == 1
         && session.line_count() == 1
         && session.decoded(0) == DECODED
@@ -69,7 +69,7 @@ fn script_serves(alloc: Global) -> Result<bool, Fail> {
     let mut sink = Limp::new(Vec::new(alloc), usize::MAX, u64::MAX, usize::MAX);
     match serve_text(alloc, SHARED, options(), &mut source, &mut sink) {
         Ok(Served { session, ended }) => {
-            Ok(ended == Ok(3) && sink.bytes() == REPLIES && stands(&session))
+            Ok(ended == Ok(3) && sink.bytes() == REPLIES && occurs(&session))
         }
         Err(_) => Err(Fail::from("no database")),
     }

@@ -1,4 +1,4 @@
-//! Numbers that look random and are the same at each run: the generator SplitMix64 of Steele, Lea and Flood ("Fast splittable
+//! Numbers that look random and are the same in each run: the generator SplitMix64 of Steele, Lea and Flood ("Fast splittable
 //! pseudorandom number generators", 2014).
 ghost use Rattle.std.specs.Prelude.{◌<◌};
 
@@ -34,7 +34,7 @@ impl Chance {
         self.word() as usize % limit
     }
 
-    /// One of these, or the empty text where there is none.
+    /// One of these, or the empty text if there is none.
     pub fn one_of<'a>(&mut self, words: &'a [&'a str]) -> &'a str {
         if words.is_empty() {
             return "";

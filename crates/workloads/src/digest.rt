@@ -16,7 +16,7 @@ pub struct Digest {
 }
 
 impl Digest {
-    /// Of no bytes.
+    /// The digest of no bytes.
     pub fn new() -> Self {
         Digest {
             hash: 0,

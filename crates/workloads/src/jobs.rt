@@ -15,7 +15,7 @@ use std::alloc::{AllocError, Global};
 pub enum Undone {
     /// Memory ran out.
     Memory,
-    /// A file is no text, no database or isn't there.
+    /// A file is no text, no database or doesn't exist.
     File,
     /// The words name no job.
     Words,
@@ -57,7 +57,7 @@ fn perform_over(
     perform(alloc, command, text.as_bytes(), &mut source, digest)
 }
 
-/// Decodes a log of so many frames of the database's messages.
+/// Decodes a log of this many frames of the database's messages.
 pub fn decode(
     alloc: Global,
     chance: Chance,
@@ -71,7 +71,7 @@ pub fn decode(
     perform(alloc, "decode", text, &mut source, digest)
 }
 
-/// Checks, prints, draws and explains a database of so many messages.
+/// Checks, prints, draws and explains a database of this many messages.
 pub fn texts(
     alloc: Global,
     chance: &mut Chance,
@@ -85,7 +85,7 @@ pub fn texts(
     Ok(())
 }
 
-/// Opens a database of so many messages and edits it so many times.
+/// Opens a database of this many messages and edits it this many times.
 pub fn edit(
     alloc: Global,
     chance: &mut Chance,
@@ -98,7 +98,7 @@ pub fn edit(
     perform_over(alloc, "session", text.as_str(), script.as_bytes(), digest)
 }
 
-/// Keeps a log of so many lines, of so many messages, in a session, and then edits the message that most of them are of.
+/// Keeps a log of this many lines, of this many messages, in a session, and then edits the message that most of them are of.
 pub fn keep(
     alloc: Global,
     chance: &mut Chance,
@@ -115,8 +115,8 @@ pub fn keep(
     perform(alloc, "session", text.as_bytes(), &mut source, digest)
 }
 
-/// Does what awkward inputs make dear: a shared `VAL_` entry decoded with and checked, signals on one bit, and a session's log of
-/// these identifiers.
+/// Runs what awkward inputs make expensive: a shared `VAL_` entry decoded with and checked, signals on one bit, and a session's
+/// log of these identifiers.
 pub fn awkward(
     alloc: Global,
     chance: &mut Chance,

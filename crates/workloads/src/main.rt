@@ -1,8 +1,9 @@
 //! workloads: the jobs that users of candesk wait for, over inputs that a seed determines, for `bench/run`.
 //!
-//! `workloads decode SEED LINES FILE..` decodes so many lines with each database, `texts SEED MESSAGES` checks, prints, draws and
-//! explains a database, `edit SEED MESSAGES EDITS` edits one in a session, `keep SEED MESSAGES LINES EDITS` edits one under a log,
-//! and `awkward SEED SIZE FILE` does what awkward inputs make dear. Each prints a digest of all that was written, and no times.
+//! `workloads decode SEED LINES FILE..` decodes this many lines with each database, `texts SEED MESSAGES` checks, prints,
+//! draws and explains a database, `edit SEED MESSAGES EDITS` edits one in a session, `keep SEED MESSAGES LINES EDITS` edits
+//! one under a log, and `awkward SEED SIZE FILE` runs what awkward inputs make expensive. Each prints a digest of all that was
+//! written, and no times.
 #![tactic(auto)]
 
 mod chance;
@@ -27,15 +28,15 @@ fn words_of(rt: &HostRuntime) -> Result<Vec<String>, Undone> {
     Ok(words)
 }
 
-fn number(words: &[String], place: usize) -> Result<u32, Undone> {
+fn number(words: &[String], index: usize) -> Result<u32, Undone> {
     words
-        .get(place)
+        .get(index)
         .and_then(|word| word.as_str().parse::<u32>().ok())
         .ok_or(Undone::Words)
 }
 
-fn size(words: &[String], place: usize) -> Result<usize, Undone> {
-    Ok(number(words, place)? as usize)
+fn size(words: &[String], index: usize) -> Result<usize, Undone> {
+    Ok(number(words, index)? as usize)
 }
 
 // Decodes a log with each database.

@@ -10,11 +10,11 @@ fn push_signal_edit(
     script: &mut String,
     chance: &mut Chance,
     message: usize,
-    turn: usize,
+    round: usize,
 ) -> Result<(), AllocError> {
     let signal = chance.below(SIGNALS);
     let word = word_of(message, signal);
-    match turn % 3 {
+    match round % 3 {
         0 => {
             write!(script, "change-signal {message} SG_ {word}Value_{signal}")?;
             push_field(script, chance, signal)?;
@@ -22,23 +22,23 @@ fn push_signal_edit(
         }
         1 => write!(
             script,
-            "rename-signal {message} {word}Value_{signal} Renamed_{turn}\n"
+            "rename-signal {message} {word}Value_{signal} Renamed_{round}\n"
         ),
         _ => write!(script, "remove-signal {message} {word}Value_{signal}\n"),
     }
 }
 
-// Adds an edit of a row of this message's number.
+// Adds an edit of an entry of this message's CAN identifier.
 fn push_row_edit(
     script: &mut String,
     chance: &mut Chance,
     message: usize,
-    turn: usize,
+    round: usize,
 ) -> Result<(), AllocError> {
     let number = number_of(message);
     let word = word_of(message, 2);
     let time = chance.below(1000);
-    if turn % 2 == 0 {
+    if round % 2 == 0 {
         write!(
             script,
             "set-values VAL_ {number} {word}Value_2 0 \"off\" 1 \"on\" {time} \"other\" ;\n"
@@ -51,21 +51,21 @@ fn push_row_edit(
     }
 }
 
-// Adds an edit of a message of so many.
+// Adds an edit of a message of this many.
 fn push_message_edit(
     script: &mut String,
     chance: &mut Chance,
     messages: usize,
     message: usize,
-    turn: usize,
+    round: usize,
 ) -> Result<(), AllocError> {
-    match turn % 3 {
-        0 => write!(script, "change-message {message} Changed_{turn} 8 Body\n"),
+    match round % 3 {
+        0 => write!(script, "change-message {message} Changed_{round} 8 Body\n"),
         1 => {
-            let number = number_of(messages.wrapping_add(turn));
+            let number = number_of(messages.wrapping_add(round));
             write!(
                 script,
-                "add-message {messages} BO_ {number} Added_{turn}: 8 Body\n"
+                "add-message {messages} BO_ {number} Added_{round}: 8 Body\n"
             )
         }
         _ => {
@@ -75,7 +75,7 @@ fn push_message_edit(
     }
 }
 
-/// So many edits of a database of so many messages, each followed by the layout diagram of the message that was edited.
+/// This many edits of a database of this many messages, each followed by the layout diagram of the message that was edited.
 pub fn edits(
     alloc: Global,
     chance: &mut Chance,
@@ -83,12 +83,12 @@ pub fn edits(
     count: usize,
 ) -> Result<String, AllocError> {
     let mut script = String::new(alloc);
-    for turn in 0..count {
+    for round in 0..count {
         let message = chance.below(messages.max(1));
-        match turn % 4 {
-            0 | 2 => push_signal_edit(&mut script, chance, message, turn / 2)?,
-            1 => push_row_edit(&mut script, chance, message, turn / 4)?,
-            _ => push_message_edit(&mut script, chance, messages, message, turn / 4)?,
+        match round % 4 {
+            0 | 2 => push_signal_edit(&mut script, chance, message, round / 2)?,
+            1 => push_row_edit(&mut script, chance, message, round / 4)?,
+            _ => push_message_edit(&mut script, chance, messages, message, round / 4)?,
         }
         write!(script, "show layout {message}\n")?;
     }
@@ -96,7 +96,7 @@ pub fn edits(
     Ok(script)
 }
 
-/// So many changes of signals of the message at this place, each of another one, and then the lines of the log.
+/// This many changes of signals of the message at this index, each of another one, and then the lines of the log.
 pub fn changes(
     alloc: Global,
     chance: &mut Chance,
@@ -104,8 +104,8 @@ pub fn changes(
     count: usize,
 ) -> Result<String, AllocError> {
     let mut script = String::new(alloc);
-    for turn in 0..count {
-        let signal = turn % SIGNALS;
+    for round in 0..count {
+        let signal = round % SIGNALS;
         let word = word_of(message, signal);
         write!(script, "change-signal {message} SG_ {word}Value_{signal}")?;
         push_field(&mut script, chance, signal)?;
@@ -128,7 +128,7 @@ fn push_lines(
     Ok(())
 }
 
-/// A line of a log for each of these identifiers, a line each, from one on that the numbers choose.
+/// A line of a log for each of these identifiers, given one per line, starting from one that the numbers choose.
 pub fn lines_of(
     alloc: Global,
     chance: &mut Chance,

@@ -1,4 +1,4 @@
-//! Database texts: of a vehicle's shape with any number of messages, and awkward ones.
+//! Database texts: shaped like a vehicle's, with any number of messages, and awkward ones.
 
 use crate::chance::Chance;
 use std::alloc::{AllocError, Global};
@@ -40,7 +40,7 @@ const EXTENDED: usize = 0x8000_0000;
 
 const DISTANCE: usize = 37;
 
-/// The number of a message of a vehicle's database: the first 2,048 are standard ones.
+/// The CAN identifier of a message of a vehicle's database: the first 2,048 are standard (11-bit).
 pub fn number_of(message: usize) -> usize {
     if message < 2048 {
         message
@@ -123,7 +123,7 @@ fn push_attribute(
     write!(text, "BA_ \"GenMsgCycleTime\" BO_ {number} {time};\n")
 }
 
-/// A database of so many messages, each with comments, value descriptions and an attribute.
+/// A database of this many messages, each with comments, value descriptions and an attribute.
 pub fn vehicle(alloc: Global, chance: &mut Chance, messages: usize) -> Result<String, AllocError> {
     let mut text = String::from_str(alloc, HEAD)?;
     for node in NODES {
@@ -148,7 +148,7 @@ pub fn vehicle(alloc: Global, chance: &mut Chance, messages: usize) -> Result<St
     Ok(text)
 }
 
-/// So many messages of one number, whose signal has one `VAL_` entry of four times as many value descriptions.
+/// This many messages of one CAN identifier, whose signal has one `VAL_` entry with four times as many value descriptions.
 pub fn shared_values(
     alloc: Global,
     chance: &mut Chance,
@@ -171,7 +171,7 @@ pub fn shared_values(
     Ok(text)
 }
 
-/// So many messages of 200 signals that all are on one bit.
+/// This many messages of 200 signals that are all on one bit.
 pub fn overlapping(
     alloc: Global,
     chance: &mut Chance,

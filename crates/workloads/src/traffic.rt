@@ -13,7 +13,7 @@ const LINES_IN_BLOCK: u32 = 1024;
 const DIGITS: &[u8; 16] = b"0123456789ABCDEF";
 
 const EXTENDED: u32 = 0x8000_0000;
-// the address in a database that stands for any sender of a J1939 parameter group
+// the address in a database that represents any sender of a J1939 parameter group
 const NULL_ADDRESS: u32 = 0xFE;
 // a word whose first byte is below 32
 const SMALL_FIRST: u64 = !0xE0;
@@ -68,7 +68,7 @@ fn push_byte(text: &mut Vec<u8>, byte: u8) -> Result<(), AllocError> {
     text.extend_from_slice(&digits)
 }
 
-// Adds so many bytes of data, the first of them small in most frames, as multiplexors are.
+// Adds this many bytes of data, the first of them small in most frames, as multiplexors are.
 fn push_data(text: &mut Vec<u8>, chance: &mut Chance, length: u16) -> Result<(), AllocError> {
     let mut left = usize::from(length);
     let first = chance.word();
@@ -172,7 +172,7 @@ pub struct Traffic<'a> {
 }
 
 impl<'a> Traffic<'a> {
-    /// So many lines, each with a prefix, of these frames, and then a text.
+    /// This many lines, each with a prefix, of these frames, and then a text.
     pub fn new(
         alloc: Global,
         frames: &'a [Frame],
@@ -206,7 +206,7 @@ impl Source for Traffic<'_> {
         if self.at == self.block.len() {
             self.at = 0;
             self.block.clear();
-            // (where memory runs out the log ends early, and the digest is another)
+            // (if memory runs out the log ends early, and the digest is another)
             let _ = self.lines.fill(&mut self.block);
         }
         let rest = &self.block[self.at..];

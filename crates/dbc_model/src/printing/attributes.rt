@@ -50,7 +50,7 @@ fn send_comment_key<W: Sink>(out: &mut Out<'_, W>, comment: &Comment) -> Result<
 }
 
 /// A comment's line.
-pub struct CommentLine;
+pub(crate) struct CommentLine;
 
 impl Style<Comment> for CommentLine {
     ghost use Rattle.dbc_records.specs.CanonicalText.{comment_layout};
@@ -172,7 +172,7 @@ fn send_definition_key<W: Sink>(
 }
 
 /// The line of an attribute's definition.
-pub struct DefinitionLine;
+pub(crate) struct DefinitionLine;
 
 impl Style<AttrDef> for DefinitionLine {
     ghost use Rattle.dbc_records.specs.CanonicalText.{definition_layout};
@@ -206,7 +206,7 @@ fn send_default_key<W: Sink>(out: &mut Out<'_, W>, row: &AttrDefault) -> Result<
 }
 
 /// The line of an attribute's default.
-pub struct DefaultLine;
+pub(crate) struct DefaultLine;
 
 impl Style<AttrDefault> for DefaultLine {
     ghost use Rattle.dbc_records.specs.CanonicalText.{default_layout};
@@ -231,7 +231,7 @@ fn send_attribute_key<W: Sink>(out: &mut Out<'_, W>, row: &AttrRow) -> Result<()
 }
 
 /// The line of an attribute.
-pub struct AttributeLine;
+pub(crate) struct AttributeLine;
 
 impl Style<AttrRow> for AttributeLine {
     ghost use Rattle.dbc_records.specs.CanonicalText.{attribute_layout};

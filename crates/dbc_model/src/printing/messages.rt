@@ -2,7 +2,7 @@
 ghost use Rattle.std.specs.Prelude.{◌≡◌, [], ◌∷◌};
 ghost use Rattle.byte_devices.specs.Outs.{Sends};
 ghost use Rattle.dbc_records.specs.Layout.{Order, item_text, layout_text};
-ghost use Rattle.dbc_records.specs.CanonicalText.{sign_mark, head_layout, signal_name_layout, tag_layout, place_layout};
+ghost use Rattle.dbc_records.specs.CanonicalText.{sign_mark, head_layout, signal_name_layout, tag_layout, bit_field_layout};
 ghost use Rattle.dbc_records.specs.CanonicalText.{scale_layout, limits_layout, receivers_layout};
 
 use crate::printing::parts::{SpacedName, send_line_end, send_pair, send_spaced_text};
@@ -70,9 +70,9 @@ fn sign_of(signed: bool) -> &'static [u8]
     if signed { b"-" } else { b"+" }
 }
 
-#[tactic(auto, unfolding(dbc_records::specs::Layout::layout_text, dbc_records::specs::CanonicalText::place_layout))]
-fn send_place<W: Sink>(out: &mut Out<'_, W>, signal: &Signal) -> Result<(), WriteFault>
-    ensures { Sends W.written out.old out.new result (layout_text (place_layout signal.now)) }
+#[tactic(auto, unfolding(dbc_records::specs::Layout::layout_text, dbc_records::specs::CanonicalText::bit_field_layout))]
+fn send_bit_field<W: Sink>(out: &mut Out<'_, W>, signal: &Signal) -> Result<(), WriteFault>
+    ensures { Sends W.written out.old out.new result (layout_text (bit_field_layout signal.now)) }
 {
     let mut start = Buffer::new();
     let mut length = Buffer::new();
@@ -135,7 +135,7 @@ impl Style<Signal> for SignalLine {
     fn send_item<W: Sink>(out: &mut Out<'_, W>, signal: &Signal) -> Result<(), WriteFault> {
         send_signal_name(out, signal)?;
         send_tag(out, signal.tag)?;
-        send_place(out, signal)?;
+        send_bit_field(out, signal)?;
         send_scale(out, signal)?;
         send_limits(out, signal)?;
         send_spaced_text(out, &signal.unit)?;
@@ -145,7 +145,7 @@ impl Style<Signal> for SignalLine {
 }
 
 /// A message's line, and those of its signals.
-pub struct MessageLines;
+pub(crate) struct MessageLines;
 
 impl Style<Message> for MessageLines {
     ghost use Rattle.dbc_records.specs.CanonicalText.{message_layout};

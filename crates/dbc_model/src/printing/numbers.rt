@@ -12,20 +12,20 @@ const PLAIN_DIGITS: usize = 20;
 
 const ZEROS: [u8; PLAIN_DIGITS] = [b'0'; PLAIN_DIGITS];
 
-// Holds the digits with a point before the last of them, and zeros in front where there are too few.
+// Holds the digits with a point before the last of them, and zeros in front if there are too few.
 fn send_fraction<W: Sink>(
     out: &mut Out<'_, W>,
     digits: &[u8],
-    behind: usize,
+    following: usize,
 ) -> Result<(), WriteFault>
-    requires { behind ≤ 20 }
-    ensures { Sends W.written out.old out.new result (point_before_last behind (filled behind digits.now)) }
+    requires { following ≤ 20 }
+    ensures { Sends W.written out.old out.new result (point_before_last following (filled following digits.now)) }
 {
-    if digits.len() > behind {
-        let (whole, fraction) = digits.split_at(digits.len() - behind);
+    if digits.len() > following {
+        let (whole, fraction) = digits.split_at(digits.len() - following);
         out.send_pieces(&[whole, b".", fraction])
     } else {
-        let (zeros, _) = ZEROS.split_at(behind - digits.len());
+        let (zeros, _) = ZEROS.split_at(following - digits.len());
         let pieces: [&[u8]; 3] = [b"0.", zeros, digits];
         out.send_pieces(&pieces)
     }
@@ -53,7 +53,7 @@ fn send_magnitude<W: Sink>(
     out.send_pieces(&[digits, b"E", buffer.format(exponent).as_bytes()])
 }
 
-// Holds a minus where the number is negative.
+// Holds a minus if the number is negative.
 #[tactic(auto, unfolding(dbc_records::specs::Layout::sign_text))]
 fn send_sign<W: Sink>(out: &mut Out<'_, W>, negative: bool) -> Result<(), WriteFault>
     ensures { Sends W.written out.old out.new result (sign_text negative) }
@@ -74,9 +74,12 @@ fn send_unsigned<W: Sink>(
     send_magnitude(out, digits, exponent)
 }
 
-/// Holds the decimal: digits with a point where at most 20 stand on each side of it, else as `1E-31`.
+/// Holds the decimal: digits with a point if at most 20 are on each side of it, otherwise like `1E-31`.
 #[tactic(auto, using(byte_devices::proofs::Outs::sends), unfolding(dbc_records::specs::Layout::decimal_text))]
-pub fn send_decimal<W: Sink>(out: &mut Out<'_, W>, decimal: Decimal) -> Result<(), WriteFault>
+pub(crate) fn send_decimal<W: Sink>(
+    out: &mut Out<'_, W>,
+    decimal: Decimal,
+) -> Result<(), WriteFault>
     ensures { Sends W.written out.old out.new result (decimal_text decimal) }
 {
     send_sign(out, decimal.negative)?;

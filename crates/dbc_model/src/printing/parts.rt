@@ -1,4 +1,4 @@
-//! The parts that statements are printed of.
+//! The parts of which statements are printed.
 ghost use Rattle.byte_devices.specs.Outs.{Sends};
 ghost use Rattle.dbc_records.specs.Layout.{layout_text};
 ghost use Rattle.dbc_records.specs.CanonicalText.{blank, mark_layout, spaced_mark, number_layout, spaced_number, spaced_text};
@@ -13,7 +13,7 @@ use itoa::Buffer;
 
 /// Holds the mark.
 #[tactic(auto, unfolding(dbc_records::specs::Layout::layout_text, dbc_records::specs::CanonicalText::mark_layout))]
-pub fn send_mark<W: Sink>(out: &mut Out<'_, W>, mark: u8) -> Result<(), WriteFault>
+pub(crate) fn send_mark<W: Sink>(out: &mut Out<'_, W>, mark: u8) -> Result<(), WriteFault>
     ensures { Sends W.written out.old out.new result (layout_text (mark_layout mark)) }
 {
     out.send(&[mark])
@@ -21,7 +21,7 @@ pub fn send_mark<W: Sink>(out: &mut Out<'_, W>, mark: u8) -> Result<(), WriteFau
 
 /// Holds a blank and the mark.
 #[tactic(auto, unfolding(dbc_records::specs::Layout::layout_text, dbc_records::specs::CanonicalText::spaced_mark))]
-pub fn send_spaced_mark<W: Sink>(out: &mut Out<'_, W>, mark: u8) -> Result<(), WriteFault>
+pub(crate) fn send_spaced_mark<W: Sink>(out: &mut Out<'_, W>, mark: u8) -> Result<(), WriteFault>
     ensures { Sends W.written out.old out.new result (layout_text (spaced_mark mark)) }
 {
     out.send(&[b' ', mark])
@@ -29,7 +29,7 @@ pub fn send_spaced_mark<W: Sink>(out: &mut Out<'_, W>, mark: u8) -> Result<(), W
 
 /// Holds the number.
 #[tactic(auto, unfolding(dbc_records::specs::Layout::layout_text, dbc_records::specs::CanonicalText::number_layout))]
-pub fn send_number<W: Sink>(out: &mut Out<'_, W>, number: Decimal) -> Result<(), WriteFault>
+pub(crate) fn send_number<W: Sink>(out: &mut Out<'_, W>, number: Decimal) -> Result<(), WriteFault>
     ensures { Sends W.written out.old out.new result (layout_text (number_layout number)) }
 {
     send_decimal(out, number)
@@ -45,7 +45,10 @@ fn send_blank<W: Sink>(out: &mut Out<'_, W>) -> Result<(), WriteFault>
 
 /// Holds a blank and the number.
 #[tactic(auto, using(crate::proofs::Layouts::layouts), unfolding(dbc_records::specs::CanonicalText::spaced_number))]
-pub fn send_spaced_number<W: Sink>(out: &mut Out<'_, W>, number: Decimal) -> Result<(), WriteFault>
+pub(crate) fn send_spaced_number<W: Sink>(
+    out: &mut Out<'_, W>,
+    number: Decimal,
+) -> Result<(), WriteFault>
     ensures { Sends W.written out.old out.new result (layout_text (spaced_number number)) }
 {
     send_blank(out)?;
@@ -54,7 +57,7 @@ pub fn send_spaced_number<W: Sink>(out: &mut Out<'_, W>, number: Decimal) -> Res
 
 /// Holds a blank and the text between quotes.
 #[tactic(auto, unfolding(dbc_records::specs::Layout::layout_text, dbc_records::specs::CanonicalText::spaced_text))]
-pub fn send_spaced_text<W: Sink>(out: &mut Out<'_, W>, text: &Text) -> Result<(), WriteFault>
+pub(crate) fn send_spaced_text<W: Sink>(out: &mut Out<'_, W>, text: &Text) -> Result<(), WriteFault>
     ensures { Sends W.written out.old out.new result (layout_text (spaced_text text.now)) }
 {
     out.send_pieces(&[b" \"".as_slice(), text.as_bytes(), b"\""])
@@ -62,7 +65,7 @@ pub fn send_spaced_text<W: Sink>(out: &mut Out<'_, W>, text: &Text) -> Result<()
 
 /// Holds a blank and the word.
 #[tactic(auto, unfolding(dbc_records::specs::Layout::layout_text, dbc_records::specs::CanonicalText::spaced_word))]
-pub fn send_spaced_word<W: Sink>(out: &mut Out<'_, W>, word: &[u8]) -> Result<(), WriteFault>
+pub(crate) fn send_spaced_word<W: Sink>(out: &mut Out<'_, W>, word: &[u8]) -> Result<(), WriteFault>
     ensures { Sends W.written out.old out.new result (layout_text (spaced_word word.now)) }
 {
     out.send_pieces(&[b" ".as_slice(), word])
@@ -70,15 +73,15 @@ pub fn send_spaced_word<W: Sink>(out: &mut Out<'_, W>, word: &[u8]) -> Result<()
 
 /// Holds the word.
 #[tactic(auto, unfolding(dbc_records::specs::Layout::layout_text, dbc_records::specs::CanonicalText::word_layout))]
-pub fn send_word<W: Sink>(out: &mut Out<'_, W>, word: &[u8]) -> Result<(), WriteFault>
+pub(crate) fn send_word<W: Sink>(out: &mut Out<'_, W>, word: &[u8]) -> Result<(), WriteFault>
     ensures { Sends W.written out.old out.new result (layout_text (word_layout word.now)) }
 {
     out.send(word)
 }
 
-/// Holds the number of a message and the name of a signal, each after a blank.
+/// Holds the CAN identifier of a message and the name of a signal, each after a blank.
 #[tactic(auto, unfolding(dbc_records::specs::Layout::layout_text, dbc_records::specs::CanonicalText::signal_key))]
-pub fn send_signal_key<W: Sink>(
+pub(crate) fn send_signal_key<W: Sink>(
     out: &mut Out<'_, W>,
     number: u32,
     name: &Name,
@@ -97,7 +100,7 @@ pub fn send_signal_key<W: Sink>(
 
 /// Ends the line.
 #[tactic(auto, unfolding(dbc_records::specs::Layout::layout_text, dbc_records::specs::CanonicalText::line_end))]
-pub fn send_line_end<W: Sink>(out: &mut Out<'_, W>) -> Result<(), WriteFault>
+pub(crate) fn send_line_end<W: Sink>(out: &mut Out<'_, W>) -> Result<(), WriteFault>
     ensures { Sends W.written out.old out.new result (layout_text (line_end)) }
 {
     out.send(b"\n")
@@ -105,7 +108,7 @@ pub fn send_line_end<W: Sink>(out: &mut Out<'_, W>) -> Result<(), WriteFault>
 
 /// Ends the statement.
 #[tactic(auto, unfolding(dbc_records::specs::Layout::layout_text, dbc_records::specs::CanonicalText::statement_end))]
-pub fn send_statement_end<W: Sink>(out: &mut Out<'_, W>) -> Result<(), WriteFault>
+pub(crate) fn send_statement_end<W: Sink>(out: &mut Out<'_, W>) -> Result<(), WriteFault>
     ensures { Sends W.written out.old out.new result (layout_text (statement_end)) }
 {
     out.send(b";\n")
@@ -113,7 +116,7 @@ pub fn send_statement_end<W: Sink>(out: &mut Out<'_, W>) -> Result<(), WriteFaul
 
 /// Ends a statement after entries.
 #[tactic(auto, unfolding(dbc_records::specs::Layout::layout_text, dbc_records::specs::CanonicalText::spaced_end))]
-pub fn send_spaced_end<W: Sink>(out: &mut Out<'_, W>) -> Result<(), WriteFault>
+pub(crate) fn send_spaced_end<W: Sink>(out: &mut Out<'_, W>) -> Result<(), WriteFault>
     ensures { Sends W.written out.old out.new result (layout_text (spaced_end)) }
 {
     out.send(b" ;\n")
@@ -121,7 +124,7 @@ pub fn send_spaced_end<W: Sink>(out: &mut Out<'_, W>) -> Result<(), WriteFault>
 
 /// Holds two numbers with marks before, between and after them: ` (a,b)`.
 #[tactic(auto, using(crate::proofs::Layouts::layouts), unfolding(dbc_records::specs::CanonicalText::pair_layout))]
-pub fn send_pair<W: Sink>(
+pub(crate) fn send_pair<W: Sink>(
     out: &mut Out<'_, W>,
     opening: u8,
     first: Decimal,
@@ -139,7 +142,7 @@ pub fn send_pair<W: Sink>(
 }
 
 /// A name after a blank.
-pub struct SpacedName;
+pub(crate) struct SpacedName;
 
 impl Style<Name> for SpacedName {
     ghost use Rattle.dbc_records.specs.CanonicalText.{spaced_name};

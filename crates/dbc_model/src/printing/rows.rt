@@ -1,4 +1,4 @@
-//! Rows of tables, value descriptions, float types and multiplexing, and statements kept verbatim.
+//! Value tables, value descriptions, float types and multiplexing, and statements kept verbatim.
 ghost use Rattle.std.specs.List.{flat_map};
 ghost use Rattle.byte_devices.specs.Outs.{Sends};
 ghost use Rattle.dbc_records.specs.Layout.{layout_text};
@@ -45,7 +45,7 @@ fn send_table_key<W: Sink>(out: &mut Out<'_, W>, row: &TableRow) -> Result<(), W
 }
 
 /// A table's line.
-pub struct TableLine;
+pub(crate) struct TableLine;
 
 impl Style<TableRow> for TableLine {
     ghost use Rattle.dbc_records.specs.CanonicalText.{table_layout};
@@ -69,7 +69,7 @@ fn send_values_key<W: Sink>(out: &mut Out<'_, W>, row: &ValueRow) -> Result<(), 
 }
 
 /// The line of a signal's value descriptions.
-pub struct ValuesLine;
+pub(crate) struct ValuesLine;
 
 impl Style<ValueRow> for ValuesLine {
     ghost use Rattle.dbc_records.specs.CanonicalText.{values_layout};
@@ -102,7 +102,7 @@ fn send_float_kind<W: Sink>(out: &mut Out<'_, W>, row: &FloatRow) -> Result<(), 
 }
 
 /// The line of a signal's float type.
-pub struct FloatLine;
+pub(crate) struct FloatLine;
 
 impl Style<FloatRow> for FloatLine {
     ghost use Rattle.dbc_records.specs.CanonicalText.{float_layout};
@@ -177,7 +177,7 @@ fn send_mux_key<W: Sink>(out: &mut Out<'_, W>, row: &MuxRow) -> Result<(), Write
 }
 
 /// The line of a signal's multiplexing.
-pub struct MuxLine;
+pub(crate) struct MuxLine;
 
 impl Style<MuxRow> for MuxLine {
     ghost use Rattle.dbc_records.specs.CanonicalText.{mux_layout};
@@ -205,8 +205,8 @@ fn send_piece<W: Sink>(out: &mut Out<'_, W>, piece: &[u8]) -> Result<(), WriteFa
 fn send_tokens<W: Sink>(out: &mut Out<'_, W>, tokens: &Pieces) -> Result<(), WriteFault>
     ensures { Sends W.written out.old out.new result (flat_map (λ piece. layout_text (piece_layout piece)) tokens.now) }
 {
-    for place in 0..tokens.len() {
-        if let Some(piece) = tokens.get(place) {
+    for index in 0..tokens.len() {
+        if let Some(piece) = tokens.get(index) {
             send_piece(out, piece)?;
         }
     }
@@ -221,7 +221,7 @@ fn send_kept<W: Sink>(out: &mut Out<'_, W>, tokens: &Pieces) -> Result<(), Write
 }
 
 /// The line of a statement kept verbatim.
-pub struct KeptLine;
+pub(crate) struct KeptLine;
 
 impl Style<Kept> for KeptLine {
     ghost use Rattle.dbc_records.specs.CanonicalText.{kept_layout};

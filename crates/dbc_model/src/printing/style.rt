@@ -7,7 +7,7 @@ use byte_devices::{Out, Sink, WriteFault};
 use dbc_values::{Checked, List};
 
 /// How an item of a list is printed.
-pub trait Style<T: Checked> {
+pub(crate) trait Style<T: Checked> {
     ghost use Rattle.dbc_records.specs.Layout.{Layout};
 
     // The item's layout.
@@ -33,7 +33,7 @@ fn send_texts<S: Style<T>, T: Checked, W: Sink>(
 
 /// Holds the items, one after another.
 #[tactic(auto, using(crate::proofs::Layouts::text_of_items))]
-pub fn send_items<S: Style<T>, T: Checked, W: Sink>(
+pub(crate) fn send_items<S: Style<T>, T: Checked, W: Sink>(
     out: &mut Out<'_, W>,
     items: &[T],
 ) -> Result<(), WriteFault>
@@ -43,7 +43,7 @@ pub fn send_items<S: Style<T>, T: Checked, W: Sink>(
 }
 
 /// Holds the items of a list, one after another.
-pub fn send_list<S: Style<T>, T: Checked, W: Sink>(
+pub(crate) fn send_list<S: Style<T>, T: Checked, W: Sink>(
     out: &mut Out<'_, W>,
     items: &List<T>,
 ) -> Result<(), WriteFault>
@@ -53,7 +53,7 @@ pub fn send_list<S: Style<T>, T: Checked, W: Sink>(
 }
 
 /// Holds the items, the first in one style and those after it in another.
-pub fn send_separated<F: Style<T>, S: Style<T>, T: Checked, W: Sink>(
+pub(crate) fn send_separated<F: Style<T>, S: Style<T>, T: Checked, W: Sink>(
     out: &mut Out<'_, W>,
     items: &[T],
 ) -> Result<(), WriteFault>

@@ -1,4 +1,4 @@
--- In the canonical text of a database each item stands apart from what stands after it.
+-- In the canonical text of a database each item is separated from what is after it.
 use Rattle.std.proofs.Common.{◌≡◌, ℕ, ◌<◌, ◌≤◌, ◌^◌, ◌-◌, ℤ, pos, negsuc, arith, Bool, true, false, ◌&&◌, List, [], ◌∷◌, ◌++◌}
 use Rattle.std.proofs.Common.{Option, Some, None, refl}
 use Rattle.std.specs.Prelude.{codes, nat_le, int_le, All, IsTrue, IfSome}
@@ -35,7 +35,7 @@ use Rattle.dbc_records.specs.CanonicalText.{spaced_word, word_layout, signal_key
 use Rattle.dbc_records.specs.CanonicalText.{version_layout, symbol_layout, symbols_title, symbols_layout, timing_numbers}
 use Rattle.dbc_records.specs.CanonicalText.{perhaps_numbers, timing_title, timing_layout, nodes_title, nodes_layout, entry_layout}
 use Rattle.dbc_records.specs.CanonicalText.{table_key, table_layout, values_key, values_layout, head_layout, signal_name_layout}
-use Rattle.dbc_records.specs.CanonicalText.{tag_layout, sign_mark, place_layout, pair_layout, scale_layout, limits_layout}
+use Rattle.dbc_records.specs.CanonicalText.{tag_layout, sign_mark, bit_field_layout, pair_layout, scale_layout, limits_layout}
 use Rattle.dbc_records.specs.CanonicalText.{further_receiver, receivers_layout, signal_layout, message_layout, target_layout}
 use Rattle.dbc_records.specs.CanonicalText.{comment_key, comment_layout, object_layout, number_limits_layout, further_text}
 use Rattle.dbc_records.specs.CanonicalText.{texts_layout, form_layout, definition_key, definition_layout, value_layout, default_key}
@@ -141,10 +141,10 @@ numbers_neat [] are = middle_none
 numbers_neat (a ∷ []) are = middle_none
 numbers_neat (a ∷ b ∷ []) are = middle_none
 numbers_neat (a ∷ b ∷ c ∷ []) are =
-    let behind = All-tail IsDecimal a (b ∷ c ∷ []) are in
+    let following = All-tail IsDecimal a (b ∷ c ∷ []) are in
     middle_both (number_part a (All-head IsDecimal a (b ∷ c ∷ []) are)) (middle_both (mark_part 58 refl)
-    (middle_both (number_part b (All-head IsDecimal b (c ∷ []) behind)) (middle_both (mark_part 44 refl)
-    (number_part c (All-head IsDecimal c [] (All-tail IsDecimal b (c ∷ []) behind))))))
+    (middle_both (number_part b (All-head IsDecimal b (c ∷ []) following)) (middle_both (mark_part 44 refl)
+    (number_part c (All-head IsDecimal c [] (All-tail IsDecimal b (c ∷ []) following))))))
 numbers_neat (a ∷ b ∷ c ∷ d ∷ more) are = middle_none
 
 perhaps_neat : (timing : Option (List Decimal)) → IfSome timing IsBitTiming → Middle (perhaps_numbers timing)
@@ -169,7 +169,7 @@ unfolding nodes_layout
 nodes_neat nodes are = line_both nodes_title_neat (close_line (middle_close (middle_each IsName spaced_name name_part nodes are)
     end_closes))
 
--- ---- rows of values
+-- ---- entries of values
 
 entry_neat : (entry : Entry) → IsEntry entry → Middle (entry_layout entry)
 unfolding entry_layout
@@ -251,9 +251,9 @@ sign_is_mark : (signed : Bool) → IsItem (Mark (sign_mark signed))
 sign_is_mark true = refl
 sign_is_mark false = refl
 
-place_part : (signal : Signal) → IsSignal signal → Middle (place_layout signal)
-unfolding place_layout
-place_part signal is = record {
+bit_field_part : (signal : Signal) → IsSignal signal → Middle (bit_field_layout signal)
+unfolding bit_field_layout
+bit_field_part signal is = record {
   items = (
     refl,
     (
@@ -298,16 +298,16 @@ receivers_part names are = middle_separated IsName spaced_name further_receiver 
 pub signal_front_items : (signal : Signal) → IsSignal signal
     → AreItems (signal_name_layout signal
     ++ (tag_layout signal.tag
-    ++ (place_layout signal ++ (scale_layout signal ++ (limits_layout signal ++ spaced_text signal.unit)))))
+    ++ (bit_field_layout signal ++ (scale_layout signal ++ (limits_layout signal ++ spaced_text signal.unit)))))
 signal_front_items signal is =
-    (middle_both (signal_name_part signal is.name) (middle_both (tag_part signal.tag is.tag) (middle_both (place_part signal is)
+    (middle_both (signal_name_part signal is.name) (middle_both (tag_part signal.tag is.tag) (middle_both (bit_field_part signal is)
     (middle_both (scale_part signal is) (middle_both (limits_part signal is) (text_part signal.unit is.unit)))))).items
 
 pub signal_neat : (signal : Signal) → IsSignal signal → Line (signal_layout signal)
 unfolding signal_layout
 signal_neat signal is =
     close_line (middle_close (signal_name_part signal is.name) (middle_close (tag_part signal.tag is.tag)
-    (middle_close (place_part signal is) (middle_close (scale_part signal is) (middle_close (limits_part signal is)
+    (middle_close (bit_field_part signal is) (middle_close (scale_part signal is) (middle_close (limits_part signal is)
     (middle_close (text_part signal.unit is.unit) (middle_close (receivers_part signal.receivers is.receivers) end_closes)))))))
 
 pub message_neat : (message : Message) → IsMessage message → Line (message_layout message)

@@ -55,14 +55,15 @@ mantissa_by text front whole fraction before whole-is fraction-is =
     ∙ ap (λ (t : List ℕ). digits_value 10 (t ++ after_first is_point front)) whole-is
     ∙ ap (λ (t : List ℕ). digits_value 10 (whole ++ t)) fraction-is
 
-exponent_by : (text front behind fraction : List ℕ) → before_first is_exponent_mark text ≡ front → after_first is_exponent_mark text
-    ≡ behind → after_first is_point front ≡ fraction
-    → exponent_of text ≡ (signed_digits_value 10 behind -ℤ pos (length fraction))
+exponent_by : (text front following fraction : List ℕ) → before_first is_exponent_mark text ≡ front → after_first is_exponent_mark
+    text
+    ≡ following → after_first is_point front ≡ fraction
+    → exponent_of text ≡ (signed_digits_value 10 following -ℤ pos (length fraction))
 unfolding exponent_of
-exponent_by text front behind fraction before after fraction-is =
+exponent_by text front following fraction before after fraction-is =
     ap (λ (t : List ℕ). signed_digits_value 10 t -ℤ pos (length (after_first is_point (before_first is_exponent_mark text)))) after
-    ∙ ap (λ (t : List ℕ). signed_digits_value 10 behind -ℤ pos (length (after_first is_point t))) before
-    ∙ ap (λ (t : List ℕ). signed_digits_value 10 behind -ℤ pos (length t)) fraction-is
+    ∙ ap (λ (t : List ℕ). signed_digits_value 10 following -ℤ pos (length (after_first is_point t))) before
+    ∙ ap (λ (t : List ℕ). signed_digits_value 10 following -ℤ pos (length t)) fraction-is
 
 -- digits around a point
 reads_pointed : (whole fraction : List ℕ) → list_all is_digit whole ≡ true → list_all is_digit fraction ≡ true → 0 < length whole
@@ -149,16 +150,16 @@ all_parts (b ∷ front) back all =
     (and_from _ _ first.0 rest.0, rest.1)
 
 -- a point before the last digits
-reads_fraction : (behind : ℕ) (digits : List ℕ) → list_all is_digit digits ≡ true → behind < length digits
-    → Reads (point_before_last behind digits) (digits_value 10 digits) (pos 0 -ℤ pos behind)
-reads_fraction behind digits all more =
-    let at = length digits - behind in
+reads_fraction : (following : ℕ) (digits : List ℕ) → list_all is_digit digits ≡ true → following < length digits
+    → Reads (point_before_last following digits) (digits_value 10 digits) (pos 0 -ℤ pos following)
+reads_fraction following digits all more =
+    let at = length digits - following in
     let front = take at digits in
     let back = drop at digits in
     let whole : front ++ back ≡ digits = take-append-drop at digits in
     let parts = all_parts front back (subst (λ (t : List ℕ). list_all is_digit t ≡ true) (sym whole) all) in
-    let many : length back ≡ behind = length-drop at digits ∙ left (length digits) behind more in
-    let some : 0 < length front = first_some (length front) (length back) (length digits) behind (sym (length-append front back)
+    let many : length back ≡ following = length-drop at digits ∙ left (length digits) following more in
+    let some : 0 < length front = first_some (length front) (length back) (length digits) following (sym (length-append front back)
     ∙ ap length whole) many more in
     let number = reads_pointed front back parts.0 parts.1 some in
     record {
@@ -168,28 +169,29 @@ reads_fraction behind digits all more =
           ∙ ap (λ (n : ℕ). pos 0 -ℤ pos n) many;
     }
   where
-    left : (n behind : ℕ) → behind < n → n - (n - behind) ≡ behind
-    left n behind more = omega (arith, more)
+    left : (n following : ℕ) → following < n → n - (n - following) ≡ following
+    left n following more = omega (arith, more)
 
-    first_some : (f b n behind : ℕ) → f + b ≡ n → b ≡ behind → behind < n → 0 < f
-    first_some f b n behind sum same more = omega (arith, sum, same, more)
+    first_some : (f b n following : ℕ) → f + b ≡ n → b ≡ following → following < n → 0 < f
+    first_some f b n following sum same more = omega (arith, sum, same, more)
 
-reads_filled : (n behind : ℕ) → n < 10 ^ 64 → Reads (point_before_last behind (filled behind (decimal n))) n (pos 0 -ℤ pos behind)
-reads_filled n behind short =
-    let count = behind + 1 - length (decimal n) in
+reads_filled : (n following : ℕ) → n < 10 ^ 64 → Reads (point_before_last following (filled following (decimal n))) n (pos 0 -ℤ pos
+    following)
+reads_filled n following short =
+    let count = following + 1 - length (decimal n) in
     let all = all_append is_digit (zeros count) (decimal n) (zeros_all count) (all_decimal n short) in
-    let many : length (filled behind (decimal n)) ≡ count + length (decimal n) = length-append (zeros count) (decimal n)
+    let many : length (filled following (decimal n)) ≡ count + length (decimal n) = length-append (zeros count) (decimal n)
     ∙ ap (λ k. k + length (decimal n)) (length-replicate count 48) in
-    let number = reads_fraction behind (filled behind (decimal n)) all (enough behind (length (decimal n))
-    (length (filled behind (decimal n))) many) in
+    let number = reads_fraction following (filled following (decimal n)) all (enough following (length (decimal n))
+    (length (filled following (decimal n))) many) in
     record {
       form = number.form;
       mantissa = number.mantissa ∙ zeros_before count (decimal n) ∙ value_decimal n short;
       exponent = number.exponent;
     }
   where
-    enough : (behind n whole : ℕ) → whole ≡ behind + 1 - n + n → behind < whole
-    enough behind n whole same = omega (arith, same)
+    enough : (following n whole : ℕ) → whole ≡ following + 1 - n + n → following < whole
+    enough following n whole same = omega (arith, same)
 
 -- a sign and digits
 signed_plain : (digits : List ℕ) → is_digits digits ≡ true → signed_digits_value 10 digits ≡ pos (digits_value 10 digits)

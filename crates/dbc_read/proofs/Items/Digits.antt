@@ -47,15 +47,15 @@ pub decimal_spells : (n : ℕ) → n < 10 ^ 64 → SpellsNumber (decimal n) n
 decimal_spells n short = subst (SpellsNumber (decimal n)) (value_decimal n short)
     (spells_digits (decimal n) (digits_decimal n short))
 
--- ---- tags
+-- ---- multiplexer indicators
 
-pub tag_spells : (n : ℕ) (behind : List ℕ) → n < 10 ^ 64 → SpellsTag (codes "m" ++ (decimal n ++ behind)) n behind
-tag_spells n behind short = (decimal n, refl, digits_decimal n short, value_decimal n short)
+pub tag_spells : (n : ℕ) (following : List ℕ) → n < 10 ^ 64 → SpellsTag (codes "m" ++ (decimal n ++ following)) n following
+tag_spells n following short = (decimal n, refl, digits_decimal n short, value_decimal n short)
 
 digit_in_word : (b : ℕ) → is_digit b ≡ true → is_word_byte b ≡ true
 digit_in_word b is = grind (arith, nat_tests)
 
-pub tag_is_word : (n : ℕ) (behind : List ℕ) → n < 10 ^ 64 → list_all is_word_byte behind ≡ true
-    → is_word (codes "m" ++ (decimal n ++ behind)) ≡ true
-tag_is_word n behind short word = all_append is_word_byte (decimal n) behind (all_weaker is_digit is_word_byte (decimal n)
+pub tag_is_word : (n : ℕ) (following : List ℕ) → n < 10 ^ 64 → list_all is_word_byte following ≡ true
+    → is_word (codes "m" ++ (decimal n ++ following)) ≡ true
+tag_is_word n following short word = all_append is_word_byte (decimal n) following (all_weaker is_digit is_word_byte (decimal n)
     digit_in_word (all_decimal n short)) word

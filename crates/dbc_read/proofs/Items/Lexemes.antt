@@ -1,4 +1,4 @@
--- Each item is printed as tokens that say it.
+-- Each item is printed as tokens that spell it.
 use Rattle.std.proofs.Common.{◌≡◌, ℕ, suc, ◌<◌, ◌^◌, ℤ, pos, negsuc, Bool, true, false, cond, ◌||◌, ◌&&◌, List, [], ◌∷◌, ◌++◌}
 use Rattle.std.proofs.Common.{length, refl, sym, ap, subst, ◌∙◌, append-nil, arith, inl}
 use Rattle.std.specs.Prelude.{codes, decimal, IsTrue, not, ◌==◌}
@@ -30,10 +30,10 @@ short_negative n h = omega (arith, h)
 
 -- ---- items of one token
 
-one_says : (kind : Kind) (bytes : List ℕ) (AreSo : List ℕ → Type 0) → AreSo bytes → (tokens : List Token)
+one_means : (kind : Kind) (bytes : List ℕ) (AreSo : List ℕ → Type 0) → AreSo bytes → (tokens : List Token)
     → HaveLexemes (lexeme kind bytes ∷ []) tokens → IsOne AreSo tokens
-one_says kind bytes AreSo so [] have = elim have [ ]
-one_says kind bytes AreSo so (t ∷ tokens) have = (t, ap (λ (rest : List Token). t ∷ rest) have.2, subst AreSo (sym have.1) so)
+one_means kind bytes AreSo so [] have = elim have [ ]
+one_means kind bytes AreSo so (t ∷ tokens) have = (t, ap (λ (rest : List Token). t ∷ rest) have.2, subst AreSo (sym have.1) so)
 
 one_printed : (item : Item) (kind : Kind) (bytes : List ℕ) (AreSo : List ℕ → Type 0) → lexemes item ≡ lexeme kind bytes ∷ []
     → item_text item ≡ bytes → IsToken kind bytes
@@ -41,7 +41,7 @@ one_printed : (item : Item) (kind : Kind) (bytes : List ℕ) (AreSo : List ℕ �
 one_printed item kind bytes AreSo alone text token say so = record {
   text = text ∙ sym (append-nil bytes) ∙ ap (flat_map (λ (l : Lexeme). l.bytes)) (sym alone);
   are_tokens = subst AreTokens (sym alone) (token, tt);
-  says = λ tokens have. say tokens (one_says kind bytes AreSo so tokens (subst (λ (ls : List Lexeme). HaveLexemes ls tokens) alone
+  means = λ tokens have. say tokens (one_means kind bytes AreSo so tokens (subst (λ (ls : List Lexeme). HaveLexemes ls tokens) alone
       have));
 }
 
@@ -58,18 +58,18 @@ signed_tokens : (negative : Bool) (bytes : List ℕ) → is_number bytes ≡ tru
 signed_tokens true bytes number = ((45, refl, refl), (number, tt))
 signed_tokens false bytes number = (number, tt)
 
-signed_says : (negative : Bool) (bytes : List ℕ) (AreSo : Bool → List ℕ → Type 0) → AreSo negative bytes → (tokens : List Token)
+signed_means : (negative : Bool) (bytes : List ℕ) (AreSo : Bool → List ℕ → Type 0) → AreSo negative bytes → (tokens : List Token)
     → HaveLexemes (sign_lexemes negative ++ lexeme kinds.Number bytes ∷ []) tokens → IsSigned AreSo tokens
-signed_says true bytes AreSo so [] have = elim have [ ]
-signed_says true bytes AreSo so (t ∷ tokens) have =
-    (true, t ∷ [], tokens, refl, (t, refl, have.1), one_says kinds.Number bytes (AreSo true) so tokens have.2)
-signed_says false bytes AreSo so tokens have = (
+signed_means true bytes AreSo so [] have = elim have [ ]
+signed_means true bytes AreSo so (t ∷ tokens) have =
+    (true, t ∷ [], tokens, refl, (t, refl, have.1), one_means kinds.Number bytes (AreSo true) so tokens have.2)
+signed_means false bytes AreSo so tokens have = (
   false,
   [],
   tokens,
   refl,
   inl refl,
-  one_says kinds.Number bytes (AreSo false) so
+  one_means kinds.Number bytes (AreSo false) so
       tokens have,
 )
 
@@ -79,7 +79,7 @@ int_printed (pos n) is =
     record {
       text = sym (append-nil (decimal n));
       are_tokens = (spelled.0, tt);
-      says = λ tokens have. signed_says false (decimal n) (λ negative bytes. (k : ℕ) × SpellsNumber bytes k
+      means = λ tokens have. signed_means false (decimal n) (λ negative bytes. (k : ℕ) × SpellsNumber bytes k
           × (pos n ≡ signed negative k)) (n, spelled, refl) tokens have;
     }
 int_printed (negsuc n) is =
@@ -87,7 +87,7 @@ int_printed (negsuc n) is =
     record {
       text = ap (λ (rest : List ℕ). 45 ∷ rest) (sym (append-nil (decimal (suc n))));
       are_tokens = ((45, refl, refl), (spelled.0, tt));
-      says = λ tokens have. signed_says true (decimal (suc n)) (λ negative bytes. (k : ℕ) × SpellsNumber bytes k
+      means = λ tokens have. signed_means true (decimal (suc n)) (λ negative bytes. (k : ℕ) × SpellsNumber bytes k
           × (negsuc n ≡ signed negative k)) (suc n, spelled, refl) tokens have;
     }
 
@@ -99,7 +99,7 @@ number_printed d is =
     record {
       text = signed_text d.negative bytes;
       are_tokens = signed_tokens d.negative bytes spelled.form;
-      says = λ tokens have. signed_says d.negative bytes (λ negative bytes. SpellsDecimal negative bytes d) spelled tokens have;
+      means = λ tokens have. signed_means d.negative bytes (λ negative bytes. SpellsDecimal negative bytes d) spelled tokens have;
     }
 
 -- ---- kept tokens
@@ -144,37 +144,39 @@ word_of_symbol word is = (and_parts (is_word word) _ is).0
 
 -- the whole numbers among the items have at most 64 digits, which is how many are printed
 pub printed : (item : Item) → IsItem item → Printed item
-printed (Word word) is = one_printed (Word word) kinds.Word word (λ bytes. bytes ≡ word) refl refl is (λ tokens says. says) refl
+printed (Word word) is = one_printed (Word word) kinds.Word word (λ bytes. bytes ≡ word) refl refl is (λ tokens means. means) refl
 printed (Mark mark) is = one_printed (Mark mark) kinds.Mark (mark ∷ []) (λ bytes. bytes ≡ mark ∷ []) refl refl (
   mark,
   refl,
   is,
-) (λ tokens says. says) refl
+) (λ tokens means. means) refl
 printed (Name name) is = one_printed (Name name) kinds.Word name (λ bytes. (bytes ≡ name) × IsTrue (is_name name)) refl refl
-    (word_of_name name is) (λ tokens says. says) (refl, is)
+    (word_of_name name is) (λ tokens means. means) (refl, is)
 printed (Symbol word) is = one_printed (Symbol word) kinds.Word word (λ bytes. (bytes ≡ word) × IsTrue (is_symbol word)) refl refl
-    (word_of_symbol word is) (λ tokens says. says) (refl, is)
+    (word_of_symbol word is) (λ tokens means. means) (refl, is)
 printed (Text text) is = one_printed (Text text) kinds.Text (quoted text) (λ bytes. (bytes ≡ quoted text) × IsTrue (is_text text))
-    refl refl (text, refl, is) (λ tokens says. says) (refl, is)
+    refl refl (text, refl, is) (λ tokens means. means) (refl, is)
 printed (Whole n) is =
     let spelled = decimal_spells n (short n is) in
-    one_printed (Whole n) kinds.Number (decimal n) (λ bytes. SpellsNumber bytes n) refl refl spelled.0 (λ tokens says. says) spelled
+    one_printed (Whole n) kinds.Number (decimal n) (λ bytes. SpellsNumber bytes n) refl refl spelled.0 (λ tokens means. means)
+    spelled
 printed (Int z) is = int_printed z is
 printed (Number d) is = number_printed d is
-printed Switch is = one_printed Switch kinds.Word (codes "M") (λ bytes. bytes ≡ codes "M") refl refl refl (λ tokens says. says) refl
+printed Switch is = one_printed Switch kinds.Word (codes "M") (λ bytes. bytes ≡ codes "M") refl refl refl (λ tokens means. means)
+    refl
 printed (Muxed n) is =
     let alone : codes "m" ++ (decimal n ++ []) ≡ codes "m" ++ decimal n = ap (λ (digits : List ℕ). codes "m" ++ digits)
     (append-nil (decimal n)) in
     one_printed (Muxed n) kinds.Word (codes "m" ++ decimal n) (λ bytes. SpellsTag bytes n []) refl refl
-    (subst (λ (bytes : List ℕ). is_word bytes ≡ true) alone (tag_is_word n [] (short n is) refl)) (λ tokens says. says)
+    (subst (λ (bytes : List ℕ). is_word bytes ≡ true) alone (tag_is_word n [] (short n is) refl)) (λ tokens means. means)
     (subst (λ (bytes : List ℕ). SpellsTag bytes n []) alone (tag_spells n [] (short n is)))
 printed (Both n) is =
     one_printed (Both n) kinds.Word (codes "m" ++ (decimal n ++ codes "M")) (λ bytes. SpellsTag bytes n (codes "M")) refl refl
-    (tag_is_word n (codes "M") (short n is) refl) (λ tokens says. says) (tag_spells n (codes "M") (short n is))
+    (tag_is_word n (codes "M") (short n is) refl) (λ tokens means. means) (tag_spells n (codes "M") (short n is))
 printed (Order intel) is =
     let spelled = order_spells intel in
     one_printed (Order intel) kinds.Number (cond intel (codes "1") (codes "0")) (λ bytes. SpellsNumber bytes (cond intel 1 0)) refl
-    refl spelled.0 (λ tokens says. says) spelled
+    refl spelled.0 (λ tokens means. means) spelled
 printed (Piece bytes) is =
     one_printed (Piece bytes) (kind_of_piece bytes) bytes (λ piece. (piece ≡ bytes) × IsTrue (is_piece bytes)) refl refl
-    (piece_token bytes is) (λ tokens says. says) (refl, is)
+    (piece_token bytes is) (λ tokens means. means) (refl, is)

@@ -9,6 +9,7 @@ use Rattle.dbc_values.specs.Lexical.{is_line_feed, is_digits}
 use Rattle.dbc_values.specs.Numbers.{whole_of_number}
 use Rattle.dbc_values.specs.declared.number.Whole.{Whole as WholeNumber}
 use Rattle.dbc_values.specs.declared.number.Whole.TheVariants.{Fraction, TooLarge, Value}
+use Rattle.dbc_records.specs.declared.byte_order.ByteOrder.TheVariants as orders
 use Rattle.dbc_records.specs.declared.tag.Tag.{Tag}
 use Rattle.dbc_records.specs.declared.tag.Tag.TheVariants as tags
 use Rattle.dbc_tokens.specs.declared.fault.Cause.{Cause}
@@ -55,7 +56,7 @@ digit_so (Some Fraction) = statement_is
 digit_so (Some TooLarge) = statement_is
 digit_so (Some (Value n)) = by_value (n == 1) (n == 0)
   where
-    by_value : (one none : Bool) → NoMemory (cond one (Ok true) (cond none (Ok false) (Err causes.Statement)))
+    by_value : (one none : Bool) → NoMemory (cond one (Ok orders.Intel) (cond none (Ok orders.Motorola) (Err causes.Statement)))
     by_value true none = tt
     by_value false true = tt
     by_value false false = statement_is
@@ -117,7 +118,7 @@ verdict_so SignalName t seen = chosen_so (has_name t) _ (Err causes.Statement) (
 
 -- ---- lines
 
--- all lines stand from the first to the last
+-- all lines are from the first to the last
 abbrev LinesWithin : ℕ → ℕ → Cut → Type 0
 LinesWithin first last (End line) = (first ≤ line) × (line ≤ last)
 LinesWithin first last (Fault line) = (first ≤ line) × (line ≤ last)
@@ -138,9 +139,9 @@ lines_so line last text (Fault at) low high (gap, rest, same, is, e, some, none,
     within_gap line last at all gap rest e f low high = omega (arith, e, f, low, high)
 lines_so line last text (t ▸ cut) low high (gap, rest, same, is, e, left, longest, others) =
     let all = ap line_feeds same ∙ feeds_both gap (t.bytes ++ rest) in
-    let behind = feeds_both t.bytes rest in
+    let following = feeds_both t.bytes rest in
     let here = within_gap line last t.line (line_feeds text) (line_feeds gap) (line_feeds (t.bytes ++ rest)) (line_feeds t.bytes)
-    (line_feeds rest) all behind e low high in
+    (line_feeds rest) all following e low high in
     (here.0, here.1, lines_so (t.line + line_feeds t.bytes) last rest cut here.2 here.3 others)
   where
     within_gap : (line last at all gap more bytes rest : ℕ) → all ≡ gap + more → more ≡ bytes + rest → at ≡ line + gap → 1 ≤ line
@@ -149,38 +150,38 @@ lines_so line last text (t ▸ cut) low high (gap, rest, same, is, e, left, long
 
 -- ---- faults
 
-Told : ℕ → ReadFault → Type 0
-Told last fault = (1 ≤ fault.line) × (fault.line ≤ last) × (fault.cause ≢ causes.Memory)
+Given : ℕ → ReadFault → Type 0
+Given last fault = (1 ≤ fault.line) × (fault.line ≤ last) × (fault.cause ≢ causes.Memory)
 
-told : (last line : ℕ) (cause : Cause) (fault : ReadFault) → 1 ≤ line → line ≤ last → cause ≢ causes.Memory
-    → Some (fault_in line cause) ≡ Some fault → Told last fault
-unfolding Told
-told last line cause fault low high other e = let same : fault_in line cause ≡ fault = cc in subst (λ (f : ReadFault). (1 ≤ f.line)
+given : (last line : ℕ) (cause : Cause) (fault : ReadFault) → 1 ≤ line → line ≤ last → cause ≢ causes.Memory
+    → Some (fault_in line cause) ≡ Some fault → Given last fault
+unfolding Given
+given last line cause fault low high other e = let same : fault_in line cause ≡ fault = cc in subst (λ (f : ReadFault). (1 ≤ f.line)
     × (f.line ≤ last) × (f.cause ≢ causes.Memory)) same (low, high, other)
 
-faults_told : (last : ℕ) (cut : Cut) → LinesWithin 1 last cut → (p : Pattern) (seen : Seen) (fault : ReadFault)
-    → first_fault p seen cut ≡ Some fault → Told last fault
+faults_given : (last : ℕ) (cut : Cut) → LinesWithin 1 last cut → (p : Pattern) (seen : Seen) (fault : ReadFault)
+    → first_fault p seen cut ≡ Some fault → Given last fault
 unfolding first_fault
-faults_told last (End line) lines p seen fault e = by_end (may_end p) e
+faults_given last (End line) lines p seen fault e = by_end (may_end p) e
   where
-    by_end : (b : Bool) → cond b None (Some (fault_in line causes.Statement)) ≡ Some fault → Told last fault
+    by_end : (b : Bool) → cond b None (Some (fault_in line causes.Statement)) ≡ Some fault → Given last fault
     by_end true e = absurd cc
-    by_end false e = told last line causes.Statement fault lines.0 lines.1 statement_is e
-faults_told last (Fault line) lines p seen fault e = told last line causes.Token fault lines.0 lines.1 (λ e. absurd cc) e
-faults_told last (t ▸ cut) lines p seen fault e = by_left (λ q now. faults_told last cut lines.2 q now fault) (after p t seen) e
+    by_end false e = given last line causes.Statement fault lines.0 lines.1 statement_is e
+faults_given last (Fault line) lines p seen fault e = given last line causes.Token fault lines.0 lines.1 (λ e. absurd cc) e
+faults_given last (t ▸ cut) lines p seen fault e = by_left (λ q now. faults_given last cut lines.2 q now fault) (after p t seen) e
   where
-    by_verdict : ((q : Pattern) (now : Seen) → first_fault q now cut ≡ Some fault → Told last fault)
+    by_verdict : ((q : Pattern) (now : Seen) → first_fault q now cut ≡ Some fault → Given last fault)
         → (q : Pattern) (o : Result Seen Cause) → NoMemory o → ruled t.line o (λ seen. first_fault q seen cut) ≡ Some fault
-        → Told last fault
+        → Given last fault
     by_verdict below q (Ok now) other e = below q now e
-    by_verdict below q (Err cause) other e = told last t.line cause fault lines.0 lines.1 other e
+    by_verdict below q (Err cause) other e = given last t.line cause fault lines.0 lines.1 other e
 
-    by_left : ((q : Pattern) (now : Seen) → first_fault q now cut ≡ Some fault → Told last fault) → (left : Left)
-        → judged left t seen (λ q seen. first_fault q seen cut) ≡ Some fault → Told last fault
-    by_left below None e = told last t.line causes.Statement fault lines.0 lines.1 statement_is e
+    by_left : ((q : Pattern) (now : Seen) → first_fault q now cut ≡ Some fault → Given last fault) → (left : Left)
+        → judged left t seen (λ q seen. first_fault q seen cut) ≡ Some fault → Given last fault
+    by_left below None e = given last t.line causes.Statement fault lines.0 lines.1 statement_is e
     by_left below (Some x) e = by_verdict below x.1 (verdict x.0 t seen) (verdict_so x.0 t seen) e
 
 pub faults_are_of_texts : FaultsAreOfTexts
-unfolding Told
-faults_are_of_texts pattern text fault (cut, has, e) = faults_told (1 + line_feeds text) cut (lines_so 1 (1 + line_feeds text) text
+unfolding Given
+faults_are_of_texts pattern text fault (cut, has, e) = faults_given (1 + line_feeds text) cut (lines_so 1 (1 + line_feeds text) text
     cut (omega arith) (omega arith) has) pattern nothing_seen fault e

@@ -2,7 +2,7 @@
 use Rattle.std.proofs.Common.{◌≡◌, ℕ, List, [], ◌∷◌, Option, Some, None, refl, sym, ap, subst, ◌∙◌, ◌⊎◌, inl, inr}
 use Rattle.dbc_tokens.specs.declared.fault.ReadFault.{ReadFault}
 use Rattle.dbc_tokens.specs.Tokens.{Token, Cut, End, HasTokens}
-use Rattle.dbc_tokens.specs.Reading.Scanner.{cut_of}
+use Rattle.dbc_tokens.specs.inner.Scanner.{cut_of}
 use Rattle.dbc_reader.specs.Forms.{◌▸▸◌}
 use Rattle.dbc_reader.specs.Pattern.{Pattern, first_fault, nothing_seen}
 use Rattle.dbc_reader.specs.Grammar as grammar

@@ -17,7 +17,7 @@ use Rattle.dbc_reader.specs.Forms.{Part}
 use Rattle.dbc_reader.specs.Spelling.{AnyStatement, Symbols, Timing, Nodes, Table, OfMessage, OfComment, Definition, Default}
 use Rattle.dbc_reader.specs.Spelling.{Attribute, Values, Float, Mux, OfKept, form, version_form}
 use Rattle.dbc_reader.specs.Texts.{HasDatabase}
-use Rattle.dbc_read.proofs.Items.{ArePrinted, Shows, stand_apart}
+use Rattle.dbc_read.proofs.Items.{ArePrinted, Shows, are_apart}
 use Rattle.dbc_read.proofs.Items.Lexemes.{printed}
 use Rattle.dbc_read.proofs.Apart.{AreItems}
 use Rattle.dbc_read.proofs.Apart.Statements.{version_neat, symbols_neat, nodes_neat, table_neat, values_neat, mux_neat}
@@ -57,7 +57,7 @@ rows_form d =
     (put_form (λ row. Values row) d.values _ _ (put_form (λ row. Float row) d.floats _ _ (put_form (λ row. Mux row) d.muxes _ _
     (put_form (λ row. OfKept row) d.kept [] [] refl ∙ append-nil _)))))))))
 
--- the kinds as they are laid out, in groups, and one after another
+-- the kinds as they are printed, in groups, and one after another
 regroup : (v s t n a m c d e f r : List Part) → (v ++ (s ++ (t ++ (n ++ a)))) ++ (m ++ (c ++ ((d ++ (e ++ f)) ++ r))) ≡ v
     ++ (s ++ (t ++ (n ++ (a ++ (m ++ (c ++ (d ++ (e ++ (f ++ r)))))))))
 regroup v s t n a m c d e f r =
@@ -139,7 +139,7 @@ pub canonical_has : (d : Database) → IsDatabase d → HasDatabase (canonical_t
 unfolding canonical_text
 canonical_has d is =
     let neat = database_neat d is in
-    let apart : stand_apart (database_layout d) ≡ true = ap stand_apart (sym (append-nil (database_layout d)))
+    let apart : are_apart (database_layout d) ≡ true = ap are_apart (sym (append-nil (database_layout d)))
     ∙ neat.apart [] refl in
     let tokens = layout_tokens (database_layout d) (items_printed (database_layout d) neat.items) apart 1 0 in (
       tokens.tokens,

@@ -12,7 +12,8 @@ use Rattle.dbc_records.specs.Records.{Signal, IsSignal, Message, IsMessage, Floa
 use Rattle.dbc_records.specs.Layout.{Item, Mark, Name, Whole, Layout}
 use Rattle.dbc_records.specs.CanonicalText.{blank, number_layout, spaced_number, spaced_mark, spaced_name, line_end, statement_end}
 use Rattle.dbc_records.specs.CanonicalText.{timing_numbers, perhaps_numbers, timing_title, timing_layout, signal_name_layout}
-use Rattle.dbc_records.specs.CanonicalText.{tag_layout, place_layout, scale_layout, limits_layout, spaced_text, further_receiver}
+use Rattle.dbc_records.specs.CanonicalText.{tag_layout, bit_field_layout, scale_layout, limits_layout, spaced_text}
+use Rattle.dbc_records.specs.CanonicalText.{further_receiver}
 use Rattle.dbc_records.specs.CanonicalText.{receivers_layout, signal_layout, head_layout, message_layout, float_key, float_kind}
 use Rattle.dbc_records.specs.CanonicalText.{float_layout}
 use Rattle.dbc_reader.specs.Forms.{Is as Shown, Perhaps, Unsigned, of_layout}
@@ -54,13 +55,13 @@ module _ (printed : (item : Item) → IsItem item → Printed item) where
       let one = and_parts (not a.negative) (list_all (λ (d : Decimal). not d.negative) (b ∷ c ∷ [])) fits in
       let two = and_parts (not b.negative) (list_all (λ (d : Decimal). not d.negative) (c ∷ [])) one.1 in
       let three = and_parts (not c.negative) true two.1 in
-      let behind = All-tail IsDecimal a (b ∷ c ∷ []) is.numbers in
+      let following = All-tail IsDecimal a (b ∷ c ∷ []) is.numbers in
       shows_both (shows_layout printed timing_title timing_title_neat.items)
       (shows_both (shows_both (spaced_unsigned a (All-head IsDecimal a (b ∷ c ∷ []) is.numbers) (is_positive a.negative one.0))
       (shows_both (mark_shown 58 refl)
-      (shows_both (spaced_unsigned b (All-head IsDecimal b (c ∷ []) behind) (is_positive b.negative two.0))
+      (shows_both (spaced_unsigned b (All-head IsDecimal b (c ∷ []) following) (is_positive b.negative two.0))
       (shows_both (mark_shown 44 refl)
-      (spaced_unsigned c (All-head IsDecimal c [] (All-tail IsDecimal b (c ∷ []) behind)) (is_positive c.negative three.0))))))
+      (spaced_unsigned c (All-head IsDecimal c [] (All-tail IsDecimal b (c ∷ []) following)) (is_positive c.negative three.0))))))
       end_shown)
   timing_shown (Some (a ∷ b ∷ c ∷ d ∷ more)) is fits = let three : length (a ∷ b ∷ c ∷ d ∷ more) ≡ 3 = is.three in
       absurd (omega (arith, three))
@@ -97,10 +98,10 @@ module _ (printed : (item : Item) → IsItem item → Printed item) where
   pub signal_shown : (s : Signal) → IsSignal s → Shows (signal_layout s) (signal_form s)
   unfolding signal_layout
   signal_shown s is =
-      shows_as (six (signal_name_layout s) (tag_layout s.tag) (place_layout s) (scale_layout s) (limits_layout s)
+      shows_as (six (signal_name_layout s) (tag_layout s.tag) (bit_field_layout s) (scale_layout s) (limits_layout s)
       (spaced_text s.unit) (receivers_layout s.receivers ++ line_end)) refl
       (shows_both (shows_layout printed (signal_name_layout s
-      ++ (tag_layout s.tag ++ (place_layout s ++ (scale_layout s ++ (limits_layout s ++ spaced_text s.unit)))))
+      ++ (tag_layout s.tag ++ (bit_field_layout s ++ (scale_layout s ++ (limits_layout s ++ spaced_text s.unit)))))
       (signal_front_items s is))
       (shows_as refl (sym (append-nil (receivers_form s.receivers))) (shows_both (receivers_shown s.receivers is.receivers)
       end_shown)))

@@ -16,20 +16,20 @@ use Rattle.dbc_records.specs.CanonicalText.{word_layout, signal_key, table_key, 
 use Rattle.dbc_records.specs.CanonicalText.{mux_key, mux_layout, definition_key, definition_layout, default_key, default_layout}
 use Rattle.dbc_records.specs.CanonicalText.{target_layout, value_layout, head_layout}
 use Rattle.dbc_tokens.specs.Tokens.{Token, Cut}
-use Rattle.dbc_reader.specs.Reading.Databases.{record_into}
+use Rattle.dbc_reader.specs.inner.Databases.{record_into}
 use Rattle.dbc_reader.specs.Kinds.{Attributes, Comments, Defaults, Definitions, FloatTypes, KeptVerbatim, Messages, Multiplexings}
 use Rattle.dbc_reader.specs.Kinds.{Tables, ValueDescriptions}
 use Rattle.dbc_reader.specs.Classes.{has_word, has_symbol, has_name}
 use Rattle.dbc_reader.specs.Forms.{Part, Is, Spelled, of_layout, ◌▸▸◌}
 use Rattle.dbc_reader.specs.Spelling.{AnyStatement, Symbols, Nodes, Table, OfMessage, OfComment, Definition, Default, Attribute}
 use Rattle.dbc_reader.specs.Spelling.{Values, Float, Mux, OfKept, form}
-use Rattle.dbc_reader.specs.Reading.Readers.{Reader, ◌>>=◌, value, choose_by}
-use Rattle.dbc_reader.specs.Reading.Parts.{names_from, symbols_from}
-use Rattle.dbc_reader.specs.Reading.Databases.{symbols_into, nodes_into, begins_kept}
-use Rattle.dbc_reader.specs.Reading.Databases.{object_into, value_row_into, attribute_row_into, object_words}
-use Rattle.dbc_reader.specs.Reading.Databases.{value_words, has_object_word, has_value_word, statement_into}
-use Rattle.dbc_reader.proofs.Turns.{bind_shrinks, value_keeps}
-use Rattle.dbc_reader.proofs.Turns.Lists.{name_shrinks, symbol_shrinks}
+use Rattle.dbc_reader.specs.inner.Readers.{Reader, ◌>>=◌, value, choose_by}
+use Rattle.dbc_reader.specs.inner.Parts.{names_from, symbols_from}
+use Rattle.dbc_reader.specs.inner.Databases.{symbols_into, nodes_into, begins_kept}
+use Rattle.dbc_reader.specs.inner.Databases.{object_into, value_row_into, attribute_row_into, object_words}
+use Rattle.dbc_reader.specs.inner.Databases.{value_words, has_object_word, has_value_word, statement_into}
+use Rattle.dbc_reader.proofs.Rounds.{bind_shrinks, value_keeps}
+use Rattle.dbc_reader.proofs.Rounds.Lists.{name_shrinks, symbol_shrinks}
 use Rattle.dbc_reader.proofs.Sound.Notes.{comment_form, attribute_form}
 use Rattle.dbc_reader.proofs.Sound.Adding.{joined, record_joined, symbols_joined, nodes_joined, symbols_are, nodes_are, piece_form}
 use Rattle.dbc_read.proofs.Takes.{chosen-first, chosen-second, Takes, Anything, Opens, Stops, takes_value, takes_next, takes_last}
@@ -43,7 +43,7 @@ use Rattle.dbc_read.proofs.Takes.Kept.{kept_takes}
 
 -- ---- a database and one statement more
 
--- what may stand after a statement
+-- what may be after a statement
 abbrev pub MayFollow : AnyStatement → Cut → Type 0
 MayFollow (Symbols symbols) cut = Stops has_symbol cut
 MayFollow (Nodes nodes) cut = Stops has_name cut
@@ -120,7 +120,7 @@ unfolding symbols_from Anyhow has_symbol
 symbols_take before more =
     takes_list has_symbol _ (λ list. bind_shrinks symbol_shrinks λ symbol. value_keeps _) (λ word. Is (Symbol word) ∷ []) Anyhow
     (λ list word is. takes_next _ (symbol_takes word) takes_value)
-    (λ word is. opens_one (Is (Symbol word)) (λ bytes. (bytes ≡ word) × IsTrue (is_symbol word)) (λ tokens says. says)
+    (λ word is. opens_one (Is (Symbol word)) (λ bytes. (bytes ≡ word) × IsTrue (is_symbol word)) (λ tokens means. means)
     (λ t is. ap is_symbol is.0 ∙ is.1)) before more (λ i word less. tt)
 
 names_take : (before more : List (List ℕ)) → Takes (names_from before) (before ++ more) (flat_map (λ name. Is (Name name) ∷ [])
@@ -129,7 +129,7 @@ unfolding names_from Anyhow has_name
 names_take before more =
     takes_list has_name _ (λ list. bind_shrinks name_shrinks λ name. value_keeps _) (λ name. Is (Name name) ∷ []) Anyhow
     (λ list name is. takes_next _ (name_takes name) takes_value)
-    (λ name is. opens_one (Is (Name name)) (λ bytes. (bytes ≡ name) × IsTrue (is_name name)) (λ tokens says. says)
+    (λ name is. opens_one (Is (Name name)) (λ bytes. (bytes ≡ name) × IsTrue (is_name name)) (λ tokens means. means)
     (λ t is. ap is_name is.0 ∙ is.1)) before more (λ i name less. tt)
 
 pub symbols_added : (d : Database) (symbols : List (List ℕ)) → Takes (statement_into d) (joined d (Symbols symbols ∷ []))
@@ -155,13 +155,13 @@ nodes_added d nodes =
 pub message_added : (d : Database) (message : Message) → nat_lt (length d.messages) 65535 ≡ true → IsMessage message
     → Takes (statement_into d) (joined d (OfMessage message ∷ [])) (form (OfMessage message)) EndsSignals
 unfolding object_into record_into head_layout items_of
-message_added d message room is =
+message_added d message space is =
     as_object d (codes "BO_") refl (unkept_word (codes "BO_") refl refl refl refl)
     (takes_second _ (is_word_of (codes "BO_") (codes "NS_") refl) (takes_second _ (is_word_of (codes "BO_") (codes "BU_") refl)
-    (put_into (λ message. record d { messages = d.messages ++ message ∷ [] }) (message_takes (length d.messages) message room is)
+    (put_into (λ message. record d { messages = d.messages ++ message ∷ [] }) (message_takes (length d.messages) message space is)
     (record_joined Messages d message))))
 
--- ---- rows of values
+-- ---- entries of values
 
 pub table_added : (d : Database) (row : TableRow) → IsTableRow row → Takes (statement_into d) (joined d (Table row ∷ []))
     (form (Table row)) Anything

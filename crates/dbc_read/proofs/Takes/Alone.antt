@@ -17,10 +17,10 @@ use Rattle.dbc_tokens.specs.Tokens.{Token, Cut, End}
 use Rattle.dbc_reader.specs.Classes.{has_word}
 use Rattle.dbc_reader.specs.Forms.{Part, Is, of_layout, ◌▸▸◌}
 use Rattle.dbc_reader.specs.Spelling.{form, signal_form, form_alone, Attribute, IsStatement, SpellsStatement}
-use Rattle.dbc_reader.specs.Reading.Readers.{and_then, ◌>>=◌, value, starts, end_at}
-use Rattle.dbc_reader.specs.Reading.Parts.{begins_receiver}
-use Rattle.dbc_reader.specs.Reading.Attributes.{message_target_at}
-use Rattle.dbc_reader.specs.Reading.Databases.{message_attribute_at, standalone_statement_at, statement_at}
+use Rattle.dbc_reader.specs.inner.Readers.{and_then, ◌>>=◌, value, starts, end_at}
+use Rattle.dbc_reader.specs.inner.Parts.{begins_receiver}
+use Rattle.dbc_reader.specs.inner.Attributes.{message_target_at}
+use Rattle.dbc_reader.specs.inner.Databases.{message_attribute_at, standalone_statement_at, statement_at}
 use Rattle.dbc_reader.proofs.Sound.Notes.{attribute_form}
 use Rattle.dbc_reader.proofs.Sound.Messages.{signal_form_is}
 use Rattle.dbc_read.proofs.Takes.{Takes, Anything, Opens, Stops, takes_value, takes_next, takes_last, takes_as, takes_where}
@@ -30,7 +30,7 @@ use Rattle.dbc_read.proofs.Takes.Rows.{table_takes, values_take, mux_takes}
 use Rattle.dbc_read.proofs.Takes.Notes.{word_opens, given_takes}
 use Rattle.dbc_read.proofs.Takes.Messages.{head_takes, signal_takes}
 
--- what may stand after a statement that stands alone
+-- what may be after a statement on its own
 abbrev Closed : Cut → Type 0
 Closed cut = Stops begins_receiver cut
 

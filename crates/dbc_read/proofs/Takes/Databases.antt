@@ -20,11 +20,11 @@ use Rattle.dbc_reader.specs.Classes.{has_word, has_mark, has_symbol, has_name, h
 use Rattle.dbc_reader.specs.Forms.{Part, Unsigned, Spelled, ◌▸▸◌}
 use Rattle.dbc_reader.specs.Spelling.{AnyStatement, Timing, form, timing_form, timings_of, timing_of, version_form}
 use Rattle.dbc_reader.specs.Spelling.{version_text, gather, ArePlaced, Spells}
-use Rattle.dbc_reader.specs.Reading.Readers.{Reader, and_then, ◌>>=◌, value, starts, end_at}
-use Rattle.dbc_reader.specs.Reading.Parts.{begins_receiver}
-use Rattle.dbc_reader.specs.Reading.Databases.{object_words, value_words, attribute_words, has_object_word, has_value_word}
-use Rattle.dbc_reader.specs.Reading.Databases.{has_attribute_word, begins_statement, statements_into, version_at, timing_numbers_at}
-use Rattle.dbc_reader.specs.Reading.Databases.{timing_at, timed_into, empty_database, database_at}
+use Rattle.dbc_reader.specs.inner.Readers.{Reader, and_then, ◌>>=◌, value, starts, end_at}
+use Rattle.dbc_reader.specs.inner.Parts.{begins_receiver}
+use Rattle.dbc_reader.specs.inner.Databases.{object_words, value_words, attribute_words, has_object_word, has_value_word}
+use Rattle.dbc_reader.specs.inner.Databases.{has_attribute_word, begins_statement, statements_into, version_at, timing_numbers_at}
+use Rattle.dbc_reader.specs.inner.Databases.{timing_at, timed_into, empty_database, database_at}
 use Rattle.dbc_reader.proofs.Sound.{all_then_twice}
 use Rattle.dbc_reader.proofs.Sound.Adding.{joined}
 use Rattle.dbc_reader.proofs.Sound.Databases.{timing_is, gather_untimed, gather_timed}
@@ -49,7 +49,7 @@ version_takes (Some version) =
 
 number_opens : (d : Decimal) {parts : List Part} → Opens (has_number false) true (Unsigned d ∷ parts)
 unfolding has_number
-number_opens d {parts} = opens_one (Unsigned d) (λ bytes. SpellsDecimal false bytes d) (λ tokens says. says)
+number_opens d {parts} = opens_one (Unsigned d) (λ bytes. SpellsDecimal false bytes d) (λ tokens means. means)
     (λ t e. ap is_there (decimal_from_number false t.bytes d e))
 
 pub timing_takes : (numbers : Option (Decimal × Decimal × Decimal)) → Takes timing_at (timing_of (numbers ∷ []))
@@ -64,7 +64,7 @@ timing_takes (Some numbers) =
     (takes_next _ (unsigned_takes numbers.0) (takes_next _ (mark_takes 58) (takes_next _ (unsigned_takes numbers.1)
     (takes_next _ (mark_takes 44) (takes_next _ (unsigned_takes numbers.2) takes_value)))))))) (λ cut may. tt))
 
--- ---- what may stand after statements
+-- ---- what may be after statements
 
 closes_end : (line : ℕ) → Closes (End line)
 unfolding starts
@@ -121,7 +121,7 @@ unfolding has_word
 begins_timing numbers parts = opens_as (ap (λ (front : List Part). front ++ parts) (timing_is numbers))
     (word_opens (λ bytes. bytes_eq bytes (codes "BS_")) (codes "BS_") refl)
 
--- no number stands after a bit timing
+-- no number is after a bit timing
 no_number : (count : ℕ) (statements : List AnyStatement) → MayAdd count statements → (tokens : List Token) (line : ℕ)
     → Spelled (flat_map form statements) tokens → Stops (has_number false) (tokens ▸▸ End line)
 unfolding has_number decimal_of_number is_number starts
@@ -139,10 +139,10 @@ timed_read version p numbers q tokens line may more spelled =
     let other = halves (timing_form numbers) (flat_map form q) half.rest half.second in
     let d = joined (empty_database (version_text version)) p in
     let e = record d { bit_timing = timing_of (numbers ∷ []) } in
-    let behind = half.rest ▸▸ End line in
-    let first = statements_added (empty_database (version_text version)) p may half.front behind half.first
+    let following = half.rest ▸▸ End line in
+    let first = statements_added (empty_database (version_text version)) p may half.front following half.first
     (closes_timing numbers (flat_map form q) half.rest (End line) half.second) in
-    let stands : behind ≡ (other.front ▸▸ (other.rest ▸▸ End line)) = ap (λ (t : List Token). t ▸▸ End line) other.parts
+    let occurs : following ≡ (other.front ▸▸ (other.rest ▸▸ End line)) = ap (λ (t : List Token). t ▸▸ End line) other.parts
     ∙ all_then_twice other.front other.rest (End line) in
     let timing = (timing_takes numbers).takes other.front (other.rest ▸▸ End line) other.first
     (no_number (length (flat_map (records_of Messages) p)) q more other.rest line other.second) in
@@ -152,17 +152,17 @@ timed_read version p numbers q tokens line may more spelled =
     ∙ ap (λ (o : Result (Database × Cut) ReadFault). and_then o
     (λ before. (timed_into before >>= λ all. (end_at >>= λ _. value all)))) first
     ∙ ap (λ (o : Result (Database × Cut) ReadFault). and_then o (λ all. (end_at >>= λ _. value all)))
-    (chosen-first (starts (has_word (codes "BS_")) behind) _ _ _ ((begins_timing numbers (flat_map form q)).opens half.rest
+    (chosen-first (starts (has_word (codes "BS_")) following) _ _ _ ((begins_timing numbers (flat_map form q)).opens half.rest
     (End line) half.second)
-    (ap (λ (c : Cut). (timing_at >>= λ timing. statements_into (record d { bit_timing = timing })) c) stands
+    (ap (λ (c : Cut). (timing_at >>= λ timing. statements_into (record d { bit_timing = timing })) c) occurs
     ∙ ap (λ (o : Result (Option (List Decimal) × Cut) ReadFault). and_then o
     (λ timing. statements_into (record d { bit_timing = timing }))) timing ∙ last))
     ∙ end_read (joined e q) line ∙ ap (λ (d : Database). Ok (d, End line)) (gather_timed version p q numbers
     (timing_of (numbers ∷ [])) may.no_timings more.no_timings refl)
 
--- ---- all of it
+-- ---- the whole text
 
--- the statements of a text that may stand after its version
+-- the statements of a text that may be after its version
 record MayStand (version : Option (List ℕ)) (statements : List AnyStatement) : Type 0 where
   fit : AllFit 0 statements
   placed : ArePlaced statements
@@ -175,30 +175,31 @@ after_read version statements tokens line text spelled = elim (parted statements
   | inl none ↦ untimed_read version statements tokens line (record { fit = text.fit; no_timings = none; placed = text.placed })
       spelled
   | inr parts ↦ (
-      let fit = fit_both 0 parts.before (Timing parts.numbers ∷ parts.behind) (subst (AllFit 0) parts.same text.fit) in
-      let placed = placed_both parts.before (Timing parts.numbers ∷ parts.behind) (subst ArePlaced parts.same text.placed) in
+      let fit = fit_both 0 parts.before (Timing parts.numbers ∷ parts.following) (subst (AllFit 0) parts.same text.fit) in
+      let placed = placed_both parts.before (Timing parts.numbers ∷ parts.following) (subst ArePlaced parts.same text.placed) in
       subst (λ (all : List AnyStatement). after_version (version_text version) (tokens ▸▸ End line) ≡ Ok (
         gather version all,
         End line,
       )) (sym parts.same)
-      (timed_read version parts.before parts.numbers parts.behind tokens line (record {
+      (timed_read version parts.before parts.numbers parts.following tokens line (record {
         fit = fit.0;
         no_timings = parts.none_before;
         placed = placed.0;
       })
       (record {
-        fit = subst (λ (n : ℕ). AllFit n parts.behind) (plus_none (length (flat_map (records_of Messages) parts.before))) fit.1.1;
-        no_timings = parts.none_behind;
+        fit = subst (λ (n : ℕ). AllFit n parts.following) (plus_none (length (flat_map (records_of Messages) parts.before)))
+            fit.1.1;
+        no_timings = parts.none_following;
         placed = placed.1.1;
       })
       (subst (λ (form_parts : List Part). Spelled form_parts tokens) (flat_map-append form parts.before (Timing parts.numbers
-      ∷ parts.behind)) (subst (λ (all : List AnyStatement). Spelled (flat_map form all) tokens) parts.same spelled))))
+      ∷ parts.following)) (subst (λ (all : List AnyStatement). Spelled (flat_map form all) tokens) parts.same spelled))))
 ]
   where
     plus_none : (n : ℕ) → (0 + n) + 0 ≡ n
     plus_none n = omega arith
 
--- no version stands where statements or nothing do
+-- there is no version before statements or nothing
 no_version : (version : Option (List ℕ)) (statements : List AnyStatement) (tokens : List Token) (line : ℕ)
     → MayStand version statements → Spelled (flat_map form statements) tokens
     → Stops (has_word (codes "VERSION")) (tokens ▸▸ End line)
@@ -210,11 +211,11 @@ no_version version statements tokens line text spelled = elim (parted statements
     placed = text.placed;
   }) tokens (End line) spelled refl
   | inr parts ↦ (
-      let fit = fit_both 0 parts.before (Timing parts.numbers ∷ parts.behind) (subst (AllFit 0) parts.same text.fit) in
-      let placed = placed_both parts.before (Timing parts.numbers ∷ parts.behind) (subst ArePlaced parts.same text.placed) in
-      let half = halves (flat_map form parts.before) (timing_form parts.numbers ++ flat_map form parts.behind) tokens
+      let fit = fit_both 0 parts.before (Timing parts.numbers ∷ parts.following) (subst (AllFit 0) parts.same text.fit) in
+      let placed = placed_both parts.before (Timing parts.numbers ∷ parts.following) (subst ArePlaced parts.same text.placed) in
+      let half = halves (flat_map form parts.before) (timing_form parts.numbers ++ flat_map form parts.following) tokens
       (subst (λ (form_parts : List Part). Spelled form_parts tokens) (flat_map-append form parts.before (Timing parts.numbers
-      ∷ parts.behind)) (subst (λ (all : List AnyStatement). Spelled (flat_map form all) tokens) parts.same spelled)) in
+      ∷ parts.following)) (subst (λ (all : List AnyStatement). Spelled (flat_map form all) tokens) parts.same spelled)) in
       ap (λ (t : List Token). starts (λ t. bytes_eq t.bytes (codes "VERSION")) (t ▸▸ End line)) half.parts
       ∙ ap (starts (λ t. bytes_eq t.bytes (codes "VERSION"))) (all_then_twice half.front half.rest (End line))
       ∙ no_start (λ bytes. bytes_eq bytes (codes "VERSION")) 0 parts.before refl (record {
@@ -222,7 +223,7 @@ no_version version statements tokens line text spelled = elim (parted statements
         no_timings = parts.none_before;
         placed = placed.0;
       }) half.front (half.rest ▸▸ End line) half.first
-      ((timing_no_version parts.numbers (flat_map form parts.behind)).opens half.rest (End line) half.second))
+      ((timing_no_version parts.numbers (flat_map form parts.following)).opens half.rest (End line) half.second))
 ]
   where
     timing_no_version : (numbers : Option (Decimal × Decimal × Decimal)) (parts : List Part)
@@ -230,7 +231,7 @@ no_version version statements tokens line text spelled = elim (parted statements
     timing_no_version numbers parts = opens_as (ap (λ (front : List Part). front ++ parts) (timing_is numbers))
         (word_opens (λ bytes. bytes_eq bytes (codes "VERSION")) (codes "BS_") refl)
 
--- the database whose statements are put after it, but for what they say of the bit timing
+-- the database to which the statements are appended, except for their bit timing
 abbrev with_timing : Option (List ℕ) → List AnyStatement → Database
 with_timing version statements = record (empty_database (version_text version))
     { bit_timing = timing_of (flat_map timings_of statements) }

@@ -1,4 +1,4 @@
--- The statements of a database, one after another: each is proper, and there is room for each message.
+-- The statements of a database, one after another: each is proper, and there is space for each message.
 use Rattle.std.proofs.Common.{◌≡◌, ℕ, suc, ◌+◌, ◌≤◌, true, List, [], ◌∷◌, ◌++◌, length, length-append, Option, refl, sym, ap, subst}
 use Rattle.std.proofs.Common.{inl, inr, ◌⊎◌, arith}
 use Rattle.std.specs.Prelude.{nat_le, nat_lt, All}
@@ -26,7 +26,7 @@ use Rattle.dbc_reader.proofs.Sound.Adding.{joined, joined_twice}
 
 -- ---- each statement fits
 
--- after so many messages
+-- after this many messages
 abbrev pub Fits : ℕ → AnyStatement → Type 0
 Fits count (Symbols symbols) = Unit {0}
 Fits count (Timing numbers) = Unit {0}
@@ -50,8 +50,8 @@ one_of : {X : Type 0} (P : X → Type 0) (xs : List X) (x : X) (ys : List X) →
 one_of P xs x ys all = All-head P x ys (subst (All P) (drop_at xs (x ∷ ys) (length xs) refl) (All-drop P (length xs) (xs ++ x ∷ ys)
     all))
 
-room : (n m : ℕ) → nat_le (n + suc m) 65535 ≡ true → nat_lt n 65535 ≡ true
-room n m e = grind (arith, common_steps)
+space : (n m : ℕ) → nat_le (n + suc m) 65535 ≡ true → nat_lt n 65535 ≡ true
+space n m e = grind (arith, common_steps)
 
 fits_first : (d : Database) (s : AnyStatement) (more : List AnyStatement) → IsDatabase (joined d (s ∷ more))
     → Fits (length d.messages) s
@@ -63,7 +63,7 @@ fits_first d (OfMessage message) more is =
     let count = and_parts (timing_fits d.bit_timing) (nat_le (length (d.messages
     ++ message ∷ flat_map (records_of Messages) more)) 65535)
     is.fits in (
-      room (length d.messages) (length (flat_map (records_of Messages) more)) (subst (λ (n : ℕ). nat_le n 65535 ≡ true)
+      space (length d.messages) (length (flat_map (records_of Messages) more)) (subst (λ (n : ℕ). nat_le n 65535 ≡ true)
           (length-append d.messages (message ∷ flat_map (records_of Messages) more)) count.1),
       one_of IsMessage d.messages message (flat_map (records_of Messages) more) is.messages,
     )
@@ -110,10 +110,10 @@ fit_both count (x ∷ xs) ys fit =
 pub record Parted (statements : List AnyStatement) : Type 0 where
   pub before : List AnyStatement
   pub numbers : Option (Decimal × Decimal × Decimal)
-  pub behind : List AnyStatement
-  pub same : statements ≡ before ++ Timing numbers ∷ behind
+  pub following : List AnyStatement
+  pub same : statements ≡ before ++ Timing numbers ∷ following
   pub none_before : flat_map timings_of before ≡ []
-  pub none_behind : flat_map timings_of behind ≡ []
+  pub none_following : flat_map timings_of following ≡ []
 
 nothing_left : {X : Type 0} (xs : List X) → suc (length xs) ≤ 1 → xs ≡ []
 nothing_left [] h = refl
@@ -125,10 +125,10 @@ one_more s more none (inl rest) = inl (rw (none, rest) refl)
 one_more s more none (inr rest) = inr (record {
   before = s ∷ rest.before;
   numbers = rest.numbers;
-  behind = rest.behind;
+  following = rest.following;
   same = ap (λ (l : List AnyStatement). s ∷ l) rest.same;
   none_before = rw (none, rest.none_before) refl;
-  none_behind = rest.none_behind;
+  none_following = rest.none_following;
 })
 
 pub parted : (statements : List AnyStatement) → length (flat_map timings_of statements) ≤ 1 → (flat_map timings_of statements ≡ [])
@@ -137,16 +137,16 @@ parted [] one = inl refl
 parted (Timing numbers ∷ more) one = inr (record {
   before = [];
   numbers = numbers;
-  behind = more;
+  following = more;
   same = refl;
   none_before = refl;
-  none_behind = nothing_left (flat_map timings_of more) one;
+  none_following = nothing_left (flat_map timings_of more) one;
 })
 parted (Symbols symbols ∷ more) one = one_more (Symbols symbols) more refl (parted more one)
 parted (Nodes nodes ∷ more) one = one_more (Nodes nodes) more refl (parted more one)
 parted (OfKind kind row ∷ more) one = one_more (OfKind kind row) more refl (parted more one)
 
--- ---- places on both sides of a bit timing
+-- ---- the order on both sides of a bit timing
 
 ends_so : (xs ys : List AnyStatement) → EndsSymbols (xs ++ ys) → EndsSymbols xs
 ends_so [] ys h = tt

@@ -1,4 +1,4 @@
--- How statements begin that are spelled: which are kept as they stand, and which aren't.
+-- How the statements that are spelled begin: which are kept verbatim, and which aren't.
 use Rattle.std.proofs.Common.{◌≡◌, ℕ, zero, suc, Bool, true, false, ◌||◌, ◌&&◌, List, [], ◌∷◌, ◌++◌, refl, sym, ap, ◌∙◌, inl, inr}
 use Rattle.std.specs.Prelude.{codes, IsTrue}
 use Rattle.std.specs.List.{flat_map}
@@ -15,14 +15,14 @@ use Rattle.dbc_records.specs.declared.attribute.AttrValue.{AttrValue}
 use Rattle.dbc_records.specs.declared.attribute.AttrValue.TheVariants as values
 use Rattle.dbc_tokens.specs.Tokens.{Token, Cut}
 use Rattle.dbc_reader.specs.Classes.{has_word, has_name, has_string, has_piece, has_kept_word}
-use Rattle.dbc_reader.specs.Reading.Cursors.{behind}
+use Rattle.dbc_reader.specs.inner.Cursors.{following}
 use Rattle.dbc_reader.specs.Forms.{Part, Is, SpellsNumber, IsOne, SaysPart, Spelled, of_layout, ◌▸▸◌}
 use Rattle.dbc_reader.specs.Spelling.{form, OfKept}
-use Rattle.dbc_reader.specs.Reading.Readers.{starts}
-use Rattle.dbc_reader.specs.Reading.Parts.{pieces_from}
-use Rattle.dbc_reader.specs.Reading.Databases.{first_tokens, begins_kept, kept_at}
-use Rattle.dbc_reader.proofs.Turns.{bind_shrinks, value_keeps}
-use Rattle.dbc_reader.proofs.Turns.Lists.{piece_shrinks}
+use Rattle.dbc_reader.specs.inner.Readers.{starts}
+use Rattle.dbc_reader.specs.inner.Parts.{pieces_from}
+use Rattle.dbc_reader.specs.inner.Databases.{first_tokens, begins_kept, kept_at}
+use Rattle.dbc_reader.proofs.Rounds.{bind_shrinks, value_keeps}
+use Rattle.dbc_reader.proofs.Rounds.Lists.{piece_shrinks}
 use Rattle.dbc_reader.proofs.Facts.KeptBeginnings.{kept_by_tokens, any_of_four}
 use Rattle.dbc_reader.proofs.Facts.Names.{no_digit_no_number, word_is_no_number}
 use Rattle.dbc_reader.proofs.Sound.Adding.{piece_form}
@@ -32,24 +32,24 @@ use Rattle.dbc_read.proofs.Takes.Kinds.{mark_takes, piece_takes}
 use Rattle.dbc_read.proofs.Takes.Rows.{mark_opens}
 use Rattle.dbc_read.proofs.Takes.Notes.{word_opens, text_no_word, number_no_word}
 
--- ---- what stands after the first token
+-- ---- what is after the first token
 
 pub second_opens : {test : Token → Bool} {passes : Bool} {parts : List Part} (part : Part) (P : List ℕ → Type 0)
     → ((tokens : List Token) → SaysPart part tokens → IsOne P tokens) → Opens test passes parts
-    → (tokens : List Token) (cut : Cut) → Spelled (part ∷ parts) tokens → starts test (behind (tokens ▸▸ cut)) ≡ passes
-second_opens {test} {passes} {parts} part P so opens tokens cut (front, rest, same, says, others) =
-    let first = so front says in
-    ap (λ (t : List Token). starts test (behind (t ▸▸ cut))) (same ∙ ap (λ (t : List Token). t ++ rest) first.1)
+    → (tokens : List Token) (cut : Cut) → Spelled (part ∷ parts) tokens → starts test (following (tokens ▸▸ cut)) ≡ passes
+second_opens {test} {passes} {parts} part P so opens tokens cut (front, rest, same, means, others) =
+    let first = so front means in
+    ap (λ (t : List Token). starts test (following (t ▸▸ cut))) (same ∙ ap (λ (t : List Token). t ++ rest) first.1)
     ∙ opens.opens rest cut others
 
 pub third_opens : {test : Token → Bool} {passes : Bool} {parts : List Part} (part other : Part) (P Q : List ℕ → Type 0)
     → ((tokens : List Token) → SaysPart part tokens → IsOne P tokens) → ((tokens : List Token) → SaysPart other tokens
     → IsOne Q tokens)
     → Opens test passes parts → (tokens : List Token) (cut : Cut) → Spelled (part ∷ other ∷ parts) tokens
-    → starts test (behind (behind (tokens ▸▸ cut))) ≡ passes
-third_opens {test} {passes} {parts} part other P Q so so_other opens tokens cut (front, rest, same, says, others) =
-    let first = so front says in
-    ap (λ (t : List Token). starts test (behind (behind (t ▸▸ cut)))) (same ∙ ap (λ (t : List Token). t ++ rest) first.1)
+    → starts test (following (following (tokens ▸▸ cut))) ≡ passes
+third_opens {test} {passes} {parts} part other P Q so so_other opens tokens cut (front, rest, same, means, others) =
+    let first = so front means in
+    ap (λ (t : List Token). starts test (following (following (t ▸▸ cut)))) (same ∙ ap (λ (t : List Token). t ++ rest) first.1)
     ∙ second_opens other Q so_other opens rest cut others
 
 -- ---- statements that aren't kept
@@ -82,7 +82,7 @@ unfolding has_word has_kept_word has_name
 unkept_values {n} {parts} = record {
   not_kept = λ tokens cut spelled. (
       let one = (word_opens is_kept_word (codes "VAL_") {parts = Is (Whole n) ∷ parts} refl).opens tokens cut spelled in
-      let name = second_opens (Is (Word (codes "VAL_"))) (λ bytes. bytes ≡ codes "VAL_") (λ tokens says. says) (whole_opens n)
+      let name = second_opens (Is (Word (codes "VAL_"))) (λ bytes. bytes ≡ codes "VAL_") (λ tokens means. means) (whole_opens n)
       tokens cut spelled in
       let three = (word_opens (λ bytes. bytes_eq bytes (codes "CM_")) (codes "VAL_") {parts = Is (Whole n) ∷ parts} refl).opens
       tokens cut spelled in
@@ -92,7 +92,7 @@ unkept_values {n} {parts} = record {
 }
   where
     whole_opens : (n : ℕ) {parts : List Part} → Opens (λ t. is_name t.bytes) false (Is (Whole n) ∷ parts)
-    whole_opens n {parts} = opens_one (Is (Whole n)) (λ bytes. SpellsNumber bytes n) (λ tokens says. says)
+    whole_opens n {parts} = opens_one (Is (Whole n)) (λ bytes. SpellsNumber bytes n) (λ tokens means. means)
         (λ t e. number_no_name t.bytes e.0)
 
     none : (b : Bool) → (false || ((b && false) || (false || false))) ≡ false
@@ -126,7 +126,7 @@ unkept_comment target text parts = record {
       let all = of_layout (target_layout target) ++ Is (Text text) ∷ parts in
       let one = (word_opens is_kept_word (codes "CM_") {parts = all} refl).opens tokens cut spelled in
       let two = (word_opens (λ bytes. bytes_eq bytes (codes "VAL_")) (codes "CM_") {parts = all} refl).opens tokens cut spelled in
-      let variable = second_opens (Is (Word (codes "CM_"))) (λ bytes. bytes ≡ codes "CM_") (λ tokens says. says)
+      let variable = second_opens (Is (Word (codes "CM_"))) (λ bytes. bytes ≡ codes "CM_") (λ tokens means. means)
       (target_no_variable target text parts) tokens cut spelled in
       let four = (word_opens (λ bytes. bytes_eq bytes (codes "BA_")) (codes "CM_") {parts = all} refl).opens tokens cut spelled in
       kept_by_tokens (tokens ▸▸ cut) ∙ rw (one, two, variable, four) (none (starts (has_word (codes "CM_")) (tokens ▸▸ cut))));
@@ -147,10 +147,10 @@ unkept_attribute name target given parts = record {
       let two = (word_opens (λ bytes. bytes_eq bytes (codes "VAL_")) (codes "BA_") {parts = all} refl).opens tokens cut spelled in
       let three = (word_opens (λ bytes. bytes_eq bytes (codes "CM_")) (codes "BA_") {parts = all} refl).opens tokens cut spelled in
       let variable = third_opens (Is (Word (codes "BA_"))) (Is (Text name)) (λ bytes. bytes ≡ codes "BA_")
-      (λ bytes. (bytes ≡ quoted name) × IsTrue (is_text name)) (λ tokens says. says) (λ tokens says. says)
+      (λ bytes. (bytes ≡ quoted name) × IsTrue (is_text name)) (λ tokens means. means) (λ tokens means. means)
       (given_no_variable target given parts) tokens cut spelled in
       kept_by_tokens (tokens ▸▸ cut) ∙ rw (one, two, three, variable) (none (starts (has_word (codes "BA_")) (tokens ▸▸ cut))
-      (starts has_string (behind (tokens ▸▸ cut)))));
+      (starts has_string (following (tokens ▸▸ cut)))));
 }
   where
     none : (b s : Bool) → (false || (false || (false || (b && (s && false))))) ≡ false
@@ -193,7 +193,7 @@ Anyhow bytes = Unit {0}
 
 piece_opens : (bytes : List ℕ) {parts : List Part} → Opens has_piece true (Is (Piece bytes) ∷ parts)
 unfolding has_piece
-piece_opens bytes {parts} = opens_one (Is (Piece bytes)) (λ b. (b ≡ bytes) × IsTrue (is_piece bytes)) (λ tokens says. says)
+piece_opens bytes {parts} = opens_one (Is (Piece bytes)) (λ b. (b ≡ bytes) × IsTrue (is_piece bytes)) (λ tokens means. means)
     (λ t is. ap is_piece is.0 ∙ is.1)
 
 pieces_take : (pieces : List (List ℕ)) → Takes (pieces_from []) pieces (flat_map (λ bytes. Is (Piece bytes) ∷ []) pieces)

@@ -1,4 +1,4 @@
--- Each part of a form that is spelled is read as what it stands for.
+-- Each part of a form that is spelled is read as what it represents.
 use Rattle.std.proofs.Common.{◌≡◌, ℕ, ℤ, pos, negsuc, neg_ℤ, ◌≤ℤ◌, ◌<◌, ◌≤◌, ◌^◌, ◌-◌, Bool, true, false, cond, ◌&&◌, ◌||◌, List}
 use Rattle.std.proofs.Common.{[], ◌∷◌, ◌++◌, length, length-append, Some, Result, Ok, refl, sym, ap, subst, ◌∙◌, arith, inl, inr}
 use Rattle.std.specs.Prelude.{int_le, codes, nat_le, IsTrue}
@@ -22,9 +22,9 @@ use Rattle.dbc_tokens.specs.declared.fault.Cause.{Cause}
 use Rattle.dbc_tokens.specs.Tokens.{Token, Cut, ◌▸◌}
 use Rattle.dbc_reader.specs.Classes.{has_word, has_mark, has_whole, where_true, text_of, whole_of, number_of}
 use Rattle.dbc_reader.specs.Forms.{Part, Is, Unsigned, IsOne, IsSign, IsSigned, SpellsNumber, Spelled, signed, ◌▸▸◌}
-use Rattle.dbc_reader.specs.Reading.Readers.{Reader, and_then, ◌>>=◌, value, token_at, answered, starts, choose}
-use Rattle.dbc_reader.specs.Reading.Parts.{word_at, mark_at, name_at, symbol_at, text_at, piece_at, whole_at, id_at, number_at}
-use Rattle.dbc_reader.specs.Reading.Parts.{decimal_at, int_at, begins_int}
+use Rattle.dbc_reader.specs.inner.Readers.{Reader, and_then, ◌>>=◌, value, token_at, answered, starts, choose}
+use Rattle.dbc_reader.specs.inner.Parts.{word_at, mark_at, name_at, symbol_at, text_at, piece_at, whole_at, id_at, number_at}
+use Rattle.dbc_reader.specs.inner.Parts.{decimal_at, int_at, begins_int}
 use Rattle.dbc_reader.proofs.Sound.{all_then_twice}
 use Rattle.dbc_read.proofs.Takes.{Takes, Anything, Opens, takes_one, alone}
 
@@ -59,12 +59,12 @@ where_true-is b x e = rw e refl
 pub word_takes : (word : List ℕ) → Takes (word_at word) tt (Is (Word word) ∷ []) Anything
 unfolding word_at
 word_takes word = takes_one _ tt (λ bytes. bytes ≡ word) (λ t e. where_true-is (has_word word t) tt (is_the_word word t e))
-    (Is (Word word)) (λ tokens says. says)
+    (Is (Word word)) (λ tokens means. means)
 
 pub mark_takes : (mark : ℕ) → Takes (mark_at mark) tt (Is (Mark mark) ∷ []) Anything
 unfolding mark_at
 mark_takes mark = takes_one _ tt (λ bytes. bytes ≡ mark ∷ []) (λ t e. where_true-is (has_mark mark t) tt (is_the_mark mark t e))
-    (Is (Mark mark)) (λ tokens says. says)
+    (Is (Mark mark)) (λ tokens means. means)
 
 by_bytes : (test : List ℕ → Bool) (bytes a : List ℕ) → bytes ≡ a → test a ≡ true → where_true (test bytes) bytes ≡ Ok a
 by_bytes test bytes a same is = ap (λ (b : List ℕ). where_true (test b) b) same ∙ where_true-is (test a) a is
@@ -72,17 +72,17 @@ by_bytes test bytes a same is = ap (λ (b : List ℕ). where_true (test b) b) sa
 pub name_takes : (name : List ℕ) → Takes name_at name (Is (Name name) ∷ []) Anything
 unfolding name_at
 name_takes name = takes_one _ name (λ bytes. (bytes ≡ name) × IsTrue (is_name name)) (λ t e. by_bytes is_name t.bytes name e.0 e.1)
-    (Is (Name name)) (λ tokens says. says)
+    (Is (Name name)) (λ tokens means. means)
 
 pub symbol_takes : (word : List ℕ) → Takes symbol_at word (Is (Symbol word) ∷ []) Anything
 unfolding symbol_at
 symbol_takes word = takes_one _ word (λ bytes. (bytes ≡ word) × IsTrue (is_symbol word)) (λ t e. by_bytes is_symbol t.bytes word e.0
-    e.1) (Is (Symbol word)) (λ tokens says. says)
+    e.1) (Is (Symbol word)) (λ tokens means. means)
 
 pub piece_takes : (bytes : List ℕ) → Takes piece_at bytes (Is (Piece bytes) ∷ []) Anything
 unfolding piece_at
 piece_takes piece = takes_one _ piece (λ bytes. (bytes ≡ piece) × IsTrue (is_piece piece)) (λ t e. by_bytes is_piece t.bytes piece
-    e.0 e.1) (Is (Piece piece)) (λ tokens says. says)
+    e.0 e.1) (Is (Piece piece)) (λ tokens means. means)
 
 inside_quoted : (text : List ℕ) → inside (quoted text) ≡ text
 inside_quoted text = take_at text (quote ∷ []) (length (quoted text) - 2) (omega (arith, length-append text (quote ∷ [])))
@@ -98,7 +98,7 @@ text_takes text =
     takes_one _ text (λ bytes. (bytes ≡ quoted text) × IsTrue (is_text text))
     (λ t e. ap (λ (b : List ℕ). where_true (is_string b) (inside b)) e.0 ∙ where_true-is (is_string (quoted text))
     (inside (quoted text)) (quoted_is_string text e.1) ∙ ap (λ (b : List ℕ). Ok b) (inside_quoted text))
-    (Is (Text text)) (λ tokens says. says)
+    (Is (Text text)) (λ tokens means. means)
 
 -- ---- numbers
 
@@ -107,7 +107,7 @@ unfolding whole_of_number
 number_whole bytes n small spells = rw (spells.0, whole_from (mantissa_of bytes) (exponent_of bytes) (Value n) (small, spells.1))
     refl
 
--- the number is within the bounds of its place, and those are numbers of 64 bits
+-- the number is within the bounds of its field, and those are numbers of 64 bits
 pub record Within (least most n : ℕ) : Type 0 where
   pub bounds : (nat_le least n && nat_le n most) ≡ true
   pub small : n < 2 ^ 64
@@ -122,7 +122,7 @@ whole_is least most n bytes within spells = rw (number_whole bytes n within.smal
 pub whole_takes : (least most n : ℕ) → Within least most n → Takes (whole_at least most) n (Is (Whole n) ∷ []) Anything
 unfolding whole_at
 whole_takes least most n within = takes_one _ n (λ bytes. SpellsNumber bytes n) (λ t e. whole_is least most n t.bytes within e)
-    (Is (Whole n)) (λ tokens says. says)
+    (Is (Whole n)) (λ tokens means. means)
 
 pub id_takes : (n : ℕ) → n < 2 ^ 32 → Takes id_at n (Is (Whole n) ∷ []) Anything
 unfolding id_at
@@ -146,7 +146,7 @@ decimal_is negative bytes d spells = rw (spells.form, decimal_from negative (man
 pub unsigned_takes : (d : Decimal) → Takes (number_at false) d (Unsigned d ∷ []) Anything
 unfolding number_at
 unsigned_takes d = takes_one _ d (λ bytes. SpellsDecimal false bytes d) (λ t e. decimal_is false t.bytes d e) (Unsigned d)
-    (λ tokens says. says)
+    (λ tokens means. means)
 
 -- ---- numbers with a sign
 
@@ -162,12 +162,12 @@ plus_no_minus : (t : Token) → t.bytes ≡ codes "+" → has_mark 45 t ≡ fals
 unfolding has_mark
 plus_no_minus t e = ap (λ (b : List ℕ). bytes_eq b (45 ∷ [])) e
 
-module _ {A : Type 0} (behind_minus after_plus : Reader A) (a : A) (AreSo : Bool → List ℕ → Type 0)
-    (minus : (t : Token) (cut : Cut) → AreSo true t.bytes → behind_minus (t ▸ cut) ≡ Ok (a, cut))
+module _ {A : Type 0} (following_minus after_plus : Reader A) (a : A) (AreSo : Bool → List ℕ → Type 0)
+    (minus : (t : Token) (cut : Cut) → AreSo true t.bytes → following_minus (t ▸ cut) ≡ Ok (a, cut))
     (plus : (t : Token) (cut : Cut) → AreSo false t.bytes → after_plus (t ▸ cut) ≡ Ok (a, cut))
     (number : (bytes : List ℕ) → AreSo false bytes → IsTrue (is_number bytes)) where
   abbrev signed_at : Reader A
-  signed_at = choose (has_mark 45) (mark_at 45 >>= λ _. behind_minus) (choose (has_mark 43) (mark_at 43 >>= λ _. after_plus)
+  signed_at = choose (has_mark 45) (mark_at 45 >>= λ _. following_minus) (choose (has_mark 43) (mark_at 43 >>= λ _. after_plus)
       after_plus)
 
   signed_is : (negative : Bool) (sign rest : List Token) (cut : Cut) → IsSign negative sign → IsOne (AreSo negative) rest

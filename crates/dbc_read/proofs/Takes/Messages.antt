@@ -13,7 +13,9 @@ use Rattle.std.proofs.lemmas.Slice.Eq.{bytes_eq-Decides}
 use Rattle.dbc_values.specs.Lexical.{is_name, is_keyword}
 use Rattle.dbc_values.specs.Decimals.{Decimal}
 use Rattle.dbc_records.specs.Records.{Head, IsHead, Signal, IsSignal, Message, IsMessage, names_of, are_distinct, signals_fit}
+use Rattle.dbc_records.specs.Records.{is_intel, byte_order, is_signed, value_type}
 use Rattle.dbc_records.specs.Layout.{Word, Mark, Name, Text, Order, items_of}
+use Rattle.dbc_records.proofs.BitFields.{order_back, sign_back}
 use Rattle.dbc_records.specs.CanonicalText.{head_layout, tag_layout}
 use Rattle.dbc_tokens.specs.declared.fault.Cause.{Cause}
 use Rattle.dbc_tokens.specs.declared.fault.Cause.TheVariants as causes
@@ -21,14 +23,14 @@ use Rattle.dbc_tokens.specs.Tokens.{Token, Cut, End, Fault, ◌▸◌}
 use Rattle.dbc_reader.specs.Classes.{has_word, has_mark, has_name, order_digit, order_of}
 use Rattle.dbc_reader.specs.Forms.{Part, Is, Perhaps, SpellsNumber, Spelled, of_layout, ◌▸▸◌}
 use Rattle.dbc_reader.specs.Spelling.{receivers_form, signal_form, form, OfMessage}
-use Rattle.dbc_reader.specs.Reading.Readers.{one, starts}
-use Rattle.dbc_reader.specs.Reading.Parts.{order_at, pair_at, comma_at, begins_receiver, receivers_from, receivers_at}
-use Rattle.dbc_reader.specs.Reading.Messages.{SignalPlace, begun, begin_message_at, head_at, begin_signal_at, fresh, signal_name_at}
-use Rattle.dbc_reader.specs.Reading.Messages.{sign_at, place_at, signal_at, signals_from, message_at}
-use Rattle.dbc_reader.proofs.Turns.{bind_shrinks, after_shrinks, value_keeps}
-use Rattle.dbc_reader.proofs.Turns.Lists.{name_shrinks, comma_keeps}
-use Rattle.dbc_reader.proofs.Turns.Signals.{signal_shrinks}
-use Rattle.dbc_reader.proofs.Sound.Messages.{sign_form, place_form, pair_form, further_name_form, signal_form_is}
+use Rattle.dbc_reader.specs.inner.Readers.{one, starts, value}
+use Rattle.dbc_reader.specs.inner.Parts.{order_at, pair_at, comma_at, begins_receiver, receivers_from, receivers_at}
+use Rattle.dbc_reader.specs.inner.Messages.{SignalBits, begun, begin_message_at, head_at, begin_signal_at, fresh, signal_name_at}
+use Rattle.dbc_reader.specs.inner.Messages.{sign_at, bit_field_at, signal_at, signals_from, message_at}
+use Rattle.dbc_reader.proofs.Rounds.{bind_shrinks, after_shrinks, value_keeps}
+use Rattle.dbc_reader.proofs.Rounds.Lists.{name_shrinks, comma_keeps}
+use Rattle.dbc_reader.proofs.Rounds.Signals.{signal_shrinks}
+use Rattle.dbc_reader.proofs.Sound.Messages.{sign_form, bit_field_form, pair_form, further_name_form, signal_form_is}
 use Rattle.dbc_read.proofs.Takes.{Takes, Anything, Opens, Stops, Allows, takes_value, takes_then, takes_next, takes_as, takes_last}
 use Rattle.dbc_read.proofs.Takes.{opens_as, allows_as, all_pushed, takes_where, takes_first, takes_second, takes_none, takes_one}
 use Rattle.dbc_read.proofs.Takes.{opens_one, allows_stop, takes_list, takes_repeated, pushed}
@@ -49,14 +51,14 @@ begin_message_takes : (count : ℕ) → nat_lt count 65535 ≡ true → Takes (b
 unfolding begin_message_at
 begin_message_takes count may =
     takes_one _ tt (λ bytes. bytes ≡ codes "BO_") (λ t e. begun_now (has_word (codes "BO_") t) (nat_lt count 65535)
-    causes.MessagesFull (is_the_word (codes "BO_") t e) may) (Is (Word (codes "BO_"))) (λ tokens says. says)
+    causes.MessagesFull (is_the_word (codes "BO_") t e) may) (Is (Word (codes "BO_"))) (λ tokens means. means)
 
 begin_signal_takes : (count : ℕ) → nat_lt count 999 ≡ true → Takes (begin_signal_at count) tt (Is (Word (codes "SG_")) ∷ [])
     Anything
 unfolding begin_signal_at
 begin_signal_takes count may =
     takes_one _ tt (λ bytes. bytes ≡ codes "SG_") (λ t e. begun_now (has_word (codes "SG_") t) (nat_lt count 999) causes.SignalsFull
-    (is_the_word (codes "SG_") t e) may) (Is (Word (codes "SG_"))) (λ tokens says. says)
+    (is_the_word (codes "SG_") t e) may) (Is (Word (codes "SG_"))) (λ tokens means. means)
 
 pub head_takes : (count : ℕ) (head : Head) → nat_lt count 65535 ≡ true → IsHead head
     → Takes (head_at count) head (of_layout (head_layout head)) Anything
@@ -82,35 +84,38 @@ signal_name_takes : (names : List (List ℕ)) (name : List ℕ) → list_any (by
 unfolding signal_name_at
 signal_name_takes names name new =
     takes_one _ name (λ bytes. (bytes ≡ name) × IsTrue (is_name name)) (λ t e. fresh_now names t.bytes name e.0 e.1 new)
-    (Is (Name name)) (λ tokens says. says)
+    (Is (Name name)) (λ tokens means. means)
 
--- ---- places and pairs
+-- ---- bit positions and pairs
 
-order_now : (intel : Bool) (bytes : List ℕ) → SpellsNumber bytes (cond intel 1 0) → order_of bytes ≡ Ok intel
+order_now : (intel : Bool) (bytes : List ℕ) → SpellsNumber bytes (cond intel 1 0) → order_of bytes ≡ Ok (byte_order intel)
 unfolding order_of
 order_now true bytes e = ap order_digit (number_whole bytes 1 (omega arith) e)
 order_now false bytes e = ap order_digit (number_whole bytes 0 (omega arith) e)
 
-order_takes : (intel : Bool) → Takes order_at intel (Is (Order intel) ∷ []) Anything
+order_takes : (intel : Bool) → Takes order_at (byte_order intel) (Is (Order intel) ∷ []) Anything
 unfolding order_at
-order_takes intel = takes_one _ intel (λ bytes. SpellsNumber bytes (cond intel 1 0)) (λ t e. order_now intel t.bytes e)
-    (Is (Order intel)) (λ tokens says. says)
+order_takes intel = takes_one _ (byte_order intel) (λ bytes. SpellsNumber bytes (cond intel 1 0)) (λ t e. order_now intel t.bytes e)
+    (Is (Order intel)) (λ tokens means. means)
 
-sign_takes : (signed : Bool) → Takes sign_at signed (sign_form signed) Anything
+sign_takes : (signed : Bool) → Takes sign_at (value_type signed) (sign_form signed) Anything
 unfolding sign_at has_mark
 sign_takes true = takes_first _ (mark_opens_itself 45) (takes_next _ (mark_takes 45) takes_value)
 sign_takes false = takes_second _ (mark_opens (λ bytes. bytes_eq bytes (45 ∷ [])) 43 refl)
     (takes_next _ (mark_takes 43) takes_value)
 
-place_takes : (place : SignalPlace) → place.start < 2 ^ 16 → (nat_le 1 place.length && nat_le place.length 14280) ≡ true
-    → Takes place_at place (place_form place) Anything
-unfolding place_at
-place_takes place start fits =
-    takes_next _ (whole_takes 0 65535 place.start (within 0 65535 place.start (omega arith) (omega (arith, start))
+abbrev bit_field_of : Signal → SignalBits
+bit_field_of s = record { start = s.start; length = s.length; order = byte_order s.intel; value_type = value_type s.signed }
+
+bit_field_takes : (s : Signal) → s.start < 2 ^ 16 → (nat_le 1 s.length && nat_le s.length 14280) ≡ true
+    → Takes bit_field_at (bit_field_of s) (bit_field_form s.start s.length s.intel s.signed) Anything
+unfolding bit_field_at
+bit_field_takes s start fits =
+    takes_next _ (whole_takes 0 65535 s.start (within 0 65535 s.start (omega arith) (omega (arith, start))
     (omega (arith, start)))) (takes_next _ (mark_takes 124)
-    (takes_next _ (whole_takes 1 14280 place.length (length_within place.length fits))
-    (takes_next _ (mark_takes 64) (takes_next _ (order_takes place.intel)
-    (takes_next _ (sign_takes place.signed) takes_value)))))
+    (takes_next _ (whole_takes 1 14280 s.length (length_within s.length fits))
+    (takes_next _ (mark_takes 64) (takes_next _ (order_takes s.intel)
+    (takes_next _ (sign_takes s.signed) takes_value)))))
   where
     length_within : (n : ℕ) → (nat_le 1 n && nat_le n 14280) ≡ true → Within 1 14280 n
     length_within n fits = let most : n ≤ 14280 = grind (arith, common_steps) in
@@ -135,7 +140,7 @@ name_no_comma name is = elim (cases_Bool (bytes_eq name (44 ∷ []))) [
 name_opens : (test : List ℕ → Bool) (name : List ℕ) {passes : Bool} {parts : List Part} → (is_name name ≡ true → test name ≡ passes)
     → Opens (λ t. test t.bytes) passes (Is (Name name) ∷ parts)
 name_opens test name {passes} {parts} e = opens_one (Is (Name name)) (λ bytes. (bytes ≡ name) × IsTrue (is_name name))
-    (λ tokens says. says) (λ t is. ap test is.0 ∙ e is.1)
+    (λ tokens means. means) (λ t is. ap test is.0 ∙ e is.1)
 
 name_is_no_comma : {name : List ℕ} {parts : List Part} → Opens (has_mark 44) false (Is (Name name) ∷ parts)
 unfolding has_mark
@@ -203,25 +208,45 @@ seven a b c d e f g =
     ∙ append_assoc ((a ++ b) ++ c) d (e ++ (f ++ g))
     ∙ append_assoc (a ++ b) c (d ++ (e ++ (f ++ g))) ∙ append_assoc a b (c ++ (d ++ (e ++ (f ++ g))))
 
-abbrev place_of : Signal → SignalPlace
-place_of s = record { start = s.start; length = s.length; intel = s.intel; signed = s.signed }
+-- a signal, with its byte order and its value type there and back
+abbrev with_bit_field : Signal → SignalBits → Signal
+with_bit_field s bit_field = record {
+  name = s.name;
+  tag = s.tag;
+  start = bit_field.start;
+  length = bit_field.length;
+  intel = is_intel bit_field.order;
+  signed = is_signed bit_field.value_type;
+  factor = s.factor;
+  offset = s.offset;
+  minimum = s.minimum;
+  maximum = s.maximum;
+  unit = s.unit;
+  receivers = s.receivers;
+}
 
-colon_stands : {parts : List Part} → Allows (Is (Mark 58) ∷ parts) (Stops begins_receiver) (λ cut. starts (has_mark 58) cut ≡ true)
-colon_stands {parts} = record { allows = λ tokens cut spelled may. (mark_opens_itself 58).opens tokens cut spelled }
+same_signal : (s : Signal) → with_bit_field s (bit_field_of s) ≡ s
+same_signal s = rw (order_back s.intel, sign_back s.signed) refl
+
+value_is : {A : Type 0} {a b : A} → a ≡ b → Takes (value a) b [] Anything
+value_is {A} {a} {b} e = subst (λ (b : A). Takes (value a) b [] Anything) e takes_value
+
+colon_occurs : {parts : List Part} → Allows (Is (Mark 58) ∷ parts) (Stops begins_receiver) (λ cut. starts (has_mark 58) cut ≡ true)
+colon_occurs {parts} = record { allows = λ tokens cut spelled may. (mark_opens_itself 58).opens tokens cut spelled }
 
 pub signal_takes : (signals : List Signal) (s : Signal) → IsSignal s → nat_lt (length signals) 999 ≡ true
     → list_any (bytes_eq s.name) (names_of signals) ≡ false → Takes (signal_at signals) s (signal_form s) (Stops begins_receiver)
 unfolding signal_at
-signal_takes signals s is room new =
+signal_takes signals s is space new =
     takes_as (signal_form_is s ∙ seven (Is (Word (codes "SG_")) ∷ Is (Name s.name) ∷ of_layout (tag_layout s.tag)) (Is (Mark 58)
-    ∷ []) (place_form (place_of s)) (pair_form 40 44 41 (s.factor, s.offset))
+    ∷ []) (bit_field_form s.start s.length s.intel s.signed) (pair_form 40 44 41 (s.factor, s.offset))
     (pair_form 91 124 93 (s.minimum, s.maximum)) (Is (Text s.unit) ∷ []) (receivers_form s.receivers))
-    (takes_next _ (begin_signal_takes (length signals) room) (takes_next _ (signal_name_takes (names_of signals) s.name new)
-    (takes_then _ (tag_takes s.tag is.tag) colon_stands
-    (takes_next _ (mark_takes 58) (takes_next _ (place_takes (place_of s) is.start is.fits)
+    (takes_next _ (begin_signal_takes (length signals) space) (takes_next _ (signal_name_takes (names_of signals) s.name new)
+    (takes_then _ (tag_takes s.tag is.tag) colon_occurs
+    (takes_next _ (mark_takes 58) (takes_next _ (bit_field_takes s is.start is.fits)
     (takes_next _ (pair_takes 40 44 41 (s.factor, s.offset)) (takes_next _ (pair_takes 91 124 93 (s.minimum, s.maximum))
     (takes_next _ (text_takes s.unit)
-    (takes_last _ (receivers_take s.receivers) takes_value)))))))))
+    (takes_last _ (receivers_take s.receivers) (value_is (same_signal s)))))))))))
 
 -- ---- the signals of a message
 
@@ -234,9 +259,9 @@ is_new : (xs : List (List ℕ)) (x : List ℕ) (ys : List (List ℕ)) → are_di
 is_new [] x ys fit = refl
 is_new (y ∷ xs) x ys fit = let parts = new_before y x xs ys fit in rw (parts.0, is_new xs x ys parts.1) refl
 
--- a signal that stands after these and before those
+-- a signal that is after these and before those
 pub record Fitting (signals : List Signal) (s : Signal) : Type 0 where
-  pub room : nat_lt (length signals) 999 ≡ true
+  pub space : nat_lt (length signals) 999 ≡ true
   pub new : list_any (bytes_eq s.name) (names_of signals) ≡ false
 
 fitting : (signals : List Signal) (s : Signal) (more : List Signal) → IsTrue (signals_fit (signals ++ s ∷ more)) → Fitting signals s
@@ -244,14 +269,14 @@ unfolding signals_fit
 fitting signals s more fit =
     let parts = and_parts (nat_le (length (signals ++ s ∷ more)) 999) (are_distinct (names_of (signals ++ s ∷ more))) fit in
     record {
-      room = room_left (length signals) (length more) (subst (λ (n : ℕ). nat_le n 999 ≡ true) (length-append signals (s ∷ more))
+      space = space_left (length signals) (length more) (subst (λ (n : ℕ). nat_le n 999 ≡ true) (length-append signals (s ∷ more))
           parts.0);
       new = is_new (names_of signals) s.name (names_of more) (subst (λ (names : List (List ℕ)). are_distinct names ≡ true)
           (map-append (λ (s : Signal). s.name) signals (s ∷ more)) parts.1);
     }
   where
-    room_left : (n m : ℕ) → nat_le (n + suc m) 999 ≡ true → nat_lt n 999 ≡ true
-    room_left n m e = grind (arith, common_steps)
+    space_left : (n m : ℕ) → nat_le (n + suc m) 999 ≡ true → nat_lt n 999 ≡ true
+    space_left n m e = grind (arith, common_steps)
 
 -- the signals after these are signals, and all of them fit
 pub record AreSignals (signals more : List Signal) : Type 0 where
@@ -279,7 +304,7 @@ signals_take signals more are =
     (takes_repeated (has_word (codes "SG_")) _ (λ list. bind_shrinks (signal_shrinks list) λ signal. value_keeps _) signal_form
     pushed AreSignals (Stops begins_receiver) EndsSignals
     (λ list s more are. (let one = fitting list s more are.fit in
-    takes_last _ (signal_takes list s (All-head IsSignal s more are.each) one.room one.new) takes_value))
+    takes_last _ (signal_takes list s (All-head IsSignal s more are.each) one.space one.new) takes_value))
     (λ list s more are. record {
       each = All-tail IsSignal s more are.each;
       fit = subst (λ (all : List Signal). IsTrue (signals_fit all)) (sym (append_assoc list (s ∷ []) more)) are.fit;

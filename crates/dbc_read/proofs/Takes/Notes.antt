@@ -29,13 +29,13 @@ use Rattle.dbc_tokens.specs.Tokens.{Token, Cut}
 use Rattle.dbc_reader.specs.Classes.{has_word, has_mark, has_string, has_number, is_there}
 use Rattle.dbc_reader.specs.Forms.{Part, Is, IsOne, IsSign, Spelled, of_layout, ◌▸▸◌}
 use Rattle.dbc_reader.specs.Spelling.{form, OfComment, Definition, Default, Attribute}
-use Rattle.dbc_reader.specs.Reading.Readers.{starts}
-use Rattle.dbc_reader.specs.Reading.Parts.{texts_from, begins_decimal}
-use Rattle.dbc_reader.specs.Reading.Attributes.{node_target_at, message_target_at, signal_target_at, target_at, comment_at}
-use Rattle.dbc_reader.specs.Reading.Attributes.{object_at, limits_at, limited_at, string_form_at, enumeration_at, form_at}
-use Rattle.dbc_reader.specs.Reading.Attributes.{definition_at, value_at, default_at, attribute_at}
-use Rattle.dbc_reader.proofs.Turns.{bind_shrinks, bind_keeps, keeps, value_keeps}
-use Rattle.dbc_reader.proofs.Turns.Lists.{mark_shrinks, text_shrinks}
+use Rattle.dbc_reader.specs.inner.Readers.{starts}
+use Rattle.dbc_reader.specs.inner.Parts.{texts_from, begins_decimal}
+use Rattle.dbc_reader.specs.inner.Attributes.{node_target_at, message_target_at, signal_target_at, target_at, comment_at}
+use Rattle.dbc_reader.specs.inner.Attributes.{object_at, limits_at, limited_at, string_form_at, enumeration_at, form_at}
+use Rattle.dbc_reader.specs.inner.Attributes.{definition_at, value_at, default_at, attribute_at}
+use Rattle.dbc_reader.proofs.Rounds.{bind_shrinks, bind_keeps, keeps, value_keeps}
+use Rattle.dbc_reader.proofs.Rounds.Lists.{mark_shrinks, text_shrinks}
 use Rattle.dbc_reader.proofs.Facts.Names.{no_digit_no_number}
 use Rattle.dbc_reader.proofs.Sound.{all_then_twice}
 use Rattle.dbc_reader.proofs.Sound.Notes.{text_form, further_text_form, comment_form, texts_layout_form, word_then, string_form}
@@ -51,13 +51,13 @@ use Rattle.dbc_read.proofs.Takes.Rows.{mark_opens, mark_opens_itself, semicolon_
 
 pub word_opens : (test : List ℕ → Bool) (word : List ℕ) {passes : Bool} {parts : List Part} → test word ≡ passes
     → Opens (λ t. test t.bytes) passes (Is (Word word) ∷ parts)
-word_opens test word {passes} {parts} e = opens_one (Is (Word word)) (λ bytes. bytes ≡ word) (λ tokens says. says)
+word_opens test word {passes} {parts} e = opens_one (Is (Word word)) (λ bytes. bytes ≡ word) (λ tokens means. means)
     (λ t same. ap test same ∙ e)
 
 pub text_opens : (test : List ℕ → Bool) (text : List ℕ) {passes : Bool} {parts : List Part}
     → (IsTrue (is_text text) → test (quoted text) ≡ passes) → Opens (λ t. test t.bytes) passes (Is (Text text) ∷ parts)
 text_opens test text {passes} {parts} e = opens_one (Is (Text text)) (λ bytes. (bytes ≡ quoted text) × IsTrue (is_text text))
-    (λ tokens says. says) (λ t same. ap test same.0 ∙ e same.1)
+    (λ tokens means. means) (λ t same. ap test same.0 ∙ e same.1)
 
 -- a text is no word
 pub text_no_word : (word : List ℕ) {text : List ℕ} {parts : List Part} → bytes_eq (quoted text) word ≡ false
@@ -100,7 +100,7 @@ number_no_word word d {parts} minus plus none = number_opens (λ bytes. bytes_eq
 
 -- ---- what is spoken of
 
--- none of the words that say what is spoken of
+-- none of the words that name what is described
 abbrev pub NoTarget : Cut → Type 0
 NoTarget cut = Stops (has_word (codes "BU_")) cut × (Stops (has_word (codes "BO_")) cut × Stops (has_word (codes "SG_")) cut)
 

@@ -1,4 +1,4 @@
--- Lists and rows that are spelled are read.
+-- Lists and entries that are spelled are read.
 use Rattle.std.proofs.Common.{◌≡◌, ℕ, ◌<◌, ◌^◌, ◌-◌, Bool, true, false, ◌||◌, List, [], ◌∷◌, ◌++◌, length, ◌≤◌, Ok, append-nil}
 use Rattle.std.proofs.Common.{refl, sym, ap, subst, ◌∙◌, arith, inl, inr}
 use Rattle.std.specs.Prelude.{codes, nat_le, All}
@@ -16,11 +16,11 @@ use Rattle.dbc_tokens.specs.Tokens.{Token, Cut}
 use Rattle.dbc_reader.specs.Classes.{has_mark, has_whole, is_whole_number}
 use Rattle.dbc_reader.specs.Forms.{Part, Is, Perhaps, SaysPart, SpellsNumber, Spelled, ◌▸▸◌}
 use Rattle.dbc_reader.specs.Spelling.{form, Table, Values, Float, Mux}
-use Rattle.dbc_reader.specs.Reading.Readers.{choose, value}
-use Rattle.dbc_reader.specs.Reading.Parts.{mark_at, begins_int, entry_at, entries_from}
-use Rattle.dbc_reader.specs.Reading.Tables.{table_at, values_at, colon_at, float_at, range_at, ranges_from, ranges_at, mux_at}
-use Rattle.dbc_reader.proofs.Turns.{bind_shrinks, bind_keeps, keeps, value_keeps}
-use Rattle.dbc_reader.proofs.Turns.Lists.{mark_shrinks, entry_shrinks, range_shrinks}
+use Rattle.dbc_reader.specs.inner.Readers.{choose, value}
+use Rattle.dbc_reader.specs.inner.Parts.{mark_at, begins_int, entry_at, entries_from}
+use Rattle.dbc_reader.specs.inner.Tables.{table_at, values_at, colon_at, float_at, range_at, ranges_from, ranges_at, mux_at}
+use Rattle.dbc_reader.proofs.Rounds.{bind_shrinks, bind_keeps, keeps, value_keeps}
+use Rattle.dbc_reader.proofs.Rounds.Lists.{mark_shrinks, entry_shrinks, range_shrinks}
 use Rattle.dbc_reader.proofs.Sound.{first_and}
 use Rattle.dbc_reader.proofs.Sound.Rows.{entry_form, table_form, values_form, float_form, range_form, further_form, mux_form}
 use Rattle.dbc_read.proofs.Takes.{Takes, Anything, Opens, Stops, takes_value, takes_then, takes_next, takes_as, takes_where}
@@ -32,7 +32,7 @@ use Rattle.dbc_read.proofs.Takes.Kinds.{text_takes, whole_takes, id_takes, int_t
 
 pub mark_opens : (test : List ℕ → Bool) (mark : ℕ) {parts : List Part} → test (mark ∷ []) ≡ false
     → Opens (λ t. test t.bytes) false (Is (Mark mark) ∷ parts)
-mark_opens test mark {parts} e = opens_one (Is (Mark mark)) (λ bytes. bytes ≡ mark ∷ []) (λ tokens says. says)
+mark_opens test mark {parts} e = opens_one (Is (Mark mark)) (λ bytes. bytes ≡ mark ∷ []) (λ tokens means. means)
     (λ t same. ap test same ∙ e)
 
 -- ---- entries
@@ -74,7 +74,7 @@ values_take row is =
 -- ---- marks that may be missing
 
 pub mark_opens_itself : (mark : ℕ) {parts : List Part} → Opens (has_mark mark) true (Is (Mark mark) ∷ parts)
-mark_opens_itself mark {parts} = opens_one (Is (Mark mark)) (λ bytes. bytes ≡ mark ∷ []) (λ tokens says. says) (is_the_mark mark)
+mark_opens_itself mark {parts} = opens_one (Is (Mark mark)) (λ bytes. bytes ≡ mark ∷ []) (λ tokens means. means) (is_the_mark mark)
 
 pub perhaps_takes : (mark : ℕ) → Takes (choose (has_mark mark) (mark_at mark) (value tt)) tt (Perhaps mark ∷ [])
     (Stops (has_mark mark))
@@ -89,12 +89,12 @@ perhaps_takes mark = record {
         ap (λ (t : List Token). choose (has_mark mark) (mark_at mark) (value tt) (t ▸▸ cut)) none
         ∙ (takes_none {May = Stops (has_mark mark)} (has_mark mark) (mark_at mark) (λ cut may. may)
         (takes_where takes_value (λ cut may. tt))).takes [] cut refl may
-    by_mark tokens cut spelled may (inr says) =
+    by_mark tokens cut spelled may (inr means) =
         (takes_first (value tt) (mark_opens_itself mark) (mark_takes mark)).takes tokens cut (
           tokens,
           [],
           sym (append-nil tokens),
-          says,
+          means,
           refl,
         ) tt
 
@@ -102,7 +102,7 @@ perhaps_takes mark = record {
 
 pub whole_is_no_mark : (mark n : ℕ) {parts : List Part} → is_number (mark ∷ []) ≡ false
     → Opens (has_mark mark) false (Is (Whole n) ∷ parts)
-whole_is_no_mark mark n {parts} none = opens_one (Is (Whole n)) (λ bytes. SpellsNumber bytes n) (λ tokens says. says)
+whole_is_no_mark mark n {parts} none = opens_one (Is (Whole n)) (λ bytes. SpellsNumber bytes n) (λ tokens means. means)
     (λ t e. number_is_no_mark mark t none e.0)
 
 colon_is_no_number : is_number (58 ∷ []) ≡ false

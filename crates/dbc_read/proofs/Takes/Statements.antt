@@ -23,11 +23,11 @@ use Rattle.dbc_reader.specs.Classes.{has_word, has_mark, has_symbol, has_name, h
 use Rattle.dbc_reader.specs.Forms.{Part, Is, Spelled, ◌▸▸◌}
 use Rattle.dbc_reader.specs.Spelling.{AnyStatement, Symbols, Timing, Nodes, Table, OfMessage, OfComment, Definition, Default}
 use Rattle.dbc_reader.specs.Spelling.{Attribute, Values, Float, Mux, OfKept, form, timings_of, EndsSymbols, ArePlaced}
-use Rattle.dbc_reader.specs.Reading.Readers.{starts}
-use Rattle.dbc_reader.specs.Reading.Parts.{begins_receiver}
-use Rattle.dbc_reader.specs.Reading.Databases.{object_words, value_words, attribute_words, has_object_word, has_value_word}
-use Rattle.dbc_reader.specs.Reading.Databases.{has_attribute_word, begins_statement, statement_into, statements_into}
-use Rattle.dbc_reader.proofs.Turns.Statements.{statements_on, statements_end}
+use Rattle.dbc_reader.specs.inner.Readers.{starts}
+use Rattle.dbc_reader.specs.inner.Parts.{begins_receiver}
+use Rattle.dbc_reader.specs.inner.Databases.{object_words, value_words, attribute_words, has_object_word, has_value_word}
+use Rattle.dbc_reader.specs.inner.Databases.{has_attribute_word, begins_statement, statement_into, statements_into}
+use Rattle.dbc_reader.proofs.Rounds.Statements.{statements_on, statements_end}
 use Rattle.dbc_reader.proofs.Sound.{all_then_twice}
 use Rattle.dbc_reader.proofs.Sound.Adding.{joined, joined_none, joined_twice, symbols_are, nodes_are, piece_form, either_word}
 use Rattle.dbc_read.proofs.Takes.Fits.{Fits, AllFit}
@@ -145,7 +145,7 @@ piece_begins : (test : List ℕ → Bool) (tokens : List (List ℕ)) {passes : B
 unfolding kept_fits
 piece_begins test [] {passes} parts fit e = absurd cc
 piece_begins test (word ∷ tokens) {passes} parts fit e = opens_one (Is (Piece word)) (λ bytes. (bytes ≡ word)
-    × IsTrue (is_piece word)) (λ tokens says. says) (λ t is. ap test is.0 ∙ e)
+    × IsTrue (is_piece word)) (λ tokens means. means) (λ t is. ap test is.0 ∙ e)
 
 -- what spells a statement begins with its first word
 statement_opens : (test : List ℕ → Bool) (count : ℕ) (s : AnyStatement) {passes : Bool} → timings_of s ≡ [] → Fits count s
@@ -169,7 +169,7 @@ statement_opens test count (OfKept row) {passes} none fits e = opens_as (piece_f
 
 -- ---- many statements
 
--- they fit a database of so many messages, none is a bit timing, and each may stand before the next
+-- they fit a database of this many messages, none is a bit timing, and each may be before the next
 pub record MayAdd (count : ℕ) (statements : List AnyStatement) : Type 0 where
   pub fit : AllFit count statements
   pub no_timings : flat_map timings_of statements ≡ []
@@ -187,7 +187,7 @@ rest_fits : (count : ℕ) (s : AnyStatement) (more : List AnyStatement) → MayA
     → MayAdd (count + length (flat_map (records_of Messages) (s ∷ []))) more
 rest_fits count s more may = record { fit = may.fit.1; no_timings = (untimed s more may.no_timings).1; placed = may.placed.1 }
 
--- what may stand after all statements: the end, or a bit timing
+-- what may be after all statements: the end, or a bit timing
 pub record Closes (cut : Cut) : Type 0 where
   pub symbols : Stops has_symbol cut
   pub names : Stops has_name cut
@@ -286,14 +286,15 @@ statements_added d [] may tokens cut spelled closes =
 statements_added d (s ∷ more) may tokens cut spelled closes =
     let half = halves (form s) (flat_map form more) tokens spelled in
     let first = (untimed s more may.no_timings).0 in
-    let behind = half.rest ▸▸ cut in
-    let read = (statement_added d s first may.fit.0).takes half.front behind half.first (may_follow (length d.messages) s more may
+    let following = half.rest ▸▸ cut in
+    let read = (statement_added d s first may.fit.0).takes half.front following half.first (may_follow (length d.messages) s more
+    may
     half.rest cut half.second closes) in
     let next = subst (λ (n : ℕ). MayAdd n more) (sym (length-append d.messages (flat_map (records_of Messages) (s ∷ []))))
     (rest_fits (length d.messages) s more may) in
     ap (λ (t : List Token). statements_into d (t ▸▸ cut)) half.parts
     ∙ ap (statements_into d) (all_then_twice half.front half.rest cut)
-    ∙ sym (statements_on d (joined d (s ∷ [])) (half.front ▸▸ behind) behind (statements_into d (half.front ▸▸ behind))
-    ((begins_it (length d.messages) s first may.fit.0).opens half.front behind half.first) read refl)
+    ∙ sym (statements_on d (joined d (s ∷ [])) (half.front ▸▸ following) following (statements_into d (half.front ▸▸ following))
+    ((begins_it (length d.messages) s first may.fit.0).opens half.front following half.first) read refl)
     ∙ statements_added (joined d (s ∷ [])) more next half.rest cut half.second closes
     ∙ ap (λ (e : Database). Ok (e, cut)) (joined_twice d (s ∷ []) more)

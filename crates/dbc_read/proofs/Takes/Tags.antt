@@ -1,4 +1,4 @@
--- Tags of signals that are spelled are read.
+-- Multiplexer indicators of signals that are spelled are read.
 use Rattle.std.proofs.Common.{◌≡◌, ℕ, ◌*◌, ◌<◌, ◌^◌, ◌-◌, ℤ, pos, true, false, List, [], ◌∷◌, ◌++◌, length, length-append, Ok}
 use Rattle.std.proofs.Common.{append-nil, refl, sym, ap, subst, arith}
 use Rattle.std.specs.Prelude.{codes}
@@ -17,9 +17,9 @@ use Rattle.dbc_records.specs.declared.tag.Tag.{Tag}
 use Rattle.dbc_records.specs.declared.tag.Tag.TheVariants as tags
 use Rattle.dbc_reader.specs.Classes.{has_mark, tagged, front, counted, muxed_of, tag_of}
 use Rattle.dbc_reader.specs.Forms.{Is, SpellsNumber, SpellsTag, of_layout}
-use Rattle.dbc_reader.specs.Reading.Readers.{starts}
-use Rattle.dbc_reader.specs.Reading.Parts.{tag_token_at}
-use Rattle.dbc_reader.specs.Reading.Messages.{tag_at}
+use Rattle.dbc_reader.specs.inner.Readers.{starts}
+use Rattle.dbc_reader.specs.inner.Parts.{tag_token_at}
+use Rattle.dbc_reader.specs.inner.Messages.{tag_at}
 use Rattle.dbc_reader.proofs.Sound.Tags.{digits_are}
 use Rattle.dbc_read.proofs.Takes.{Takes, takes_where, takes_second, takes_one, opens_one}
 use Rattle.dbc_read.proofs.Takes.Kinds.{within, whole_is}
@@ -60,7 +60,7 @@ no_digits (d ∷ digits) = not_all (d ∷ digits)
 front_of : (digits : List ℕ) → front (digits ++ codes "M") ≡ digits
 front_of digits = take_at digits (77 ∷ []) (length (digits ++ 77 ∷ []) - 1) (omega (arith, length-append digits (77 ∷ [])))
 
--- ---- tags
+-- ---- multiplexer indicators
 
 switch_is : (bytes : List ℕ) → bytes ≡ codes "M" → tag_of bytes ≡ Ok tags.Switch
 unfolding tag_of
@@ -77,26 +77,26 @@ both_is n bytes small (digits, same, are, is) =
     rw same (rw (no_digits digits, front_of digits, are, (bytes_eq-Decides (digits ++ codes "M") (digits ++ codes "M")).1 refl)
     (counted_now tags.Both digits n are is small))
 
--- a tag is no colon
+-- a multiplexer indicator is no colon
 colon_no_tag : (bytes rest : List ℕ) → bytes ≡ 109 ∷ rest → bytes_eq bytes (58 ∷ []) ≡ false
 colon_no_tag bytes rest same = ap (λ (b : List ℕ). bytes_eq b (58 ∷ [])) same
 
--- what stands before the colon of a signal
+-- what is before the colon of a signal
 pub tag_takes : (tag : Tag) → IsTag tag → Takes tag_at tag (of_layout (tag_layout tag)) (λ cut. starts (has_mark 58) cut ≡ true)
 unfolding tag_at tag_token_at tag_layout items_of has_mark
-tag_takes tags.Plain is = record { takes = λ tokens cut none stands. rw none (rw stands refl) }
+tag_takes tags.Plain is = record { takes = λ tokens cut none occurs. rw none (rw occurs refl) }
 tag_takes tags.Switch is =
-    takes_second _ (opens_one (Is Switch) (λ bytes. bytes ≡ codes "M") (λ tokens says. says)
+    takes_second _ (opens_one (Is Switch) (λ bytes. bytes ≡ codes "M") (λ tokens means. means)
     (λ t e. ap (λ (b : List ℕ). bytes_eq b (58 ∷ [])) e))
     (takes_where (takes_one _ tags.Switch (λ bytes. bytes ≡ codes "M") (λ t e. switch_is t.bytes e) (Is Switch)
-    (λ tokens says. says)) (λ cut may. tt))
+    (λ tokens means. means)) (λ cut may. tt))
 tag_takes (tags.Muxed n) is =
-    takes_second _ (opens_one (Is (Muxed n)) (λ bytes. SpellsTag bytes n []) (λ tokens says. says)
+    takes_second _ (opens_one (Is (Muxed n)) (λ bytes. SpellsTag bytes n []) (λ tokens means. means)
     (λ t e. colon_no_tag t.bytes _ e.1))
     (takes_where (takes_one _ (tags.Muxed n) (λ bytes. SpellsTag bytes n []) (λ t e. muxed_is n t.bytes is e) (Is (Muxed n))
-    (λ tokens says. says)) (λ cut may. tt))
+    (λ tokens means. means)) (λ cut may. tt))
 tag_takes (tags.Both n) is =
-    takes_second _ (opens_one (Is (Both n)) (λ bytes. SpellsTag bytes n (codes "M")) (λ tokens says. says)
+    takes_second _ (opens_one (Is (Both n)) (λ bytes. SpellsTag bytes n (codes "M")) (λ tokens means. means)
     (λ t e. colon_no_tag t.bytes _ e.1))
     (takes_where (takes_one _ (tags.Both n) (λ bytes. SpellsTag bytes n (codes "M")) (λ t e. both_is n t.bytes is e) (Is (Both n))
-    (λ tokens says. says)) (λ cut may. tt))
+    (λ tokens means. means)) (λ cut may. tt))

@@ -19,7 +19,7 @@ use Rattle.dbc_read.proofs.Texts.Longest.{closed_longest}
 
 -- ---- the last byte
 
--- the last of the bytes, or b where there are none
+-- the last of the bytes, or b if there are none
 abbrev last_of : ℕ → List ℕ → ℕ
 last_of b [] = b
 last_of b (c ∷ s) = last_of c s
@@ -43,7 +43,7 @@ some_feeds : (s : List ℕ) → last_of 0 s ≡ line_feed → 0 < line_feeds s
 some_feeds [] e = absurd cc
 some_feeds (b ∷ s) e = feeds_last b s e
 
--- where none of the bytes is a line feed, the last isn't
+-- if none of the bytes is a line feed, the last one isn't
 no_last : (b : ℕ) (s : List ℕ) → (b ≡ line_feed → ⊥) → list_all (λ c. not (is_line_feed c)) s ≡ true → last_of b s ≡ line_feed → ⊥
 no_last b [] other all e = other e
 no_last b (c ∷ s) other all e =
@@ -62,14 +62,14 @@ parts_join : (b : ℕ) (parts more : List Part) (rest : List ℕ) → AreParts p
 parts_join b [] more rest are last h = h
 parts_join b (Blank c ∷ parts) more rest are last h = (are.0, parts_join c parts more rest are.1 last h)
 parts_join b (Comment body ∷ parts) more rest are last h =
-    let behind = flat_map part_bytes parts in
-    let ends_so : last_of (last_of slash body) behind ≡ line_feed = sym (last_append slash body behind) ∙ last in
+    let following = flat_map part_bytes parts in
+    let ends_so : last_of (last_of slash body) following ≡ line_feed = sym (last_append slash body following) ∙ last in
     let none = no_last slash body (λ same. let x : slash ≡ line_feed = same in cc) are.0 in
-    let whole : behind ++ (flat_map part_bytes more ++ rest) ≡ flat_map part_bytes (parts ++ more) ++ rest =
-    sym (append_assoc behind (flat_map part_bytes more) rest)
+    let whole : following ++ (flat_map part_bytes more ++ rest) ≡ flat_map part_bytes (parts ++ more) ++ rest =
+    sym (append_assoc following (flat_map part_bytes more) rest)
     ∙ ap (λ (l : List ℕ). l ++ rest) (sym (flat_map-append part_bytes parts more)) in (
       are.0,
-      subst EndsLine whole (ends_more (last_of slash body) behind (flat_map part_bytes more ++ rest) none ends_so are.1),
+      subst EndsLine whole (ends_more (last_of slash body) following (flat_map part_bytes more ++ rest) none ends_so are.1),
       parts_join (last_of slash body) parts more rest are.2 ends_so h,
     )
 
@@ -80,7 +80,7 @@ gap_join text gap rest last (parts, same, are) (more, also, these) = (
   parts_join 0 parts more rest are (ap (last_of 0) (sym same) ∙ last) these,
 )
 
--- a gap before a byte is one whatever stands after the byte
+-- a gap before a byte is one whatever is after the byte
 parts_before : (parts : List Part) (b : ℕ) (s t : List ℕ) → AreParts parts (b ∷ s) → AreParts parts (b ∷ t)
 parts_before [] b s t are = tt
 parts_before (Blank c ∷ parts) b s t are = (are.0, parts_before parts b s t are.1)
@@ -119,7 +119,7 @@ front_split (c ∷ u) v (d ∷ a) b e = let first : c ≡ d = cc in let rest : u
     both first (inl (w, same)) = inl (w, rw (first, same) refl)
     both first (inr (w, same)) = inr (w, rw (first, same) refl)
 
--- a token without line feeds stays the longest where more stands after a line feed
+-- a token without line feeds stays the longest if more comes after a line feed
 open_more : (kind : Kind) (bytes rest more : List ℕ) → (kind ≡ Text → ⊥) → 0 < line_feeds rest → IsLongest kind bytes rest
     → IsLongest kind bytes (rest ++ more)
 open_more kind bytes rest more other some h = record { token = h.token; longest = bound }
@@ -152,7 +152,7 @@ longest_more Mark bytes rest more some h = closed_longest Mark bytes (rest ++ mo
 longest_more Word bytes rest more some h = open_more Word bytes rest more (λ e. cc) some h
 longest_more Number bytes rest more some h = open_more Number bytes rest more (λ e. cc) some h
 
--- ---- what stands after a token
+-- ---- what is after a token
 
 open_last : (kind : Kind) (bytes : List ℕ) (b : ℕ) (others : List ℕ) → (kind ≡ Text → ⊥) → bytes ≡ b ∷ others → IsToken kind bytes
     → last_of b others ≡ line_feed → ⊥
@@ -179,7 +179,7 @@ rest_last : (b : ℕ) (rest : List ℕ) → (b ≡ line_feed → ⊥) → last_o
 rest_last b [] other e = absurd (other e)
 rest_last b (c ∷ rest) other e = e
 
--- what stands after a token ends in a line feed where the whole does
+-- what is after a token ends in a line feed if the whole does
 after_last : (kind : Kind) (gap bytes rest : List ℕ) (b : ℕ) (others : List ℕ) → bytes ≡ b ∷ others → IsToken kind bytes
     → last_of 0 (gap ++ (bytes ++ rest)) ≡ line_feed → last_of 0 rest ≡ line_feed
 after_last kind gap bytes rest b others same is e =
@@ -242,7 +242,7 @@ joins : (line at after : ℕ) (text more : List ℕ) (tokens : List Token) (cut 
 joins line at after text more [] cut last has have = gap_joins line at after text more cut last has have
 joins line at after text more (t ∷ tokens) cut last (gap, rest, same, is, e, left, longest, others) have =
     let x = token_begins t.kind t.bytes longest.token in
-    let behind = after_last t.kind gap t.bytes rest x.0 x.1 x.2 longest.token (ap (last_of 0) (sym same) ∙ last) in
+    let following = after_last t.kind gap t.bytes rest x.0 x.1 x.2 longest.token (ap (last_of 0) (sym same) ∙ last) in
     let whole : text ++ more ≡ gap ++ (t.bytes ++ (rest ++ more)) =
     ap (λ (l : List ℕ). l ++ more) same ∙ append_assoc gap (t.bytes ++ rest) more
     ∙ ap (λ (l : List ℕ). gap ++ l) (append_assoc t.bytes rest more) in (
@@ -252,8 +252,8 @@ joins line at after text more (t ∷ tokens) cut last (gap, rest, same, is, e, l
       gap_before gap t.bytes rest (rest ++ more) x.0 x.1 x.2 is,
       e,
       left_same t.left after t.bytes rest more left,
-      longest_more t.kind t.bytes rest more (some_feeds rest behind) longest,
-      joins (t.line + line_feeds t.bytes) at after rest more tokens cut behind others have,
+      longest_more t.kind t.bytes rest more (some_feeds rest following) longest,
+      joins (t.line + line_feeds t.bytes) at after rest more tokens cut following others have,
     )
 
 pub lines_join : LinesJoin

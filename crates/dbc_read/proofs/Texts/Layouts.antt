@@ -16,7 +16,7 @@ use Rattle.dbc_reader.proofs.Sound.{all_then_twice}
 use Rattle.dbc_tokens.proofs.Longest.{any_all}
 use Rattle.dbc_read.proofs.Texts.Longest.{EndsToken, closed_longest, open_longest}
 use Rattle.dbc_read.proofs.Items.{Lexeme, lexeme, sign_lexemes, kind_of_piece, lexemes, AreTokens, HaveLexemes, Printed, ArePrinted}
-use Rattle.dbc_read.proofs.Items.{is_closed, ends_item, stand_apart, all_lexemes, LayoutTokens}
+use Rattle.dbc_read.proofs.Items.{is_closed, ends_item, are_apart, all_lexemes, LayoutTokens}
 
 -- ---- blanks
 
@@ -103,9 +103,9 @@ text_of ls = flat_map (λ (l : Lexeme). l.bytes) ls
 -- tokens with these lexemes in front of a text
 pub record Before (line after : ℕ) (ls : List Lexeme) (rest : List ℕ) (cut : ℕ → Cut) : Type 0 where
   pub tokens : List Token
-  pub behind : ℕ
+  pub following : ℕ
   pub have : HaveLexemes ls tokens
-  pub has : HasTokens behind after rest (cut behind) → HasTokens line after (text_of ls ++ rest) (tokens ▸▸ cut behind)
+  pub has : HasTokens following after rest (cut following) → HasTokens line after (text_of ls ++ rest) (tokens ▸▸ cut following)
 
 before_one : (line after : ℕ) (l : Lexeme) (ls : List Lexeme) (rest : List ℕ) (cut : ℕ → Cut)
     → IsLongest l.kind l.bytes (text_of ls ++ rest) → Before (line + line_feeds l.bytes) after ls rest cut
@@ -115,16 +115,16 @@ before_one line after l ls rest cut longest more =
     let t : Token = record { kind = l.kind; bytes = l.bytes; line = line; left = left } in
     record {
       tokens = t ∷ more.tokens;
-      behind = more.behind;
+      following = more.following;
       have = (refl, refl, more.have);
-      has = λ others. subst (λ (text : List ℕ). HasTokens line after text (t ▸ (more.tokens ▸▸ cut more.behind)))
+      has = λ others. subst (λ (text : List ℕ). HasTokens line after text (t ▸ (more.tokens ▸▸ cut more.following)))
           (sym (append_assoc l.bytes (text_of ls) rest))
-          (token_before line after t (text_of ls ++ rest) (more.tokens ▸▸ cut more.behind) refl refl longest (more.has others));
+          (token_before line after t (text_of ls ++ rest) (more.tokens ▸▸ cut more.following) refl refl longest (more.has others));
     }
 
 before_all : (line after : ℕ) (ls : List Lexeme) (rest : List ℕ) (cut : ℕ → Cut) → AreTokens ls → Ends ls rest
     → Before line after ls rest cut
-before_all line after [] rest cut are ends = record { tokens = []; behind = line; have = refl; has = λ others. others }
+before_all line after [] rest cut are ends = record { tokens = []; following = line; have = refl; has = λ others. others }
 before_all line after (l ∷ []) rest cut are ends =
     before_one line after l [] rest cut ends (before_all (line + line_feeds l.bytes) after [] rest cut tt tt)
 before_all line after (l ∷ m ∷ ls) rest cut are ends =
@@ -197,9 +197,10 @@ item_more : (line after : ℕ) (item : Item) (layout : Layout) → Printed item
     → LayoutTokens line after (Is item ∷ layout)
 unfolding layout_text items_of
 item_more line after item layout printed either below =
-    let front = before_all line after (lexemes item) (layout_text layout) (λ behind. (below behind).tokens ▸▸ End (below behind).at)
+    let front = before_all line after (lexemes item) (layout_text layout) (λ following. (below following).tokens ▸▸ End (below
+    following).at)
     printed.are_tokens (ends_so item (layout_text layout) printed either) in
-    let rest = below front.behind in
+    let rest = below front.following in
     record {
       tokens = front.tokens ++ rest.tokens;
       at = rest.at;
@@ -211,7 +212,7 @@ item_more line after item layout printed either below =
       have = have_both (lexemes item) (all_lexemes layout) front.tokens rest.tokens front.have rest.have;
     }
 
-pub layout_tokens : (layout : Layout) → ArePrinted layout → stand_apart layout ≡ true → (line after : ℕ)
+pub layout_tokens : (layout : Layout) → ArePrinted layout → are_apart layout ≡ true → (line after : ℕ)
     → LayoutTokens line after layout
 unfolding layout_text items_of
 layout_tokens [] are apart line after = record { tokens = []; at = line + 0; has = (([], refl, tt), refl); have = refl }
@@ -222,7 +223,7 @@ layout_tokens (Tab ∷ layout) are apart line after = blank_more line after 9 Ta
 layout_tokens (LineEnd ∷ layout) are apart line after = blank_more line after 10 LineEnd layout refl refl refl
     (layout_tokens layout are apart (line + line_feeds (10 ∷ [])) after)
 layout_tokens (Is item ∷ layout) are apart line after =
-    let parts = and_parts (is_closed item || ends_item layout) (stand_apart layout) apart in
+    let parts = and_parts (is_closed item || ends_item layout) (are_apart layout) apart in
     let either : (is_closed item ≡ true) ⊎ EndsToken (layout_text layout) =
     elim (either_so (is_closed item) (ends_item layout) parts.0) [
       | inl closed ↦ inl closed

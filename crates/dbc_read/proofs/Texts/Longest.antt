@@ -1,4 +1,4 @@
--- Where something stands after a token that can't be part of it, the token is the longest at its place.
+-- If something is after a token that can't be part of it, the token is the longest at its position.
 use Rattle.std.proofs.Common.{◌≡◌, ℕ, suc, ◌+◌, ◌<◌, true, false, ◌||◌, ◌==◌, List, [], ◌∷◌, ◌++◌, length, drop, Some, refl, sym}
 use Rattle.std.proofs.Common.{ap, subst, ◌∙◌, append_assoc, arith, ◌⊎◌, inl, inr}
 use Rattle.std.specs.List.{list_all, prefix_len}
@@ -10,7 +10,7 @@ use Rattle.dbc_tokens.specs.declared.token.Kind.TheVariants as kinds
 use Rattle.dbc_values.specs.Lexical.{quote, point, is_point, is_sign, is_digit, is_letter, is_word_byte, is_mark, is_exponent_mark}
 use Rattle.dbc_values.specs.Lexical.{is_text, quoted, is_number}
 use Rattle.dbc_tokens.specs.Tokens.{IsToken, IsLongest}
-use Rattle.dbc_tokens.specs.Reading.Scanner.{fraction_len, mantissa_len, sign_len, power_len, exponent_len, number_len, token_at}
+use Rattle.dbc_tokens.specs.inner.Scanner.{fraction_len, mantissa_len, sign_len, power_len, exponent_len, number_len, token_at}
 use Rattle.dbc_tokens.proofs.Runs.{Stops, all_stop}
 use Rattle.dbc_tokens.proofs.NumberParts.{IsMantissa, IsSign, IsExponent, number_parts, is_mantissa_byte}
 use Rattle.dbc_tokens.proofs.Strings.{text_found}
@@ -79,7 +79,7 @@ mark_there mark rest is = rw (mark_no_quote mark is, mark_no_letter mark is, is)
 
 -- ---- numbers
 
--- neither a digit nor a point stands here
+-- neither a digit nor a point is here
 abbrev EndsMantissa : List ℕ → Type 0
 EndsMantissa [] = Unit {0}
 EndsMantissa (b ∷ bytes) = (is_digit b ≡ false) × ((b == point) ≡ false)
@@ -154,9 +154,9 @@ power_there [] (b ∷ digits) rest s some d ends =
     no_sign : (b : ℕ) (bytes : List ℕ) → is_sign b ≡ false → sign_len (b ∷ bytes) ≡ 0
     no_sign b bytes e = rw e refl
 
-    power_is : (sign k : ℕ) (bytes behind : List ℕ) → drop sign bytes ≡ behind → prefix_len is_digit behind ≡ k → 0 < k
+    power_is : (sign k : ℕ) (bytes following : List ℕ) → drop sign bytes ≡ following → prefix_len is_digit following ≡ k → 0 < k
         → power_len sign bytes ≡ 1 + (sign + k)
-    power_is sign k bytes behind same e some = rw (same, e, ne_eqb k 0 (omega (arith, some))) refl
+    power_is sign k bytes following same e some = rw (same, e, ne_eqb k 0 (omega (arith, some))) refl
 power_there (c ∷ []) digits rest s some d ends =
     let digits_end : prefix_len is_digit (digits ++ rest) ≡ length digits =
     all_stop is_digit digits rest d (ends_digits rest ends) in
@@ -169,8 +169,8 @@ power_there (c ∷ []) digits rest s some d ends =
     one_more : (n : ℕ) → 1 + (1 + n) ≡ 1 + suc n
     one_more n = omega arith
 
-    power_one : (k : ℕ) (behind : List ℕ) → prefix_len is_digit behind ≡ k → 0 < k → power_len 1 (c ∷ behind) ≡ 1 + (1 + k)
-    power_one k behind e some = rw (e, ne_eqb k 0 (omega (arith, some))) refl
+    power_one : (k : ℕ) (following : List ℕ) → prefix_len is_digit following ≡ k → 0 < k → power_len 1 (c ∷ following) ≡ 1 + (1 + k)
+    power_one k following e some = rw (e, ne_eqb k 0 (omega (arith, some))) refl
 power_there (b ∷ c ∷ sign) digits rest s some d ends = elim s [ ]
 
 exponent_there : (x rest : List ℕ) → IsExponent x → EndsToken rest → exponent_len (x ++ rest) ≡ length x
@@ -214,10 +214,10 @@ digit_first b e = (no_quote b e, no_letter b e)
 digit_no_mark : (b : ℕ) → is_mantissa_byte b ≡ true → is_mark b ≡ false
 digit_no_mark b is = elim (cases_Bool (is_mark b)) [ inr e ↦ e | inl e ↦ absurd (no_other b kinds.Number e refl is) ]
 
-number_found : (b : ℕ) (behind : List ℕ) (n : ℕ) → number_len (b ∷ behind) ≡ suc n → is_mantissa_byte b ≡ true
-    → token_at (b ∷ behind) ≡ Some (kinds.Number, suc n)
+number_found : (b : ℕ) (following : List ℕ) (n : ℕ) → number_len (b ∷ following) ≡ suc n → is_mantissa_byte b ≡ true
+    → token_at (b ∷ following) ≡ Some (kinds.Number, suc n)
 unfolding token_at
-number_found b behind n long byte =
+number_found b following n long byte =
     let first = digit_first b byte in
     rw (first.0, first.1, digit_no_mark b byte, long) (rw (ne_eqb (suc n) 0 (omega arith)) refl)
 
@@ -229,9 +229,10 @@ number_there bytes rest is ends =
     let first = token_begins kinds.Number bytes is in
     rw first.2 (by_first first.0 first.1 (subst (λ (l : List ℕ). is_number l ≡ true) first.2 is) first.3)
   where
-    by_first : (b : ℕ) (behind : List ℕ) → is_number (b ∷ behind) ≡ true → is_mantissa_byte b ≡ true
-        → token_at ((b ∷ behind) ++ rest) ≡ Some (kinds.Number, length (b ∷ behind))
-    by_first b behind is byte = number_found b (behind ++ rest) (length behind) (number_len_is (b ∷ behind) rest is ends) byte
+    by_first : (b : ℕ) (following : List ℕ) → is_number (b ∷ following) ≡ true → is_mantissa_byte b ≡ true
+        → token_at ((b ∷ following) ++ rest) ≡ Some (kinds.Number, length (b ∷ following))
+    by_first b following is byte = number_found b (following ++ rest) (length following) (number_len_is (b ∷ following) rest is
+        ends) byte
 
 -- ---- each kind
 
@@ -249,7 +250,7 @@ closed_longest kind bytes rest (inr text) is = subst (λ (k : Kind). IsToken k b
     one_text : IsToken kinds.Text bytes → token_at (bytes ++ rest) ≡ Some (kinds.Text, length bytes)
     one_text (text, same, is) = rw same (text_there text rest is)
 
--- any token, where something stands after it that ends it
+-- any token, if something that ends it is after it
 pub open_longest : (kind : Kind) (bytes rest : List ℕ) → EndsToken rest → IsToken kind bytes → IsLongest kind bytes rest
 open_longest kinds.Text bytes rest ends is = closed_longest kinds.Text bytes rest (inr refl) is
 open_longest kinds.Mark bytes rest ends is = closed_longest kinds.Mark bytes rest (inl refl) is

@@ -12,7 +12,7 @@ use Rattle.dbc_records.specs.Kept.{kept_fits}
 use Rattle.dbc_values.specs.Pieces.{is_piece, is_string}
 use Rattle.dbc_tokens.specs.declared.fault.Cause.TheVariants as causes
 use Rattle.dbc_tokens.specs.Tokens.{Token, Cut, End, Fault, ◌▸◌}
-use Rattle.dbc_reader.specs.Reading.Databases.{record_into}
+use Rattle.dbc_reader.specs.inner.Databases.{record_into}
 use Rattle.dbc_reader.specs.Kinds.{Attributes, Comments, Defaults, Definitions, FloatTypes, KeptVerbatim, Messages, Multiplexings}
 use Rattle.dbc_reader.specs.Kinds.{Tables, ValueDescriptions}
 use Rattle.dbc_reader.specs.Classes.{has_word, has_name, has_string, has_piece, has_kept_word}
@@ -20,13 +20,13 @@ use Rattle.dbc_reader.specs.Pattern.{Class, Word, Name, String, Whole, BeginsMes
 use Rattle.dbc_reader.specs.Pattern.{Done, ◌⇒◌, Either, ◌then◌, may_end, first_of, left_then, after, fault_in, ruled, judged}
 use Rattle.dbc_reader.specs.Pattern.{first_fault}
 use Rattle.dbc_reader.specs.Grammar as grammar
-use Rattle.dbc_reader.specs.Reading.Readers.{starts}
-use Rattle.dbc_reader.specs.Reading.Databases.{symbols_into, nodes_into, begins_kept, kept_at}
-use Rattle.dbc_reader.specs.Reading.Databases.{object_into, value_row_into, attribute_row_into, object_words}
-use Rattle.dbc_reader.specs.Reading.Databases.{value_words, attribute_words, has_object_word, has_value_word, has_attribute_word}
-use Rattle.dbc_reader.specs.Reading.Databases.{begins_statement, statement_into}
-use Rattle.dbc_reader.specs.Reading.Tables.{values_at}
-use Rattle.dbc_reader.specs.Reading.Attributes.{comment_at, attribute_at}
+use Rattle.dbc_reader.specs.inner.Readers.{starts}
+use Rattle.dbc_reader.specs.inner.Databases.{symbols_into, nodes_into, begins_kept, kept_at}
+use Rattle.dbc_reader.specs.inner.Databases.{object_into, value_row_into, attribute_row_into, object_words}
+use Rattle.dbc_reader.specs.inner.Databases.{value_words, attribute_words, has_object_word, has_value_word, has_attribute_word}
+use Rattle.dbc_reader.specs.inner.Databases.{begins_statement, statement_into}
+use Rattle.dbc_reader.specs.inner.Tables.{values_at}
+use Rattle.dbc_reader.specs.inner.Attributes.{comment_at, attribute_at}
 use Rattle.dbc_reader.proofs.Agrees.{Agrees, Follows, Begins, agree_bind, agree_then, agree_value, begins_one, begins_either}
 use Rattle.dbc_reader.proofs.Agrees.{either_first, either_second, either_end, either_fault, after_then}
 use Rattle.dbc_reader.proofs.Facts.Keywords.{worded}
@@ -87,7 +87,7 @@ kept_more d seen has =
     agree_then (agree_then (pieces_agree seen []) λ tokens. agree_then (mark_agrees seen 59) λ _. agree_value refl) λ row.
     agree_value (record { count = has.count })
 
--- ---- statements that may be kept ones, where they are not
+-- ---- statements that may be kept ones, when they are not
 
 abbrev plain_values : Pattern
 plain_values = Word (codes "VAL_") ⇒ Whole 0 (2 ^ 32 - 1) ⇒ Name ⇒ grammar.entries
@@ -463,8 +463,8 @@ attribute_first : (u : Token) (seen : Seen) (q : Pattern) (t : Token) (rest : Cu
     ≡ first_fault (plain_attribute then q) seen (worded u (codes "BA_") ▸ (t ▸ rest))
 unfolding statement_into object_into value_row_into attribute_row_into begins_kept kept_fits has_object_word has_value_word
     has_attribute_word has_word has_kept_word has_name has_piece is_piece is_string starts first_fault
-attribute_first u seen q t rest e behind =
-    plain_token String (Either ev_kept after_name q) seen t rest (rw e refl) ∙ behind
+attribute_first u seen q t rest e following =
+    plain_token String (Either ev_kept after_name q) seen t rest (rw e refl) ∙ following
     ∙ sym (plain_token String (after_name then q) seen t rest (rw e refl))
 
 attribute_no_name : (u : Token) (seen : Seen) (q : Pattern) (t : Token) (rest : Cut) → has_string t ≡ false

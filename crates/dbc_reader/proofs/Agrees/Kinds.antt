@@ -13,13 +13,13 @@ use Rattle.dbc_reader.specs.Classes.{tag_of}
 use Rattle.dbc_reader.specs.Pattern.{Word, Mark, Name, Symbol, String, Whole as WholeNumber, Number, Order, Tag, Piece, Seen, plain}
 use Rattle.dbc_reader.specs.Pattern.{judged_so, is_of_class, has, Pattern, Done, ◌⇒◌, Either, Repeat, ◌then◌}
 use Rattle.dbc_reader.specs.Grammar as grammar
-use Rattle.dbc_reader.specs.Reading.Parts.{word_at, mark_at, name_at, symbol_at, text_at, piece_at, whole_at, id_at, number_at}
-use Rattle.dbc_reader.specs.Reading.Parts.{order_at, tag_token_at, decimal_at, begins_decimal, int_at, begins_int, pair_at}
-use Rattle.dbc_reader.specs.Reading.Parts.{names_from, symbols_from, pieces_from, comma_at, begins_receiver, receivers_from}
-use Rattle.dbc_reader.specs.Reading.Parts.{receivers_at, texts_from, entry_at, entries_from}
-use Rattle.dbc_reader.proofs.Turns.{value_keeps, bind_shrinks, bind_keeps, after_shrinks, keeps}
-use Rattle.dbc_reader.proofs.Turns.Lists.{mark_shrinks, name_shrinks, symbol_shrinks, piece_shrinks, text_shrinks, entry_shrinks}
-use Rattle.dbc_reader.proofs.Turns.Lists.{comma_keeps}
+use Rattle.dbc_reader.specs.inner.Parts.{word_at, mark_at, name_at, symbol_at, text_at, piece_at, whole_at, id_at, number_at}
+use Rattle.dbc_reader.specs.inner.Parts.{order_at, tag_token_at, decimal_at, begins_decimal, int_at, begins_int, pair_at}
+use Rattle.dbc_reader.specs.inner.Parts.{names_from, symbols_from, pieces_from, comma_at, begins_receiver, receivers_from}
+use Rattle.dbc_reader.specs.inner.Parts.{receivers_at, texts_from, entry_at, entries_from}
+use Rattle.dbc_reader.proofs.Rounds.{value_keeps, bind_shrinks, bind_keeps, after_shrinks, keeps}
+use Rattle.dbc_reader.proofs.Rounds.Lists.{mark_shrinks, name_shrinks, symbol_shrinks, piece_shrinks, text_shrinks, entry_shrinks}
+use Rattle.dbc_reader.proofs.Rounds.Lists.{comma_keeps}
 use Rattle.dbc_reader.proofs.Agrees.{Agrees, Same, Rules, Begins, agree_then, agree_value, agree_one, agree_choose, agree_same}
 use Rattle.dbc_reader.proofs.Agrees.{begins_one, begins_either, begins_perhaps, begins_then, begins_as}
 

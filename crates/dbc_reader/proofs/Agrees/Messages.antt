@@ -15,12 +15,12 @@ use Rattle.dbc_reader.specs.Classes.{has_word, has_mark, has_name}
 use Rattle.dbc_reader.specs.Pattern.{is_of_class, Mark, Whole, Order, BeginsMessage, BeginsSignal, SignalName, Seen, one_name_more}
 use Rattle.dbc_reader.specs.Pattern.{Done, ◌⇒◌, Either, Repeat}
 use Rattle.dbc_reader.specs.Grammar as grammar
-use Rattle.dbc_reader.specs.Reading.Readers.{value}
-use Rattle.dbc_reader.specs.Reading.Parts.{tag_token_at}
-use Rattle.dbc_reader.specs.Reading.Messages.{begun, begin_message_at, head_at, begin_signal_at, fresh, signal_name_at, tag_at}
-use Rattle.dbc_reader.specs.Reading.Messages.{sign_at, place_at, signal_at, signals_from, message_at}
-use Rattle.dbc_reader.proofs.Turns.{value_keeps, bind_shrinks}
-use Rattle.dbc_reader.proofs.Turns.Signals.{signal_shrinks}
+use Rattle.dbc_reader.specs.inner.Readers.{value}
+use Rattle.dbc_reader.specs.inner.Parts.{tag_token_at}
+use Rattle.dbc_reader.specs.inner.Messages.{begun, begin_message_at, head_at, begin_signal_at, fresh, signal_name_at, tag_at}
+use Rattle.dbc_reader.specs.inner.Messages.{sign_at, bit_field_at, signal_at, signals_from, message_at}
+use Rattle.dbc_reader.proofs.Rounds.{value_keeps, bind_shrinks}
+use Rattle.dbc_reader.proofs.Rounds.Signals.{signal_shrinks}
 use Rattle.dbc_reader.proofs.Agrees.{Agrees, Same, Rules, agree_bind, agree_then, agree_value, agree_one, agree_choose}
 use Rattle.dbc_reader.proofs.Agrees.{agree_choose_then, agree_repeated, Begins, begins_one}
 use Rattle.dbc_reader.proofs.Agrees.Kinds.{mark_agrees, name_agrees, text_agrees, whole_agrees, id_agrees, order_agrees}
@@ -108,13 +108,13 @@ sign_agrees seen =
     agree_choose (has_mark 45) (begins_mark 45 Done) (agree_then (mark_agrees seen 45) λ _. agree_value refl)
     (agree_then (mark_agrees seen 43) λ _. agree_value refl)
 
-place_agrees : (seen : Seen) → Agrees seen place_at (Whole 0 65535 ⇒ Mark 124 ⇒ Whole 1 14280 ⇒ Mark 64 ⇒ Order ⇒ Either
+bit_field_agrees : (seen : Seen) → Agrees seen bit_field_at (Whole 0 65535 ⇒ Mark 124 ⇒ Whole 1 14280 ⇒ Mark 64 ⇒ Order ⇒ Either
     (Mark 45 ⇒ Done) (Mark 43 ⇒ Done) Done) (Same seen)
-unfolding place_at
-place_agrees seen =
+unfolding bit_field_at
+bit_field_agrees seen =
     agree_then (whole_agrees seen 0 65535) λ start. agree_then (mark_agrees seen 124) λ _. agree_then (whole_agrees seen 1 14280)
     λ length.
-    agree_then (mark_agrees seen 64) λ _. agree_then (order_agrees seen) λ intel. agree_then (sign_agrees seen) λ signed.
+    agree_then (mark_agrees seen 64) λ _. agree_then (order_agrees seen) λ order. agree_then (sign_agrees seen) λ value_type.
     agree_value refl
 
 pub signal_agrees : (seen : Seen) (signals : List Signal) → seen.signals ≡ names_of signals
@@ -125,10 +125,12 @@ signal_agrees seen signals is =
     agree_bind (signal_name_agrees seen (names_of signals) is) λ name s named.
     agree_choose_then (value tags.Plain) tag_token_at _ (has_mark 58) (begins_mark 58 Done)
     (agree_then (mark_agrees s 58) λ _.
-    agree_then (place_agrees s) λ place. agree_then (pair_agrees s 40 44 41) λ scale. agree_then (pair_agrees s 91 124 93) λ limits.
+    agree_then (bit_field_agrees s) λ bit_field. agree_then (pair_agrees s 40 44 41) λ scale. agree_then (pair_agrees s 91 124 93) λ
+    limits.
     agree_then (text_agrees s) λ unit. agree_then (receivers_agree s) λ receivers. agree_value named)
     (agree_then (tag_token_agrees s) λ tag. agree_then (mark_agrees s 58) λ _.
-    agree_then (place_agrees s) λ place. agree_then (pair_agrees s 40 44 41) λ scale. agree_then (pair_agrees s 91 124 93) λ limits.
+    agree_then (bit_field_agrees s) λ bit_field. agree_then (pair_agrees s 40 44 41) λ scale. agree_then (pair_agrees s 91 124 93) λ
+    limits.
     agree_then (text_agrees s) λ unit. agree_then (receivers_agree s) λ receivers. agree_value named)
 
 pub begins_a_signal : Begins (has_word (codes "SG_")) grammar.signal
@@ -143,7 +145,7 @@ begins_a_signal = begins_one (has_word (codes "SG_")) BeginsSignal _ (λ t seen.
 
 -- ---- messages
 
--- so many messages have begun, and the last has these signals
+-- this many messages have begun, and the last has these signals
 record Has (messages : ℕ) (signals : List Signal) (seen : Seen) : Type 0 where
   count : seen.messages ≡ messages
   names : seen.signals ≡ names_of signals

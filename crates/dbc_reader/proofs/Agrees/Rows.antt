@@ -1,17 +1,17 @@
--- The readers of rows, comments and attributes agree with their patterns.
+-- The readers of entries, comments and attributes agree with their patterns.
 use Rattle.std.proofs.Common.{◌^◌, ◌-◌, List, [], ◌∷◌, refl}
 use Rattle.std.specs.Prelude.{codes}
 use Rattle.dbc_records.specs.declared.mux_row.Range.{Range}
 use Rattle.dbc_reader.specs.Classes.{has_word, has_mark, has_string}
 use Rattle.dbc_reader.specs.Pattern.{Word, Mark, Name, String, Whole, Seen, Done, ◌⇒◌, Either, Repeat, ◌then◌}
 use Rattle.dbc_reader.specs.Grammar as grammar
-use Rattle.dbc_reader.specs.Reading.Tables.{table_at, colon_at, float_at, range_at, ranges_from, ranges_at, mux_at}
-use Rattle.dbc_reader.specs.Reading.Attributes.{node_target_at, message_target_at, signal_target_at, target_at, object_at}
-use Rattle.dbc_reader.specs.Reading.Attributes.{limits_at, string_form_at, enumeration_at, form_at, definition_at, value_at}
-use Rattle.dbc_reader.specs.Reading.Attributes.{default_at}
-use Rattle.dbc_reader.specs.Reading.Parts.{begins_decimal}
-use Rattle.dbc_reader.proofs.Turns.{value_keeps, bind_shrinks, bind_keeps, keeps}
-use Rattle.dbc_reader.proofs.Turns.Lists.{mark_shrinks, range_shrinks}
+use Rattle.dbc_reader.specs.inner.Tables.{table_at, colon_at, float_at, range_at, ranges_from, ranges_at, mux_at}
+use Rattle.dbc_reader.specs.inner.Attributes.{node_target_at, message_target_at, signal_target_at, target_at, object_at}
+use Rattle.dbc_reader.specs.inner.Attributes.{limits_at, string_form_at, enumeration_at, form_at, definition_at, value_at}
+use Rattle.dbc_reader.specs.inner.Attributes.{default_at}
+use Rattle.dbc_reader.specs.inner.Parts.{begins_decimal}
+use Rattle.dbc_reader.proofs.Rounds.{value_keeps, bind_shrinks, bind_keeps, keeps}
+use Rattle.dbc_reader.proofs.Rounds.Lists.{mark_shrinks, range_shrinks}
 use Rattle.dbc_reader.proofs.Agrees.{Agrees, Same, agree_then, agree_value, agree_choose, agree_same}
 use Rattle.dbc_reader.proofs.Agrees.Kinds.{word_agrees, mark_agrees, name_agrees, text_agrees, whole_agrees, id_agrees}
 use Rattle.dbc_reader.proofs.Agrees.Kinds.{decimal_agrees, entries_agree, texts_agree, begins_word, begins_mark, begins_string}

@@ -6,8 +6,8 @@ use Rattle.dbc_tokens.specs.Tokens.{Cut}
 use Rattle.dbc_reader.specs.Classes.{has_word}
 use Rattle.dbc_reader.specs.Pattern.{is_of_class, BeginsMessage, Seen, Done, first_fault, nothing_seen}
 use Rattle.dbc_reader.specs.Grammar as grammar
-use Rattle.dbc_reader.specs.Reading.Tables.{values_at}
-use Rattle.dbc_reader.specs.Reading.Databases.{message_attribute_at, standalone_statement_at, statement_at}
+use Rattle.dbc_reader.specs.inner.Tables.{values_at}
+use Rattle.dbc_reader.specs.inner.Databases.{message_attribute_at, standalone_statement_at, statement_at}
 use Rattle.dbc_reader.proofs.Agrees.{Judges}
 use Rattle.dbc_reader.proofs.Agrees.{Agrees, Same, Any, Begins, agree_bind, agree_then, agree_value, agree_choose, begins_one}
 use Rattle.dbc_reader.proofs.Agrees.Kinds.{begins_word, word_agrees, mark_agrees, name_agrees, text_agrees, id_agrees}

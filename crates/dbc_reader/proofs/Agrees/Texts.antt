@@ -9,12 +9,12 @@ use Rattle.dbc_reader.specs.Classes.{has_word, has_number, has_kept_word}
 use Rattle.dbc_reader.specs.Pattern.{Word, Mark, String, Number, KeptWord, Seen, Done, ◌⇒◌, Either, Repeat, ◌then◌, first_fault}
 use Rattle.dbc_reader.specs.Pattern.{nothing_seen}
 use Rattle.dbc_reader.specs.Grammar as grammar
-use Rattle.dbc_reader.specs.Reading.Readers.{Reader, and_then, value, end_at}
-use Rattle.dbc_reader.specs.Reading.Databases.{has_object_word, has_value_word, has_attribute_word, begins_statement}
-use Rattle.dbc_reader.specs.Reading.Databases.{statement_into, statements_into, version_at, timing_numbers_at, timing_at}
-use Rattle.dbc_reader.specs.Reading.Databases.{timed_into, empty_database, database_at}
+use Rattle.dbc_reader.specs.inner.Readers.{Reader, and_then, value, end_at}
+use Rattle.dbc_reader.specs.inner.Databases.{has_object_word, has_value_word, has_attribute_word, begins_statement}
+use Rattle.dbc_reader.specs.inner.Databases.{statement_into, statements_into, version_at, timing_numbers_at, timing_at}
+use Rattle.dbc_reader.specs.inner.Databases.{timed_into, empty_database, database_at}
 use Rattle.dbc_reader.proofs.Agrees.{Judges}
-use Rattle.dbc_reader.proofs.Turns.Statements.{statement_shrinks}
+use Rattle.dbc_reader.proofs.Rounds.Statements.{statement_shrinks}
 use Rattle.dbc_reader.proofs.Agrees.{Agrees, Same, Follows, Begins, agree_then, agree_value, agree_choose, agree_repeated}
 use Rattle.dbc_reader.proofs.Agrees.{begins_one, begins_either, begins_as}
 use Rattle.dbc_reader.proofs.Agrees.Kinds.{begins_word, begins_number, plain_class, word_agrees, mark_agrees, text_agrees}

@@ -4,7 +4,7 @@ use Rattle.dbc_tokens.specs.declared.fault.ReadFault.{ReadFault}
 use Rattle.dbc_reader.specs.declared.stopped.Stopped.{Stopped}
 use Rattle.dbc_reader.specs.declared.stopped.Stopped.TheVariants as stops
 use Rattle.dbc_tokens.specs.Tokens.{Cut}
-use Rattle.dbc_reader.specs.Reading.Readers.{Fails, fault_of}
+use Rattle.dbc_reader.specs.inner.Readers.{Fails, fault_of}
 use Rattle.dbc_reader.specs.Pattern.{memory_fault}
 
 pub stopped_reading : {A : Type 0} (stopped : Stopped) (read : Result (A × Cut) ReadFault) → Fails stopped read

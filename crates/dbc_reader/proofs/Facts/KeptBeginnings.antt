@@ -1,4 +1,4 @@
--- How statements begin that are kept as they stand.
+-- How statements kept verbatim begin.
 use Rattle.std.proofs.Common.{◌≡◌, ℕ, zero, suc, ◌||◌, ◌&&◌, ◌==◌, ◌⊎◌, inl, inr, Bool, true, false, not, cond, IsTrue, List, []}
 use Rattle.std.proofs.Common.{◌∷◌, ◌++◌, Result, Ok, Err, refl, sym, ap, ◌∙◌, append_assoc}
 use Rattle.std.specs.Prelude.{if◌then◌else◌}
@@ -14,12 +14,12 @@ use Rattle.dbc_records.specs.Kept.{kept_fits, begins}
 use Rattle.dbc_values.specs.Pieces.{is_string, is_piece, is_mark_but_semicolon}
 use Rattle.dbc_tokens.specs.Tokens.{Token, Cut, End, Fault, ◌▸◌}
 use Rattle.dbc_reader.specs.Classes.{has_word, has_name, has_string, has_piece, has_kept_word}
-use Rattle.dbc_reader.specs.Reading.Cursors.{behind}
-use Rattle.dbc_reader.specs.Reading.Readers.{starts, and_then, token_at}
-use Rattle.dbc_reader.specs.Reading.Parts.{piece_at, pieces_from}
-use Rattle.dbc_reader.proofs.Turns.{ok_is}
-use Rattle.dbc_reader.proofs.Turns.Lists.{pieces_on, pieces_fail, pieces_end}
-use Rattle.dbc_reader.specs.Reading.Databases.{begins_kept, first_tokens}
+use Rattle.dbc_reader.specs.inner.Cursors.{following}
+use Rattle.dbc_reader.specs.inner.Readers.{starts, and_then, token_at}
+use Rattle.dbc_reader.specs.inner.Parts.{piece_at, pieces_from}
+use Rattle.dbc_reader.proofs.Rounds.{ok_is}
+use Rattle.dbc_reader.proofs.Rounds.Lists.{pieces_on, pieces_fail, pieces_end}
+use Rattle.dbc_reader.specs.inner.Databases.{begins_kept, first_tokens}
 use Rattle.dbc_reader.proofs.Facts.MessageNames.{same_either_way}
 
 three : (k a n c e b s f : Bool)
@@ -46,12 +46,12 @@ three false false n false e true true false = refl
 three false false n false e true false f = refl
 three false false n false e false s f = refl
 
--- by what stands first, second and third
+-- by what is first, second and third
 pub kept_by_tokens : (cut : Cut) → begins_kept cut
-    ≡ (starts has_kept_word cut || ((starts (has_word (codes "VAL_")) cut && starts has_name (behind cut))
-    || ((starts (has_word (codes "CM_")) cut && starts (has_word (codes "EV_")) (behind cut))
-    || (starts (has_word (codes "BA_")) cut && (starts has_string (behind cut) && starts (has_word (codes "EV_"))
-    (behind (behind cut)))))))
+    ≡ (starts has_kept_word cut || ((starts (has_word (codes "VAL_")) cut && starts has_name (following cut))
+    || ((starts (has_word (codes "CM_")) cut && starts (has_word (codes "EV_")) (following cut))
+    || (starts (has_word (codes "BA_")) cut && (starts has_string (following cut) && starts (has_word (codes "EV_"))
+    (following (following cut)))))))
 unfolding begins_kept kept_fits starts has_kept_word has_word has_name has_string
 kept_by_tokens (End line) = refl
 kept_by_tokens (Fault line) = refl

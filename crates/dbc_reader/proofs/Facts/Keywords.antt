@@ -11,61 +11,63 @@ use Rattle.dbc_values.specs.Lexical.{is_kept_word}
 use Rattle.dbc_records.specs.Databases.{Database}
 use Rattle.dbc_records.specs.Kept.{kept_fits}
 use Rattle.dbc_tokens.specs.Tokens.{Token, Cut, End, Fault, ◌▸◌}
-use Rattle.dbc_reader.specs.Reading.Databases.{record_into}
+use Rattle.dbc_reader.specs.inner.Databases.{record_into}
 use Rattle.dbc_reader.specs.Kinds.{Attributes, Comments, Defaults, Definitions, FloatTypes, KeptVerbatim, Messages, Multiplexings}
 use Rattle.dbc_reader.specs.Kinds.{Tables, ValueDescriptions}
-use Rattle.dbc_reader.specs.declared.keyword.Keyword.{Keyword}
+use Rattle.dbc_reader.specs.declared.keyword.StatementKeyword.{StatementKeyword}
 use Rattle.dbc_reader.specs.declared.statement.Statement.{Statement}
-use Rattle.dbc_reader.specs.declared.keyword.Keyword.TheVariants as keywords
+use Rattle.dbc_reader.specs.declared.keyword.StatementKeyword.TheVariants as keywords
 use Rattle.dbc_reader.specs.Classes.{has_word, has_name, has_string, has_kept_word, is_there}
-use Rattle.dbc_reader.specs.Reading.Cursors.{behind, with_word}
-use Rattle.dbc_reader.specs.Reading.Readers.{Reader, starts, token_at}
-use Rattle.dbc_reader.specs.Reading.Parts.{word_at}
-use Rattle.dbc_reader.specs.Reading.Tables.{table_at, values_at, float_at, mux_at}
-use Rattle.dbc_reader.specs.Reading.Attributes.{comment_at, definition_at, default_at, attribute_at}
-use Rattle.dbc_reader.specs.Reading.Keywords.{keyword_words, keyword_among, keyword_of, keyword_at}
-use Rattle.dbc_reader.specs.Reading.Databases.{symbols_into, nodes_into, begins_kept}
-use Rattle.dbc_reader.specs.Reading.Databases.{object_into, value_row_into, attribute_row_into, object_words}
-use Rattle.dbc_reader.specs.Reading.Databases.{value_words, attribute_words, has_object_word, has_value_word, has_attribute_word}
-use Rattle.dbc_reader.specs.Reading.Databases.{begins_statement, statement_into, table_alone_at, values_alone_at, mux_alone_at}
-use Rattle.dbc_reader.specs.Reading.Databases.{standalone_statement_at}
+use Rattle.dbc_reader.specs.inner.Cursors.{following, with_word}
+use Rattle.dbc_reader.specs.inner.Readers.{Reader, starts, token_at}
+use Rattle.dbc_reader.specs.inner.Parts.{word_at}
+use Rattle.dbc_reader.specs.inner.Tables.{table_at, values_at, float_at, mux_at}
+use Rattle.dbc_reader.specs.inner.Attributes.{comment_at, definition_at, default_at, attribute_at}
+use Rattle.dbc_reader.specs.inner.Keywords.{keyword_words, keyword_among, keyword_of, keyword_at}
+use Rattle.dbc_reader.specs.inner.Databases.{symbols_into, nodes_into, begins_kept}
+use Rattle.dbc_reader.specs.inner.Databases.{object_into, value_row_into, attribute_row_into, object_words}
+use Rattle.dbc_reader.specs.inner.Databases.{value_words, attribute_words, has_object_word, has_value_word, has_attribute_word}
+use Rattle.dbc_reader.specs.inner.Databases.{begins_statement, statement_into, table_alone_at, values_alone_at, mux_alone_at}
+use Rattle.dbc_reader.specs.inner.Databases.{standalone_statement_at}
 use Rattle.dbc_reader.proofs.Facts.KeptBeginnings.{kept_by_tokens}
 
 -- ---- what is read
 
 -- what a statement is read as that begins with this keyword
-abbrev Reads : Keyword → Cut → Type 0
-Reads keywords.Symbols cut = (d : Database) → statement_into d cut ≡ symbols_into d (with_word (codes "NS_") (behind cut))
-Reads keywords.Nodes cut = (d : Database) → statement_into d cut ≡ nodes_into d (with_word (codes "BU_") (behind cut))
-Reads keywords.Table cut = (d : Database) → statement_into d cut ≡ record_into Tables d (with_word (codes "VAL_TABLE_") (behind
+abbrev Reads : StatementKeyword → Cut → Type 0
+Reads keywords.Symbols cut = (d : Database) → statement_into d cut ≡ symbols_into d (with_word (codes "NS_") (following cut))
+Reads keywords.Nodes cut = (d : Database) → statement_into d cut ≡ nodes_into d (with_word (codes "BU_") (following cut))
+Reads keywords.Table cut = (d : Database) → statement_into d cut ≡ record_into Tables d (with_word (codes "VAL_TABLE_") (following
     cut))
 Reads keywords.Float cut = (d : Database) → statement_into d cut ≡ record_into FloatTypes d (with_word (codes "SIG_VALTYPE_")
-    (behind cut))
+    (following cut))
 Reads keywords.Mux cut = (d : Database) → statement_into d cut ≡ record_into Multiplexings d (with_word (codes "SG_MUL_VAL_")
-    (behind cut))
+    (following cut))
 Reads keywords.Definition cut = (d : Database) → statement_into d cut ≡ record_into Definitions d (with_word (codes "BA_DEF_")
-    (behind cut))
-Reads keywords.Default cut = (d : Database) → statement_into d cut ≡ record_into Defaults d (with_word (codes "BA_DEF_DEF_") (behind
+    (following cut))
+Reads keywords.Default cut = (d : Database) → statement_into d cut ≡ record_into Defaults d (with_word (codes "BA_DEF_DEF_")
+    (following
     cut))
 Reads keywords.Message cut = (starts (has_word (codes "BO_")) cut ≡ true)
     × ((d : Database) → statement_into d cut ≡ record_into Messages d cut)
-Reads keywords.Values cut = (starts has_name (behind cut) ≡ true → begins_kept cut ≡ true)
-    × ((d : Database) → starts has_name (behind cut) ≡ false → statement_into d cut
-    ≡ record_into ValueDescriptions d (with_word (codes "VAL_") (behind cut)))
-Reads keywords.Comment cut = (starts (has_word (codes "EV_")) (behind cut) ≡ true → begins_kept cut ≡ true)
-    × ((d : Database) → starts (has_word (codes "EV_")) (behind cut) ≡ false → statement_into d cut
-    ≡ record_into Comments d (with_word (codes "CM_") (behind cut)))
-Reads keywords.Attribute cut = ((starts (has_word (codes "EV_")) (behind (behind cut)) && starts has_string (behind cut)) ≡ true
+Reads keywords.Values cut = (starts has_name (following cut) ≡ true → begins_kept cut ≡ true)
+    × ((d : Database) → starts has_name (following cut) ≡ false → statement_into d cut
+    ≡ record_into ValueDescriptions d (with_word (codes "VAL_") (following cut)))
+Reads keywords.Comment cut = (starts (has_word (codes "EV_")) (following cut) ≡ true → begins_kept cut ≡ true)
+    × ((d : Database) → starts (has_word (codes "EV_")) (following cut) ≡ false → statement_into d cut
+    ≡ record_into Comments d (with_word (codes "CM_") (following cut)))
+Reads keywords.Attribute cut = ((starts (has_word (codes "EV_")) (following (following cut)) && starts has_string (following cut)) ≡
+    true
     → begins_kept cut ≡ true)
-    × ((d : Database) → (starts (has_word (codes "EV_")) (behind (behind cut)) && starts has_string (behind cut)) ≡ false
-    → statement_into d cut ≡ record_into Attributes d (with_word (codes "BA_") (behind cut)))
+    × ((d : Database) → (starts (has_word (codes "EV_")) (following (following cut)) && starts has_string (following cut)) ≡ false
+    → statement_into d cut ≡ record_into Attributes d (with_word (codes "BA_") (following cut)))
 Reads keywords.Kept cut = begins_kept cut ≡ true
 
 -- the token with these bytes
 abbrev pub worded : Token → List ℕ → Token
 worded u word = record u { bytes = word }
 
-abbrev ReadsWord : List ℕ → Keyword → Type 0
+abbrev ReadsWord : List ℕ → StatementKeyword → Type 0
 ReadsWord word keyword = (u : Token) (cut : Cut) → Reads keyword (worded u word ▸ cut)
 
 symbols_read : ReadsWord (codes "NS_") keywords.Symbols
@@ -138,7 +140,7 @@ unfolding statement_into object_into value_row_into attribute_row_into has_objec
 comment_read u cut = (λ e. comment_kept u cut ∙ e, λ d e. rw (comment_kept u cut, e) refl)
 
 attribute_kept : (u : Token) (cut : Cut) → begins_kept (worded u (codes "BA_") ▸ cut)
-    ≡ (starts (has_word (codes "EV_")) (behind cut) && starts has_string cut)
+    ≡ (starts (has_word (codes "EV_")) (following cut) && starts has_string cut)
 unfolding has_word has_kept_word starts
 attribute_kept u cut = kept_by_tokens (worded u (codes "BA_") ▸ cut) ∙ either_order (starts has_string cut) _
 
@@ -149,7 +151,7 @@ attribute_read u cut = (λ e. attribute_kept u cut ∙ e, λ d e. rw (attribute_
 
 -- ---- each keyword
 
-abbrev AllRead : List (List ℕ × Keyword) → Type 0
+abbrev AllRead : List (List ℕ × StatementKeyword) → Type 0
 AllRead [] = Unit {0}
 AllRead (one ∷ others) = ReadsWord one.0 one.1 × AllRead others
 
@@ -171,24 +173,26 @@ all_read = (
   ),
 )
 
-is_first : (b : Bool) (first keyword : Keyword) (rest : Option Keyword) → b ≡ true → cond b (Some first) rest ≡ Some keyword
+is_first : (b : Bool) (first keyword : StatementKeyword) (rest : Option StatementKeyword) → b ≡ true → cond b (Some first) rest ≡
+    Some keyword
     → first ≡ keyword
 is_first true first keyword rest h e = cc
 is_first false first keyword rest h e = absurd cc
 
-is_later : (b : Bool) (first keyword : Keyword) (rest : Option Keyword) → b ≡ false → cond b (Some first) rest ≡ Some keyword
+is_later : (b : Bool) (first keyword : StatementKeyword) (rest : Option StatementKeyword) → b ≡ false → cond b (Some first) rest ≡
+    Some keyword
     → rest ≡ Some keyword
 is_later true first keyword rest h e = absurd cc
 is_later false first keyword rest h e = e
 
-begins_as_kept : (t : Token) (cut : Cut) (b : Bool) (keyword : Keyword) → is_kept_word t.bytes ≡ b
+begins_as_kept : (t : Token) (cut : Cut) (b : Bool) (keyword : StatementKeyword) → is_kept_word t.bytes ≡ b
     → cond b (Some keywords.Kept) None ≡ Some keyword → Reads keyword (t ▸ cut)
 unfolding has_kept_word starts
 begins_as_kept t cut false keyword h e = absurd cc
 begins_as_kept t cut true keyword h e = subst (λ k. Reads k (t ▸ cut)) (is_first true keywords.Kept keyword None refl e)
     (kept_by_tokens (t ▸ cut) ∙ rw h refl)
 
-read_among : (words : List (List ℕ × Keyword)) (t : Token) (cut : Cut) (keyword : Keyword) → AllRead words
+read_among : (words : List (List ℕ × StatementKeyword)) (t : Token) (cut : Cut) (keyword : StatementKeyword) → AllRead words
     → keyword_among words t.bytes ≡ Some keyword → Reads keyword (t ▸ cut)
 read_among [] t cut keyword all e = begins_as_kept t cut (is_kept_word t.bytes) keyword refl e
 read_among (one ∷ others) t cut keyword all e = elim (cases_Bool (bytes_eq t.bytes one.0)) [
@@ -200,38 +204,38 @@ read_among (one ∷ others) t cut keyword all e = elim (cases_Bool (bytes_eq t.b
       (keyword_among others t.bytes) differ e)
 ]
 
-reads : (keyword : Keyword) (cut : Cut) → keyword_at cut ≡ Some keyword → Reads keyword cut
+reads : (keyword : StatementKeyword) (cut : Cut) → keyword_at cut ≡ Some keyword → Reads keyword cut
 unfolding keyword_at keyword_of
 reads keyword (End line) e = absurd cc
 reads keyword (Fault line) e = absurd cc
 reads keyword (t ▸ cut) e = read_among keyword_words t cut keyword all_read e
 
 pub symbols_step : (d : Database) (cut : Cut) → keyword_at cut ≡ Some keywords.Symbols → statement_into d cut
-    ≡ symbols_into d (with_word (codes "NS_") (behind cut))
+    ≡ symbols_into d (with_word (codes "NS_") (following cut))
 symbols_step d cut e = reads keywords.Symbols cut e d
 
 pub nodes_step : (d : Database) (cut : Cut) → keyword_at cut ≡ Some keywords.Nodes → statement_into d cut
-    ≡ nodes_into d (with_word (codes "BU_") (behind cut))
+    ≡ nodes_into d (with_word (codes "BU_") (following cut))
 nodes_step d cut e = reads keywords.Nodes cut e d
 
 pub table_step : (d : Database) (cut : Cut) → keyword_at cut ≡ Some keywords.Table → statement_into d cut
-    ≡ record_into Tables d (with_word (codes "VAL_TABLE_") (behind cut))
+    ≡ record_into Tables d (with_word (codes "VAL_TABLE_") (following cut))
 table_step d cut e = reads keywords.Table cut e d
 
 pub float_step : (d : Database) (cut : Cut) → keyword_at cut ≡ Some keywords.Float → statement_into d cut
-    ≡ record_into FloatTypes d (with_word (codes "SIG_VALTYPE_") (behind cut))
+    ≡ record_into FloatTypes d (with_word (codes "SIG_VALTYPE_") (following cut))
 float_step d cut e = reads keywords.Float cut e d
 
 pub mux_step : (d : Database) (cut : Cut) → keyword_at cut ≡ Some keywords.Mux → statement_into d cut
-    ≡ record_into Multiplexings d (with_word (codes "SG_MUL_VAL_") (behind cut))
+    ≡ record_into Multiplexings d (with_word (codes "SG_MUL_VAL_") (following cut))
 mux_step d cut e = reads keywords.Mux cut e d
 
 pub definition_step : (d : Database) (cut : Cut) → keyword_at cut ≡ Some keywords.Definition → statement_into d cut
-    ≡ record_into Definitions d (with_word (codes "BA_DEF_") (behind cut))
+    ≡ record_into Definitions d (with_word (codes "BA_DEF_") (following cut))
 definition_step d cut e = reads keywords.Definition cut e d
 
 pub default_step : (d : Database) (cut : Cut) → keyword_at cut ≡ Some keywords.Default → statement_into d cut
-    ≡ record_into Defaults d (with_word (codes "BA_DEF_DEF_") (behind cut))
+    ≡ record_into Defaults d (with_word (codes "BA_DEF_DEF_") (following cut))
 default_step d cut e = reads keywords.Default cut e d
 
 pub message_begins : (cut : Cut) → keyword_at cut ≡ Some keywords.Message → starts (has_word (codes "BO_")) cut ≡ true
@@ -252,30 +256,33 @@ message_into_here d (t ▸ cut) e =
     ≡ record_into Messages d (worded t bytes ▸ cut))
     (sym ((bytes_eq-Decides t.bytes (codes "BO_")).0 e)) ((message_read t cut).1 d)
 
-pub values_kept_step : (cut : Cut) → keyword_at cut ≡ Some keywords.Values → starts has_name (behind cut) ≡ true
+pub values_kept_step : (cut : Cut) → keyword_at cut ≡ Some keywords.Values → starts has_name (following cut) ≡ true
     → begins_kept cut ≡ true
 values_kept_step cut e = (reads keywords.Values cut e).0
 
-pub values_step : (d : Database) (cut : Cut) → keyword_at cut ≡ Some keywords.Values → starts has_name (behind cut) ≡ false
-    → statement_into d cut ≡ record_into ValueDescriptions d (with_word (codes "VAL_") (behind cut))
+pub values_step : (d : Database) (cut : Cut) → keyword_at cut ≡ Some keywords.Values → starts has_name (following cut) ≡ false
+    → statement_into d cut ≡ record_into ValueDescriptions d (with_word (codes "VAL_") (following cut))
 values_step d cut e = (reads keywords.Values cut e).1 d
 
-pub comment_kept_step : (cut : Cut) → keyword_at cut ≡ Some keywords.Comment → starts (has_word (codes "EV_")) (behind cut) ≡ true
+pub comment_kept_step : (cut : Cut) → keyword_at cut ≡ Some keywords.Comment → starts (has_word (codes "EV_")) (following cut) ≡
+    true
     → begins_kept cut ≡ true
 comment_kept_step cut e = (reads keywords.Comment cut e).0
 
 pub comment_step : (d : Database) (cut : Cut) → keyword_at cut ≡ Some keywords.Comment
-    → starts (has_word (codes "EV_")) (behind cut) ≡ false → statement_into d cut
-    ≡ record_into Comments d (with_word (codes "CM_") (behind cut))
+    → starts (has_word (codes "EV_")) (following cut) ≡ false → statement_into d cut
+    ≡ record_into Comments d (with_word (codes "CM_") (following cut))
 comment_step d cut e = (reads keywords.Comment cut e).1 d
 
 pub attribute_kept_step : (cut : Cut) → keyword_at cut ≡ Some keywords.Attribute
-    → (starts (has_word (codes "EV_")) (behind (behind cut)) && starts has_string (behind cut)) ≡ true → begins_kept cut ≡ true
+    → (starts (has_word (codes "EV_")) (following (following cut)) && starts has_string (following cut)) ≡ true → begins_kept cut ≡
+    true
 attribute_kept_step cut e = (reads keywords.Attribute cut e).0
 
 pub attribute_step : (d : Database) (cut : Cut) → keyword_at cut ≡ Some keywords.Attribute
-    → (starts (has_word (codes "EV_")) (behind (behind cut)) && starts has_string (behind cut)) ≡ false → statement_into d cut
-    ≡ record_into Attributes d (with_word (codes "BA_") (behind cut))
+    → (starts (has_word (codes "EV_")) (following (following cut)) && starts has_string (following cut)) ≡ false → statement_into d
+    cut
+    ≡ record_into Attributes d (with_word (codes "BA_") (following cut))
 attribute_step d cut e = (reads keywords.Attribute cut e).1 d
 
 pub begins_kept_step : (cut : Cut) → keyword_at cut ≡ Some keywords.Kept → begins_kept cut ≡ true
@@ -289,13 +296,14 @@ or_assoc : (a b c : Bool) → ((a || b) || c) ≡ (a || (b || c))
 or_assoc true b c = refl
 or_assoc false b c = refl
 
--- ---- a statement begins exactly where a keyword stands
+-- ---- a statement begins exactly where a keyword is
 
-first_there : (b : Bool) (keyword : Keyword) (rest : Option Keyword) → is_there (cond b (Some keyword) rest) ≡ (b || is_there rest)
+first_there : (b : Bool) (keyword : StatementKeyword) (rest : Option StatementKeyword) → is_there (cond b (Some keyword) rest) ≡ (b
+    || is_there rest)
 first_there true keyword rest = refl
 first_there false keyword rest = refl
 
-among_words : (words : List (List ℕ × Keyword)) (word : List ℕ) → is_there (keyword_among words word)
+among_words : (words : List (List ℕ × StatementKeyword)) (word : List ℕ) → is_there (keyword_among words word)
     ≡ (list_any (λ one. bytes_eq word one.0) words || is_kept_word word)
 among_words [] word = first_there (is_kept_word word) keywords.Kept None ∙ either_none (is_kept_word word)
 among_words (one ∷ others) word =
@@ -313,7 +321,7 @@ keyword_there t =
     (or_assoc (list_any p object_words) _ _ ∙ ap (λ b. list_any p object_words || b) (or_assoc (list_any p value_words) _ _)) in
     sym words ∙ sym (among_words keyword_words t.bytes)
 
-pub statement_begins : (keyword : Keyword) (cut : Cut) → keyword_at cut ≡ Some keyword → starts begins_statement cut ≡ true
+pub statement_begins : (keyword : StatementKeyword) (cut : Cut) → keyword_at cut ≡ Some keyword → starts begins_statement cut ≡ true
 unfolding keyword_at starts
 statement_begins keyword (End line) e = absurd cc
 statement_begins keyword (Fault line) e = absurd cc
@@ -325,7 +333,7 @@ no_statement_begins (End line) e = refl
 no_statement_begins (Fault line) e = refl
 no_statement_begins (t ▸ cut) e = keyword_there t ∙ rw e refl
 
--- ---- statements that stand alone
+-- ---- statements on their own
 
 of_word : (R : Reader Statement) (word : List ℕ) → ((u : Token) (cut : Cut)
     → standalone_statement_at (worded u word ▸ cut) ≡ R (worded u word ▸ cut)) → (cut : Cut) → starts (has_word word) cut
@@ -337,18 +345,18 @@ of_word R word h (t ▸ cut) e = subst (λ bytes. standalone_statement_at (worde
     ≡ R (worded t bytes ▸ cut)) (sym ((bytes_eq-Decides t.bytes word).0 e)) (h t cut)
 
 pub table_alone : (cut : Cut) → starts (has_word (codes "VAL_TABLE_")) cut ≡ true
-    → standalone_statement_at cut ≡ table_alone_at (with_word (codes "VAL_TABLE_") (behind cut))
+    → standalone_statement_at cut ≡ table_alone_at (with_word (codes "VAL_TABLE_") (following cut))
 unfolding standalone_statement_at starts has_word table_at word_at token_at
-table_alone = of_word (λ cut. table_alone_at (with_word (codes "VAL_TABLE_") (behind cut))) (codes "VAL_TABLE_")
+table_alone = of_word (λ cut. table_alone_at (with_word (codes "VAL_TABLE_") (following cut))) (codes "VAL_TABLE_")
     (λ u cut. refl)
 
 pub values_alone : (cut : Cut) → starts (has_word (codes "VAL_")) cut ≡ true
-    → standalone_statement_at cut ≡ values_alone_at (with_word (codes "VAL_") (behind cut))
+    → standalone_statement_at cut ≡ values_alone_at (with_word (codes "VAL_") (following cut))
 unfolding standalone_statement_at starts has_word values_at word_at token_at
-values_alone = of_word (λ cut. values_alone_at (with_word (codes "VAL_") (behind cut))) (codes "VAL_") (λ u cut. refl)
+values_alone = of_word (λ cut. values_alone_at (with_word (codes "VAL_") (following cut))) (codes "VAL_") (λ u cut. refl)
 
 pub mux_alone : (cut : Cut) → starts (has_word (codes "SG_MUL_VAL_")) cut ≡ true
-    → standalone_statement_at cut ≡ mux_alone_at (with_word (codes "SG_MUL_VAL_") (behind cut))
+    → standalone_statement_at cut ≡ mux_alone_at (with_word (codes "SG_MUL_VAL_") (following cut))
 unfolding standalone_statement_at starts has_word mux_at word_at token_at
-mux_alone = of_word (λ cut. mux_alone_at (with_word (codes "SG_MUL_VAL_") (behind cut))) (codes "SG_MUL_VAL_")
+mux_alone = of_word (λ cut. mux_alone_at (with_word (codes "SG_MUL_VAL_") (following cut))) (codes "SG_MUL_VAL_")
     (λ u cut. refl)

@@ -11,7 +11,7 @@ use Rattle.dbc_values.specs.Pieces.{is_piece, is_string, is_mark_but_semicolon}
 use Rattle.dbc_tokens.specs.Tokens.{Token}
 use Rattle.dbc_reader.specs.Classes.{has_name, has_string, has_piece, has_whole}
 
--- the bytes before the first that passes, where the first byte doesn't
+-- the bytes before the first that passes, if the first byte doesn't
 keeps_first : (test : ℕ → Bool) (b : ℕ) (bytes : List ℕ) → test b ≡ false → (rest : List ℕ)
     × (before_first test (b ∷ bytes) ≡ b ∷ rest)
 keeps_first test b bytes e =

@@ -19,28 +19,28 @@ use Rattle.dbc_records.specs.CanonicalText.{default_key, default_layout, attribu
 use Rattle.dbc_records.specs.CanonicalText.{statement_end}
 use Rattle.dbc_tokens.specs.declared.fault.ReadFault.{ReadFault}
 use Rattle.dbc_tokens.specs.Tokens.{Token, Cut, End, Fault, ◌▸◌}
-use Rattle.dbc_reader.specs.Reading.Databases.{record_at, record_into}
+use Rattle.dbc_reader.specs.inner.Databases.{record_at, record_into}
 use Rattle.dbc_reader.specs.Classes.{has_word, has_name, has_string, has_symbol, has_kept_word}
-use Rattle.dbc_reader.specs.Reading.Cursors.{behind}
+use Rattle.dbc_reader.specs.inner.Cursors.{following}
 use Rattle.dbc_reader.specs.Forms.{Part, Is, ◌▸▸◌}
-use Rattle.dbc_reader.specs.Reading.Readers.{Reader, and_then, ◌>>=◌, value, starts, size, turns, repeated, choose, choose_by}
+use Rattle.dbc_reader.specs.inner.Readers.{Reader, and_then, ◌>>=◌, value, starts, size, rounds, repeated, choose, choose_by}
 use Rattle.dbc_reader.specs.Spelling.{AnyStatement, Symbols, Nodes}
 use Rattle.dbc_reader.specs.Spelling.{OfKept, form, EndsSymbols, FollowOn, symbols_of, timings_of, nodes_of}
 use Rattle.dbc_reader.specs.Spelling.{OfKind, records_of}
 use Rattle.dbc_reader.specs.Kinds.{Kind, RecordOf, list_of, with_list, with_lists, Tables, Messages, Comments, Definitions}
 use Rattle.dbc_reader.specs.Kinds.{Defaults, Attributes, ValueDescriptions, FloatTypes, Multiplexings, KeptVerbatim}
 use mathlib.Core.Path.{fun_ext, Path}
-use Rattle.dbc_reader.specs.Reading.Parts.{word_at, mark_at, names_from, symbols_from}
+use Rattle.dbc_reader.specs.inner.Parts.{word_at, mark_at, names_from, symbols_from}
 use Rattle.dbc_reader.proofs.Facts.KeptBeginnings.{kept_by_tokens}
-use Rattle.dbc_reader.proofs.Turns.{and_then_ok, Shrinks, bind_shrinks, value_keeps}
-use Rattle.dbc_reader.proofs.Turns.Lists.{symbol_shrinks}
-use Rattle.dbc_reader.specs.Reading.Databases.{symbols_into, nodes_into, begins_kept, kept_at}
-use Rattle.dbc_reader.specs.Reading.Databases.{object_into, value_row_into, attribute_row_into, statement_into}
+use Rattle.dbc_reader.proofs.Rounds.{and_then_ok, Shrinks, bind_shrinks, value_keeps}
+use Rattle.dbc_reader.proofs.Rounds.Lists.{symbol_shrinks}
+use Rattle.dbc_reader.specs.inner.Databases.{symbols_into, nodes_into, begins_kept, kept_at}
+use Rattle.dbc_reader.specs.inner.Databases.{object_into, value_row_into, attribute_row_into, statement_into}
 use Rattle.dbc_reader.proofs.Sound.Kinds.{symbol_sound, name_sound, pieces_sound, mark_sound, word_sound}
 use Rattle.dbc_reader.proofs.Sound.Rows.{of_layout-append, of_layout-items, table_sound, values_sound, float_sound, mux_sound}
 use Rattle.dbc_reader.proofs.Sound.Notes.{comment_sound, definition_sound, default_sound, attribute_sound}
 use Rattle.dbc_reader.proofs.Sound.Messages.{message_sound}
-use Rattle.dbc_reader.proofs.Turns.{ok_is}
+use Rattle.dbc_reader.proofs.Rounds.{ok_is}
 use Rattle.dbc_reader.proofs.Sound.{Spelt, spelt_both, Sound, Grows, grows_by_one, grows_repeated, sound_start, sound_then}
 use Rattle.dbc_reader.proofs.Sound.{sound_value}
 
@@ -96,7 +96,7 @@ joined_twice d xs ys = rw (after_both symbols_of d.symbols xs ys, after_both nod
       nodes = d.nodes ++ flat_map nodes_of (xs ++ ys);
     })) (lists_twice d xs ys))
 
--- a row is put after those of its kind
+-- an entry is put after those of its kind
 row_put : (kind : Kind) (d : Database) (row : RecordOf kind)
     → with_list kind (joined d []) (list_of kind d ++ row ∷ []) ≡ joined d (OfKind kind row ∷ [])
 row_put Tables d row = refl
@@ -117,14 +117,15 @@ record_joined kind d row = ap (λ (e : Database). with_list kind e (list_of kind
 
 -- ---- what one statement more is
 
--- a statement was read that a database is joined by; which may stand after it, and when it ends a list of symbols
+-- a statement was read and joined to a database; which may be after it, and when it ends a list of symbols
 pub record Adding (d : Database) (cut : Cut) (x : Database × Cut) : Type 0 where
   pub statement : AnyStatement
   pub spelt : Spelt (form statement) cut x.1
   pub joins : x.0 ≡ joined d (statement ∷ [])
   pub no_timing : timings_of statement ≡ []
-  pub before : (behind : List AnyStatement) → (starts has_symbol x.1 ≡ false → EndsSymbols behind) → FollowOn statement behind
-  pub ends : (behind : List AnyStatement) → starts has_symbol cut ≡ false → EndsSymbols (statement ∷ behind)
+  pub before : (following : List AnyStatement) → (starts has_symbol x.1 ≡ false → EndsSymbols following) → FollowOn statement
+      following
+  pub ends : (following : List AnyStatement) → starts has_symbol cut ≡ false → EndsSymbols (statement ∷ following)
 
 pub record Adds (d : Database) (r : Reader Database) : Type 0 where
   pub adds : (cut : Cut) (x : Database × Cut) → r cut ≡ Ok x → Adding d cut x
@@ -136,16 +137,16 @@ adds_choose {d} test {r} {s} h k = record { adds = λ cut x e. by_test (starts t
     by_test true cut x e = h.adds cut x e
     by_test false cut x e = k.adds cut x e
 
--- a statement whose form begins with a word that may be a symbol stands after no list of symbols
+-- a statement whose form begins with a word that may be a symbol is after no list of symbols
 no_first : (word : List ℕ) (parts : List Part) (cut rest : Cut) → is_symbol word ≡ true → Spelt (Is (Word word) ∷ parts) cut rest
     → starts has_symbol cut ≡ false → ⊥
 unfolding has_symbol starts
 no_first word parts cut rest is h none =
     let first = h.spelled in
     let token = first.3 in
-    let stands : cut ≡ (((token.0 ∷ []) ++ first.1) ▸▸ rest) = h.stands ∙ ap (λ (tokens : List Token). tokens ▸▸ rest) (first.2
+    let occurs : cut ≡ (((token.0 ∷ []) ++ first.1) ▸▸ rest) = h.occurs ∙ ap (λ (tokens : List Token). tokens ▸▸ rest) (first.2
     ∙ ap (λ (tokens : List Token). tokens ++ first.1) token.1) in
-    let test : starts has_symbol cut ≡ is_symbol token.0.bytes = ap (starts has_symbol) stands in
+    let test : starts has_symbol cut ≡ is_symbol token.0.bytes = ap (starts has_symbol) occurs in
     let both : true ≡ false = sym is ∙ ap is_symbol (sym token.2) ∙ sym test ∙ none in
     absurd cc
 
@@ -178,26 +179,27 @@ titled_spelt {X} word from {part} add grows before cut x e =
     same_left : {A : Type 0} (a b : A) (c d : Cut) → a ≡ b → c ≡ d → left a c ≡ left b d
     same_left a b c d e f = rw (e, f) refl
 
--- after what is repeated no token stands that passes the test
+-- after what is repeated there is no token that passes the test
 module _ {S : Type 0} (test : Token → Bool) (r : S → Reader S) (shrinks : (s : S) → Shrinks (r s)) where
-  turn_stops : (n : ℕ) → ((s : S) (cut : Cut) (x : S × Cut) → size cut ≤ n → turns n test r s cut ≡ Ok x → starts test x.1 ≡ false)
+  round_stops : (n : ℕ) → ((s : S) (cut : Cut) (x : S × Cut) → size cut ≤ n → rounds n test r s cut ≡ Ok x → starts test x.1 ≡
+      false)
       → (s : S) (b : Bool) (cut : Cut) (x : S × Cut) → starts test cut ≡ b → size cut ≤ suc n
-      → cond b (and_then (r s cut) (turns n test r)) (Ok (s, cut)) ≡ Ok x → starts test x.1 ≡ false
-  turn_stops n below s false cut x is fuel e = subst (λ (y : S × Cut). starts test y.1 ≡ false) (ok_is (s, cut) x e) is
-  turn_stops n below s true cut x is fuel e =
-      let y = and_then_ok (r s cut) (turns n test r) x e in
+      → cond b (and_then (r s cut) (rounds n test r)) (Ok (s, cut)) ≡ Ok x → starts test x.1 ≡ false
+  round_stops n below s false cut x is fuel e = subst (λ (y : S × Cut). starts test y.1 ≡ false) (ok_is (s, cut) x e) is
+  round_stops n below s true cut x is fuel e =
+      let y = and_then_ok (r s cut) (rounds n test r) x e in
       below y.0.0 y.0.1 x (omega (arith, (shrinks s).less cut y.0 y.1)) y.2
 
-  turns_stop : (n : ℕ) (s : S) (cut : Cut) (x : S × Cut) → size cut ≤ n → turns n test r s cut ≡ Ok x → starts test x.1 ≡ false
+  rounds_stop : (n : ℕ) (s : S) (cut : Cut) (x : S × Cut) → size cut ≤ n → rounds n test r s cut ≡ Ok x → starts test x.1 ≡ false
   unfolding starts
-  turns_stop zero s (End line) x fuel e = subst (λ (y : S × Cut). starts test y.1 ≡ false) (ok_is (s, End line) x e) refl
-  turns_stop zero s (Fault line) x fuel e = subst (λ (y : S × Cut). starts test y.1 ≡ false) (ok_is (s, Fault line) x e) refl
-  turns_stop zero s (t ▸ cut) x fuel e = absurd (omega arith)
-  turns_stop (suc n) s cut x fuel e = turn_stops n (turns_stop n) s (starts test cut) cut x refl fuel e
+  rounds_stop zero s (End line) x fuel e = subst (λ (y : S × Cut). starts test y.1 ≡ false) (ok_is (s, End line) x e) refl
+  rounds_stop zero s (Fault line) x fuel e = subst (λ (y : S × Cut). starts test y.1 ≡ false) (ok_is (s, Fault line) x e) refl
+  rounds_stop zero s (t ▸ cut) x fuel e = absurd (omega arith)
+  rounds_stop (suc n) s cut x fuel e = round_stops n (rounds_stop n) s (starts test cut) cut x refl fuel e
 
   repeated_stops : (s : S) (cut : Cut) (x : S × Cut) → repeated test r s cut ≡ Ok x → starts test x.1 ≡ false
   unfolding repeated
-  repeated_stops s cut x e = turns_stop (size cut) s cut x (omega arith) e
+  repeated_stops s cut x e = rounds_stop (size cut) s cut x (omega arith) e
 
 symbols_stop : (symbols : List (List ℕ)) (cut : Cut) (x : List (List ℕ) × Cut) → symbols_from symbols cut ≡ Ok x
     → starts has_symbol x.1 ≡ false
@@ -245,8 +247,8 @@ symbols_adds d = record {
         spelt = subst (λ (parts : List Part). Spelt parts cut x.1) (symbols_are y.0) y.2;
         joins = y.1 ∙ symbols_joined d y.0;
         no_timing = refl;
-        before = λ behind h. h (symbols_stop d.symbols y.3 (d.symbols ++ y.0, x.1) y.4);
-        ends = λ behind none. absurd (no_first (codes "NS_") _ cut x.1 refl y.2 none);
+        before = λ following h. h (symbols_stop d.symbols y.3 (d.symbols ++ y.0, x.1) y.4);
+        ends = λ following none. absurd (no_first (codes "NS_") _ cut x.1 refl y.2 none);
       });
 }
 
@@ -260,8 +262,8 @@ nodes_adds d = record {
         spelt = subst (λ (parts : List Part). Spelt parts cut x.1) (nodes_are y.0) y.2;
         joins = y.1 ∙ nodes_joined d y.0;
         no_timing = refl;
-        before = λ behind h. tt;
-        ends = λ behind none. tt;
+        before = λ following h. tt;
+        ends = λ following none. tt;
       });
 }
 
@@ -309,11 +311,12 @@ begins_as_symbol (t ▸ cut) e =
     either_word (list_any (bytes_eq t.bytes) kept_words) (list_any (bytes_eq t.bytes) first_words) (is_symbol t.bytes ≡ true)
     (are_symbols kept_words t.bytes refl) (are_symbols first_words t.bytes refl)
     (of_four (list_any (bytes_eq t.bytes) kept_words) (bytes_eq t.bytes (codes "VAL_")) (bytes_eq t.bytes (codes "CM_"))
-    (bytes_eq t.bytes (codes "BA_")) (starts has_name (behind (t ▸ cut)))
-    (starts (has_word (codes "EV_")) (behind (t ▸ cut))) (starts has_string (behind (t ▸ cut)) && starts (has_word (codes "EV_"))
-    (behind (behind (t ▸ cut)))) (sym (kept_by_tokens (t ▸ cut)) ∙ e))
+    (bytes_eq t.bytes (codes "BA_")) (starts has_name (following (t ▸ cut)))
+    (starts (has_word (codes "EV_")) (following (t ▸ cut))) (starts has_string (following (t ▸ cut)) && starts (has_word (codes
+    "EV_"))
+    (following (following (t ▸ cut)))) (sym (kept_by_tokens (t ▸ cut)) ∙ e))
 
--- ---- a row of any kind
+-- ---- an entry of any kind
 
 record_sound : (kind : Kind) (d : Database) → Sound (record_at kind d) (λ row. form (OfKind kind row))
 record_sound Tables d = table_sound
@@ -327,25 +330,27 @@ record_sound FloatTypes d = float_sound
 record_sound Multiplexings d = mux_sound
 record_sound KeptVerbatim d = kept_sound
 
--- what is known of where a row of the kind was read
+-- what is known of the position at which an entry of the kind was read
 Begins : Kind → Cut → Type 0
 Begins KeptVerbatim cut = begins_kept cut ≡ true
 Begins kind cut = Unit {0}
 
-record_ends : (kind : Kind) (row : RecordOf kind) (cut rest : Cut) (behind : List AnyStatement) → Begins kind cut
-    → Spelt (form (OfKind kind row)) cut rest → starts has_symbol cut ≡ false → EndsSymbols (OfKind kind row ∷ behind)
+record_ends : (kind : Kind) (row : RecordOf kind) (cut rest : Cut) (following : List AnyStatement) → Begins kind cut
+    → Spelt (form (OfKind kind row)) cut rest → starts has_symbol cut ≡ false → EndsSymbols (OfKind kind row ∷ following)
 unfolding Begins table_layout table_key values_layout values_key float_key mux_layout mux_key comment_layout comment_key
     definition_layout definition_key default_layout default_key attribute_layout attribute_key word_layout items_of is_symbol
-record_ends Tables row cut rest behind begins spelt none = absurd (no_first (codes "VAL_TABLE_") _ cut rest refl spelt none)
-record_ends Messages row cut rest behind begins spelt none = tt
-record_ends Comments row cut rest behind begins spelt none = absurd (no_first (codes "CM_") _ cut rest refl spelt none)
-record_ends Definitions row cut rest behind begins spelt none = absurd (no_first (codes "BA_DEF_") _ cut rest refl spelt none)
-record_ends Defaults row cut rest behind begins spelt none = absurd (no_first (codes "BA_DEF_DEF_") _ cut rest refl spelt none)
-record_ends Attributes row cut rest behind begins spelt none = absurd (no_first (codes "BA_") _ cut rest refl spelt none)
-record_ends ValueDescriptions row cut rest behind begins spelt none = absurd (no_first (codes "VAL_") _ cut rest refl spelt none)
-record_ends FloatTypes row cut rest behind begins spelt none = absurd (no_first (codes "SIG_VALTYPE_") _ cut rest refl spelt none)
-record_ends Multiplexings row cut rest behind begins spelt none = absurd (no_first (codes "SG_MUL_VAL_") _ cut rest refl spelt none)
-record_ends KeptVerbatim row cut rest behind begins spelt none = let both : true ≡ false = sym (begins_as_symbol cut begins)
+record_ends Tables row cut rest following begins spelt none = absurd (no_first (codes "VAL_TABLE_") _ cut rest refl spelt none)
+record_ends Messages row cut rest following begins spelt none = tt
+record_ends Comments row cut rest following begins spelt none = absurd (no_first (codes "CM_") _ cut rest refl spelt none)
+record_ends Definitions row cut rest following begins spelt none = absurd (no_first (codes "BA_DEF_") _ cut rest refl spelt none)
+record_ends Defaults row cut rest following begins spelt none = absurd (no_first (codes "BA_DEF_DEF_") _ cut rest refl spelt none)
+record_ends Attributes row cut rest following begins spelt none = absurd (no_first (codes "BA_") _ cut rest refl spelt none)
+record_ends ValueDescriptions row cut rest following begins spelt none = absurd (no_first (codes "VAL_") _ cut rest refl spelt none)
+record_ends FloatTypes row cut rest following begins spelt none = absurd (no_first (codes "SIG_VALTYPE_") _ cut rest refl spelt
+    none)
+record_ends Multiplexings row cut rest following begins spelt none = absurd (no_first (codes "SG_MUL_VAL_") _ cut rest refl spelt
+    none)
+record_ends KeptVerbatim row cut rest following begins spelt none = let both : true ≡ false = sym (begins_as_symbol cut begins)
     ∙ none in
     absurd cc
 
@@ -361,8 +366,8 @@ record_adding kind d cut x begins e =
       spelt = spelt;
       joins = record_joined kind d y.0.0;
       no_timing = refl;
-      before = λ behind h. tt;
-      ends = λ behind none. record_ends kind y.0.0 cut y.0.1 behind begins spelt none;
+      before = λ following h. tt;
+      ends = λ following none. record_ends kind y.0.0 cut y.0.1 following begins spelt none;
     })
 
 row_adds : (kind : Kind) (d : Database) → ((cut : Cut) → Begins kind cut) → Adds d (record_into kind d)

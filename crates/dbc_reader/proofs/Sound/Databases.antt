@@ -16,17 +16,17 @@ use Rattle.dbc_reader.specs.Forms.{Part, Is, Unsigned, Spelled, of_layout, ◌�
 use Rattle.dbc_reader.specs.Kinds.{Kind, RecordOf, list_of, with_lists, empty_database, Tables, Messages, Comments, Definitions}
 use Rattle.dbc_reader.specs.Kinds.{Defaults, Attributes, ValueDescriptions, FloatTypes, Multiplexings, KeptVerbatim}
 use Rattle.dbc_reader.specs.Located.{SpellsFrom}
-use Rattle.dbc_reader.specs.Reading.Readers.{◌>>=◌, value, starts, end_at}
-use Rattle.dbc_reader.specs.Reading.Parts.{word_at, text_at}
-use Rattle.dbc_reader.specs.Reading.Databases.{version_at, timing_numbers_at, timing_at, database_at}
-use Rattle.dbc_reader.specs.Reading.Located.{all_located_into, timed_located_into, located_database_at}
+use Rattle.dbc_reader.specs.inner.Readers.{◌>>=◌, value, starts, end_at}
+use Rattle.dbc_reader.specs.inner.Parts.{word_at, text_at}
+use Rattle.dbc_reader.specs.inner.Databases.{version_at, timing_numbers_at, timing_at, database_at}
+use Rattle.dbc_reader.specs.inner.Located.{all_located_into, timed_located_into, located_database_at}
 use Rattle.dbc_reader.specs.Spelling.{AnyStatement, Timing, form, timing_form, ArePlaced, symbols_of, timings_of, nodes_of}
 use Rattle.dbc_reader.specs.Spelling.{records_of, timing_of, version_form, version_text, gather, Spells}
 use Rattle.dbc_reader.specs.Starts.{Located, AreLocated, start_at, no_starts, gather_starts}
 use mathlib.Core.Path.{fun_ext}
-use Rattle.dbc_reader.proofs.Turns.{and_then_ok, ok_is}
-use Rattle.dbc_reader.proofs.Turns.Statements.{timing_less}
-use Rattle.dbc_reader.proofs.Turns.Dropped.{database_drops, with_some_starts}
+use Rattle.dbc_reader.proofs.Rounds.{and_then_ok, ok_is}
+use Rattle.dbc_reader.proofs.Rounds.Statements.{timing_less}
+use Rattle.dbc_reader.proofs.Rounds.Dropped.{database_drops, with_some_starts}
 use Rattle.dbc_reader.proofs.Sound.{Spelt, spelt_none, spelled_both, all_then_twice, Sound, sound_start, sound_then, sound_value}
 use Rattle.dbc_reader.proofs.Sound.{sound_choose, sound_end}
 use Rattle.dbc_reader.proofs.Sound.Kinds.{mark_sound, word_sound, text_sound, unsigned_sound}
@@ -111,7 +111,7 @@ pub gather_timed : (version : Option (List ℕ)) (xs ys : List AnyStatement) (nu
     → flat_map timings_of xs ≡ [] → flat_map timings_of ys ≡ [] → timing_of (numbers ∷ []) ≡ timing
     → joined (record (joined (empty_database (version_text version)) xs) { bit_timing = timing }) ys
     ≡ gather version (xs ++ Timing numbers ∷ ys)
-gather_timed version xs ys numbers timing before behind is =
+gather_timed version xs ys numbers timing before following is =
     let all : List AnyStatement = Timing numbers ∷ ys in
     let d : Database = empty_database (version_text version) in
     let lists = fun_ext (λ (kind : Kind). ap (λ (l : List (RecordOf kind)). l
@@ -122,7 +122,7 @@ gather_timed version xs ys numbers timing before behind is =
       flat_map-append timings_of xs all,
       flat_map-append nodes_of xs all,
       before,
-      behind,
+      following,
       is,
     ) (ap (with_lists (record d {
       symbols = flat_map symbols_of xs ++ flat_map symbols_of ys;
@@ -136,7 +136,7 @@ record Gathered (version : Option (List ℕ)) (cut : Cut) (x : (Database × Star
   statements : List AnyStatement
   same : map (λ it. it.statement) located ≡ statements
   front : List Token
-  stands : cut ≡ (front ▸▸ x.1)
+  occurs : cut ≡ (front ▸▸ x.1)
   spelled : Spelled (flat_map form statements) front
   placed : ArePlaced statements
   one_timing : length (flat_map timings_of statements) ≤ 1
@@ -181,7 +181,7 @@ all_untimed version cut x h = record {
   statements = h.statements;
   same = h.same;
   front = h.front;
-  stands = h.stands;
+  occurs = h.occurs;
   spelled = h.spelled;
   placed = placed_alone h;
   one_timing = rw h.no_timings (omega arith);
@@ -218,7 +218,7 @@ all_timed version cut y t x h e k proper =
     timing_kept t.0 (subst (λ (timing : Option (List Decimal)). IfSome timing IsBitTiming) (ap (λ (d : Database). d.bit_timing)
     k.joins) proper) in
     let spelt = timing_sound.spelt y.1 t e in
-    let first = first_of spelt.front y.1 t.1 spelt.stands (timing_less y.1 t e) in
+    let first = first_of spelt.front y.1 t.1 spelt.occurs (timing_less y.1 t e) in
     record {
       located = h.located ++ here ∷ k.located;
       statements = h.statements ++ Timing numbers ∷ k.statements;
@@ -226,8 +226,8 @@ all_timed version cut y t x h e k proper =
           ∙ ap (λ (all : List AnyStatement). all ++ Timing numbers ∷ map (λ it. it.statement) k.located) h.same
           ∙ ap (λ (all : List AnyStatement). h.statements ++ Timing numbers ∷ all) k.same;
       front = h.front ++ (spelt.front ++ k.front);
-      stands = h.stands
-          ∙ ap (λ (c : Cut). h.front ▸▸ c) (spelt.stands ∙ ap (λ (c : Cut). spelt.front ▸▸ c) k.stands
+      occurs = h.occurs
+          ∙ ap (λ (c : Cut). h.front ▸▸ c) (spelt.occurs ∙ ap (λ (c : Cut). spelt.front ▸▸ c) k.occurs
           ∙ sym (all_then_twice spelt.front k.front x.1))
           ∙ sym (all_then_twice h.front (spelt.front ++ k.front) x.1);
       spelled = subst (λ (parts : List Part). Spelled parts (h.front ++ (spelt.front ++ k.front)))
@@ -272,7 +272,7 @@ ends_there (Fault line) x e = absurd cc
 ends_there (t ▸ cut) x e = absurd cc
 
 pub up_to : (front : List Token) (cut rest : Cut) (line : ℕ) → cut ≡ (front ▸▸ rest) → rest ≡ End line → cut ≡ (front ▸▸ End line)
-up_to front cut rest line stands end = stands ∙ ap (λ (behind : Cut). front ▸▸ behind) end
+up_to front cut rest line occurs end = occurs ∙ ap (λ (following : Cut). front ▸▸ following) end
 
 same_read : (a b : Database × Starts) (c d : Cut) → value a c ≡ Ok (b, d) → a ≡ b
 same_read a b c d e = ap (λ (x : (Database × Starts) × Cut). x.0) (ok_is (a, c) (b, d) e)
@@ -286,8 +286,8 @@ whole_spelled : (cut : Cut) (text : List ℕ × Cut) (x : (Database × Starts) �
 whole_spelled cut text x version all line end proper = (
   version.spelt.front ++ all.front,
   line,
-  up_to (version.spelt.front ++ all.front) cut x.1 line (version.spelt.stands
-      ∙ ap (λ (c : Cut). version.spelt.front ▸▸ c) all.stands
+  up_to (version.spelt.front ++ all.front) cut x.1 line (version.spelt.occurs
+      ∙ ap (λ (c : Cut). version.spelt.front ▸▸ c) all.occurs
       ∙ sym (all_then_twice version.spelt.front all.front x.1)) end,
   record {
     spells = record {

@@ -20,8 +20,8 @@ use Rattle.dbc_tokens.specs.declared.fault.Cause.TheVariants as causes
 use Rattle.dbc_tokens.specs.Tokens.{Token}
 use Rattle.dbc_reader.specs.Classes.{has_word, has_mark, where_true, bounded, there, text_of, whole_of, number_of}
 use Rattle.dbc_reader.specs.Forms.{Is, Unsigned, IsOne, IsSign, Says, SpellsNumber, signed}
-use Rattle.dbc_reader.specs.Reading.Parts.{word_at, mark_at, name_at, symbol_at, text_at, piece_at, whole_at, id_at, number_at}
-use Rattle.dbc_reader.specs.Reading.Parts.{decimal_at, int_at, names_from, symbols_from, pieces_from}
+use Rattle.dbc_reader.specs.inner.Parts.{word_at, mark_at, name_at, symbol_at, text_at, piece_at, whole_at, id_at, number_at}
+use Rattle.dbc_reader.specs.inner.Parts.{decimal_at, int_at, names_from, symbols_from, pieces_from}
 use Rattle.dbc_reader.proofs.Sound.{Sound, Reads, reads_one, reads_after, reads_as, reads_value, sound_reads, sound_choose}
 use Rattle.dbc_reader.proofs.Sound.{sound_one, grows_by_one, grows_repeated, sound_list}
 

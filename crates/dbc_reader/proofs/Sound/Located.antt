@@ -1,4 +1,4 @@
--- Where statements and signals were read to begin, their first tokens are.
+-- The first tokens of statements and signals are where these were read to begin.
 use Rattle.std.proofs.Common.{◌≡◌, ℕ, zero, suc, ◌<◌, Bool, true, false, cond, List, [], ◌∷◌, ◌++◌, map, length, Ok, refl}
 use Rattle.std.proofs.Common.{sym}
 use Rattle.std.proofs.Common.{ap, subst, ◌∙◌, append_assoc, append-nil, arith}
@@ -19,15 +19,15 @@ use Rattle.dbc_reader.specs.Kinds.{with_list}
 use Rattle.dbc_reader.specs.Spelling.{AnyStatement, Symbols, Timing, Nodes, OfKind, OfMessage, form, signal_form, EndsSymbols}
 use Rattle.dbc_reader.specs.Spelling.{ArePlaced, timings_of}
 use Rattle.dbc_reader.specs.Starts.{Located, start_of, start_at, BeginAt, SignalsBeginAt, AreLocated, caught_up}
-use Rattle.dbc_reader.specs.Reading.Readers.{and_then, value, starts, size, turns, repeated}
-use Rattle.dbc_reader.specs.Reading.Messages.{head_at, signal_at}
-use Rattle.dbc_reader.specs.Reading.Databases.{begins_statement, statement_into}
-use Rattle.dbc_reader.specs.Reading.Located.{signal_with_start, signals_with_starts, message_with_starts, message_with_starts_into}
-use Rattle.dbc_reader.specs.Reading.Located.{without_signals_into, with_signals_into, located_into, all_located_into}
-use Rattle.dbc_reader.proofs.Turns.{and_then_ok, ok_is}
-use Rattle.dbc_reader.proofs.Turns.Signals.{signals_less}
-use Rattle.dbc_reader.proofs.Turns.Statements.{statement_shrinks}
-use Rattle.dbc_reader.proofs.Turns.Dropped.{dropped, with_signals_drops}
+use Rattle.dbc_reader.specs.inner.Readers.{and_then, value, starts, size, rounds, repeated}
+use Rattle.dbc_reader.specs.inner.Messages.{head_at, signal_at}
+use Rattle.dbc_reader.specs.inner.Databases.{begins_statement, statement_into}
+use Rattle.dbc_reader.specs.inner.Located.{signal_with_start, signals_with_starts, message_with_starts, message_with_starts_into}
+use Rattle.dbc_reader.specs.inner.Located.{without_signals_into, with_signals_into, located_into, all_located_into}
+use Rattle.dbc_reader.proofs.Rounds.{and_then_ok, ok_is}
+use Rattle.dbc_reader.proofs.Rounds.Signals.{signals_less}
+use Rattle.dbc_reader.proofs.Rounds.Statements.{statement_shrinks}
+use Rattle.dbc_reader.proofs.Rounds.Dropped.{dropped, with_signals_drops}
 use Rattle.dbc_reader.proofs.Sound.{all_then_twice, spelled_both}
 use Rattle.dbc_reader.proofs.Sound.Adding.{joined, joined_none, joined_twice, record_joined, Adding, statement_adds}
 use Rattle.dbc_reader.proofs.Sound.Messages.{head_sound, signal_sound}
@@ -45,8 +45,8 @@ pub record First (front : List Token) (cut : Cut) : Type 0 where
 
 pub first_of : (front : List Token) (cut rest : Cut) → cut ≡ (front ▸▸ rest) → size rest < size cut → First front cut
 unfolding start_at
-first_of [] cut rest stands less = let same : size cut ≡ size rest = ap size stands in absurd (omega (arith, less, same))
-first_of (t ∷ front) cut rest stands less = record { first = t; others = front; parts = refl; begins = ap start_at stands }
+first_of [] cut rest occurs less = let same : size cut ≡ size rest = ap size occurs in absurd (omega (arith, less, same))
+first_of (t ∷ front) cut rest occurs less = record { first = t; others = front; parts = refl; begins = ap start_at occurs }
 
 -- ---- items of one form
 
@@ -79,7 +79,7 @@ record SignalsFrom (s : List Signal × List Start) (cut : Cut) (x : (List Signal
   more : List Signal
   added : List Start
   front : List Token
-  stands : cut ≡ (front ▸▸ x.1)
+  occurs : cut ≡ (front ▸▸ x.1)
   signals : x.0.0 ≡ s.0 ++ more
   found : x.0.1 ≡ s.1 ++ added
   begin : BeginAt signal_form more front added
@@ -89,7 +89,7 @@ no_signals_from s cut = record {
   more = [];
   added = [];
   front = [];
-  stands = refl;
+  occurs = refl;
   signals = sym (append-nil s.0);
   found = sym (append-nil s.1);
   begin = (refl, refl);
@@ -100,12 +100,12 @@ signal_more : (s : List Signal × List Start) (cut : Cut) (signal : Signal) (mid
     → SignalsFrom (s.0 ++ signal ∷ [], s.1 ++ start_at cut ∷ []) middle x → SignalsFrom s cut x
 signal_more s cut signal middle x e rest =
     let spelt = (signal_sound s.0).spelt cut (signal, middle) e in
-    let first = first_of spelt.front cut middle spelt.stands (signals_less s.0 signal cut middle e) in
+    let first = first_of spelt.front cut middle spelt.occurs (signals_less s.0 signal cut middle e) in
     record {
       more = signal ∷ rest.more;
       added = start_at cut ∷ rest.added;
       front = spelt.front ++ rest.front;
-      stands = spelt.stands ∙ ap (λ (c : Cut). spelt.front ▸▸ c) rest.stands ∙ sym (all_then_twice spelt.front rest.front x.1);
+      occurs = spelt.occurs ∙ ap (λ (c : Cut). spelt.front ▸▸ c) rest.occurs ∙ sym (all_then_twice spelt.front rest.front x.1);
       signals = rest.signals ∙ append_assoc s.0 (signal ∷ []) rest.more;
       found = rest.found ∙ append_assoc s.1 (start_at cut ∷ []) rest.added;
       begin = begin_more signal_form signal rest.more spelt.front rest.front cut rest.added first spelt.spelled rest.begin;
@@ -120,33 +120,33 @@ signal_parts s cut x e =
     × (w.0 ≡ (s.0 ++ signal ∷ [], s.1 ++ start_at cut ∷ [])))
     (ok_is ((s.0 ++ y.0.0 ∷ [], s.1 ++ start_at cut ∷ []), y.0.1) x y.2) (y.0.0, y.1, refl)
 
-turn_signals : (n : ℕ) → ((s : List Signal × List Start) (cut : Cut) (x : (List Signal × List Start) × Cut)
-    → turns n (has_word (codes "SG_")) signal_with_start s cut ≡ Ok x → SignalsFrom s cut x)
+round_signals : (n : ℕ) → ((s : List Signal × List Start) (cut : Cut) (x : (List Signal × List Start) × Cut)
+    → rounds n (has_word (codes "SG_")) signal_with_start s cut ≡ Ok x → SignalsFrom s cut x)
     → (s : List Signal × List Start) (b : Bool) (cut : Cut) (x : (List Signal × List Start) × Cut)
-    → cond b (and_then (signal_with_start s cut) (turns n (has_word (codes "SG_")) signal_with_start)) (Ok (s, cut)) ≡ Ok x
+    → cond b (and_then (signal_with_start s cut) (rounds n (has_word (codes "SG_")) signal_with_start)) (Ok (s, cut)) ≡ Ok x
     → SignalsFrom s cut x
-turn_signals n below s false cut x e =
+round_signals n below s false cut x e =
     subst (λ (y : (List Signal × List Start) × Cut). SignalsFrom s cut y) (ok_is (s, cut) x e) (no_signals_from s cut)
-turn_signals n below s true cut x e =
-    let y = and_then_ok (signal_with_start s cut) (turns n (has_word (codes "SG_")) signal_with_start) x e in
+round_signals n below s true cut x e =
+    let y = and_then_ok (signal_with_start s cut) (rounds n (has_word (codes "SG_")) signal_with_start) x e in
     let parts = signal_parts s cut y.0 y.1 in
     signal_more s cut parts.0 y.0.1 x parts.1
     (subst (λ (w : List Signal × List Start). SignalsFrom w y.0.1 x) parts.2 (below y.0.0 y.0.1 x y.2))
 
-turns_signals : (n : ℕ) (s : List Signal × List Start) (cut : Cut) (x : (List Signal × List Start) × Cut)
-    → turns n (has_word (codes "SG_")) signal_with_start s cut ≡ Ok x → SignalsFrom s cut x
-turns_signals zero s cut x e =
+rounds_signals : (n : ℕ) (s : List Signal × List Start) (cut : Cut) (x : (List Signal × List Start) × Cut)
+    → rounds n (has_word (codes "SG_")) signal_with_start s cut ≡ Ok x → SignalsFrom s cut x
+rounds_signals zero s cut x e =
     subst (λ (y : (List Signal × List Start) × Cut). SignalsFrom s cut y) (ok_is (s, cut) x e) (no_signals_from s cut)
-turns_signals (suc n) s cut x e = turn_signals n (turns_signals n) s (starts (has_word (codes "SG_")) cut) cut x e
+rounds_signals (suc n) s cut x e = round_signals n (rounds_signals n) s (starts (has_word (codes "SG_")) cut) cut x e
 
 all_signals : (s : List Signal × List Start) (cut : Cut) (x : (List Signal × List Start) × Cut) → signals_with_starts s cut ≡ Ok x
     → SignalsFrom s cut x
 unfolding signals_with_starts repeated
-all_signals s cut x e = turns_signals (size cut) s cut x e
+all_signals s cut x e = rounds_signals (size cut) s cut x e
 
 -- ---- one statement
 
--- a statement was read that a database is joined by, and where its signals begin
+-- a statement was read and joined to a database, and where its signals begin
 record Finds (s : Database × Starts) (cut : Cut) (x : (Database × Starts) × Cut) : Type 0 where
   adding : Adding s.0 cut (x.0.0, x.1)
   signals : List Start
@@ -158,7 +158,7 @@ record FindsMessage (before : List Start) (cut : Cut) (x : (Message × List Star
   head : List Token
   signals : List Token
   added : List Start
-  stands : cut ≡ ((head ++ signals) ▸▸ x.1)
+  occurs : cut ≡ ((head ++ signals) ▸▸ x.1)
   spelled : Spelled (of_layout (head_layout x.0.0.head)) head
   begin : BeginAt signal_form x.0.0.signals signals added
   found : x.0.1 ≡ before ++ added
@@ -176,7 +176,7 @@ message_found count before cut x e =
       head = head.front;
       signals = all.front;
       added = all.added;
-      stands = head.stands ∙ ap (λ (c : Cut). head.front ▸▸ c) all.stands ∙ sym (all_then_twice head.front all.front g.0.1);
+      occurs = head.occurs ∙ ap (λ (c : Cut). head.front ▸▸ c) all.occurs ∙ sym (all_then_twice head.front all.front g.0.1);
       spelled = head.spelled;
       begin = subst (λ (signals : List Signal). BeginAt signal_form signals all.front all.added) (sym all.signals) all.begin;
       found = all.found;
@@ -195,14 +195,14 @@ message_finds s cut x e =
         statement = OfMessage message;
         spelt = record {
           front = here.head ++ here.signals;
-          stands = here.stands;
+          occurs = here.occurs;
           spelled = spelled_both (of_layout (head_layout message.head)) (flat_map signal_form message.signals) here.head
               here.signals here.spelled (begin_spelled signal_form message.signals here.signals here.added here.begin);
         };
         joins = record_joined Messages s.0 message;
         no_timing = refl;
-        before = λ behind h. tt;
-        ends = λ behind none. tt;
+        before = λ following h. tt;
+        ends = λ following none. tt;
       };
       signals = here.added;
       begin = (here.head, here.signals, refl, here.spelled, here.begin);
@@ -214,18 +214,18 @@ has_no_signals : (statement : AnyStatement) (front : List Token) (cut rest : Cut
     → Spelled (form statement) front
     → starts (has_word (codes "BO_")) cut ≡ false → SignalsBeginAt statement front []
 unfolding head_layout items_of starts has_word
-has_no_signals (Symbols symbols) front cut rest stands spelled none = refl
-has_no_signals (Timing numbers) front cut rest stands spelled none = refl
-has_no_signals (Nodes nodes) front cut rest stands spelled none = refl
-has_no_signals (OfKind Messages message) front cut rest stands spelled none =
+has_no_signals (Symbols symbols) front cut rest occurs spelled none = refl
+has_no_signals (Timing numbers) front cut rest occurs spelled none = refl
+has_no_signals (Nodes nodes) front cut rest occurs spelled none = refl
+has_no_signals (OfKind Messages message) front cut rest occurs spelled none =
     let token = spelled.3 in
     let first : front ≡ token.0 ∷ spelled.1 = spelled.2 ∙ ap (λ (tokens : List Token). tokens ++ spelled.1) token.1 in
     let test : starts (has_word (codes "BO_")) cut ≡ true =
-    ap (starts (has_word (codes "BO_"))) (stands ∙ ap (λ (tokens : List Token). tokens ▸▸ rest) first)
+    ap (starts (has_word (codes "BO_"))) (occurs ∙ ap (λ (tokens : List Token). tokens ▸▸ rest) first)
     ∙ (bytes_eq-Decides token.0.bytes (codes "BO_")).1 token.2 in
     let both : true ≡ false = sym test ∙ none in
     absurd cc
-has_no_signals (OfKind kind row) front cut rest stands spelled none = refl
+has_no_signals (OfKind kind row) front cut rest occurs spelled none = refl
 
 without_finds : (s : Database × Starts) (cut : Cut) (x : (Database × Starts) × Cut) → starts (has_word (codes "BO_")) cut ≡ false
     → without_signals_into s cut ≡ Ok x → Finds s cut x
@@ -236,7 +236,7 @@ without_finds s cut x none e =
     subst (λ (w : (Database × Starts) × Cut). Finds s cut w) (ok_is ((y.0.0, s.1), y.0.1) x y.2) (record {
       adding = adding;
       signals = [];
-      begin = has_no_signals adding.statement adding.spelt.front cut y.0.1 adding.spelt.stands adding.spelt.spelled none;
+      begin = has_no_signals adding.statement adding.spelt.front cut y.0.1 adding.spelt.occurs adding.spelt.spelled none;
       found = ap (λ (list : List Start). record s.1 { signals = list }) (sym (append-nil s.1.signals));
     })
 
@@ -252,21 +252,21 @@ with_signals_finds s cut x e = by_test (starts (has_word (codes "BO_")) cut) ref
 
 -- ---- many statements
 
--- Statements were read that a database is joined by, and where they begin; what may follow them, and when they end a list of
--- symbols.
+-- Statements were read and joined to a database, and where they begin; what may follow them, and when they end a list of symbols.
 pub record Joins (s : Database × Starts) (cut : Cut) (x : (Database × Starts) × Cut) : Type 0 where
   pub located : List Located
   pub statements : List AnyStatement
   pub same : map (λ it. it.statement) located ≡ statements
   pub front : List Token
-  pub stands : cut ≡ (front ▸▸ x.1)
+  pub occurs : cut ≡ (front ▸▸ x.1)
   pub spelled : Spelled (flat_map form statements) front
   pub joins : x.0.0 ≡ joined s.0 statements
   pub no_timings : flat_map timings_of statements ≡ []
-  pub placed : (behind : List AnyStatement) → (starts has_symbol x.1 ≡ false → EndsSymbols behind) → ArePlaced behind
-      → ArePlaced (statements ++ behind)
-  pub ends : (behind : List AnyStatement) → (starts has_symbol x.1 ≡ false → EndsSymbols behind) → starts has_symbol cut ≡ false
-      → EndsSymbols (statements ++ behind)
+  pub placed : (following : List AnyStatement) → (starts has_symbol x.1 ≡ false → EndsSymbols following) → ArePlaced following
+      → ArePlaced (statements ++ following)
+  pub ends : (following : List AnyStatement) → (starts has_symbol x.1 ≡ false → EndsSymbols following) → starts has_symbol cut ≡
+      false
+      → EndsSymbols (statements ++ following)
   pub begin : AreLocated located front
   pub found : x.0.1 ≡ joined_starts s.1 located
   pub matched : AreMatched x.0.0 x.0.1
@@ -277,12 +277,12 @@ joins_none s cut matched = record {
   statements = [];
   same = refl;
   front = [];
-  stands = refl;
+  occurs = refl;
   spelled = refl;
   joins = sym (joined_none s.0);
   no_timings = refl;
-  placed = λ behind ends placed. placed;
-  ends = λ behind ends none. ends none;
+  placed = λ following ends placed. placed;
+  ends = λ following ends none. ends none;
   begin = refl;
   found = sym (joined_starts_none s.1);
   matched = matched;
@@ -312,23 +312,23 @@ joins_more : (s : Database × Starts) (cut : Cut) (y x : (Database × Starts) ×
 joins_more s cut y x h less rest =
     let adding = h.adding in
     let front = adding.spelt.front in
-    let first = first_of front cut y.1 adding.spelt.stands less in
+    let first = first_of front cut y.1 adding.spelt.occurs less in
     record {
       located = one s cut y h ∷ rest.located;
       statements = adding.statement ∷ rest.statements;
       same = ap (λ (statements : List AnyStatement). adding.statement ∷ statements) rest.same;
       front = front ++ rest.front;
-      stands = adding.spelt.stands ∙ ap (λ (c : Cut). front ▸▸ c) rest.stands ∙ sym (all_then_twice front rest.front x.1);
+      occurs = adding.spelt.occurs ∙ ap (λ (c : Cut). front ▸▸ c) rest.occurs ∙ sym (all_then_twice front rest.front x.1);
       spelled = spelled_both (form adding.statement) (flat_map form rest.statements) front rest.front adding.spelt.spelled
           rest.spelled;
       joins = rest.joins ∙ ap (λ (e : Database). joined e rest.statements) adding.joins
           ∙ joined_twice s.0 (adding.statement ∷ []) rest.statements;
       no_timings = rw (adding.no_timing, rest.no_timings) refl;
-      placed = λ behind ends placed. (
-        adding.before (rest.statements ++ behind) (rest.ends behind ends),
-        rest.placed behind ends placed,
+      placed = λ following ends placed. (
+        adding.before (rest.statements ++ following) (rest.ends following ends),
+        rest.placed following ends placed,
       );
-      ends = λ behind ends none. adding.ends (rest.statements ++ behind) none;
+      ends = λ following ends none. adding.ends (rest.statements ++ following) none;
       begin = located_more (one s cut y h) rest.located front rest.front cut first adding.spelt.spelled refl h.begin rest.begin;
       found = rest.found ∙ joined_starts_twice s.1 (one s cut y h ∷ []) rest.located;
       matched = rest.matched;
@@ -373,28 +373,28 @@ parts_of s cut x matched e =
       matched = subst (λ (w : (Database × Starts) × Cut). AreMatched w.0.0 w.0.1) made (matched_here s cut y.0 finds matched);
     }
 
-turn_joins : (n : ℕ) → ((s : Database × Starts) (cut : Cut) (x : (Database × Starts) × Cut) → AreMatched s.0 s.1
-    → turns n begins_statement located_into s cut ≡ Ok x → Joins s cut x)
+round_joins : (n : ℕ) → ((s : Database × Starts) (cut : Cut) (x : (Database × Starts) × Cut) → AreMatched s.0 s.1
+    → rounds n begins_statement located_into s cut ≡ Ok x → Joins s cut x)
     → (s : Database × Starts) (b : Bool) (cut : Cut) (x : (Database × Starts) × Cut) → AreMatched s.0 s.1
-    → cond b (and_then (located_into s cut) (turns n begins_statement located_into)) (Ok (s, cut)) ≡ Ok x → Joins s cut x
-turn_joins n below s false cut x matched e =
+    → cond b (and_then (located_into s cut) (rounds n begins_statement located_into)) (Ok (s, cut)) ≡ Ok x → Joins s cut x
+round_joins n below s false cut x matched e =
     subst (λ (y : (Database × Starts) × Cut). Joins s cut y) (ok_is (s, cut) x e) (joins_none s cut matched)
-turn_joins n below s true cut x matched e =
-    let z = and_then_ok (located_into s cut) (turns n begins_statement located_into) x e in
+round_joins n below s true cut x matched e =
+    let z = and_then_ok (located_into s cut) (rounds n begins_statement located_into) x e in
     let parts = parts_of s cut z.0 matched z.1 in
     joins_more s cut parts.y x parts.finds parts.less
     (subst (λ (w : (Database × Starts)). Joins w parts.y.1 x) parts.is
     (subst (λ (c : Cut). Joins z.0.0 c x) (sym parts.rest) (below z.0.0 z.0.1 x parts.matched z.2)))
 
-turns_join : (n : ℕ) (s : Database × Starts) (cut : Cut) (x : (Database × Starts) × Cut) → AreMatched s.0 s.1
-    → turns n begins_statement located_into s cut ≡ Ok x → Joins s cut x
-turns_join zero s cut x matched e =
+rounds_join : (n : ℕ) (s : Database × Starts) (cut : Cut) (x : (Database × Starts) × Cut) → AreMatched s.0 s.1
+    → rounds n begins_statement located_into s cut ≡ Ok x → Joins s cut x
+rounds_join zero s cut x matched e =
     subst (λ (y : (Database × Starts) × Cut). Joins s cut y) (ok_is (s, cut) x e) (joins_none s cut matched)
-turns_join (suc n) s cut x matched e = turn_joins n (turns_join n) s (starts begins_statement cut) cut x matched e
+rounds_join (suc n) s cut x matched e = round_joins n (rounds_join n) s (starts begins_statement cut) cut x matched e
 
 -- what many statements that were read are
 pub all_join : (s : Database × Starts) (cut : Cut) (x : (Database × Starts) × Cut) → AreMatched s.0 s.1 → all_located_into s cut
     ≡ Ok x
     → Joins s cut x
 unfolding all_located_into repeated
-all_join s cut x matched e = turns_join (size cut) s cut x matched e
+all_join s cut x matched e = rounds_join (size cut) s cut x matched e

@@ -7,21 +7,20 @@ use Rattle.std.specs.Str.{bytes_eq}
 use Rattle.std.proofs.lemmas.Slice.Eq.{bytes_eq-Decides}
 use Rattle.dbc_values.specs.Lexical.{is_name}
 use Rattle.dbc_values.specs.Decimals.{Decimal}
-use Rattle.dbc_records.specs.Records.{Signal, names_of}
+use Rattle.dbc_records.specs.Records.{Signal, names_of, is_intel, is_signed}
 use Rattle.dbc_records.specs.Layout.{Word, Mark, Name, Text, Whole, Number, Order, Layout, items_of}
-use Rattle.dbc_records.specs.CanonicalText.{head_layout, signal_name_layout, tag_layout, sign_mark, place_layout, pair_layout}
+use Rattle.dbc_records.specs.CanonicalText.{head_layout, signal_name_layout, tag_layout, sign_mark, bit_field_layout, pair_layout}
 use Rattle.dbc_records.specs.CanonicalText.{spaced_mark, number_layout, mark_layout, scale_layout, limits_layout, spaced_text}
 use Rattle.dbc_tokens.specs.declared.fault.Cause.{Cause}
 use Rattle.dbc_tokens.specs.declared.fault.Cause.TheVariants as causes
-use Rattle.dbc_reader.specs.declared.messages.Place.{Place}
 use Rattle.dbc_tokens.specs.Tokens.{Token}
 use Rattle.dbc_reader.specs.Classes.{has_word}
 use Rattle.dbc_reader.specs.Forms.{Part, Is, Perhaps, of_layout}
 use Rattle.dbc_reader.specs.Spelling.{receivers_form, signal_form, form, OfMessage}
-use Rattle.dbc_reader.specs.Reading.Readers.{◌>>=◌}
-use Rattle.dbc_reader.specs.Reading.Parts.{name_at, pair_at, comma_at, receivers_from, receivers_at}
-use Rattle.dbc_reader.specs.Reading.Messages.{begun, begin_message_at, head_at, begin_signal_at, fresh, signal_name_at, tag_at}
-use Rattle.dbc_reader.specs.Reading.Messages.{sign_at, place_at, signal_at, signals_from, message_at}
+use Rattle.dbc_reader.specs.inner.Readers.{◌>>=◌}
+use Rattle.dbc_reader.specs.inner.Parts.{name_at, pair_at, comma_at, receivers_from, receivers_at}
+use Rattle.dbc_reader.specs.inner.Messages.{begun, begin_message_at, head_at, begin_signal_at, fresh, signal_name_at, tag_at}
+use Rattle.dbc_reader.specs.inner.Messages.{sign_at, bit_field_at, signal_at, signals_from, message_at}
 use Rattle.dbc_reader.proofs.Sound.{Sound, sound_one, sound_then, sound_value, sound_start, sound_choose, sound_end, sound_same}
 use Rattle.dbc_reader.proofs.Sound.{sound_list, first_and, sound_first, grows_repeated, grows_after, grows_in_view}
 use Rattle.dbc_reader.proofs.Sound.Kinds.{mark_sound, name_sound, text_sound, whole_sound, id_sound, decimal_sound}
@@ -82,21 +81,22 @@ tag_sound = sound_choose _ (sound_start (sound_value refl)) tag_token_sound
 abbrev pub sign_form : Bool → List Part
 sign_form signed = Is (Mark (sign_mark signed)) ∷ []
 
-sign_sound : Sound sign_at sign_form
+sign_sound : Sound sign_at (λ value_type. sign_form (is_signed value_type))
 unfolding sign_at
 sign_sound = sound_choose _ (sound_start (sound_then (mark_sound 45) λ _. sound_value refl))
     (sound_start (sound_then (mark_sound 43) λ _. sound_value refl))
 
-abbrev pub place_form : Place → List Part
-place_form place = Is (Whole place.start) ∷ Is (Mark 124) ∷ Is (Whole place.length) ∷ Is (Mark 64) ∷ Is (Order place.intel)
-    ∷ Is (Mark (sign_mark place.signed)) ∷ []
+abbrev pub bit_field_form : ℕ → ℕ → Bool → Bool → List Part
+bit_field_form start length intel signed = Is (Whole start) ∷ Is (Mark 124) ∷ Is (Whole length) ∷ Is (Mark 64) ∷ Is (Order intel)
+    ∷ Is (Mark (sign_mark signed)) ∷ []
 
-place_sound : Sound place_at place_form
-unfolding place_at
-place_sound =
+bit_field_sound : Sound bit_field_at (λ bit_field. bit_field_form bit_field.start bit_field.length (is_intel bit_field.order)
+    (is_signed bit_field.value_type))
+unfolding bit_field_at
+bit_field_sound =
     sound_start (sound_then (whole_sound 0 65535) λ start. sound_then (mark_sound 124) λ _. sound_then (whole_sound 1 14280)
     λ length. sound_then (mark_sound 64) λ _.
-    sound_then order_sound λ intel. sound_then sign_sound λ signed. sound_value refl)
+    sound_then order_sound λ order. sound_then sign_sound λ value_type. sound_value refl)
 
 abbrev pub pair_form : ℕ → ℕ → ℕ → Decimal × Decimal → List Part
 pair_form opening between closing pair = Is (Mark opening) ∷ Is (Number pair.0) ∷ Is (Mark between) ∷ Is (Number pair.1)
@@ -144,18 +144,19 @@ six a b c d e f g = ap (λ (parts : List Part). parts ++ g) (append_assoc (((a +
 
 pub signal_form_is : (s : Signal) → signal_form s
     ≡ ((((((Is (Word (codes "SG_")) ∷ Is (Name s.name) ∷ of_layout (tag_layout s.tag)) ++ Is (Mark 58) ∷ [])
-    ++ place_form (record { start = s.start; length = s.length; intel = s.intel; signed = s.signed }))
+    ++ bit_field_form s.start s.length s.intel s.signed)
     ++ pair_form 40 44 41 (s.factor, s.offset)) ++ pair_form 91 124 93 (s.minimum, s.maximum)) ++ Is (Text s.unit) ∷ [])
     ++ receivers_form s.receivers
-unfolding signal_name_layout place_layout scale_layout limits_layout pair_layout spaced_mark number_layout mark_layout spaced_text
+unfolding signal_name_layout bit_field_layout scale_layout limits_layout pair_layout spaced_mark number_layout mark_layout
+    spaced_text
     items_of
 signal_form_is s =
-    let behind : Layout = place_layout s ++ (scale_layout s ++ (limits_layout s ++ spaced_text s.unit)) in
+    let following : Layout = bit_field_layout s ++ (scale_layout s ++ (limits_layout s ++ spaced_text s.unit)) in
     ap (λ (parts : List Part). parts ++ receivers_form s.receivers)
-    (of_layout-append (signal_name_layout s) (tag_layout s.tag ++ behind) ∙ ap (λ (parts : List Part). Is (Word (codes "SG_"))
-    ∷ Is (Name s.name) ∷ parts) (of_layout-append (tag_layout s.tag) behind))
+    (of_layout-append (signal_name_layout s) (tag_layout s.tag ++ following) ∙ ap (λ (parts : List Part). Is (Word (codes "SG_"))
+    ∷ Is (Name s.name) ∷ parts) (of_layout-append (tag_layout s.tag) following))
     ∙ sym (six (Is (Word (codes "SG_")) ∷ Is (Name s.name) ∷ of_layout (tag_layout s.tag)) (Is (Mark 58) ∷ [])
-    (place_form (record { start = s.start; length = s.length; intel = s.intel; signed = s.signed }))
+    (bit_field_form s.start s.length s.intel s.signed)
     (pair_form 40 44 41 (s.factor, s.offset)) (pair_form 91 124 93 (s.minimum, s.maximum)) (Is (Text s.unit) ∷ [])
     (receivers_form s.receivers))
 
@@ -164,15 +165,16 @@ unfolding signal_at
 signal_sound signals =
     sound_start (sound_then (begin_signal_sound (length signals)) λ _. sound_then (signal_name_sound (names_of signals)) λ name.
     sound_then tag_sound λ tag. sound_then (mark_sound 58) λ _.
-    sound_then place_sound λ place. sound_then (pair_sound 40 44 41) λ scale. sound_then (pair_sound 91 124 93) λ limits. sound_then
+    sound_then bit_field_sound λ bit_field. sound_then (pair_sound 40 44 41) λ scale. sound_then (pair_sound 91 124 93) λ limits.
+    sound_then
     text_sound λ unit. sound_then receivers_sound λ receivers.
     sound_value (signal_form_is (record {
       name = name;
       tag = tag;
-      start = place.start;
-      length = place.length;
-      intel = place.intel;
-      signed = place.signed;
+      start = bit_field.start;
+      length = bit_field.length;
+      intel = is_intel bit_field.order;
+      signed = is_signed bit_field.value_type;
       factor = scale.0;
       offset = scale.1;
       minimum = limits.0;

@@ -12,11 +12,11 @@ use Rattle.dbc_records.specs.CanonicalText.{definition_layout, value_layout, def
 use Rattle.dbc_records.specs.CanonicalText.{attribute_layout}
 use Rattle.dbc_reader.specs.Forms.{Part, Is, of_layout}
 use Rattle.dbc_reader.specs.Spelling.{form, OfComment, Definition, Default, Attribute}
-use Rattle.dbc_reader.specs.Reading.Readers.{◌>>=◌}
-use Rattle.dbc_reader.specs.Reading.Parts.{mark_at, text_at, texts_from}
-use Rattle.dbc_reader.specs.Reading.Attributes.{node_target_at, message_target_at, signal_target_at, target_at, comment_at}
-use Rattle.dbc_reader.specs.Reading.Attributes.{object_at, limits_at, string_form_at, enumeration_at, form_at, definition_at}
-use Rattle.dbc_reader.specs.Reading.Attributes.{value_at, default_at, attribute_at}
+use Rattle.dbc_reader.specs.inner.Readers.{◌>>=◌}
+use Rattle.dbc_reader.specs.inner.Parts.{mark_at, text_at, texts_from}
+use Rattle.dbc_reader.specs.inner.Attributes.{node_target_at, message_target_at, signal_target_at, target_at, comment_at}
+use Rattle.dbc_reader.specs.inner.Attributes.{object_at, limits_at, string_form_at, enumeration_at, form_at, definition_at}
+use Rattle.dbc_reader.specs.inner.Attributes.{value_at, default_at, attribute_at}
 use Rattle.dbc_reader.proofs.Sound.{Sound, sound_then, sound_value, sound_start, sound_choose, grows_repeated, first_and}
 use Rattle.dbc_reader.proofs.Sound.{sound_first, sound_both, sound_end, grows_after}
 use Rattle.dbc_reader.proofs.Sound.Kinds.{word_sound, mark_sound, name_sound, text_sound, id_sound, decimal_sound}

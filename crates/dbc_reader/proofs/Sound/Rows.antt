@@ -1,4 +1,4 @@
--- What the readers of rows read is spelled by their forms.
+-- What the readers of entries read is spelled by their forms.
 use Rattle.std.proofs.Common.{◌≡◌, ℕ, Bool, ◌^◌, ◌-◌, List, [], ◌∷◌, ◌++◌, map, refl, ap, subst, ◌∙◌, inl, inr}
 use Rattle.std.specs.Prelude.{codes}
 use Rattle.std.specs.List.{flat_map}
@@ -13,10 +13,10 @@ use Rattle.dbc_records.specs.CanonicalText.{further_range, ranges_layout, mux_ke
 use Rattle.dbc_tokens.specs.Tokens.{Token, Cut}
 use Rattle.dbc_reader.specs.Forms.{Part, Is, Perhaps, SaysPart, of_layout}
 use Rattle.dbc_reader.specs.Spelling.{form, Table, Values, Float, Mux}
-use Rattle.dbc_reader.specs.Reading.Readers.{Reader, ◌>>=◌, value, choose}
-use Rattle.dbc_reader.specs.Reading.Parts.{mark_at, entry_at, entries_from}
-use Rattle.dbc_reader.specs.Reading.Tables.{table_at, values_at, colon_at, float_at, range_at, ranges_from, ranges_at, mux_at}
-use Rattle.dbc_reader.proofs.Turns.{ok_is}
+use Rattle.dbc_reader.specs.inner.Readers.{Reader, ◌>>=◌, value, choose}
+use Rattle.dbc_reader.specs.inner.Parts.{mark_at, entry_at, entries_from}
+use Rattle.dbc_reader.specs.inner.Tables.{table_at, values_at, colon_at, float_at, range_at, ranges_from, ranges_at, mux_at}
+use Rattle.dbc_reader.proofs.Rounds.{ok_is}
 use Rattle.dbc_reader.proofs.Sound.{Spelt, Sound, sound_then, sound_value, sound_start, sound_choose, grows_by_one, grows_repeated}
 use Rattle.dbc_reader.proofs.Sound.{sound_list, first_and, sound_first, sound_end, grows_after}
 use Rattle.dbc_reader.proofs.Sound.Kinds.{word_sound, mark_sound, name_sound, text_sound, whole_sound, id_sound, int_sound}
@@ -91,7 +91,7 @@ values_sound =
 
 pub perhaps_mark : (test : Token → Bool) (mark : ℕ) {r : Reader (Unit {0})} → Sound r (λ _. Is (Mark mark) ∷ [])
     → Sound (choose test r (value tt)) (λ _. Perhaps mark ∷ [])
-perhaps_mark test mark {r} h = sound_choose test (sound_other (λ tokens says. inr says) h) sound_missing
+perhaps_mark test mark {r} h = sound_choose test (sound_other (λ tokens means. inr means) h) sound_missing
   where
     sound_other : ((tokens : List Token) → SaysPart (Is (Mark mark)) tokens → SaysPart (Perhaps mark) tokens)
         → Sound r (λ _. Is (Mark mark) ∷ []) → Sound r (λ _. Perhaps mark ∷ [])
@@ -99,7 +99,7 @@ perhaps_mark test mark {r} h = sound_choose test (sound_other (λ tokens says. i
       spelt = λ cut x e. (let y = h.spelt cut x e in
           record {
             front = y.front;
-            stands = y.stands;
+            occurs = y.occurs;
             spelled = (
               y.spelled.0,
               y.spelled.1,
@@ -113,7 +113,7 @@ perhaps_mark test mark {r} h = sound_choose test (sound_other (λ tokens says. i
     sound_missing : Sound (value (tt {0})) (λ _. Perhaps mark ∷ [])
     sound_missing = record {
       spelt = λ cut x e. subst (λ (y : Unit {0} × Cut). Spelt (Perhaps mark ∷ []) cut y.1)
-          (ok_is (tt, cut) x e) (record { front = []; stands = refl; spelled = ([], [], refl, inl refl, refl) });
+          (ok_is (tt, cut) x e) (record { front = []; occurs = refl; spelled = ([], [], refl, inl refl, refl) });
     }
 
 colon_sound : Sound colon_at (λ _. Perhaps 58 ∷ [])

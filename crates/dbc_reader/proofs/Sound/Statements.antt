@@ -6,17 +6,17 @@ use Rattle.dbc_records.specs.CanonicalText.{target_layout}
 use Rattle.dbc_reader.specs.declared.statement.Statement.{Statement}
 use Rattle.dbc_tokens.specs.Tokens.{Token, Cut, End}
 use Rattle.dbc_reader.specs.Forms.{Spelled, of_layout, ◌▸▸◌}
-use Rattle.dbc_reader.specs.Reading.Readers.{value, end_at}
-use Rattle.dbc_reader.specs.Reading.Attributes.{message_target_at}
-use Rattle.dbc_reader.specs.Reading.Databases.{message_attribute_at, standalone_statement_at, statement_at}
+use Rattle.dbc_reader.specs.inner.Readers.{value, end_at}
+use Rattle.dbc_reader.specs.inner.Attributes.{message_target_at}
+use Rattle.dbc_reader.specs.inner.Databases.{message_attribute_at, standalone_statement_at, statement_at}
 use Rattle.dbc_reader.specs.Spelling.{form, Attribute, form_alone, IsStatement, SpellsStatement}
-use Rattle.dbc_reader.proofs.Turns.{and_then_ok}
+use Rattle.dbc_reader.proofs.Rounds.{and_then_ok}
 use Rattle.dbc_reader.proofs.Sound.Kinds.{word_sound, mark_sound, text_sound, id_sound}
 use Rattle.dbc_reader.proofs.Sound.Rows.{table_sound, values_sound, mux_sound}
 use Rattle.dbc_reader.proofs.Sound.Notes.{given_sound, attribute_form}
 use Rattle.dbc_reader.proofs.Sound.Messages.{head_sound, signal_sound}
 use Rattle.dbc_reader.proofs.Sound.Databases.{ends_there, up_to}
-use Rattle.dbc_reader.proofs.Turns.{ok_is}
+use Rattle.dbc_reader.proofs.Rounds.{ok_is}
 use Rattle.dbc_reader.proofs.Sound.{Sound, sound_start, sound_then, sound_value, sound_choose}
 
 -- ---- an attribute of a message
@@ -57,7 +57,7 @@ statement_sound cut s rest e proper =
     let spelt = one_of_six_sound.spelt cut a.0 a.1 in (
       spelt.front,
       end.0,
-      up_to spelt.front cut a.0.1 end.0 spelt.stands end.1,
+      up_to spelt.front cut a.0.1 end.0 spelt.occurs end.1,
       record {
         spelled = subst (λ (statement : Statement). Spelled (form_alone statement) spelt.front)
             (same_statement a.0.0 s b.0.1 rest b.2) spelt.spelled;

@@ -1,4 +1,4 @@
--- Digits alone are the whole number that they write, and what is read as a tag or as a byte order is spelled so.
+-- Digits alone are the whole number that they write, and what is read as a multiplexer indicator or as a byte order is spelled so.
 use Rattle.std.proofs.Common.{◌≡◌, ℕ, ◌*◌, ◌-◌, ◌^◌, ℤ, pos, ◌-ℤ◌, Bool, true, false, cond, ◌&&◌, List, [], ◌∷◌, ◌++◌, length}
 use Rattle.std.proofs.Common.{Option, Some, None, Result, Ok, Err, refl, sym, ap, subst, ◌∙◌, append-nil, arith}
 use Rattle.std.specs.Prelude.{codes, nat_le, ◌==◌}
@@ -10,10 +10,13 @@ use Rattle.std.proofs.lemmas.Grind.{common_steps}
 use Rattle.std.proofs.lemmas.Slice.Eq.{bytes_eq-Decides}
 use Rattle.dbc_values.specs.Lexical.{is_digit, is_digits, is_point, is_exponent_mark, is_number}
 use Rattle.dbc_values.specs.Numbers.{mantissa_of, exponent_of, IsWholeNumber, whole_of_number}
+use Rattle.dbc_records.specs.Records.{is_intel}
 use Rattle.dbc_records.specs.Layout.{Order, items_of}
 use Rattle.dbc_records.specs.CanonicalText.{tag_layout}
 use Rattle.dbc_values.specs.declared.number.Whole.{Whole as WholeNumber}
 use Rattle.dbc_values.specs.declared.number.Whole.TheVariants.{Fraction, TooLarge, Value}
+use Rattle.dbc_records.specs.declared.byte_order.ByteOrder.{ByteOrder}
+use Rattle.dbc_records.specs.declared.byte_order.ByteOrder.TheVariants as orders
 use Rattle.dbc_records.specs.declared.tag.Tag.{Tag}
 use Rattle.dbc_records.specs.declared.tag.Tag.TheVariants as tags
 use Rattle.dbc_tokens.specs.declared.fault.Cause.{Cause}
@@ -21,32 +24,34 @@ use Rattle.dbc_tokens.specs.declared.fault.Cause.TheVariants as causes
 use Rattle.dbc_tokens.specs.Tokens.{Token}
 use Rattle.dbc_reader.specs.Classes.{bounded, whole_of, order_digit, order_of, tagged, counted, front, muxed_of, tag_of}
 use Rattle.dbc_reader.specs.Forms.{Is, SpellsTag, Spelled, of_layout}
-use Rattle.dbc_reader.specs.Reading.Parts.{order_at, tag_token_at}
+use Rattle.dbc_reader.specs.inner.Parts.{order_at, tag_token_at}
 use Rattle.dbc_reader.proofs.Sound.{Sound, Reads, sound_one, reads_one}
 use Rattle.dbc_reader.proofs.Sound.Kinds.{whole_spelled}
 
 -- ---- byte order
 
-order_ok : (o : Option WholeNumber) (intel : Bool) → order_digit o ≡ Ok intel → o ≡ Some (Value (cond intel 1 0))
-order_ok None intel e = absurd cc
-order_ok (Some Fraction) intel e = absurd cc
-order_ok (Some TooLarge) intel e = absurd cc
-order_ok (Some (Value n)) intel e = ap (λ k. Some (Value k)) (by_one (n == 1) (n == 0) refl refl e)
+order_ok : (o : Option WholeNumber) (order : ByteOrder) → order_digit o ≡ Ok order
+    → o ≡ Some (Value (cond (is_intel order) 1 0))
+order_ok None order e = absurd cc
+order_ok (Some Fraction) order e = absurd cc
+order_ok (Some TooLarge) order e = absurd cc
+order_ok (Some (Value n)) order e = ap (λ k. Some (Value k)) (by_one (n == 1) (n == 0) refl refl e)
   where
-    by_one : (one none : Bool) → (n == 1) ≡ one → (n == 0) ≡ none → cond one (Ok true) (cond none (Ok false) (Err causes.Statement))
-        ≡ Ok intel → n ≡ cond intel 1 0
-    by_one true none is_one is_none e = let same : true ≡ intel = cc in subst (λ (b : Bool). n ≡ cond b 1 0) same
-        (eqb-true n 1 is_one)
-    by_one false true is_one is_none e = let same : false ≡ intel = cc in subst (λ (b : Bool). n ≡ cond b 1 0) same
-        (eqb-true n 0 is_none)
+    by_one : (one none : Bool) → (n == 1) ≡ one → (n == 0) ≡ none
+        → cond one (Ok orders.Intel) (cond none (Ok orders.Motorola) (Err causes.Statement)) ≡ Ok order
+        → n ≡ cond (is_intel order) 1 0
+    by_one true none is_one is_none e = let same : orders.Intel ≡ order = cc in
+        subst (λ (o : ByteOrder). n ≡ cond (is_intel o) 1 0) same (eqb-true n 1 is_one)
+    by_one false true is_one is_none e = let same : orders.Motorola ≡ order = cc in
+        subst (λ (o : ByteOrder). n ≡ cond (is_intel o) 1 0) same (eqb-true n 0 is_none)
     by_one false false is_one is_none e = absurd cc
 
-pub order_sound : Sound order_at (λ intel. Is (Order intel) ∷ [])
+pub order_sound : Sound order_at (λ order. Is (Order (is_intel order)) ∷ [])
 unfolding order_at order_of
-order_sound = sound_one _ (λ intel. Is (Order intel)) (λ t intel e. (
+order_sound = sound_one _ (λ order. Is (Order (is_intel order))) (λ t order e. (
   t,
   refl,
-  whole_spelled t.bytes (cond intel 1 0) (order_ok (whole_of_number t.bytes) intel e),
+  whole_spelled t.bytes (cond (is_intel order) 1 0) (order_ok (whole_of_number t.bytes) order e),
 ))
 
 -- ---- digits alone
@@ -118,7 +123,7 @@ digits_number digits n are e =
     sym (power_none n (digits_value 10 digits) (subst (λ (m : ℕ). IsWholeNumber m (pos 0) n) parts.mantissa
     (subst (λ (z : ℤ). IsWholeNumber (mantissa_of digits) z n) parts.exponent spelled)))
 
--- ---- tags
+-- ---- multiplexer indicators
 
 bounded_value : (least most : ℕ) (o : Option WholeNumber) (n : ℕ) → bounded least most o ≡ Ok n → o ≡ Some (Value n)
 bounded_value least most None n e = absurd cc
@@ -134,7 +139,7 @@ tagged_is : (tag : ℕ → Tag) (o : Result ℕ Cause) (t : Tag) → tagged tag 
 tagged_is tag (Ok n) t e = (n, refl, cc)
 tagged_is tag (Err cause) t e = absurd cc
 
--- digits as the number of a tag
+-- digits as the value of a multiplexer indicator
 counted_is : (tag : ℕ → Tag) (digits : List ℕ) (t : Tag) → is_digits digits ≡ true → counted tag digits ≡ Ok t → (n : ℕ)
     × (t ≡ tag n) × (digits_value 10 digits ≡ n)
 unfolding whole_of
@@ -142,7 +147,7 @@ counted_is tag digits t are e =
     let found = tagged_is tag (bounded 0 (2 ^ 64 - 1) (whole_of_number digits)) t e in
     (found.0, found.2, digits_number digits found.0 are (bounded_value 0 (2 ^ 64 - 1) (whole_of_number digits) found.0 found.1))
 
--- what the bytes of a tag are
+-- what the bytes of a multiplexer indicator are
 abbrev pub TagBytes : Tag → List ℕ → Type 0
 TagBytes tags.Plain bytes = ⊥
 TagBytes tags.Switch bytes = bytes ≡ codes "M"
@@ -190,19 +195,19 @@ tag_is (b ∷ bytes) t e = by_letter (bytes_eq (b ∷ bytes) (codes "M")) (b == 
         (muxed_is bytes t e)
     by_letter false false is_switch is_muxed e = absurd cc
 
-tag_says : (t : Token) (tag : Tag) → TagBytes tag t.bytes → Spelled (of_layout (tag_layout tag)) (t ∷ [])
+tag_means : (t : Token) (tag : Tag) → TagBytes tag t.bytes → Spelled (of_layout (tag_layout tag)) (t ∷ [])
 unfolding tag_layout items_of
-tag_says t tags.Plain is = elim is [ ]
-tag_says t tags.Switch is = (t ∷ [], [], refl, (t, refl, is), refl)
-tag_says t (tags.Muxed n) is = (t ∷ [], [], refl, (t, refl, is), refl)
-tag_says t (tags.Both n) is = (t ∷ [], [], refl, (t, refl, is), refl)
+tag_means t tags.Plain is = elim is [ ]
+tag_means t tags.Switch is = (t ∷ [], [], refl, (t, refl, is), refl)
+tag_means t (tags.Muxed n) is = (t ∷ [], [], refl, (t, refl, is), refl)
+tag_means t (tags.Both n) is = (t ∷ [], [], refl, (t, refl, is), refl)
 
 pub tag_token_sound : Sound tag_token_at (λ tag. of_layout (tag_layout tag))
 unfolding tag_token_at
 tag_token_sound = record {
   spelt = λ cut x e. (let y = tag_reads.reads cut x e in record {
     front = y.0;
-    stands = y.1;
+    occurs = y.1;
     spelled = tag_spelled x.0 y.0 y.2;
   });
 }
@@ -214,4 +219,4 @@ tag_token_sound = record {
     tag_spelled : (tag : Tag) (tokens : List Token) → (t : Token) × (tokens ≡ t ∷ []) × TagBytes tag t.bytes
         → Spelled (of_layout (tag_layout tag)) tokens
     tag_spelled tag tokens found = subst (λ (tokens : List Token). Spelled (of_layout (tag_layout tag)) tokens) (sym found.1)
-        (tag_says found.0 tag found.2)
+        (tag_means found.0 tag found.2)

@@ -1,9 +1,9 @@
--- What is read of a text with where its statements begin is what the text says.
+-- What is read of a text with where its statements begin is what the text spells.
 use Rattle.std.proofs.Common.{◌≡◌, ◌⊎◌, List, Ok, sym, ap, ◌∙◌, ℕ}
 use Rattle.dbc_records.specs.Databases.{Database}
 use Rattle.dbc_tokens.specs.declared.fault.ReadFault.{ReadFault}
 use Rattle.dbc_tokens.specs.Tokens.{Cut, End}
-use Rattle.dbc_tokens.specs.Reading.Scanner.{cut_of}
+use Rattle.dbc_tokens.specs.inner.Scanner.{cut_of}
 use Rattle.dbc_reader.specs.declared.start.Starts.{Starts}
 use Rattle.dbc_reader.specs.declared.stopped.Stopped.{Stopped}
 use Rattle.dbc_reader.specs.Forms.{◌▸▸◌}
@@ -11,9 +11,9 @@ use Rattle.dbc_reader.specs.Grammar as grammar
 use Rattle.dbc_reader.specs.Pattern.{memory_fault}
 use Rattle.dbc_reader.specs.Texts.{HasFirstFault}
 use Rattle.dbc_reader.specs.Located.{HasLocatedDatabase}
-use Rattle.dbc_reader.specs.Reading.Readers.{Fails, fault_of}
-use Rattle.dbc_reader.specs.Reading.Located.{located_database_at}
-use Rattle.dbc_reader.proofs.Turns.Dropped.{dropped, database_drops, fails_dropped}
+use Rattle.dbc_reader.specs.inner.Readers.{Fails, fault_of}
+use Rattle.dbc_reader.specs.inner.Located.{located_database_at}
+use Rattle.dbc_reader.proofs.Rounds.Dropped.{dropped, database_drops, fails_dropped}
 use Rattle.dbc_reader.proofs.Sound.Databases.{located_sound}
 use Rattle.dbc_reader.proofs.Yields.Databases.{database_is_proper}
 use Rattle.dbc_reader.proofs.Texts.Readings.{tokens_of_cut, database_refused}

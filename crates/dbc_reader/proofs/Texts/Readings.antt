@@ -1,4 +1,4 @@
--- What is read of a text is what the text says.
+-- What is read of a text is what the text spells.
 use Rattle.std.proofs.Common.{◌≡◌, ℕ, ◌⊎◌, List, Result, Ok, Err, sym, ap, subst, ◌∙◌, inl, inr}
 use Rattle.dbc_records.specs.Databases.{Database}
 use Rattle.dbc_tokens.specs.declared.fault.ReadFault.{ReadFault}
@@ -6,13 +6,13 @@ use Rattle.dbc_reader.specs.declared.statement.Statement.{Statement}
 use Rattle.dbc_reader.specs.declared.stopped.Stopped.{Stopped}
 use Rattle.dbc_reader.specs.declared.stopped.Stopped.TheVariants as stops
 use Rattle.dbc_tokens.specs.Tokens.{Cut, End, HasTokens}
-use Rattle.dbc_tokens.specs.Reading.Scanner.{cut_of}
+use Rattle.dbc_tokens.specs.inner.Scanner.{cut_of}
 use Rattle.dbc_reader.specs.Forms.{◌▸▸◌}
 use Rattle.dbc_reader.specs.Grammar as grammar
 use Rattle.dbc_reader.proofs.Agrees.{Judges}
-use Rattle.dbc_reader.specs.Reading.Readers.{Fails, fault_of}
+use Rattle.dbc_reader.specs.inner.Readers.{Fails, fault_of}
 use Rattle.dbc_reader.specs.Pattern.{Pattern, first_fault, nothing_seen, memory_fault}
-use Rattle.dbc_reader.specs.Reading.Databases.{database_at, statement_at}
+use Rattle.dbc_reader.specs.inner.Databases.{database_at, statement_at}
 use Rattle.dbc_reader.specs.Texts.{HasDatabase, HasStatement, HasFirstFault}
 use Rattle.dbc_tokens.proofs.CutLaws.{cut_is}
 use Rattle.dbc_reader.proofs.Sound.Databases.{database_sound}

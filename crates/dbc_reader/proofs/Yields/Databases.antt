@@ -12,18 +12,18 @@ use Rattle.dbc_records.specs.Comments.{IsComment}
 use Rattle.dbc_records.specs.Attributes.{IsAttrDef, IsAttrDefault, IsAttrRow}
 use Rattle.dbc_records.specs.Kept.{IsKept}
 use Rattle.dbc_records.specs.Databases.{Database, IsBitTiming, IsDatabase, timing_fits, database_fits}
-use Rattle.dbc_reader.specs.Reading.Databases.{record_into}
+use Rattle.dbc_reader.specs.inner.Databases.{record_into}
 use Rattle.dbc_reader.specs.Kinds.{Attributes, Comments, Defaults, Definitions, FloatTypes, KeptVerbatim, Messages, Multiplexings}
 use Rattle.dbc_reader.specs.Kinds.{Tables, ValueDescriptions}
 use Rattle.dbc_reader.specs.declared.statement.Statement.{Statement}
 use Rattle.dbc_tokens.specs.Tokens.{Cut}
 use Rattle.dbc_reader.specs.Spelling.{IsStatement}
-use Rattle.dbc_reader.specs.Reading.Readers.{end_at}
-use Rattle.dbc_reader.specs.Reading.Parts.{word_at, mark_at}
-use Rattle.dbc_reader.specs.Reading.Databases.{symbols_into, nodes_into, begins_kept}
-use Rattle.dbc_reader.specs.Reading.Databases.{object_into, value_row_into, attribute_row_into, statement_into}
-use Rattle.dbc_reader.specs.Reading.Databases.{statements_into, version_at, timing_numbers_at, timing_at, timed_into}
-use Rattle.dbc_reader.specs.Reading.Databases.{empty_database, database_at, standalone_statement_at, statement_at}
+use Rattle.dbc_reader.specs.inner.Readers.{end_at}
+use Rattle.dbc_reader.specs.inner.Parts.{word_at, mark_at}
+use Rattle.dbc_reader.specs.inner.Databases.{symbols_into, nodes_into, begins_kept}
+use Rattle.dbc_reader.specs.inner.Databases.{object_into, value_row_into, attribute_row_into, statement_into}
+use Rattle.dbc_reader.specs.inner.Databases.{statements_into, version_at, timing_numbers_at, timing_at, timed_into}
+use Rattle.dbc_reader.specs.inner.Databases.{empty_database, database_at, standalone_statement_at, statement_at}
 use Rattle.dbc_reader.proofs.Yields.{Yields, YieldsWhere, yields_then, yields_after, yields_value, yields_choose, yields_choose_by}
 use Rattle.dbc_reader.proofs.Yields.{yields_then_where, yields_repeated}
 use Rattle.dbc_reader.proofs.Yields.Kinds.{text_proper, unsigned_proper, names_proper, symbols_proper}
@@ -77,10 +77,10 @@ nodes_keep d is =
 
 one_message_more : (timing : Option (List Decimal)) (messages : List Message) (message : Message) → length messages < 65535
     → IsTrue (database_fits timing messages) → IsTrue (database_fits timing (messages ++ message ∷ []))
-one_message_more timing messages message room fits =
+one_message_more timing messages message space fits =
     let timed = and_parts (timing_fits timing) (nat_le (length messages) 65535) fits in
     let count : nat_le (length (messages ++ message ∷ [])) 65535 ≡ true = rw (length-append messages (message ∷ []))
-    (grind (arith, room)) in
+    (grind (arith, space)) in
     and_from (timing_fits timing) (nat_le (length (messages ++ message ∷ [])) 65535) timed.0 count
 
 message_keeps : (d : Database) → IsDatabase d → Yields (record_into Messages d) (λ d. IsDatabase d)
@@ -89,7 +89,7 @@ message_keeps d is =
     yields_then (message_proper (length d.messages)) λ message is_message.
     yields_value (of_parts _ is.version is.symbols is.bit_timing is.nodes is.tables (All-push IsMessage d.messages message
     is.messages is_message.proper) is.comments is.definitions is.defaults is.attributes is.values is.floats is.muxes is.kept
-    (one_message_more d.bit_timing d.messages message is_message.room is.fits))
+    (one_message_more d.bit_timing d.messages message is_message.space is.fits))
 
 table_keeps : (d : Database) → IsDatabase d → Yields (record_into Tables d) (λ d. IsDatabase d)
 unfolding record_into

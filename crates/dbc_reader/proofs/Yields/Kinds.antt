@@ -17,10 +17,10 @@ use Rattle.dbc_values.specs.declared.number.Whole.{Whole as WholeNumber}
 use Rattle.dbc_values.specs.declared.number.Whole.TheVariants.{Fraction, TooLarge, Value}
 use Rattle.dbc_tokens.specs.declared.fault.Cause.TheVariants as causes
 use Rattle.dbc_reader.specs.Classes.{where_true, bounded, text_of, whole_of}
-use Rattle.dbc_reader.specs.Reading.Parts.{name_at, symbol_at, text_at, piece_at, whole_at, id_at, number_at, decimal_at, int_at}
-use Rattle.dbc_reader.specs.Reading.Parts.{pair_at, names_from, symbols_from, pieces_from, receivers_from, receivers_at, texts_from}
-use Rattle.dbc_reader.specs.Reading.Parts.{entry_at, entries_from}
-use Rattle.dbc_reader.proofs.Turns.Lists.{some_texts}
+use Rattle.dbc_reader.specs.inner.Parts.{name_at, symbol_at, text_at, piece_at, whole_at, id_at, number_at, decimal_at, int_at}
+use Rattle.dbc_reader.specs.inner.Parts.{pair_at, names_from, symbols_from, pieces_from, receivers_from, receivers_at, texts_from}
+use Rattle.dbc_reader.specs.inner.Parts.{entry_at, entries_from}
+use Rattle.dbc_reader.proofs.Rounds.Lists.{some_texts}
 use Rattle.dbc_reader.proofs.Sound.Kinds.{number_spelled_by}
 use Rattle.dbc_reader.proofs.Yields.{Yields, Both, yields_both, yields_one, yields_then, yields_after, yields_value, yields_as}
 use Rattle.dbc_reader.proofs.Yields.{yields_choose, yields_repeated, yields_more}

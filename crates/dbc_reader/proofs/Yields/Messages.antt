@@ -14,17 +14,17 @@ use Rattle.dbc_records.specs.declared.tag.Tag.{Tag}
 use Rattle.dbc_records.specs.declared.tag.Tag.TheVariants as tags
 use Rattle.dbc_tokens.specs.declared.fault.Cause.{Cause}
 use Rattle.dbc_tokens.specs.declared.fault.Cause.TheVariants as causes
-use Rattle.dbc_reader.specs.declared.messages.Place.{Place}
+use Rattle.dbc_reader.specs.declared.messages.BitField.{BitField}
 use Rattle.dbc_reader.specs.Classes.{has_word, bounded, whole_of, tagged, counted, front, muxed_of, tag_of}
-use Rattle.dbc_reader.specs.Reading.Parts.{mark_at, order_at, tag_token_at}
-use Rattle.dbc_reader.specs.Reading.Messages.{begun, begin_message_at, head_at, begin_signal_at, fresh, signal_name_at, tag_at}
-use Rattle.dbc_reader.specs.Reading.Messages.{sign_at, place_at, signal_at, signals_from, message_at}
+use Rattle.dbc_reader.specs.inner.Parts.{mark_at, order_at, tag_token_at}
+use Rattle.dbc_reader.specs.inner.Messages.{begun, begin_message_at, head_at, begin_signal_at, fresh, signal_name_at, tag_at}
+use Rattle.dbc_reader.specs.inner.Messages.{sign_at, bit_field_at, signal_at, signals_from, message_at}
 use Rattle.dbc_reader.proofs.Facts.MessageNames.{signals_fit_more}
 use Rattle.dbc_reader.proofs.Yields.{Yields, yields_one, yields_then, yields_after, yields_value, yields_choose, yields_repeated}
 use Rattle.dbc_reader.proofs.Yields.Kinds.{Between, bounded_between, below_16, below_64, name_proper, text_proper, whole_proper}
 use Rattle.dbc_reader.proofs.Yields.Kinds.{id_proper, pair_proper, receivers_proper}
 
--- ---- tags
+-- ---- multiplexer indicators
 
 tagged_proper : (tag : ℕ → Tag) (o : Result ℕ Cause) (t : Tag) → ((n : ℕ) → o ≡ Ok n → IsTag (tag n)) → tagged tag o ≡ Ok t
     → IsTag t
@@ -102,16 +102,16 @@ signal_name_proper names = yields_one _ (λ name. IsNewName names name) (λ t na
 
 -- ---- signals
 
-record IsPlace (place : Place) : Type 0 where
-  start : place.start < 2 ^ 16
-  length : Between 1 14280 place.length
+record IsBitField (bit_field : BitField) : Type 0 where
+  start : bit_field.start < 2 ^ 16
+  length : Between 1 14280 bit_field.length
 
-place_proper : Yields place_at (λ place. IsPlace place)
-unfolding place_at
-place_proper =
+bit_field_proper : Yields bit_field_at (λ bit_field. IsBitField bit_field)
+unfolding bit_field_at
+bit_field_proper =
     yields_then (whole_proper 0 65535) λ start is_start. yields_after (mark_at 124) λ _. yields_then (whole_proper 1 14280) λ length
     is_length. yields_after (mark_at 64) λ _.
-    yields_after order_at λ intel. yields_after sign_at λ signed. yields_value (record {
+    yields_after order_at λ order. yields_after sign_at λ value_type. yields_value (record {
       start = below_16 start is_start;
       length = is_length;
     })
@@ -119,22 +119,24 @@ place_proper =
 -- a signal that a message with these may have
 pub record IsNewSignal (signals : List Signal) (signal : Signal) : Type 0 where
   pub proper : IsSignal signal
-  pub room : length signals < 999
+  pub space : length signals < 999
   pub new : list_any (bytes_eq signal.name) (names_of signals) ≡ false
 
 pub signal_proper : (signals : List Signal) → Yields (signal_at signals) (λ signal. IsNewSignal signals signal)
 unfolding signal_at
 signal_proper signals =
-    yields_then (begin_signal_proper (length signals)) λ _ room. yields_then (signal_name_proper (names_of signals)) λ name is_name.
+    yields_then (begin_signal_proper (length signals)) λ _ space. yields_then (signal_name_proper (names_of signals)) λ name
+    is_name.
     yields_then tag_proper λ tag is_tag. yields_after (mark_at 58) λ _.
-    yields_then place_proper λ place is_place. yields_then (pair_proper 40 44 41) λ scale is_scale. yields_then
+    yields_then bit_field_proper λ bit_field is_bit_field. yields_then (pair_proper 40 44 41) λ scale is_scale. yields_then
     (pair_proper 91 124 93) λ limits are_limits. yields_then text_proper λ unit is_unit.
     yields_then receivers_proper λ receivers are_names. yields_value (record {
       proper = record {
         name = is_name.proper;
         tag = is_tag;
-        start = is_place.start;
-        fits = and_from (nat_le 1 place.length) (nat_le place.length 14280) is_place.length.low is_place.length.high;
+        start = is_bit_field.start;
+        fits = and_from (nat_le 1 bit_field.length) (nat_le bit_field.length 14280) is_bit_field.length.low
+            is_bit_field.length.high;
         factor = is_scale.first;
         offset = is_scale.second;
         minimum = are_limits.first;
@@ -142,7 +144,7 @@ signal_proper signals =
         unit = is_unit;
         receivers = are_names;
       };
-      room = room;
+      space = space;
       new = is_name.new;
     })
 
@@ -156,31 +158,31 @@ signals_proper =
     yields_repeated (λ signals. AreSignals signals) _ _
     (λ signals are. yields_then (signal_proper signals) λ signal is. yields_value (record {
       all = All-push IsSignal signals signal are.all is.proper;
-      fit = signals_fit_more signals signals (signals ++ signal ∷ []) signal are.fit refl is.room is.new refl;
+      fit = signals_fit_more signals signals (signals ++ signal ∷ []) signal are.fit refl is.space is.new refl;
     }))
     [] (record { all = All-nil IsSignal; fit = refl })
 
 -- ---- messages
 
--- a head in a text that has had so many messages
+-- a head in a text that has had this many messages
 pub record IsNewHead (count : ℕ) (head : Head) : Type 0 where
   pub proper : IsHead head
-  pub room : count < 65535
+  pub space : count < 65535
 
 pub head_proper : (count : ℕ) → Yields (head_at count) (λ head. IsNewHead count head)
 unfolding head_at
 head_proper count =
-    yields_then (begin_message_proper count) λ _ room. yields_then id_proper λ number is_number. yields_then name_proper λ name
+    yields_then (begin_message_proper count) λ _ space. yields_then id_proper λ number is_number. yields_then name_proper λ name
     is_name. yields_after (mark_at 58) λ _.
     yields_then (whole_proper 0 1785) λ size is_size. yields_then name_proper λ sender is_sender.
     yields_value (record {
       proper = record { number = is_number; name = is_name; size = is_size.high; sender = is_sender };
-      room = room;
+      space = space;
     })
 
 pub record IsNewMessage (count : ℕ) (message : Message) : Type 0 where
   pub proper : IsMessage message
-  pub room : count < 65535
+  pub space : count < 65535
 
 pub message_proper : (count : ℕ) → Yields (message_at count) (λ message. IsNewMessage count message)
 unfolding message_at
@@ -188,5 +190,5 @@ message_proper count =
     yields_then (head_proper count) λ head is_head. yields_then signals_proper λ signals are_signals.
     yields_value (record {
       proper = record { head = is_head.proper; signals = are_signals.all; fit = are_signals.fit };
-      room = is_head.room;
+      space = is_head.space;
     })

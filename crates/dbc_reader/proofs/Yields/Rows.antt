@@ -1,4 +1,4 @@
--- What the readers of rows, comments, attributes and statements kept verbatim read is proper.
+-- What the readers of entries, comments, attributes and statements kept verbatim read is proper.
 use Rattle.std.proofs.Common.{◌≡◌, ℕ, ◌^◌, ◌-◌, true, [], ◌∷◌, All, length, IfSome, Ok, refl, subst}
 use Rattle.std.specs.Prelude.{codes, nat_le, IsTrue}
 use Rattle.std.proofs.lemmas.List.Elements.{All-nil, All-push}
@@ -11,22 +11,22 @@ use Rattle.dbc_records.specs.declared.target.Target.{Target}
 use Rattle.dbc_records.specs.declared.target.Target.TheVariants as targets
 use Rattle.dbc_records.specs.Kept.{Kept, IsKept}
 use Rattle.dbc_tokens.specs.Tokens.{Cut}
-use Rattle.dbc_reader.specs.Reading.Parts.{word_at, mark_at, pieces_from}
-use Rattle.dbc_reader.specs.Reading.Tables.{table_at, values_at, colon_at, float_at, range_at, ranges_from, ranges_at, mux_at}
-use Rattle.dbc_reader.specs.Reading.Attributes.{node_target_at, message_target_at, signal_target_at, target_at, comment_at}
-use Rattle.dbc_reader.specs.Reading.Attributes.{object_at, limits_at, string_form_at, enumeration_at, form_at, definition_at}
-use Rattle.dbc_reader.specs.Reading.Attributes.{value_at, default_at, attribute_at}
-use Rattle.dbc_reader.specs.Reading.Databases.{begins_kept, kept_at, message_attribute_at}
+use Rattle.dbc_reader.specs.inner.Parts.{word_at, mark_at, pieces_from}
+use Rattle.dbc_reader.specs.inner.Tables.{table_at, values_at, colon_at, float_at, range_at, ranges_from, ranges_at, mux_at}
+use Rattle.dbc_reader.specs.inner.Attributes.{node_target_at, message_target_at, signal_target_at, target_at, comment_at}
+use Rattle.dbc_reader.specs.inner.Attributes.{object_at, limits_at, string_form_at, enumeration_at, form_at, definition_at}
+use Rattle.dbc_reader.specs.inner.Attributes.{value_at, default_at, attribute_at}
+use Rattle.dbc_reader.specs.inner.Databases.{begins_kept, kept_at, message_attribute_at}
 use Rattle.dbc_reader.specs.Spelling.{IsMessageAttribute}
-use Rattle.dbc_reader.proofs.Turns.{and_then_ok, ok_is}
-use Rattle.dbc_reader.proofs.Turns.Lists.{some_ranges}
+use Rattle.dbc_reader.proofs.Rounds.{and_then_ok, ok_is}
+use Rattle.dbc_reader.proofs.Rounds.Lists.{some_ranges}
 use Rattle.dbc_reader.proofs.Facts.KeptBeginnings.{pieces_fit}
 use Rattle.dbc_reader.proofs.Yields.{Yields, YieldsWhere, Both, yields_both, yields_then, yields_after, yields_value, yields_choose}
 use Rattle.dbc_reader.proofs.Yields.{yields_repeated, yields_more}
 use Rattle.dbc_reader.proofs.Yields.Kinds.{below_64, name_proper, text_proper, whole_proper, id_proper, decimal_proper}
 use Rattle.dbc_reader.proofs.Yields.Kinds.{texts_proper, entries_proper, pieces_proper}
 
--- ---- rows of values
+-- ---- entries of values
 
 pub table_proper : Yields table_at (λ row. IsTableRow row)
 unfolding table_at

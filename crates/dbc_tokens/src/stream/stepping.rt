@@ -2,7 +2,7 @@
 ghost use Rattle.std.specs.Prelude.{◌≡◌, ◌≤◌, false, length, is_some, MatchOption};
 ghost use Rattle.std.specs.Iterator.{YieldsFirstBy, item_count};
 ghost use Rattle.dbc_tokens.specs.Tokens.{◌▸◌, IsToken, line_feeds};
-ghost use Rattle.dbc_tokens.specs.Reading.Scanner.{cut_of};
+ghost use Rattle.dbc_tokens.specs.inner.Scanner.{cut_of};
 ghost use Rattle.dbc_tokens.specs.Views.{left, token_of, cut_from, plain_comes, line_text_comes, blanks_ahead};
 ghost use Rattle.dbc_tokens.specs.Views.{item, items, NothingAfter};
 
@@ -19,7 +19,7 @@ fn count_line_feeds(bytes: &[u8]) -> usize
     bytes.iter().filter(|b| **b == b'\n').count()
 }
 
-// How many LF these bytes hold. Most strings hold none, which a search finds out faster than counting.
+// How many LF these bytes hold. Most strings hold none, which a search finds faster than counting.
 fn line_feeds(bytes: &[u8]) -> usize
     ensures value { result ≡ line_feeds bytes.now }
     ensures in_range { result ≤ length bytes.now }
@@ -45,7 +45,7 @@ fn gap_line_feeds(gap: &[u8]) -> usize
     }
 }
 
-// How many LF a token holds. Only strings hold any, so that the other tokens aren't looked through again.
+// How many LF a token holds. Only strings hold any, so the other tokens aren't scanned again.
 fn token_line_feeds(kind: Kind, bytes: &[u8]) -> usize
     requires { IsToken kind bytes.now }
     ensures value { result ≡ line_feeds bytes.now }
@@ -67,14 +67,14 @@ impl<'a> Tokens<'a> {
         }
     }
 
-    /// The bytes that are left: for a reader that looks further ahead than one token.
+    /// The remaining bytes: for a reader that looks further ahead than one token.
     pub fn rest(self) -> &'a [u8]
         ensures { result.now ≡ self.entry.rest.now }
     {
         self.rest
     }
 
-    /// What comes next, and the tokens that are left after it: for a reader that looks at one token at a time.
+    /// What comes next, and the remaining tokens after it: for a reader that looks at one token at a time.
     #[inline(always)]
     pub fn advance(self) -> (Next<'a>, Tokens<'a>)
         ensures next { left self.entry ≡ cut_from result.0 (left result.1) }
@@ -108,7 +108,7 @@ impl<'a> Tokens<'a> {
     }
 
     /// Takes the token that comes next as [`Tokens::take_plain`] does. If it takes nothing, it skips the blanks before what comes
-    /// next, so that no later call walks them again.
+    /// next, so that no later call scans them again.
     #[inline(always)]
     pub fn take_plain_or_skip(&mut self) -> Option<Token<'a>>
         ensures token { MatchOption result (left self.new ≡ left self.old) (λ t. left self.old ≡ token_of t ▸ left self.new) }

@@ -1,6 +1,6 @@
 use Rattle.std.proofs.Common.{◌≡◌, ◌++◌, false, [], take}
 use Rattle.std.specs.List.{flat_map}
-use Rattle.can_rows.specs.Rows.{rows_of}
+use Rattle.can_entries.specs.Rows.{rows_of}
 use Rattle.can_check.specs.MessageFaults.{named, out_of_range, repeated_in}
 use Rattle.can_check.proofs.value_rules.push_all_out_of_range.Given as goal
 

@@ -1,6 +1,6 @@
 use Rattle.std.proofs.Common.{◌≡◌, ◌++◌, take}
 use Rattle.std.specs.List.{flat_map}
-use Rattle.can_rows.specs.Rows.{rows_of}
+use Rattle.can_entries.specs.Rows.{rows_of}
 use Rattle.can_check.specs.MessageFaults.{repeated_in}
 use Rattle.can_check.proofs.value_rules.push_all_repeated.Given as goal
 

@@ -1,6 +1,6 @@
 use Rattle.std.proofs.Common.{◌≡◌, ◌-◌, length, take, drop, take_all, length-drop, ltb, ap, sym, subst, ◌∙◌, arith, rules}
 use Rattle.std.proofs.lemmas.List.Sorted.{IsPartitionPoint-from_clause, IsPartitionedBy-ltb}
-use Rattle.can_choice.specs.FirstChoices.{key_of, first_choice, RisesFrom}
+use Rattle.can_choice.specs.inner.FirstChoices.{key_of, first_choice, RisesFrom}
 use Rattle.can_choice.proofs.FirstChoices.{rises_from, from_first}
 use Rattle.can_choice.proofs.first_choices.from_key.Goals as goal
 

@@ -18,10 +18,10 @@ loop-signal-preserved g c =
         shown = rw (w.text-is, w.some-is) (w.in_ok-some.ensures c.args.text.now.items shown);
       }
       | else-there w ↦
-          let absent : (place : ℕ) → c.loop-signal.signal ≤ place → place < c.run_from-there.result.1
-          → false ≡ is_present c.args.bytes.now plan.rows (slice_get plan.rows place) =
-          λ place from below. sym w.if-there.false ∙ c.run_from-there.ensures.there place from below
-          ∙ ap (λ (presence : Presence). is_present presence.bytes presence.rows (slice_get presence.rows place))
+          let absent : (index : ℕ) → c.loop-signal.signal ≤ index → index < c.run_from-there.result.1
+          → false ≡ is_present c.args.bytes.now plan.rows (slice_get plan.rows index) =
+          λ index from below. sym w.if-there.false ∙ c.run_from-there.ensures.there index from below
+          ∙ ap (λ (presence : Presence). is_present presence.bytes presence.rows (slice_get presence.rows index))
           c.loop-signal.invariant.presence in
           let within : c.run_from-there.result.1 ≤ length plan.rows =
           omega (arith, c.run_from-there.ensures.within, long) in

@@ -9,4 +9,4 @@ returns g c =
     let signals : c.as_slice-signals.result.now ≡ message.signals = c.as_slice-signals.ensures.value
     ∙ ap (λ (m : Message). m.signals) (c.behind-layout.view_is ∙ c.message.ensures) in
     pushed_legend c.args.layout.now.rows _ message.head.size message.signals _ _ c.signals.result.now
-    (rw (signals, c.aboves.ensures) at c.in_ok-push_lines.ensures) c.signals.ensures
+    (rw (signals, c.mux_parents.ensures) at c.in_ok-push_lines.ensures) c.signals.ensures

@@ -4,8 +4,8 @@ use Rattle.can_layout.specs.Layouts.{legend_by}
 use Rattle.can_layout.proofs.legend.push_lines.Given as goal
 
 -- a line for each signal so far
-abbrev pub invariant-loop-place : goal.invariant-loop-place
-invariant-loop-place l =
+abbrev pub invariant-loop-index : goal.invariant-loop-index
+invariant-loop-index l =
     l.text.items
     ≡ l.initial.text.items
-    ++ flat_map (λ placed. legend_by l.signals l.aboves placed.0 placed.1) (take l.place (enumerate_from 0 l.layouts))
+    ++ flat_map (λ placed. legend_by l.signals l.mux_parents placed.0 placed.1) (take l.index (enumerate_from 0 l.layouts))

@@ -2,22 +2,24 @@ use Rattle.std.proofs.Common.{◌≡◌, ◌+◌, ◌-◌, length, sym, ap, ◌�
 use Rattle.std.specs.Option.{option_map}
 use Rattle.can_mux.specs.Links.{Link}
 use Rattle.can_layout.specs.Plans.{chain_of, is_met, are_met}
-use Rattle.can_mux.specs.Walks.{above_or_missing, above_at}
+use Rattle.can_mux.specs.Walks.{mux_parent_or_missing, mux_parent_at}
 use Rattle.can_mux.specs.declared.mux_parent.MuxParent.TheVariants.{Switch}
 use Rattle.can_layout.proofs.Chains.{asks_met, at_met}
 use Rattle.can_layout.proofs.plan.are_met.Goals as goal
 
 pub loop-passed-preserved : goal.loop-passed-preserved
 loop-passed-preserved c =
-    let less : length c.args.aboves.now + 1 - c.loop-passed._passed - 1 ≡ length c.args.aboves.now + 1 - (c.loop-passed._passed + 1)
+    let less : length c.args.mux_parents.now + 1 - c.loop-passed._passed - 1 ≡ length c.args.mux_parents.now + 1 -
+    (c.loop-passed._passed + 1)
     = omega arith in
     let link : Link = c.in-Some-Switch.link in
-    let is : above_at c.args.aboves.now c.loop-passed.current ≡ Switch link =
-    sym (ap above_or_missing c.above_at.ensures) ∙ ap (λ found. above_or_missing (option_map (λ above. above.now) found))
+    let is : mux_parent_at c.args.mux_parents.now c.loop-passed.current ≡ Switch link =
+    sym (ap mux_parent_or_missing c.mux_parent_at.ensures) ∙ ap (λ found. mux_parent_or_missing (option_map (λ mux_parent.
+    mux_parent.now) found))
     c.in-Some-Switch.is ∙ c.in-Some-Switch.field-0-is in
     let here : link.switch ≡ c.link.inside.switch = sym (ap (λ (link : Link). link.switch) c.link.view_is) in
     let up = at_met (λ walk. are_met c.args.bytes.now c.args.rows.now (chain_of walk)) (is_met c.args.bytes.now c.args.rows.now)
-    (asks_met c.args.bytes.now c.args.rows.now) c.args.aboves.now (length c.args.aboves.now + 1 - c.loop-passed._passed)
+    (asks_met c.args.bytes.now c.args.rows.now) c.args.mux_parents.now (length c.args.mux_parents.now + 1 - c.loop-passed._passed)
     c.loop-passed.current _ c.loop-passed.invariant link (omega (arith, c.loop-passed-test.true)) is
     (sym c.if-is_met.ensures) in
     rw (sym here) (rw less at up)

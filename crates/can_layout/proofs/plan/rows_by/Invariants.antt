@@ -4,6 +4,6 @@ use Rattle.can_layout.specs.Layouts.{row_by}
 use Rattle.can_layout.proofs.plan.rows_by.Given as goal
 
 -- a row for each signal so far
-abbrev pub invariant-loop-place : goal.invariant-loop-place
-invariant-loop-place g l = l.made ≡ map (λ placed. row_by l.rows l.aboves.value placed.0 placed.1)
-    (take l.place (enumerate_from 0 l.signals))
+abbrev pub invariant-loop-index : goal.invariant-loop-index
+invariant-loop-index g l = l.made ≡ map (λ placed. row_by l.rows l.mux_parents.value placed.0 placed.1)
+    (take l.index (enumerate_from 0 l.signals))

@@ -1,7 +1,7 @@
 use Rattle.can_layout.proofs.SwitchBits.{known_more}
 use Rattle.can_layout.proofs.presence.look_for.Goals as goal
 
-pub returns-then-place-signals-clause-known : goal.returns-then-place-signals-clause-known
-returns-then-place-signals-clause-known c =
-    known_more c.args.bytes.now c.args.plan.now.rows c.args.known.now c.args.place c.present_by-there.result c.requires.known
+pub returns-then-index-signals-clause-known : goal.returns-then-index-signals-clause-known
+returns-then-index-signals-clause-known c =
+    known_more c.args.bytes.now c.args.plan.now.rows c.args.known.now c.args.index c.present_by-there.result c.requires.known
     c.present_by-there.ensures.there

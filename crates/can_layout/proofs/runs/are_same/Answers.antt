@@ -12,7 +12,7 @@ both x y is = grind (arith, common_steps)
 neither_fails : (x y : Bool) → x ≡ true → y ≡ true → (x && y) ≡ true
 neither_fails x y one other = grind (arith, common_steps)
 
--- two ranges are the same where both ends are
+-- two ranges are the same if both ends are
 range_decides : (a b : Range) → Decides ((a.first == b.first) && (a.last == b.last)) (a ≡ b)
 range_decides a b = (
   λ is.

@@ -1,6 +1,6 @@
 use Rattle.std.proofs.Common.{◌≡◌, ◌++◌, take}
 use Rattle.std.specs.List.{flat_map}
-use Rattle.can_layout.specs.Pictures.{further_range}
+use Rattle.can_layout.specs.Diagrams.{further_range}
 use Rattle.can_layout.proofs.text.push_all_further.Given as goal
 
 -- the ranges so far are appended

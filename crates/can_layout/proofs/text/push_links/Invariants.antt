@@ -1,6 +1,6 @@
 use Rattle.std.proofs.Common.{◌≡◌, ◌++◌, take}
 use Rattle.std.specs.List.{flat_map}
-use Rattle.can_layout.specs.Pictures.{link_text}
+use Rattle.can_layout.specs.Diagrams.{link_text}
 use Rattle.can_layout.proofs.text.push_links.Given as goal
 
 -- the links so far are appended

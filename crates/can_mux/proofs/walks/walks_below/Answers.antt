@@ -3,7 +3,7 @@ use Rattle.std.proofs.lemmas.List.FromFn.{map-range_with_len_more}
 use Rattle.can_mux.specs.Walks.{walk_of}
 use Rattle.can_mux.proofs.walks.walks_below.Goals as goal
 
-pub loop-place-preserved : goal.loop-place-preserved
-loop-place-preserved c =
-    rw (c.in_ok-push.ensures.items, c.in_ok-walk_of.ensures, c.loop-place.invariant)
-    (sym (map-range_with_len_more (walk_of c.args.aboves.now) 0 c.loop-place.place c.loop-place.place (omega arith)))
+pub loop-index-preserved : goal.loop-index-preserved
+loop-index-preserved c =
+    rw (c.in_ok-push.ensures.items, c.in_ok-walk_of.ensures, c.loop-index.invariant)
+    (sym (map-range_with_len_more (walk_of c.args.mux_parents.now) 0 c.loop-index.index c.loop-index.index (omega arith)))

@@ -1,5 +1,5 @@
 use Rattle.std.proofs.Common.{◌≡◌, length}
-use Rattle.can_overlap.specs.Apart.{all_apart}
+use Rattle.can_overlap.specs.inner.Apart.{all_apart}
 use Rattle.can_overlap.proofs.apart.all_apart.Given as goal
 
 abbrev pub invariant-loop-left : goal.invariant-loop-left

@@ -1,5 +1,5 @@
 use Rattle.std.proofs.Common.{◌≡◌}
-use Rattle.can_overlap.specs.MuxPaths.{goes_at, AreNoted}
+use Rattle.can_overlap.specs.inner.MuxPaths.{goes_at, AreNoted}
 use Rattle.can_overlap.proofs.chain_index.note_up.Given as goal
 
 -- what is noted is so, and what was found at first holds here too

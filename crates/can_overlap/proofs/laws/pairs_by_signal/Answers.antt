@@ -1,5 +1,5 @@
 use Rattle.can_overlap.specs.Overlaps.{overlapping}
-use Rattle.can_overlap.proofs.Meeting.{by_signal}
+use Rattle.can_overlap.proofs.Sharing.{by_signal}
 use Rattle.can_overlap.proofs.laws.pairs_by_signal.Goals as goal
 
 pub returns : goal.returns

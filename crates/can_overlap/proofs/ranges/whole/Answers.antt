@@ -1,6 +1,6 @@
 use Rattle.std.proofs.Common.{◌+◌, List, take, subst, ap, ◌∙◌, sym}
 use Rattle.dbc_records.specs.declared.mux_row.Range.{Range}
-use Rattle.can_overlap.specs.Ordered.{AreWhole}
+use Rattle.can_overlap.specs.inner.Ordered.{AreWhole}
 use Rattle.can_overlap.proofs.Ordered.{one_kept, one_left}
 use Rattle.can_overlap.proofs.ranges.whole.Goals as goal
 use Rattle.can_overlap.proofs.ranges.whole.Goals.{then-holds_some+in_ok-push, else-holds_some}

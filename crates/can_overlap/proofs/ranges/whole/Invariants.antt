@@ -1,5 +1,5 @@
 use Rattle.std.proofs.Common.{take}
-use Rattle.can_overlap.specs.Ordered.{AreWhole}
+use Rattle.can_overlap.specs.inner.Ordered.{AreWhole}
 use Rattle.can_overlap.proofs.ranges.whole.Given as goal
 
 abbrev pub invariant-loop-range : goal.invariant-loop-range

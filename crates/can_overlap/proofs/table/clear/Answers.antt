@@ -1,6 +1,6 @@
 use Rattle.std.proofs.Common.{◌<◌, not, ◌||◌, ◌&&◌, eqb, length, ap, sym, ◌∙◌, arith}
 use Rattle.can_bits.specs.Bits.{position_of}
-use Rattle.can_overlap.specs.Occupancy.{is_marked}
+use Rattle.can_overlap.specs.inner.Occupancy.{is_marked}
 use Rattle.can_overlap.proofs.Marks.{any_more, has_below, is_marked-empty}
 use Rattle.can_overlap.proofs.Reach.{below_reach}
 use Rattle.can_overlap.proofs.table.clear.Goals as goal
@@ -27,4 +27,4 @@ loop-bit-preserved c = λ position other.
     ∙ ap (λ q. is_marked c.args.rows.now position other && not (has_below c.args.field c.loop-bit.bit position || eqb q position))
     c.position.ensures
     ∙ ap (λ b. is_marked c.args.rows.now position other && not b)
-    (sym (any_more (λ place. eqb (position_of c.args.field place) position) c.loop-bit.bit))
+    (sym (any_more (λ index. eqb (position_of c.args.field index) position) c.loop-bit.bit))

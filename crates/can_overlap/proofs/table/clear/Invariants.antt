@@ -1,5 +1,5 @@
 use Rattle.std.proofs.Common.{◌≡◌, ℕ, not, ◌&&◌}
-use Rattle.can_overlap.specs.Occupancy.{is_marked}
+use Rattle.can_overlap.specs.inner.Occupancy.{is_marked}
 use Rattle.can_overlap.proofs.Marks.{has_below}
 use Rattle.can_overlap.proofs.table.clear.Given as goal
 

@@ -1,7 +1,7 @@
 use Rattle.std.proofs.Common.{◌≡◌, ℕ, not, ◌&&◌, take}
 use Rattle.std.specs.List.{list_any}
 use Rattle.can_bits.specs.Bits.{has_position}
-use Rattle.can_overlap.specs.Occupancy.{is_marked}
+use Rattle.can_overlap.specs.inner.Occupancy.{is_marked}
 use Rattle.can_overlap.proofs.table.clear_all.Given as goal
 
 -- the rows of the first fields are empty

@@ -1,5 +1,5 @@
 use Rattle.std.proofs.Common.{◌≡◌, ◌++◌, map, take}
-use Rattle.can_keys.specs.SignalNames.{named_signal}
+use Rattle.can_references.specs.SignalNames.{named_signal}
 use Rattle.can_references.proofs.cross_references.add_signals.Given as goal
 
 -- the signals so far

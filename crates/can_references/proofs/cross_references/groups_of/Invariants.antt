@@ -1,6 +1,6 @@
 use Rattle.std.proofs.Common.{◌≡◌, take}
 use Rattle.std.specs.List.{flat_map}
-use Rattle.can_rows.specs.Groups.{group_of}
+use Rattle.can_entries.specs.Groups.{group_of}
 use Rattle.can_references.specs.CrossReferences.{perhaps}
 use Rattle.can_references.proofs.cross_references.groups_of.Given as goal
 

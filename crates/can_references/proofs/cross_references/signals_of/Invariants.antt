@@ -1,6 +1,6 @@
 use Rattle.std.proofs.Common.{◌≡◌, map, take}
 use Rattle.std.specs.List.{flat_map}
-use Rattle.can_keys.specs.SignalNames.{named_signal}
+use Rattle.can_references.specs.SignalNames.{named_signal}
 use Rattle.can_references.specs.CrossReferences.{signals_in}
 use Rattle.can_references.proofs.cross_references.signals_of.Given as goal
 

@@ -1,6 +1,6 @@
 use Rattle.std.proofs.Common.{Some, cond, ap, sym, ◌∙◌}
 use Rattle.dbc_records.specs.Records.{ValueRow}
-use Rattle.can_references.specs.ManyRows.{kept_at}
+use Rattle.can_references.specs.inner.ManyRows.{kept_at}
 use Rattle.can_references.proofs.KeptRows.{key_is, kept_added}
 use Rattle.can_references.proofs.many_rows.keep_row.Goals as goal
 

@@ -1,6 +1,6 @@
 use Rattle.std.proofs.Common.{sym, ◌∙◌, subst, take, ◌+◌}
 use Rattle.std.specs.Option.{option_map}
-use Rattle.can_references.specs.ManyRows.{is_kept_number, AreKept}
+use Rattle.can_references.specs.inner.ManyRows.{is_kept_number, AreKept}
 use Rattle.can_references.proofs.KeptRows.{kept_more, kept_same}
 use Rattle.can_references.proofs.many_rows.kept_rows.Goals as goal
 use Rattle.can_references.proofs.many_rows.kept_rows.Goals.{then-is_kept+in_ok-keep_row, else-is_kept}

@@ -1,7 +1,7 @@
 use Rattle.std.proofs.Common.{◌/◌, length, take, drop, sym, subst}
 use Rattle.std.specs.Prelude.{ℤ}
 use Rattle.std.proofs.lemmas.List.{take-append-drop}
-use Rattle.can_references.specs.Spans.{Holds, AreSpans}
+use Rattle.can_references.specs.inner.Spans.{Holds, AreSpans}
 use Rattle.can_references.specs.declared.spans.Span.{Span}
 use Rattle.can_references.specs.declared.spans.Spans.{Spans}
 use Rattle.can_references.proofs.InSpans.{of_halves}

@@ -2,7 +2,7 @@ use Rattle.std.proofs.Common.{take, sym, subst, arith}
 use Rattle.std.proofs.lemmas.List.{take_all}
 use Rattle.std.proofs.lemmas.List.Elements.{All-more, All-weaker, All-same}
 use Rattle.dbc_records.specs.Records.{Entry}
-use Rattle.can_references.specs.Spans.{IsWithin}
+use Rattle.can_references.specs.inner.Spans.{IsWithin}
 use Rattle.can_references.proofs.spans.entries_span.Goals as goal
 
 pub loop-entry-preserved : goal.loop-entry-preserved

@@ -1,5 +1,5 @@
 use Rattle.std.proofs.Common.{All, take}
-use Rattle.can_references.specs.Spans.{IsWithin}
+use Rattle.can_references.specs.inner.Spans.{IsWithin}
 use Rattle.can_references.proofs.spans.entries_span.Given as goal
 
 -- the entries so far

@@ -1,7 +1,7 @@
 use Rattle.std.proofs.Common.{◌≡◌, get_or, ap, subst, ◌∙◌}
 use Rattle.byte_devices.specs.Device.{Broke}
-use Rattle.can_layout.specs.Pictures.{picture_of}
-use Rattle.candesk_runs.proofs.Drawing.{Broke-item}
+use Rattle.can_layout.specs.Diagrams.{picture_of}
+use Rattle.candesk_runs.proofs.Diagram.{Broke-item}
 use Rattle.candesk_runs.proofs.dumping.draw.Goals as goal
 
 pub returns-in-Err : goal.returns-in-Err

@@ -1,7 +1,7 @@
 use Rattle.std.proofs.Common.{◌≡◌, get_or, ap, subst, ◌∙◌}
 use Rattle.byte_devices.specs.Device.{Broke}
-use Rattle.json_findings.specs.Findings.{finding_line}
-use Rattle.candesk_runs.proofs.Drawing.{Broke-item}
+use Rattle.can_json_findings.specs.Findings.{finding_line}
+use Rattle.candesk_runs.proofs.Diagram.{Broke-item}
 use Rattle.candesk_runs.proofs.finding_objects.write_lines.Goals as goal
 
 pub returns-in-Err : goal.returns-in-Err

@@ -5,6 +5,6 @@ use Rattle.dbc_edits.proofs.messages.remove_message.Goals as goal
 
 pub returns : goal.returns
 returns c =
-    message_gone c.args.place c.args.database.now c.in-Some.message.now _
-    (slice_get_read c.args.database.now.messages _ c.args.place c.in-Some.message.now refl (search rules) (search rules))
+    message_gone c.args.index c.args.database.now c.in-Some.message.now _
+    (slice_get_read c.args.database.now.messages _ c.args.index c.in-Some.message.now refl (search rules) (search rules))
     c.in_ok-edited.ensures

@@ -5,6 +5,6 @@ use Rattle.dbc_edits.proofs.signals.add_signal.Goals as goal
 
 pub returns : goal.returns
 returns c =
-    added c.args.place c.args.at c.args.signal.now c.args.database.now c.in-Some.message.now _
-    (slice_get_read c.args.database.now.messages _ c.args.place c.in-Some.message.now refl (search rules) (search rules))
+    added c.args.index c.args.at c.args.signal.now c.args.database.now c.in-Some.message.now _
+    (slice_get_read c.args.database.now.messages _ c.args.index c.in-Some.message.now refl (search rules) (search rules))
     (search rules) (search rules) (search rules) (search rules)

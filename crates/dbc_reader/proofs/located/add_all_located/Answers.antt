@@ -1,8 +1,8 @@
 use Rattle.std.proofs.Common.{sym, ◌∙◌}
 use Rattle.std.proofs.lemmas.Result.{err_from_is_err_and}
-use Rattle.dbc_reader.specs.Reading.Cursors.{left_at}
+use Rattle.dbc_reader.specs.inner.Cursors.{left_at}
 use Rattle.dbc_reader.proofs.Facts.Keywords.{statement_begins}
-use Rattle.dbc_reader.proofs.Turns.Located.{located_fail}
+use Rattle.dbc_reader.proofs.Rounds.Located.{located_fail}
 use Rattle.dbc_reader.proofs.located.add_all_located.Goals as goal
 
 pub returns-in_err-add_located : goal.returns-in_err-add_located

@@ -1,7 +1,7 @@
 use Rattle.std.proofs.Common.{◌≡◌}
-use Rattle.dbc_reader.specs.Reading.Cursors.{left_at}
-use Rattle.dbc_reader.specs.Reading.Readers.{size}
-use Rattle.dbc_reader.specs.Reading.Located.{all_located_into}
+use Rattle.dbc_reader.specs.inner.Cursors.{left_at}
+use Rattle.dbc_reader.specs.inner.Readers.{size}
+use Rattle.dbc_reader.specs.inner.Located.{all_located_into}
 use Rattle.dbc_reader.proofs.located.add_all_located.Given as goal
 
 abbrev pub invariant-statements : goal.invariant-statements

@@ -1,5 +1,5 @@
 use Rattle.std.proofs.Common.{sym, ap, ◌∙◌}
-use Rattle.dbc_reader.specs.Reading.Located.{located_database_at}
+use Rattle.dbc_reader.specs.inner.Located.{located_database_at}
 use Rattle.dbc_reader.proofs.Texts.LocatedReadings.{located_read, located_refused}
 use Rattle.dbc_reader.proofs.located.read_with_starts.Goals as goal
 

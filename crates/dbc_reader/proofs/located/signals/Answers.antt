@@ -1,7 +1,7 @@
 use Rattle.std.proofs.Common.{sym}
 use Rattle.std.proofs.lemmas.Result.{err_from_is_err_and}
-use Rattle.dbc_reader.specs.Reading.Cursors.{left_at}
-use Rattle.dbc_reader.proofs.Turns.Located.{signals_fail}
+use Rattle.dbc_reader.specs.inner.Cursors.{left_at}
+use Rattle.dbc_reader.proofs.Rounds.Located.{signals_fail}
 use Rattle.dbc_reader.proofs.located.signals.Goals as goal
 
 pub returns-in_err-found-clause-value : goal.returns-in_err-found-clause-value

@@ -1,7 +1,7 @@
 use Rattle.std.proofs.Common.{sym}
 use Rattle.std.proofs.lemmas.Result.{err_from_is_err_and}
-use Rattle.dbc_reader.specs.Reading.Cursors.{left_at}
-use Rattle.dbc_reader.proofs.Turns.Signals.{signals_on, signals_fail}
+use Rattle.dbc_reader.specs.inner.Cursors.{left_at}
+use Rattle.dbc_reader.proofs.Rounds.Signals.{signals_on, signals_fail}
 use Rattle.dbc_reader.proofs.Facts.MessageNames.{signals_fit_more}
 use Rattle.dbc_reader.proofs.messages.signals.Goals as goal
 

@@ -1,8 +1,8 @@
 use Rattle.std.proofs.Common.{◌≡◌, [], IsTrue}
 use Rattle.dbc_records.specs.Records.{signals_fit}
-use Rattle.dbc_reader.specs.Reading.Cursors.{left_at}
-use Rattle.dbc_reader.specs.Reading.Readers.{size}
-use Rattle.dbc_reader.specs.Reading.Messages.{signals_from}
+use Rattle.dbc_reader.specs.inner.Cursors.{left_at}
+use Rattle.dbc_reader.specs.inner.Readers.{size}
+use Rattle.dbc_reader.specs.inner.Messages.{signals_from}
 use Rattle.dbc_reader.proofs.messages.signals.Given as goal
 
 abbrev pub invariant-signals : goal.invariant-signals

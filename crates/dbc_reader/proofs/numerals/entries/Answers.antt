@@ -1,6 +1,6 @@
 use Rattle.std.proofs.lemmas.Result.{err_from_is_err_and}
-use Rattle.dbc_reader.specs.Reading.Cursors.{left_at}
-use Rattle.dbc_reader.proofs.Turns.Lists.{entries_fail}
+use Rattle.dbc_reader.specs.inner.Cursors.{left_at}
+use Rattle.dbc_reader.proofs.Rounds.Lists.{entries_fail}
 use Rattle.dbc_reader.proofs.numerals.entries.Goals as goal
 
 pub returns-in_err-found : goal.returns-in_err-found

@@ -1,7 +1,7 @@
 use Rattle.std.proofs.Common.{◌≡◌, []}
-use Rattle.dbc_reader.specs.Reading.Cursors.{left_at}
-use Rattle.dbc_reader.specs.Reading.Readers.{size}
-use Rattle.dbc_reader.specs.Reading.Parts.{entries_from}
+use Rattle.dbc_reader.specs.inner.Cursors.{left_at}
+use Rattle.dbc_reader.specs.inner.Readers.{size}
+use Rattle.dbc_reader.specs.inner.Parts.{entries_from}
 use Rattle.dbc_reader.proofs.numerals.entries.Given as goal
 
 abbrev pub invariant-entries : goal.invariant-entries

@@ -1,6 +1,6 @@
 use Rattle.std.proofs.lemmas.Result.{err_from_is_err_and}
-use Rattle.dbc_reader.specs.Reading.Cursors.{left_at}
-use Rattle.dbc_reader.proofs.Turns.Lists.{names_fail}
+use Rattle.dbc_reader.specs.inner.Cursors.{left_at}
+use Rattle.dbc_reader.proofs.Rounds.Lists.{names_fail}
 use Rattle.dbc_reader.proofs.parts.names.Goals as goal
 
 pub returns-in_err-found : goal.returns-in_err-found

@@ -1,7 +1,7 @@
 use Rattle.std.proofs.Common.{◌≡◌}
-use Rattle.dbc_reader.specs.Reading.Cursors.{left_at}
-use Rattle.dbc_reader.specs.Reading.Readers.{size}
-use Rattle.dbc_reader.specs.Reading.Parts.{names_from}
+use Rattle.dbc_reader.specs.inner.Cursors.{left_at}
+use Rattle.dbc_reader.specs.inner.Readers.{size}
+use Rattle.dbc_reader.specs.inner.Parts.{names_from}
 use Rattle.dbc_reader.proofs.parts.names.Given as goal
 
 abbrev pub invariant-names : goal.invariant-names

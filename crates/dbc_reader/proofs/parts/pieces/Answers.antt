@@ -1,8 +1,8 @@
 use Rattle.std.proofs.Common.{sym}
 use Rattle.std.proofs.lemmas.Result.{err_from_is_err_and}
 use Rattle.dbc_tokens.specs.Views.{token_of}
-use Rattle.dbc_reader.specs.Reading.Cursors.{left_at}
-use Rattle.dbc_reader.proofs.Turns.Lists.{taken_fails, taken_on}
+use Rattle.dbc_reader.specs.inner.Cursors.{left_at}
+use Rattle.dbc_reader.proofs.Rounds.Lists.{taken_fails, taken_on}
 use Rattle.dbc_reader.proofs.parts.pieces.Goals as goal
 
 pub returns-in_err-token : goal.returns-in_err-token

@@ -1,7 +1,7 @@
 use Rattle.std.proofs.Common.{◌≡◌, [], ◌∷◌}
-use Rattle.dbc_reader.specs.Reading.Cursors.{left_at}
-use Rattle.dbc_reader.specs.Reading.Readers.{size}
-use Rattle.dbc_reader.specs.Reading.Parts.{texts_from}
+use Rattle.dbc_reader.specs.inner.Cursors.{left_at}
+use Rattle.dbc_reader.specs.inner.Readers.{size}
+use Rattle.dbc_reader.specs.inner.Parts.{texts_from}
 use Rattle.dbc_reader.proofs.parts.texts.Given as goal
 
 abbrev pub invariant-further : goal.invariant-further

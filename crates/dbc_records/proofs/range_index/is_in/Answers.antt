@@ -1,5 +1,5 @@
 use Rattle.std.proofs.Common.{◌≡◌, arith}
-use Rattle.dbc_records.proofs.Reaching.{last_tells, none_begun}
+use Rattle.dbc_records.proofs.Reaching.{last_decides, none_begun}
 use Rattle.dbc_records.proofs.range_index.is_in.Goals as goal
 
 pub bounds-index-begun : goal.bounds-index-begun
@@ -7,7 +7,7 @@ bounds-index-begun c = omega (arith, c.begun-begun.ensures.bound, c.if-begun-gt0
 
 pub returns-then-begun-gt0 : goal.returns-then-begun-gt0
 returns-then-begun-gt0 c =
-    last_tells c.args.raw c.args.index.now c.begun-begun.result c.begun-begun.ensures.bound c.requires.lasts
+    last_decides c.args.raw c.args.index.now c.begun-begun.result c.begun-begun.ensures.bound c.requires.lasts
     c.begun-begun.ensures.parted (record { first = 0; last = 0 }) c.if-begun-gt0.true
 
 pub returns-else-begun-gt0 : goal.returns-else-begun-gt0

@@ -1,6 +1,7 @@
 use Rattle.std.proofs.Common.{◌≡◌, List, subst, sym, ap, ◌∙◌}
 use Rattle.dbc_records.specs.declared.mux_row.Range.{Range}
-use Rattle.dbc_records.specs.Ranges.{in_range, reaching, IsRangeIndex}
+use Rattle.dbc_records.specs.Ranges.{in_range}
+use Rattle.dbc_records.specs.inner.RangeIndexes.{reaching, IsRangeIndex}
 use Rattle.dbc_records.proofs.Reaching.{firsts_rise, lasts_rise, same_numbers}
 use Rattle.dbc_records.proofs.range_index.range_index.Goals as goal
 

@@ -1,7 +1,7 @@
 use Rattle.std.proofs.Common.{ℕ, ◌∷◌, [], ◌++◌, List, take, get_or, max, sym, ap, ◌∙◌}
 use Rattle.std.proofs.lemmas.List.{take_more}
 use Rattle.dbc_records.specs.declared.mux_row.Range.{Range}
-use Rattle.dbc_records.specs.Ranges.{reaching}
+use Rattle.dbc_records.specs.inner.RangeIndexes.{reaching}
 use Rattle.dbc_records.proofs.Reaching.{most_of, most_of-push, reaching-push}
 use Rattle.dbc_records.proofs.range_index.reaching.Goals as goal
 

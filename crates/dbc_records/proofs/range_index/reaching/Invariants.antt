@@ -1,5 +1,5 @@
 use Rattle.std.proofs.Common.{◌≡◌, take}
-use Rattle.dbc_records.specs.Ranges.{reaching}
+use Rattle.dbc_records.specs.inner.RangeIndexes.{reaching}
 use Rattle.dbc_records.proofs.Reaching.{most_of}
 use Rattle.dbc_records.proofs.range_index.reaching.Given as goal
 

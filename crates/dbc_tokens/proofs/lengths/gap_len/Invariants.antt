@@ -1,5 +1,5 @@
 use Rattle.std.proofs.Common.{◌≡◌, ◌+◌, ◌-◌, ◌≤◌, false, length, drop}
-use Rattle.dbc_tokens.specs.Reading.Scanner.{gap_len}
+use Rattle.dbc_tokens.specs.inner.Scanner.{gap_len}
 use Rattle.dbc_tokens.proofs.lengths.gap_len.Given as goal
 
 abbrev pub invariant-loop-at : goal.invariant-loop-at

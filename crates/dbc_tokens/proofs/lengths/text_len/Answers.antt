@@ -22,10 +22,10 @@ loop-n-preserved c =
     let first : IsFirstByte (is_byte quote) _ (Some n) = subst (λ t. IsFirstByte (is_byte quote) t (Some n)) (take_rest s at)
     c.in-Some.ensures in
     let f = first_byte quote _ n first in
-    let place : at + n + 1 - 1 ≡ at + n = omega arith in
+    let index : at + n + 1 - 1 ≡ at + n = omega arith in
     record {
       in_range = omega (arith, f.0, length-drop at s);
-      before = λ _. rw (place, ← get_or-drop at s n 0) f.2;
+      before = λ _. rw (index, ← get_or-drop at s n 0) f.2;
       rest = text_goes_on s at n _ first c.loop-n.invariant.rest (escaped s at n (sym c.closes.ensures ∙ c.if-closes.false)
           c.loop-n.invariant.before);
     }

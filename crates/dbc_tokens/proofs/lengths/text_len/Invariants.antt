@@ -1,10 +1,10 @@
 use Rattle.std.proofs.Common.{◌≡◌, ◌+◌, ◌-◌, ◌<◌, ◌≤◌, false, length, drop, get_or}
 use Rattle.std.specs.Option.{option_map}
 use Rattle.dbc_values.specs.Lexical.{quote}
-use Rattle.dbc_tokens.specs.Reading.Scanner.{text_len}
+use Rattle.dbc_tokens.specs.inner.Scanner.{text_len}
 use Rattle.dbc_tokens.proofs.lengths.text_len.Given as goal
 
--- no quote before this place closes, and the byte directly before it is a quote, so no backslash
+-- no quote before this position closes, and the byte directly before it is a quote, so no backslash
 abbrev pub invariant-loop-n : goal.invariant-loop-n
 invariant-loop-n l = record {
   in_range : l.at ≤ length l.bytes;

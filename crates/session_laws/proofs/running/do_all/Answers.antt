@@ -19,5 +19,5 @@ loop-command-preserved c =
           )
           (runs-append _ _ _ _ _ _ _ c.loop-command.invariant.ran c.perform.ensures);
       len = omega (arith, c.in-Ok.ensures.len);
-      room = omega (arith, c.in-Ok.ensures.capacity);
+      space = omega (arith, c.in-Ok.ensures.capacity);
     }

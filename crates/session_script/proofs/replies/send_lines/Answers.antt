@@ -4,7 +4,7 @@ use Rattle.std.proofs.lemmas.Result.{MatchResult-from_err}
 use Rattle.byte_devices.proofs.Outs.{Took-item, Lost-item}
 use Rattle.can_decode.specs.DecodedLines.{decoded_line}
 use Rattle.session_script.specs.Replies.{decoded_texts}
-use Rattle.session_script.proofs.Layouts.{at_place}
+use Rattle.session_script.proofs.Layouts.{at_index}
 use Rattle.session_script.proofs.replies.send_lines.Goals as goal
 
 pub returns-in_err-send_line : goal.returns-in_err-send_line
@@ -19,7 +19,7 @@ returns-in_err-send_line g c =
     ) in
     MatchResult-from_err c.from_residual.result _ _ c.from_residual.ensures.0
     (λ _. Lost-item g.W.Sink.written (λ text. text ++ codes "\n") (decoded_texts state) n c.decoded.result.now [] _ _ _ within
-    (at_place (decoded_line state.options.short state.database) state.lines n c.decoded.result.now [] c.decoded.ensures)
+    (at_index (decoded_line state.options.short state.database) state.lines n c.decoded.result.now [] c.decoded.ensures)
     c.loop-n.invariant c.in_err-send_line.ensures)
 
 pub loop-n-preserved : goal.loop-n-preserved
@@ -33,5 +33,5 @@ loop-n-preserved g c =
       length-map state.lines (decoded_line state.options.short state.database),
     ) in
     Took-item g.W.Sink.written (λ text. text ++ codes "\n") (decoded_texts state) n c.decoded.result.now [] _ _ _ within
-    (at_place (decoded_line state.options.short state.database) state.lines n c.decoded.result.now [] c.decoded.ensures)
+    (at_index (decoded_line state.options.short state.database) state.lines n c.decoded.result.now [] c.decoded.ensures)
     c.loop-n.invariant c.in_ok-send_line.ensures

@@ -8,39 +8,39 @@ use Rattle.can_bits.proofs.steps.Steps.of.Goals as goal
 
 pub push_reserved-requires : goal.push_reserved-requires
 push_reserved-requires c =
-    let so_far : length c.loop-place.steps.items ≡ (passed_at c.args.field 0 % 8 + c.loop-place.place) / 8 =
-    c.loop-place.invariant.count c.loop-place-test.true in
-    omega (arith, so_far, c.loop-place.invariant.capacity, c.loop-place-test.true, c.requires)
+    let so_far : length c.loop-index.steps.items ≡ (passed_at c.args.field 0 % 8 + c.loop-index.index) / 8 =
+    c.loop-index.invariant.count c.loop-index-test.true in
+    omega (arith, so_far, c.loop-index.invariant.capacity, c.loop-index-test.true, c.requires)
 
-pub loop-place-preserved : goal.loop-place-preserved
-loop-place-preserved c =
+pub loop-index-preserved : goal.loop-index-preserved
+loop-index-preserved c =
     let run = c.run_at-run.ensures.run in
     let items = c.push_reserved.ensures.items in
-    let so_far : length c.loop-place.steps.items ≡ (passed_at c.args.field 0 % 8 + c.loop-place.place) / 8 =
-    c.loop-place.invariant.count c.loop-place-test.true in
+    let so_far : length c.loop-index.steps.items ≡ (passed_at c.args.field 0 % 8 + c.loop-index.index) / 8 =
+    c.loop-index.invariant.count c.loop-index-test.true in
     record {
       within = run.within;
-      capacity = c.push_reserved.ensures.capacity ∙ c.loop-place.invariant.capacity;
-      count = λ more. rw (items, length-append) (one_more c.args.field c.loop-place.place c.run_at-run.result.1
-          (length c.loop-place.steps.items) so_far (run.fills more));
-      valid = rw items (All-push IsStep c.loop-place.steps.items c.run_at-run.result.0 c.loop-place.invariant.valid run.valid);
+      capacity = c.push_reserved.ensures.capacity ∙ c.loop-index.invariant.capacity;
+      count = λ more. rw (items, length-append) (one_more c.args.field c.loop-index.index c.run_at-run.result.1
+          (length c.loop-index.steps.items) so_far (run.fills more));
+      valid = rw items (All-push IsStep c.loop-index.steps.items c.run_at-run.result.0 c.loop-index.invariant.valid run.valid);
       same = λ bytes. rw (
         items,
-        sum_by_push (part_of bytes) c.loop-place.steps.items c.run_at-run.result.0,
-        c.loop-place.invariant.same bytes,
+        sum_by_push (part_of bytes) c.loop-index.steps.items c.run_at-run.result.0,
+        c.loop-index.invariant.same bytes,
         run.same bytes,
       )
-          (sym (more_bits bytes c.args.field c.loop-place.place c.run_at-run.result.1));
+          (sym (more_bits bytes c.args.field c.loop-index.index c.run_at-run.result.1));
     }
 
 pub invariant_of-result : goal.invariant_of-result
 unfolding bits_of
 invariant_of-result c =
-    let done : c.loop-place.place ≡ c.args.field.length = omega (arith, c.loop-place.invariant.within, c.loop-place-test.false) in (
+    let done : c.loop-index.index ≡ c.args.field.length = omega (arith, c.loop-index.invariant.within, c.loop-index-test.false) in (
       record {
         length = c.requires;
-        valid = c.loop-place.invariant.valid;
-        same = λ bytes. c.loop-place.invariant.same bytes ∙ ap (λ (n : ℕ). unsigned_raw bytes (bits_from c.args.field 0 n)) done;
+        valid = c.loop-index.invariant.valid;
+        same = λ bytes. c.loop-index.invariant.same bytes ∙ ap (λ (n : ℕ). unsigned_raw bytes (bits_from c.args.field 0 n)) done;
       },
       c.of-window.ensures,
     )

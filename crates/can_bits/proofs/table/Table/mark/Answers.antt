@@ -18,9 +18,9 @@ returns-clause-each c = λ position within.
     ) c.min-end.ensures in
     let no_further : start ≤ c.min-end.result → c.loop-passed.passed ≤ c.min-end.result =
     rw (← c.passed-start.ensures) c.loop-passed.auto.passed-end in
-    let walked : covers start c.loop-passed.passed (numbered field.intel position) ≡ has_position field position =
-    covers_all start field.length top c.min-end.result c.loop-passed.passed (numbered field.intel position)
-    (numbered_within field.intel position c.args.self.now.size within) end c.loop-passed-test.false no_further
+    let walked : covers start c.loop-passed.passed (numbered field.order position) ≡ has_position field position =
+    covers_all start field.length top c.min-end.result c.loop-passed.passed (numbered field.order position)
+    (numbered_within field.order position c.args.self.now.size within) end c.loop-passed-test.false no_further
     ∙ sym (has_position_is field position) in
     c.loop-passed.invariant.each position within ∙ ap (λ (has : Bool). marked_if has (cell_at c.args.self.now.cells.items position)
-    c.args.place) walked
+    c.args.index) walked

@@ -10,6 +10,6 @@ invariant-loop-passed l = record {
   size : l.self.size ≡ l.initial.self.size;
   count : vec_len l.self.cells ≡ 8 * l.initial.self.size;
   each : (position : ℕ) → position < 8 * l.initial.self.size
-      → cell_at l.self.cells.items position ≡ marked_if (covers (passed_at l.field 0) l.passed (numbered l.field.intel position))
-      (cell_at l.initial.self.cells.items position) l.place;
+      → cell_at l.self.cells.items position ≡ marked_if (covers (passed_at l.field 0) l.passed (numbered l.field.order position))
+      (cell_at l.initial.self.cells.items position) l.index;
 }

@@ -3,8 +3,8 @@ use Rattle.std.specs.List.{enumerate_from}
 use Rattle.can_bits.specs.Cells.{IsTable}
 use Rattle.can_bits.proofs.table.Table.of.Given as goal
 
-abbrev pub invariant-loop-place : goal.invariant-loop-place
-invariant-loop-place l = record {
+abbrev pub invariant-loop-index : goal.invariant-loop-index
+invariant-loop-index l = record {
   size : l.table.size ≡ l.size;
-  marked : IsTable l.size (take l.place (enumerate_from 0 l.fields)) l.table.cells.items;
+  marked : IsTable l.size (take l.index (enumerate_from 0 l.fields)) l.table.cells.items;
 }

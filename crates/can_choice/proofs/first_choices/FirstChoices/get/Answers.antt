@@ -1,5 +1,5 @@
 use Rattle.std.proofs.Common.{ap, ◌∙◌}
-use Rattle.can_choice.specs.FirstChoices.{first_choice}
+use Rattle.can_choice.specs.inner.FirstChoices.{first_choice}
 use Rattle.can_choice.proofs.FirstChoices.{first_there}
 use Rattle.can_choice.proofs.first_choices.FirstChoices.get.Goals as goal
 

@@ -7,13 +7,13 @@ use Rattle.can_layout.proofs.plan.Plan.present_by.Goals as goal
 
 pub returns-in-Nothing-clause-there : goal.returns-in-Nothing-clause-there
 returns-in-Nothing-clause-there c =
-    let is : IsRunOf c.args.self.now.rows c.args.place c.in-Some.run'.now =
+    let is : IsRunOf c.args.self.now.rows c.args.index c.in-Some.run'.now =
     c.run_at.ensures.run c.in-Some.run'.now (ap (λ found. option_map (λ run. run.now) found) c.in-Some.is) in
     sym (is.there c.args.bytes.now ∙ ap (there_by c.args.bytes.now c.args.self.now.rows) c.in-Nothing.is)
 
 pub returns-in-Missing-clause-there : goal.returns-in-Missing-clause-there
 returns-in-Missing-clause-there c =
-    let is : IsRunOf c.args.self.now.rows c.args.place c.in-Some.run'.now =
+    let is : IsRunOf c.args.self.now.rows c.args.index c.in-Some.run'.now =
     c.run_at.ensures.run c.in-Some.run'.now (ap (λ found. option_map (λ run. run.now) found) c.in-Some.is) in
     sym (is.there c.args.bytes.now ∙ ap (there_by c.args.bytes.now c.args.self.now.rows) c.in-Missing.is)
 
@@ -22,10 +22,10 @@ returns-in-Switch-clause-there c =
     let bytes : List ℕ = c.args.bytes.now in
     let rows : List Row = c.args.self.now.rows in
     let link : Link = c.in-Switch.link in
-    let is : IsRunOf rows c.args.place c.in-Some.run'.now =
+    let is : IsRunOf rows c.args.index c.in-Some.run'.now =
     c.run_at.ensures.run c.in-Some.run'.now (ap (λ found. option_map (λ run. run.now) found) c.in-Some.is) in
     let here : link.switch ≡ c.link.inside.switch = sym (ap (λ (link : Link). link.switch) c.link.view_is) in
     c.is_among.ensures
     ∙ ap (is_among link.ranges) (c.last_raw-raw.ensures.raw
-    ∙ ap (λ (place : ℕ). switch_raw bytes rows (slice_get rows place)) (sym here))
+    ∙ ap (λ (index : ℕ). switch_raw bytes rows (slice_get rows index)) (sym here))
     ∙ sym (is.there bytes ∙ ap (there_by bytes rows) c.in-Switch.is)

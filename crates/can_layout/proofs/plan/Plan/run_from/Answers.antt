@@ -39,8 +39,8 @@ returns-in_default-known_at-clause-there c =
     c.run_at.ensures.run c.in-Some.run'.now (ap (λ found. option_map (λ run. run.now) found) c.in-Some.is) in
     let here : link.switch ≡ c.link.inside.switch = sym (ap (λ (link : Link). link.switch) c.link.view_is) in
     there_on rows c.args.signal c.in-Some.run'.now is bytes c.is_among.result (c.is_among.ensures
-    ∙ ap (is_among link.ranges) (c.asked_raw-raw.ensures.raw
-    ∙ ap (λ (place : ℕ). switch_raw bytes rows (slice_get rows place)) (sym here))
+    ∙ ap (is_among link.ranges) (c.cached_raw-raw.ensures.raw
+    ∙ ap (λ (index : ℕ). switch_raw bytes rows (slice_get rows index)) (sym here))
     ∙ sym (ap (there_by bytes rows) c.in-Switch.is))
 
 pub returns-in_default-known_at-clause-longest : goal.returns-in_default-known_at-clause-longest

@@ -4,9 +4,9 @@ use Rattle.std.specs.List.{find}
 use Rattle.std.proofs.lemmas.Bool.{lt-ltb}
 use Rattle.dbc_records.specs.Records.{Signal, Entry, ValueRow}
 use Rattle.dbc_records.specs.Databases.{Database}
-use Rattle.can_rows.specs.Rows.{rows_of, first_values}
+use Rattle.can_entries.specs.Rows.{rows_of, first_values}
 use Rattle.can_references.specs.Values.{has_many}
-use Rattle.can_references.specs.ManyRows.{is_of}
+use Rattle.can_references.specs.inner.ManyRows.{is_of}
 use Rattle.can_references.proofs.KeptRows.{many_of_signal}
 use Rattle.can_references.proofs.cross_references.CrossReferences.many_values.Goals as goal
 use denote.Ref.{Bor}

@@ -4,7 +4,7 @@ use Rattle.std.specs.List.Sorted.{IsPermutation}
 use Rattle.dbc_records.specs.Records.{Message}
 use Rattle.dbc_records.specs.Databases.{Database}
 use Rattle.dbc_records.specs.Attributes.{AttrDef}
-use Rattle.can_rows.specs.Groups.{group_of}
+use Rattle.can_entries.specs.Groups.{group_of}
 use Rattle.can_references.specs.CrossReferences.{signals_in, perhaps}
 use Rattle.can_references.proofs.cross_references.CrossReferences.with.Goals as goal
 

@@ -1,5 +1,5 @@
 use Rattle.std.specs.Option.{option_map}
-use Rattle.can_references.specs.ManyRows.{is_kept_number}
+use Rattle.can_references.specs.inner.ManyRows.{is_kept_number}
 use Rattle.can_references.proofs.many_rows.ManyRows.of.Goals as goal
 
 pub invariant_of-result : goal.invariant_of-result

@@ -1,6 +1,6 @@
 use Rattle.std.proofs.Common.{List, ◌++◌, ap, sym, ◌∙◌, append-nil}
 use Rattle.std.specs.Prelude.{ℤ}
-use Rattle.can_references.specs.Spans.{has_all}
+use Rattle.can_references.specs.inner.Spans.{has_all}
 use Rattle.can_references.proofs.InSpans.{none_outside}
 use Rattle.can_references.proofs.spans.Spans.+push_out_of_range.Goals as goal
 

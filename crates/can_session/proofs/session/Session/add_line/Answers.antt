@@ -5,7 +5,7 @@ use Rattle.std.proofs.lemmas.List.Elements.{All-push, All-drop}
 use Rattle.can_decode.specs.DecodedLines.{Bus}
 use Rattle.session_log.specs.declared.line.Line.{Line}
 use Rattle.session_log.specs.Logs.{bytes_of, IsDecoded}
-use Rattle.kept_lines.specs.Keeping.{most_kept, is_full}
+use Rattle.session_kept_lines.specs.Keeping.{most_kept, is_full}
 use Rattle.can_session.proofs.Keeping.{one_goes, open_with_line}
 use Rattle.can_session.proofs.session.Session.add_line.Goals as goal
 
@@ -44,7 +44,7 @@ returns-then-len-most-clause-step c =
     let line = c.args.line.now in
     let all = c.in_ok-retain.ensures.ok in
     let many = length-map log bytes_of in
-    let room : is_full keep (length lines) ≡ false = ap (is_full keep) (many ∙ sym c.len.ensures) ∙ sym c.is_full.ensures
+    let space : is_full keep (length lines) ≡ false = ap (is_full keep) (many ∙ sym c.len.ensures) ∙ sym c.is_full.ensures
     ∙ c.if-is_full.false in
     let over : most_kept keep < length lines + 1 = omega (
       arith,
@@ -60,8 +60,8 @@ returns-then-len-most-clause-step c =
     ap (map bytes_of) (c.drop_first.ensures ∙ ap (drop 1) all) ∙ sym (drop-map bytes_of 1 (log ++ c.in_ok-made.made ∷ []))
     ∙ ap (drop 1) (map_push bytes_of log c.in_ok-made.made ∙ ap (λ bytes. lines ++ bytes ∷ []) c.in_ok-made.ensures.bytes) in
     rw (← c.self.view_is) (
-      open_with_line keep lines line room c.if-line-gt-LONGEST_LINE.false
-          ∙ ap Ok (one_goes keep lines line few room over ∙ sym left),
+      open_with_line keep lines line space c.if-line-gt-MAX_LINE_SIZE.false
+          ∙ ap Ok (one_goes keep lines line few space over ∙ sym left),
       refl,
       refl,
     )

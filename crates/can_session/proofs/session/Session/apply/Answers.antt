@@ -18,7 +18,7 @@ invariant_of-self-2 c =
     let lines = c.exchange.ensures.lines in
     record {
       decoded = c.exchange.ensures.decoded (record { database = c.in_ok-shown.shown; short = c.self.inside.options.short })
-          (rw c.in_ok-shown.ensures.shown c.in_ok-shown.ensures.fresh);
+          (rw c.in_ok-shown.ensures.shown c.in_ok-shown.ensures.redecoded);
       few = omega (
         arith,
         c.self.invariant.few,

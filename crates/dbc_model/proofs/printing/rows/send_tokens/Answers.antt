@@ -15,25 +15,25 @@ pub returns-in_err-send_piece : goal.returns-in_err-send_piece
 unfolding text
 returns-in_err-send_piece g c =
     let tokens = c.args.tokens.now in
-    let place = c.loop-place.place in
-    let is : slice_get tokens place ≡ Some c.in-Some.piece.now = sym c.in-Some.ensures.value in
+    let index = c.loop-index.index in
+    let is : slice_get tokens index ≡ Some c.in-Some.piece.now = sym c.in-Some.ensures.value in
     MatchResult-from_err c.from_residual.result _ _ c.from_residual.ensures.0
-    (λ _. Lost-item g.W.Sink.written text tokens place c.in-Some.piece.now [] _ _ _ (omega (arith, c.loop-place-test.true))
-    (sym (get_or_from_slice_get tokens place c.in-Some.piece.now [] is)) c.loop-place.invariant c.in_err-send_piece.ensures)
+    (λ _. Lost-item g.W.Sink.written text tokens index c.in-Some.piece.now [] _ _ _ (omega (arith, c.loop-index-test.true))
+    (sym (get_or_from_slice_get tokens index c.in-Some.piece.now [] is)) c.loop-index.invariant c.in_err-send_piece.ensures)
 
-pub loop-place-preserved : goal.loop-place-preserved
+pub loop-index-preserved : goal.loop-index-preserved
 unfolding text
-loop-place-preserved g c =
+loop-index-preserved g c =
     let tokens = c.args.tokens.now in
-    let place = c.loop-place.place in
+    let index = c.loop-index.index in
     elim c.match-get.branch [
       | in-Some+in_ok-send_piece w ↦
-          let is : slice_get tokens place ≡ Some w.in-Some.piece.now = sym w.in-Some.ensures.value in
-          rw (w.out-is) (Took-item g.W.Sink.written text tokens place w.in-Some.piece.now [] _ _ _
-          (omega (arith, c.loop-place-test.true)) (sym (get_or_from_slice_get tokens place w.in-Some.piece.now [] is))
-          c.loop-place.invariant w.in_ok-send_piece.ensures)
+          let is : slice_get tokens index ≡ Some w.in-Some.piece.now = sym w.in-Some.ensures.value in
+          rw (w.out-is) (Took-item g.W.Sink.written text tokens index w.in-Some.piece.now [] _ _ _
+          (omega (arith, c.loop-index-test.true)) (sym (get_or_from_slice_get tokens index w.in-Some.piece.now [] is))
+          c.loop-index.invariant w.in_ok-send_piece.ensures)
       | in_default w ↦
-          let none : None ≡ slice_get tokens place = rw w.in_default.is at c.get.ensures.value in
-          let some = slice_get-get_or tokens place [] (omega (arith, c.loop-place-test.true)) in
+          let none : None ≡ slice_get tokens index = rw w.in_default.is at c.get.ensures.value in
+          let some = slice_get-get_or tokens index [] (omega (arith, c.loop-index-test.true)) in
           absurd (cc (none, some))
     ]

@@ -5,6 +5,6 @@ use Rattle.dbc_records.specs.Layout.{layout_text}
 use Rattle.dbc_records.specs.CanonicalText.{piece_layout}
 use Rattle.dbc_model.proofs.printing.rows.send_tokens.Given as goal
 
-abbrev pub invariant-loop-place : goal.invariant-loop-place
-invariant-loop-place g l =
-    Took g.W.Sink.written l.initial.out l.out (flat_map (λ piece. layout_text (piece_layout piece)) (take l.place l.tokens))
+abbrev pub invariant-loop-index : goal.invariant-loop-index
+invariant-loop-index g l =
+    Took g.W.Sink.written l.initial.out l.out (flat_map (λ piece. layout_text (piece_layout piece)) (take l.index l.tokens))

@@ -8,6 +8,9 @@ use Rattle.dbc_values.proofs.Scaling.{too_long, too_many_places, no_factor, no_o
 use Rattle.dbc_values.proofs.Scaling.{reach_of, scale_is}
 use Rattle.dbc_values.proofs.scale.Scale.of.Goals as goal
 use Rattle.dbc_values.proofs.scale.Scale.of.Goals.{then-length-gt-MAX_LENGTH-via-then-length-gt-MAX_LENGTH}
+use Rattle.dbc_values.proofs.scale.Scale.of.Goals.{}
+use Rattle.dbc_values.proofs.scale.Scale.of.Goals.{}
+use Rattle.dbc_values.proofs.scale.Scale.of.Goals.{}
 use Rattle.dbc_values.proofs.scale.Scale.of.Goals.{then-length-gt-MAX_LENGTH-via-else-length-gt-MAX_LENGTH+then-places-gt-MAX_PLACES}
 
 pub returns-then-length-gt-MAX_LENGTH : goal.returns-then-length-gt-MAX_LENGTH

@@ -4,7 +4,7 @@ use Rattle.std.proofs.lemmas.List.Elements.{All-push}
 use Rattle.can_choice.specs.Choices.{data_number}
 use Rattle.session_log.specs.declared.line.Line.{Line}
 use Rattle.session_log.specs.Logs.{bytes_of, IsNumbered}
-use Rattle.session_log.proofs.Serials.{further_place}
+use Rattle.session_log.proofs.Serials.{further_position}
 use Rattle.session_log.proofs.Indexed.{unlisted, listed}
 use Rattle.session_log.proofs.log.Log.retain.Goals as goal
 use Rattle.session_log.proofs.log.Log.retain.Goals.{in-Some+in_ok-add, in_default}
@@ -26,7 +26,7 @@ invariant_of-self-2 c =
           rw (all, w.self-inside-is) (record {
             indexed = rw (map_push bytes_of lines line) (listed first (map bytes_of lines) (bytes_of line) w.in-Some.number _
                 c.self.inside.index w.add.new.self (sym number ∙ w.in-Some.is)
-                (further_place first w.len.result log.serial within ∙ long) log.indexed w.in_ok-add.ensures.ok);
+                (further_position first w.len.result log.serial within ∙ long) log.indexed w.in_ok-add.ensures.ok);
             numbered = All-push IsNumbered lines line log.numbered number;
             serial = log.serial;
           })

@@ -1,8 +1,8 @@
 use Rattle.std.proofs.Common.{map, take}
 use Rattle.session_log.specs.Logs.{bytes_of}
-use Rattle.session_log.specs.Indexes.{Covers}
+use Rattle.session_log.specs.inner.Indexes.{Covers}
 use Rattle.session_log.proofs.log.Log.touched.Given as goal
 
--- those of the lines that the numbers so far touch are there
+-- those of the lines that the CAN identifiers so far touch are there
 abbrev pub invariant-loop-at : goal.invariant-loop-at
-invariant-loop-at l = Covers (take l.at l.numbers) (map bytes_of l.self) l.places.items
+invariant-loop-at l = Covers (take l.at l.numbers) (map bytes_of l.self) l.positions.items

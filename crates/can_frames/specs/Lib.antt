@@ -1,0 +1,4 @@
+pub mod LogLines
+pub mod Frames
+pub mod LogGrammar
+pub mod inner

@@ -1,0 +1,19 @@
+use Rattle.std.proofs.Common.{[], ◌∷◌, ◌++◌, None, Some}
+use Rattle.std.specs.Prelude.{codes}
+use Rattle.can_json_texts.specs.Members.{Member, object_of}
+use Rattle.can_json_records.specs.Records.{entries_json}
+use Rattle.can_json_records.proofs.Tokens.{members_then, member_written, object_written}
+use Rattle.can_entries.specs.Rows.{rows_of, first_values, entries_of}
+use Rattle.can_entries.specs.Groups.{group_of}
+use Rattle.can_json_dump.specs.Subjects.{Subject}
+use Rattle.can_json_dump.specs.Messages.{remark_members, plan_members, given_members, stated_members, placed_members, paired}
+use Rattle.can_json_dump.specs.Messages.{signal_member, group_json, head_members, planned_members}
+use Rattle.can_json_dump.proofs.message.Messages.write_found.Goals as goal
+
+pub returns : goal.returns
+returns g c =
+    let placed = c.args.placed.now in
+    members_then (plan_members placed.message.signals placed.row)
+    (given_members c.args.self.now placed.message.head.number placed.signal.name)
+    c.args.text.now c.write_placed_plan.new.text c.write_placed_given.new.text
+    c.in_ok-write_placed_given.ensures c.in_ok-write_placed_plan.ensures

@@ -1,0 +1,17 @@
+use Rattle.std.proofs.Common.{[], ◌∷◌, ◌++◌, map}
+use Rattle.std.specs.Prelude.{codes}
+use Rattle.can_json_texts.specs.Members.{text_members}
+use Rattle.can_json_records.specs.Values.{array_of, or_null}
+use Rattle.can_json_records.specs.Records.{decimal_json, names_json, table_json, definition_json, default_json, tag_json}
+use Rattle.can_json_records.specs.Records.{comment_json}
+use Rattle.can_json_records.specs.Records.{attribute_json, values_json, float_json, mux_json, kept_json}
+use Rattle.can_json_records.proofs.Tokens.{members_then}
+use Rattle.can_json_dump.proofs.rest.write_tables_and_definitions.Goals as goal
+
+pub returns : goal.returns
+returns c =
+    members_then
+    ((codes "value_tables", array_of (map table_json c.args.tables.now)) ∷ [])
+    ((codes "definitions", array_of (map definition_json c.args.definitions.now)) ∷ [])
+    c.args.text.now c.write_array_member.new.text c.write_array_member-2.new.text
+    c.in_ok-write_array_member-2.ensures c.in_ok-write_array_member.ensures

@@ -1,0 +1,19 @@
+use Rattle.std.proofs.Common.{[], ◌∷◌, ◌++◌, map}
+use Rattle.std.specs.Prelude.{codes}
+use Rattle.can_json_texts.specs.Members.{text_members}
+use Rattle.can_json_records.specs.Values.{array_of, or_null}
+use Rattle.can_json_records.specs.Records.{decimal_json, names_json, table_json, definition_json, default_json, tag_json}
+use Rattle.can_json_records.specs.Records.{comment_json}
+use Rattle.can_json_records.specs.Records.{attribute_json, values_json, float_json, mux_json, kept_json}
+use Rattle.can_json_records.proofs.Tokens.{members_then}
+use Rattle.can_json_dump.proofs.rest.write_version_and_lists.Goals as goal
+
+pub returns : goal.returns
+returns c =
+    members_then
+    (text_members (codes "version") c.args.version.now)
+    ((codes "symbols", names_json c.args.symbols.now)
+    ∷ (codes "bit_timing", or_null (λ numbers. array_of (map decimal_json numbers)) c.args.timing.now)
+    ∷ (codes "nodes", names_json c.args.nodes.now) ∷ [])
+    c.args.text.now c.write_text.new.text c.write_lists.new.text
+    c.in_ok-write_lists.ensures c.in_ok-write_text.ensures

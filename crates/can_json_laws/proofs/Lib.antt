@@ -1,0 +1,14 @@
+pub mod Among
+pub mod Sound
+pub mod Numbers
+pub mod Stamps
+pub mod Targets
+pub mod Readings
+pub mod Parsed
+pub mod Looked
+pub mod StatedSignals
+pub mod StatedAll
+pub mod OneLine
+pub mod Bytes
+pub mod LineTexts
+pub mod Exact

@@ -1,0 +1,4 @@
+pub mod Keys
+pub mod Stated
+pub mod OneLine
+pub mod Laws

@@ -1,0 +1,14 @@
+use Rattle.std.proofs.Common.{◌≡◌, List, ℕ, map, subst}
+use Rattle.std.specs.List.Sorted.{IsPermutation}
+use Rattle.std.proofs.lemmas.List.Sorted.{All-permutation, IsPermutation-map}
+use Rattle.can_references.specs.Hashes.{hashed_bytes}
+use Rattle.can_references.specs.SignalNames.{named_signal}
+use Rattle.can_references.proofs.hashed_signals.HashedSignals.of.Goals as goal
+
+pub invariant_of-result : goal.invariant_of-result
+invariant_of-result c = All-permutation (λ hashed. hashed.hash ≡ hashed_bytes hashed.key.0 hashed.key.1.now) _ _ c.of.ensures
+    c.in_ok-hashed_all.ensures.hashes
+
+pub returns : goal.returns
+returns c = subst (λ (l : List (ℕ × List ℕ)). IsPermutation l (map (λ hashed. named_signal hashed.key) c.of.result))
+    c.in_ok-hashed_all.ensures.keys (IsPermutation-map (λ hashed. named_signal hashed.key) _ _ c.of.ensures)

@@ -1,8 +1,0 @@
-use Rattle.std.proofs.Common.{◌≡◌, drop}
-use Rattle.std.specs.List.{find}
-use Rattle.can_rows.specs.Groups.{gives_format}
-use Rattle.can_rows.proofs.format.first_format_row.Given as goal
-
--- none of the rows so far gives the format of the message
-abbrev pub invariant-loop-row : goal.invariant-loop-row
-invariant-loop-row l = find (gives_format l.number) (drop l.row-index l.rows) ≡ find (gives_format l.number) l.rows

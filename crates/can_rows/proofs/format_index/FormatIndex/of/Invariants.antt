@@ -1,7 +1,0 @@
-use Rattle.std.proofs.Common.{take}
-use Rattle.can_rows.specs.Indexes.{IsFormatIndex}
-use Rattle.can_rows.proofs.format_index.FormatIndex.of.Given as goal
-
--- each message has the first of the rows so far
-abbrev pub invariant-loop-row : goal.invariant-loop-row
-invariant-loop-row l = IsFormatIndex l.by_number (take l.row-index l.rows)

@@ -1,4 +1,0 @@
-pub mod Rows
-pub mod Groups
-pub mod Mixes
-pub mod Indexes

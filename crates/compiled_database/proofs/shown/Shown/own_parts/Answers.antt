@@ -1,9 +1,0 @@
-use Rattle.can_references.specs.RowFaults.{row_faults}
-use Rattle.compiled_database.proofs.OwnParts.{own_there}
-use Rattle.compiled_database.proofs.shown.Shown.own_parts.Goals as goal
-
-pub returns : goal.returns
-returns c =
-    let database = c.args.self.now in
-    let there = own_there database database.messages (row_faults database) in
-    let law = c.faults_in_order.ensures.all database in cc

@@ -1,4 +1,0 @@
-pub mod Acceptance
-pub mod Compiled
-pub mod Diagnosed
-pub mod Shown

@@ -1,9 +1,0 @@
-use Rattle.std.proofs.Common.{rules}
-use Rattle.json_texts.specs.Texts.{text_of}
-use Rattle.csv_lines.proofs.Fields.{empty_first}
-use Rattle.csv_lines.proofs.signals.push_name.Goals as goal
-
-pub returns : goal.returns
-returns c =
-    empty_first c.args.text.now.items c.push.new.self.items c.push_further_text.new.text.items c.push-2.new.self.items
-    (text_of c.args.name.now) (search rules) (search rules) (search rules)

@@ -1,0 +1,4 @@
+pub mod Headlines
+pub mod Patterns
+pub mod FaultLocations
+pub mod Derivatives

@@ -1,6 +1,0 @@
-use Rattle.std.proofs.Common.{◌≡◌, ◌^◌, take, min}
-use Rattle.std.specs.Str.Parse.{digits_value}
-use Rattle.dbc_values.proofs.number.value_up_to_far.Given as goal
-
-abbrev pub invariant-loop-digit : goal.invariant-loop-digit
-invariant-loop-digit l = l.value ≡ min (digits_value 10 (take l.digit-index l.digits)) (10 ^ 30)

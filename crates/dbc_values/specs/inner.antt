@@ -1,0 +1,3 @@
+-- What private functions and proofs cite, and no promise to callers: a middle step.
+pub mod Parts
+pub mod Stores

@@ -1,8 +1,0 @@
-use Rattle.std.proofs.Common.{◌+◌, ◌*◌, length}
-use Rattle.fault_places.proofs.walk.Walk.+step.Given as goal
-
-abbrev pub decreases-step : goal.decreases-step
-decreases-step l = 2 * length l.self.now.left.items
-
-abbrev pub decreases-step_from : goal.decreases-step_from
-decreases-step_from l = 2 * length l.self.now.left.items + 1

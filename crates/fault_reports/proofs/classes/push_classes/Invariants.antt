@@ -1,5 +1,0 @@
-use Rattle.std.proofs.Common.{length}
-use Rattle.fault_reports.proofs.classes.push_classes.Given as goal
-
-abbrev pub decreases-classes : goal.decreases-classes
-decreases-classes l = length l.left

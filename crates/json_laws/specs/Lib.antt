@@ -1,4 +1,0 @@
-pub mod Keys
-pub mod Said
-pub mod OneLine
-pub mod Laws

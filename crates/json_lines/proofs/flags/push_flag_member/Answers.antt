@@ -1,8 +1,0 @@
-use Rattle.std.proofs.Common.{rules}
-use Rattle.json_texts.proofs.Keyed.{flag_pushed}
-use Rattle.json_lines.proofs.flags.push_flag_member.Goals as goal
-
-pub returns : goal.returns
-returns c =
-    flag_pushed c.args.text.now.items c.push_to.new.text.items c.push_flag.new.text.items c.args.key.now c.args.flag (search rules)
-    (search rules)

@@ -1,4 +1,0 @@
-use Rattle.json_lines.proofs.frame.push_data_said.Goals as goal
-
-pub returns-in-None : goal.returns-in-None
-returns-in-None c = rw c.in-None.is c.push_cause.ensures

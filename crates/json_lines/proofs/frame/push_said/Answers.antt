@@ -1,9 +1,0 @@
-use Rattle.std.proofs.Common.{◌≡◌, sym, ap, ◌∙◌}
-use Rattle.log_frames.specs.Frames.{Frame}
-use Rattle.log_frames.specs.declared.frame.Kind.TheVariants.{Remote}
-use Rattle.json_lines.proofs.frame.push_said.Goals as goal
-
-pub returns-in-Remote : goal.returns-in-Remote
-returns-in-Remote c =
-    let kind : c.args.frame.now.kind ≡ Remote = ap (λ (frame : Frame). frame.kind) (sym c.frame.view_is) ∙ c.in-Remote.is in
-    rw kind c.push_cause-in-Remote.ensures

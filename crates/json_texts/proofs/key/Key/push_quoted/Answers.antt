@@ -1,8 +1,0 @@
-use Rattle.std.proofs.Common.{rules}
-use Rattle.json_texts.proofs.Keyed.{string_pushed}
-use Rattle.json_texts.proofs.key.Key.push_quoted.Goals as goal
-
-pub returns : goal.returns
-returns c =
-    string_pushed c.args.text.now.items c.push_to.new.text.items c.push_quoted.new.text.items c.args.self.now c.args.bytes.now
-    (search rules) (search rules)

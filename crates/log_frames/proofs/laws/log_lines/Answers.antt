@@ -1,5 +1,0 @@
-use Rattle.log_frames.proofs.Grammar.{found, there, same_frame}
-use Rattle.log_frames.proofs.laws.log_lines.Goals as goal
-
-pub returns : goal.returns
-returns c = record { exactly = λ body frame. (found body frame, there body frame); unique = same_frame }

@@ -1,4 +1,0 @@
-pub mod LogLines
-pub mod Frames
-pub mod Seen
-pub mod LogGrammar

@@ -1,6 +1,0 @@
-use Rattle.std.proofs.Common.{ap, ◌∙◌, ◌-◌, take}
-use Rattle.ready_texts.proofs.WordBytes.{bytes_from_point_are}
-use Rattle.ready_texts.proofs.eight_digits.bytes_from_point.Goals as goal
-
-pub returns : goal.returns
-returns c = ap (take (8 - c.args.at)) c.to_le_bytes.ensures ∙ bytes_from_point_are c.args.word c.args.at c.requires

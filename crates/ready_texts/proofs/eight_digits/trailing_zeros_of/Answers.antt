@@ -1,5 +1,0 @@
-use Rattle.ready_texts.proofs.WordZeros.{zeros_at_the_end}
-use Rattle.ready_texts.proofs.eight_digits.trailing_zeros_of.Goals as goal
-
-pub returns : goal.returns
-returns c = zeros_at_the_end c.args.number c.args.word c.requires.number c.ranges.word.fits c.requires.word

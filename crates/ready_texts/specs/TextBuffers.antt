@@ -1,7 +1,0 @@
--- Texts that are being made.
-use Rattle.std.specs.Prelude.{ℕ, List}
-
--- the bytes of a text so far, and how many more can be written with no look at memory
-pub record TextBuffer : Type 0 where
-  pub items : List ℕ
-  pub ready : ℕ

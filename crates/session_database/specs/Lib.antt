@@ -1,0 +1,4 @@
+pub mod Acceptance
+pub mod CompiledMessage
+pub mod Diagnosed
+pub mod CompiledDatabase
