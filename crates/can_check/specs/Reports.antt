@@ -2,7 +2,7 @@
 use Rattle.std.specs.Prelude.{◌≡◌, List, [], ◌++◌, Result, MatchResult}
 use Rattle.std.proofs.Common.{sym, ap, ◌∙◌, append_assoc, append-nil}
 use Rattle.can_diagnostics.specs.declared.diagnostic.Diagnostic.{Diagnostic}
-use Rattle.can_check.specs.declared.report.Stop.{Stop}
+use Rattle.dbc_values.specs.declared.stop.Stop.{Stop}
 
 -- these were taken, or a prefix of them was, and then it stopped
 abbrev pub Takes : {R X : Type 0} → (R → R → List Diagnostic → Type 0) → (R → R → Stop → List Diagnostic → Type 0) → R → R

@@ -10,7 +10,7 @@ ghost use Rattle.can_check.specs.Reports.{Takes};
 
 use crate::layout_rules::{push_outside, push_switch_faults};
 use crate::overlap_rules::report_overlaps;
-use crate::report::{Report, Stop};
+use crate::report::Report;
 use crate::signal_rules::{HasNoScale, IsFloat, IsLong, push_where};
 use crate::value_rules::push_value_faults;
 use crate::walk_rules::walks_in;
@@ -20,7 +20,7 @@ use can_mux::{MessageRows, Walk};
 use can_overlap::Occupancy;
 use can_references::{CrossReferences, push_head_faults, push_unknown_nodes, row_faults};
 use dbc_records::{Database, Message};
-use dbc_values::Memory;
+use dbc_values::{Memory, Stop};
 use std::alloc::Global;
 
 // Adds the signals that can't be decoded for reasons other than where their bits are: codes 10 to 12.

@@ -22,4 +22,4 @@ pub use can_diagnostics::{
 };
 pub use can_overlap::Occupancy;
 pub use own::push_own_faults;
-pub use report::{Report, Stop};
+pub use report::Report;

@@ -5,7 +5,7 @@ ghost use Rattle.can_overlap.specs.Overlaps.{overlapping, pairs_from};
 ghost use Rattle.can_check.specs.MessageFaults.{pair_between, pair_at, overlaps};
 ghost use Rattle.can_check.specs.Reports.{Takes};
 
-use crate::report::{Report, Stop};
+use crate::report::Report;
 use can_bits::{Field, fields_of};
 use can_diagnostics::{Code, Diagnostic};
 use can_mux::Walk;
@@ -13,7 +13,7 @@ use can_overlap::laws::pairs_by_signal;
 use can_overlap::{Marked, Occupancy, Pair, are_disjoint_in_sequence};
 use can_references::is_pseudo;
 use dbc_records::{Head, Message, Signal};
-use dbc_values::Memory;
+use dbc_values::{Memory, Stop};
 use std::alloc::Global;
 
 // The signal at an index.

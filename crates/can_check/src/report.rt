@@ -3,36 +3,14 @@ ghost use Rattle.std.specs.Prelude.{◌≡◌};
 ghost use Rattle.can_check.specs.Reports.{Takes};
 
 use can_diagnostics::Diagnostic;
-use dbc_values::Memory;
-use thiserror::Error;
-
-/// Why no more diagnostics are taken.
-#[derive(Clone, Copy, Debug, PartialEq, Eq, Error)]
-pub enum Stop {
-    /// The receiver failed.
-    #[error("42 Write")]
-    Write,
-    /// Out of memory.
-    #[error("90 Memory")]
-    Memory,
-}
-
-impl From<Memory> for Stop {
-    ghost use Rattle.can_check.specs.declared.report.Stop.TheVariants as stops;
-
-    ghost from_gives = { λ _ stop. stop ≡ stops.Memory };
-
-    fn from(_memory: Memory) -> Stop {
-        Stop::Memory
-    }
-}
+use dbc_values::{Memory, Stop};
 
 /// A receiver of diagnostics in their order, a few at a time, so that they need not all be kept.
 pub trait Report: Drop {
     ghost use Rattle.std.specs.Prelude.{List, [], ◌++◌};
     ghost use Rattle.can_diagnostics.specs.declared.diagnostic.Diagnostic.{Diagnostic as Found};
-    ghost use Rattle.can_check.specs.declared.report.Stop.{Stop as Why};
-    ghost use Rattle.can_check.specs.declared.report.Stop.TheVariants as stops;
+    ghost use Rattle.dbc_values.specs.declared.stop.Stop.{Stop as Why};
+    ghost use Rattle.dbc_values.specs.declared.stop.Stop.TheVariants as stops;
 
     // These were taken.
     ghost Took: { Self → Self → List Found → Type 0 };

@@ -1,17 +1,6 @@
-//! Why lines are not handled.
+//! Why a stream of lines ends.
 
 use thiserror::Error;
-
-/// Why a handler did not finish a line.
-#[derive(Clone, Copy, Debug, PartialEq, Eq, Error)]
-pub enum Stop {
-    /// The sink failed.
-    #[error("42 Write")]
-    Write,
-    /// An allocation failed.
-    #[error("90 Memory")]
-    Memory,
-}
 
 /// Why a stream of lines ended before its input did.
 #[derive(Clone, Copy, Debug, PartialEq, Eq, Error)]

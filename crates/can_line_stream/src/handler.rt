@@ -4,16 +4,16 @@ ghost use Rattle.byte_devices.specs.Device.{Passes, Broke};
 ghost use Rattle.byte_devices.specs.Outs.{SameSink};
 ghost use Rattle.can_line_stream.specs.Cuts.{HasNoLineFeed};
 
-use crate::fault::Stop;
 use byte_devices::{Out, Sink};
 use dbc_text_buffer::TextBuffer;
+use dbc_values::Stop;
 
 /// What is done for each line of a stream, in the order of the lines.
 ///
 /// The handler itself stays as it is, and what lines change is its `State`. A text may be buffered before the sink, so that many
 /// short texts cost one call; the stream puts what is buffered before it pulls again.
 pub trait Handler: Drop {
-    ghost use Rattle.can_line_stream.specs.declared.fault.Stop.TheVariants as stops;
+    ghost use Rattle.dbc_values.specs.declared.stop.Stop.TheVariants as stops;
     ghost use Rattle.can_line_stream.specs.Runs.{Rules};
 
     /// What lines change.

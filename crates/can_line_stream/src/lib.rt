@@ -8,7 +8,7 @@ mod handler;
 mod streaming;
 mod texts;
 
-pub use fault::{Stop, StreamFault};
+pub use fault::StreamFault;
 pub use handler::Handler;
 pub use streaming::stream_lines;
 pub use texts::{LineText, stream_texts};

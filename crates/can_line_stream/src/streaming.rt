@@ -9,11 +9,12 @@ ghost use Rattle.can_line_stream.specs.Cuts.{Cuts, HasNoLineFeed};
 ghost use Rattle.can_line_stream.specs.Runs.{Leads, Handled, StopsAmong, BreaksAmong, FailsAt};
 ghost use Rattle.can_line_stream.specs.Stream.{NoneFailed, EndsAtLong, EndsAtRead, HandlesAll, StreamEnds};
 
-use crate::fault::{Stop, StreamFault};
+use crate::fault::StreamFault;
 use crate::handler::Handler;
 use arrayvec::ArrayVec;
 use byte_devices::{Broken, Out, Sink, Source, WriteFault};
 use dbc_text_buffer::TextBuffer;
+use dbc_values::Stop;
 use memchr::memchr;
 use std::alloc::Global;
 

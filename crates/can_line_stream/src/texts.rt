@@ -2,13 +2,13 @@
 ghost use Rattle.std.specs.Prelude.{◌≡◌, ℕ, List, OnOk, OnErr};
 ghost use Rattle.can_line_stream.specs.LineTexts.{state_after, StreamsTexts};
 
-use crate::fault::{Stop, StreamFault};
+use crate::fault::StreamFault;
 use crate::handler::Handler;
 use crate::streaming::stream_lines;
 use arrayvec::ArrayVec;
 use byte_devices::{Out, Sink, Source, WriteFault};
 use dbc_text_buffer::TextBuffer;
-use dbc_values::Memory;
+use dbc_values::{Memory, Stop};
 use std::alloc::Global;
 use std::marker::PhantomData;
 

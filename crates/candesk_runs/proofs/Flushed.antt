@@ -8,7 +8,7 @@ use Rattle.byte_devices.specs.declared.sending.Out.{Out}
 use Rattle.byte_devices.proofs.Writes.{Broke-flush, Broke-more, Passes-flush}
 use Rattle.can_diagnostics.specs.declared.diagnostic.Diagnostic.{Diagnostic}
 use Rattle.can_diagnostics.specs.Lines.{line_text}
-use Rattle.can_check.specs.declared.report.Stop.TheVariants as stops
+use Rattle.dbc_values.specs.declared.stop.Stop.TheVariants as stops
 use Rattle.candesk_runs.specs.declared.checking.Verdict.{Verdict}
 use Rattle.candesk_runs.specs.declared.checking.Verdict.TheVariants as verdicts
 use Rattle.candesk_runs.specs.declared.fault.RunFault.{RunFault}

@@ -9,8 +9,8 @@ use Rattle.dbc_reader.specs.Texts.{HasDatabase, IsRead}
 use Rattle.can_diagnostics.specs.declared.diagnostic.Diagnostic.{Diagnostic}
 use Rattle.can_diagnostics.specs.Lines.{line_text}
 use Rattle.can_check.specs.AllFaults.{all_faults}
-use Rattle.can_check.specs.declared.report.Stop.{Stop}
-use Rattle.can_check.specs.declared.report.Stop.TheVariants as stops
+use Rattle.dbc_values.specs.declared.stop.Stop.{Stop}
+use Rattle.dbc_values.specs.declared.stop.Stop.TheVariants as stops
 use Rattle.candesk_runs.specs.declared.checking.Verdict.{Verdict}
 use Rattle.candesk_runs.specs.declared.checking.Verdict.TheVariants as verdicts
 use Rattle.candesk_runs.specs.declared.fault.RunFault.{RunFault}

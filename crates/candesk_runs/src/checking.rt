@@ -6,11 +6,12 @@ ghost use Rattle.byte_devices.specs.Outs.{SameSink};
 
 use crate::fault::RunFault;
 use byte_devices::Out;
-use can_check::{Diagnostic, Report, Stop, report_all, send_lines};
+use can_check::{Diagnostic, Report, report_all, send_lines};
 use can_line_stream::StreamFault;
 use dbc_model::{Sink, WriteFault};
 use dbc_reader::read;
 use dbc_records::Database;
+use dbc_values::Stop;
 use std::alloc::Global;
 
 /// The verdict on a database as a whole.

@@ -7,10 +7,10 @@ ghost use Rattle.session_script.specs.Serving.{Serves};
 use crate::performing::reply;
 use arrayvec::ArrayVec;
 use byte_devices::{Out, Sink, Source, WriteFault};
-use can_line_stream::{Handler, Stop, StreamFault, stream_lines};
+use can_line_stream::{Handler, StreamFault, stream_lines};
 use can_session::Session;
 use dbc_text_buffer::TextBuffer;
-use dbc_values::Memory;
+use dbc_values::{Memory, Stop};
 use std::alloc::Global;
 
 // The most bytes of a line of a script.

@@ -8,8 +8,8 @@ use Rattle.byte_devices.specs.declared.sending.Out.{Out}
 use Rattle.byte_devices.proofs.Outs.{Took-nil, Took-then, Lost-following, Lost-more}
 use Rattle.can_diagnostics.specs.declared.diagnostic.Diagnostic.{Diagnostic}
 use Rattle.can_diagnostics.specs.Lines.{line_text}
-use Rattle.can_check.specs.declared.report.Stop.{Stop}
-use Rattle.can_check.specs.declared.report.Stop.TheVariants as stops
+use Rattle.dbc_values.specs.declared.stop.Stop.{Stop}
+use Rattle.dbc_values.specs.declared.stop.Stop.TheVariants as stops
 use Rattle.candesk_runs.specs.declared.checking.Verdict.{Verdict}
 use Rattle.candesk_runs.specs.declared.checking.Verdict.TheVariants as verdicts
 use Rattle.candesk_runs.specs.Checking.{found_text, verdict_of, verdict_then, TookLines, StoppedLines}

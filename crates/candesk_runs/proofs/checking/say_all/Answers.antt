@@ -1,7 +1,7 @@
 use Rattle.std.proofs.Common.{rules, Ok, Err, ap, subst}
 use Rattle.byte_devices.specs.Device.{Written}
 use Rattle.can_check.specs.AllFaults.{all_faults}
-use Rattle.can_check.specs.declared.report.Stop.TheVariants as stops
+use Rattle.dbc_values.specs.declared.stop.Stop.TheVariants as stops
 use Rattle.candesk_runs.specs.declared.fault.RunFault.TheVariants as faults
 use Rattle.candesk_runs.specs.Checking.{Flushes, Says, TookLines, StoppedLines}
 use Rattle.candesk_runs.proofs.Flushed.{ended_all, ended_early}
