@@ -30,8 +30,8 @@ LANES = (
         "can_json_texts", "dbc_edits", "dbc_model", "candesk_words",
     ),
     ("dbc_tokens", "dbc_reader", "dbc_ranges", "dbc_faults"),
-    ("can_entries", "can_bits", "can_mux", "can_overlap", "can_diagnostics", "can_references", "can_check"),
-    ("can_layout", "can_choice", "can_decode"),
+    ("can_entries", "can_bits", "can_overlap", "can_diagnostics", "can_references", "can_check"),
+    ("can_layout", "can_decode"),
 )
 # what all lanes depend on
 BASE = ("dbc_values", "dbc_records")

@@ -105,7 +105,7 @@ class Built:
 
 CANDESK = Built(PROGRAM, PROGRAM)
 # the tests of the program's calls, and the program that makes these calls one by one
-TESTS = Built(f"{PROGRAM}_tests", f"{PROGRAM}_tests_tests")
+TESTS = Built("can_tests", "can_tests_tests")
 PROBE = Built("candesk_probe", "candesk_probe")
 ALL_BUILT = (CANDESK, TESTS, PROBE)
 

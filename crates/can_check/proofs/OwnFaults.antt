@@ -4,8 +4,8 @@ use Rattle.std.specs.List.{flat_map}
 use Rattle.dbc_records.specs.Records.{Message}
 use Rattle.dbc_records.specs.Databases.{Database}
 use Rattle.can_entries.specs.Rows.{SignalRows, rows_of}
-use Rattle.can_mux.specs.Switches.{walks_of}
-use Rattle.can_mux.specs.declared.walk.Walk.{Walk}
+use Rattle.can_entries.specs.Switches.{walks_of}
+use Rattle.can_entries.specs.declared.walk.Walk.{Walk}
 use Rattle.can_diagnostics.specs.declared.diagnostic.Diagnostic.{Diagnostic}
 use Rattle.can_references.specs.HeadFaults.{head_faults, unknown_nodes}
 use Rattle.can_references.specs.RowFaults.{row_faults}

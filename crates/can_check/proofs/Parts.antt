@@ -6,7 +6,7 @@ use Rattle.std.proofs.lemmas.List.{take_more}
 use Rattle.std.proofs.lemmas.List.Concat.{flat_map-append}
 use Rattle.dbc_records.specs.Records.{Message}
 use Rattle.can_bits.specs.declared.field.Field.{Field}
-use Rattle.can_mux.specs.declared.walk.Walk.{Walk}
+use Rattle.can_entries.specs.declared.walk.Walk.{Walk}
 use Rattle.can_diagnostics.specs.declared.diagnostic.Diagnostic.{Diagnostic}
 use Rattle.can_overlap.specs.inner.Occupancy.{Marked}
 use Rattle.can_overlap.specs.Overlaps.{overlapping, pairs_from}

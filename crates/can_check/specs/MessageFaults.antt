@@ -8,8 +8,8 @@ use Rattle.dbc_records.specs.Databases.{Database}
 use Rattle.can_bits.specs.Bits.{field_of}
 use Rattle.can_entries.specs.Rows.{SignalRows, rows_of, first_values, first_mux}
 use Rattle.can_entries.specs.Rows.{entries_of}
-use Rattle.can_mux.specs.Switches.{walks_of}
-use Rattle.can_mux.specs.declared.walk.Walk.{Walk}
+use Rattle.can_entries.specs.Switches.{walks_of}
+use Rattle.can_entries.specs.declared.walk.Walk.{Walk}
 use Rattle.can_overlap.specs.Overlaps.{overlapping}
 use Rattle.can_overlap.specs.declared.pair.Pair.{Pair}
 use Rattle.can_diagnostics.specs.Diagnostics.{of_signal, of_pair, of_value}

@@ -11,8 +11,8 @@ use Rattle.dbc_records.specs.Ranges.{is_empty_range}
 use Rattle.can_bits.specs.Bits.{field_of, is_outside}
 use Rattle.can_entries.specs.Rows.{SignalRows, first_float}
 use Rattle.can_entries.specs.Rows.{is_float_row}
-use Rattle.can_mux.specs.declared.walk.Walk.{Walk}
-use Rattle.can_mux.specs.declared.walk.Walk.TheVariants as walks
+use Rattle.can_entries.specs.declared.walk.Walk.{Walk}
+use Rattle.can_entries.specs.declared.walk.Walk.TheVariants as walks
 
 -- ---- multiplexing
 

@@ -8,7 +8,7 @@ ghost use Rattle.can_check.specs.Reports.{Takes};
 use crate::report::Report;
 use can_bits::{Field, fields_of};
 use can_diagnostics::{Code, Diagnostic};
-use can_mux::Walk;
+use can_entries::Walk;
 use can_overlap::laws::pairs_by_signal;
 use can_overlap::{Marked, Occupancy, Pair, are_disjoint_in_sequence};
 use can_references::is_pseudo;

@@ -8,8 +8,7 @@ ghost use Rattle.can_check.specs.MessageFaults.{signals_where};
 
 use can_bits::Field;
 use can_diagnostics::{Code, Diagnostic};
-use can_entries::Lookup;
-use can_mux::MessageRows;
+use can_entries::{Lookup, MessageRows};
 use dbc_records::{FloatRow, Head, MuxRow, Signal, Tag};
 use dbc_values::{Memory, Name, Scale, same};
 

@@ -1,11 +1,10 @@
 //! The multiplexing chains from signals, and tests of them.
 ghost use Rattle.std.specs.Prelude.{◌≡◌, IfOk};
 ghost use Rattle.can_entries.specs.Rows.{rows_of};
-ghost use Rattle.can_mux.specs.Switches.{walks_of};
+ghost use Rattle.can_entries.specs.Switches.{walks_of};
 ghost use Rattle.can_check.specs.SignalRules.{has_no_switch, is_loop};
 
-use can_entries::Lookup;
-use can_mux::{MessageRows, Walk, message_walks};
+use can_entries::{Lookup, MessageRows, Walk, message_walks};
 use can_references::CrossReferences;
 use dbc_records::Message;
 use dbc_values::Memory;
@@ -26,7 +25,7 @@ pub(crate) fn walks_in<'a, L: Lookup>(
 /// A test of multiplexing chains.
 pub(crate) trait WalkTest {
     ghost use Rattle.std.specs.Prelude.{Bool};
-    ghost use Rattle.can_mux.specs.declared.walk.Walk.{Walk as PlainWalk};
+    ghost use Rattle.can_entries.specs.declared.walk.Walk.{Walk as PlainWalk};
 
     // Whether a multiplexing chain passes.
     ghost passes: { Self → PlainWalk → Bool };

@@ -7,10 +7,9 @@ ghost use Rattle.can_csv_lines.specs.inner.Prepared.{body_text};
 use crate::field::{push_field, push_further_number, push_further_text};
 use crate::plan_texts::Columns;
 use crate::signals::{CsvTarget, push_signal_rows};
-use can_choice::MessageSearch;
+use can_decode::MessageSearch;
 use can_frames::{Frame, body_of, fill_frame};
-use can_json_lines::words_of;
-use can_prepared_texts::PreparedFinder;
+use can_json_lines::{PreparedFinder, words_of};
 use dbc_text_buffer::TextBuffer;
 use dbc_values::Memory;
 

@@ -6,8 +6,8 @@ ghost use Rattle.can_layout.specs.declared.row.Reading.TheVariants.{Refused};
 ghost use Rattle.can_csv_lines.specs.inner.Prepared.{further_field, rest_text, value_label, row_label, row_tail, row_texts};
 
 use crate::field::{push_further, push_further_text};
+use can_json_lines::Prepare;
 use can_layout::{Cause, Reading, Row};
-use can_prepared_texts::Prepare;
 use dbc_records::Message;
 use dbc_text_buffer::{ReadyText, TextBuffer, push_bytes};
 use dbc_values::Memory;

@@ -13,8 +13,8 @@ ghost use Rattle.can_csv_lines.specs.inner.Prepared.{rest_text, row_tail, after_
 use crate::field::{push_decimal, push_further_text};
 use crate::plan_texts::{Columns, RowTexts};
 use can_decode::{SignalText, push_signals};
+use can_json_lines::PreparedTarget;
 use can_layout::{Decoder, Plan, Reading};
-use can_prepared_texts::PreparedTarget;
 use dbc_text_buffer::{TextBuffer, push_bytes};
 use dbc_values::Memory;
 use std::marker::Model;

@@ -8,11 +8,10 @@ ghost use Rattle.can_csv_lines.specs.Rows.{csv_line, header};
 use crate::line::push_line;
 use crate::plan_texts::Columns;
 use byte_devices::{Sink, Source};
-use can_choice::{CachedSearch, MessageSearch};
-use can_decode::{Decoding, stream_counted};
+use can_decode::{CachedSearch, Decoding, MessageSearch, stream_counted};
+use can_json_lines::{Prepared, PreparedFinder, prepared_finder};
 use can_layout::Meter;
 use can_line_stream::{LineText, StreamFault};
-use can_prepared_texts::{Prepared, PreparedFinder, prepared_finder};
 use dbc_text_buffer::TextBuffer;
 use dbc_values::Memory;
 use std::alloc::Global;
@@ -86,13 +85,13 @@ impl<'a, C: MessageSearch> LineText for CsvRows<'a, C> {
 fn rows_by<'a, C: MessageSearch>(
     alloc: Global,
     decoding: &'a CsvDecoding<'a>,
-    chooser: C,
+    search: C,
 ) -> CsvRows<'a, C>
-    requires { C.whole chooser ≡ decoding.now.database }
+    requires { C.whole search ≡ decoding.now.database }
     ensures { result ≡ decoding.now }
 {
     CsvRows {
-        finder: prepared_finder(alloc, &decoding.prepared, chooser),
+        finder: prepared_finder(alloc, &decoding.prepared, search),
         came: TextBuffer::new(alloc),
     }
 }
@@ -109,6 +108,6 @@ pub fn csv_stream_by<R: Source, W: Sink>(
         (W.written sink.old) (W.written sink.new) result lines
         × (meter.new ≡ counted result lines meter.old) }
 {
-    let rows = rows_by(alloc, decoding, decoding.prepared.choices());
+    let rows = rows_by(alloc, decoding, decoding.prepared.indexed_messages());
     stream_counted(alloc, rows, meter, source, sink)
 }

@@ -1,3 +1,8 @@
+pub mod Groups
+pub mod FirstChoices
+pub mod Indexes
+pub mod LineChoices
+pub mod Chosen
 pub mod Absent
 pub mod Pushing
 pub mod Signals

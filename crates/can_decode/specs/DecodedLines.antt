@@ -17,7 +17,7 @@ use Rattle.can_line_stream.specs.LineTexts.{texts}
 use Rattle.can_decode.specs.declared.short.Short.{Short}
 use Rattle.can_decode.specs.declared.short.Short.TheVariants.{Refuse, Show}
 use Rattle.can_decode.specs.Values.{reading_text}
-use Rattle.can_choice.specs.Choices.{chosen_index}
+use Rattle.can_decode.specs.Choices.{chosen_index}
 
 -- ---- signals
 

@@ -2,8 +2,8 @@
 use Rattle.std.specs.Prelude.{◌≡◌, List, map}
 use Rattle.dbc_records.specs.Databases.{Database}
 use Rattle.can_layout.specs.Plans.{Plan, plan_of}
-use Rattle.can_choice.specs.Remembering.{IsIndexOf}
-use Rattle.can_choice.specs.declared.message_index.MessageIndex.{MessageIndex}
+use Rattle.can_decode.specs.MessageIndexes.{IsIndexOf}
+use Rattle.can_decode.specs.declared.message_index.MessageIndex.{MessageIndex}
 
 -- the plans of the messages of a database in order, with the index of its messages
 pub record IsDecoding (database : Database) (plans : List Plan) (index : MessageIndex) : Type 0 where

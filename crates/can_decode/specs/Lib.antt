@@ -1,3 +1,6 @@
+pub mod Choices
+pub mod MessageIndexes
+pub mod inner
 pub use Rattle.can_frames.specs.Frames
 pub use Rattle.can_line_stream.specs.Lines
 pub use Rattle.can_line_stream.specs.LineTexts

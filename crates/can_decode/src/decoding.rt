@@ -4,9 +4,11 @@ ghost use Rattle.can_layout.specs.Plans.{plan_of};
 ghost use Rattle.can_layout.specs.Meters.{with_plan, repeated, AtMost};
 ghost use Rattle.can_decode.specs.Decodings.{IsDecoding};
 
+use crate::indexed_messages::IndexedMessages;
 use crate::line::Finder;
+use crate::message_index::MessageIndex;
+use crate::message_search::MessageSearch;
 use crate::short::Short;
-use can_choice::{IndexedMessages, MessageIndex, MessageSearch};
 use can_layout::{Indexed, Meter, Plan, plans_with};
 use dbc_records::Database;
 use dbc_values::Memory;
@@ -14,7 +16,7 @@ use std::alloc::Global;
 use std::marker::Model;
 
 /// A database with the plans of its messages in order and the index of them, and how truncated frames are decoded. Contracts see
-/// the database and that choice.
+/// the database and how truncated frames are decoded.
 #[derive(Drop)]
 pub struct Decoding {
     database: Database,
@@ -93,22 +95,22 @@ impl Decoding {
     }
 
     /// What each CAN identifier goes to.
-    pub fn choices(&self) -> IndexedMessages<'_>
+    pub fn indexed_messages(&self) -> IndexedMessages<'_>
         ensures { result ≡ self.now.database }
     {
         IndexedMessages::by(&self.database, &self.index)
     }
 
     /// What finds the messages of its frames, given what chooses them.
-    pub fn finder<'a, C: MessageSearch>(&'a self, chooser: C) -> Finder<'a, C>
-        requires { C.whole chooser ≡ self.now.database }
+    pub fn finder<'a, C: MessageSearch>(&'a self, search: C) -> Finder<'a, C>
+        requires { C.whole search ≡ self.now.database }
         ensures { result ≡ self.now }
     {
         Finder {
             database: &self.database,
             plans: self.plans.as_slice(),
             short: self.short,
-            chooser,
+            search,
         }
     }
 }

@@ -2,14 +2,14 @@
 ghost use Rattle.std.specs.Prelude.{◌≡◌, IfOk, OnOk, IfSome, Some, slice_get, option_map, option_and_then};
 ghost use Rattle.can_layout.specs.Plans.{plan_of};
 ghost use Rattle.can_layout.specs.Meters.{with_line};
-ghost use Rattle.can_choice.specs.Choices.{choice_at, line_index, line_choice};
+ghost use Rattle.can_decode.specs.Choices.{choice_at, line_index, line_choice};
 ghost use Rattle.can_decode.specs.DecodedLines.{target_of, decoded_line, bus_line};
 
 use crate::frame_text::push_decoded;
-use crate::read_line::ReadLine;
+use crate::log_line::LogLine;
+use crate::message_search::{Choice, choice_at, message_at};
 use crate::short::Short;
 use crate::target::Target;
-use can_choice::{Choice, choice_at, message_at};
 use can_frames::body_of;
 use can_layout::{Meter, Plan};
 use dbc_records::Database;
@@ -71,12 +71,12 @@ impl<'a> Bus<'a> {
     /// The decoded line, when it is known which message its frame goes to, if it has one that goes to any: `chosen` has the index
     /// of that message and its plan. It only looks up whether that is a J1939 message, and reads nothing again. The meter counts
     /// it, even if memory runs out.
-    #[tactic(auto, using(can_choice::proofs::LineChoices::line_choice_by))]
+    #[tactic(auto, using(crate::proofs::LineChoices::line_choice_by))]
     pub fn decode_frame_at(
         &self,
         alloc: Global,
         chosen: Option<(usize, &'a Plan)>,
-        line: &ReadLine<'_>,
+        line: &LogLine<'_>,
         meter: &mut Meter,
     ) -> Result<Vec<u8>, Memory>
         requires index { option_map (λ one. one.0) chosen ≡ line_index self.now.database line.now }
@@ -93,12 +93,12 @@ impl<'a> Bus<'a> {
     /// Like [`Bus::decode_frame_at`], when it is also known whether that is a J1939 message: nothing is looked up. It writes the
     /// decoded line to `text`, replacing what that held, so its capacity serves one line after another. If memory runs out, what
     /// `text` holds is meaningless.
-    #[tactic(auto, using(crate::proofs::Pushing::pushed_then), unfolding(crate::specs::DecodedLines::decoded_line, crate::specs::DecodedLines::chosen_target, can_choice::specs::Choices::frame_choice, can_choice::specs::Choices::choice_of, can_choice::specs::Choices::chosen_index))]
+    #[tactic(auto, using(crate::proofs::Pushing::pushed_then), unfolding(crate::specs::DecodedLines::decoded_line, crate::specs::DecodedLines::chosen_target, crate::specs::Choices::frame_choice, crate::specs::Choices::choice_of, crate::specs::Choices::chosen_index))]
     pub fn renew_frame_at(
         &self,
         text: &mut TextBuffer,
         chosen: Option<(Choice, &'a Plan)>,
-        line: &ReadLine<'_>,
+        line: &LogLine<'_>,
         meter: &mut Meter,
     ) -> Result<(), Memory>
         requires choice { option_map (λ one. one.0) chosen ≡ line_choice self.now.database line.now }
@@ -134,5 +134,5 @@ pub fn decode_at(
     ensures counted { meter.new ≡ with_line meter.old }
 {
     let bus = Bus { database, short };
-    bus.decode_frame_at(alloc, chosen, &ReadLine::of(line), meter)
+    bus.decode_frame_at(alloc, chosen, &LogLine::of(line), meter)
 }

@@ -8,7 +8,7 @@ ghost use Rattle.can_decode.specs.DecodedLines.{Bus, decoded_log};
 ghost use Rattle.can_decode.specs.Values.{scaled, scaled_text};
 ghost use Rattle.can_decode.specs.ScaledTexts.{IsScaledText};
 
-/// The CAN identifier of a frame with bit 31 set for an extended (29-bit) one.
+/// The CAN identifier of a frame, with bit 31 set if it is extended (29-bit), is a valid message ID.
 pub fn frame_numbers()
     ensures { (frame : Frame) → IsFrame frame → is_bad_number (number_of frame) ≡ false }
 {}

@@ -2,15 +2,16 @@
 ghost use Rattle.std.specs.Prelude.{◌≡◌, ◌<◌, ◌++◌, OnOk, IfOk, IfSome, Some, length, map, slice_get, option_map};
 ghost use Rattle.can_layout.specs.Plans.{plan_of};
 ghost use Rattle.can_layout.specs.Meters.{with_line};
-ghost use Rattle.can_choice.specs.Choices.{choice_at, frame_choice, line_index};
+ghost use Rattle.can_decode.specs.Choices.{choice_at, frame_choice, line_index};
 ghost use Rattle.can_decode.specs.DecodedLines.{target_of, chosen_target, bus_line, decoded_line};
 
+use crate::choice::choose;
 use crate::frame_text::push_decoded;
 use crate::known_line::decode_at;
-use crate::read_line::ReadLine;
+use crate::log_line::LogLine;
+use crate::message_search::{Choice, MessageSearch, message_at};
 use crate::short::Short;
 use crate::target::Target;
-use can_choice::{Choice, MessageSearch, choose, message_at};
 use can_frames::{Frame, body_of, fill_frame};
 use can_layout::{Meter, Plan};
 use dbc_records::Database;
@@ -30,7 +31,7 @@ pub struct Finder<'a, C: MessageSearch> {
     /// How truncated frames are decoded.
     pub short: Short,
     /// What finds the message of a CAN identifier.
-    pub chooser: C,
+    pub search: C,
 }
 
 impl<'a, C: MessageSearch> Model for Finder<'a, C> {
@@ -41,7 +42,7 @@ impl<'a, C: MessageSearch> Model for Finder<'a, C> {
 
     ghost view = { λ a. record { database = a.database.now; short = a.short } };
 
-    ghost invariant = { λ a. DecodesBy a.database.now a.plans.now (C.whole a.chooser) };
+    ghost invariant = { λ a. DecodesBy a.database.now a.plans.now (C.whole a.search) };
 }
 
 fn plan_at(plans: &[Plan], index: usize) -> Option<&Plan>
@@ -67,21 +68,21 @@ impl<'a, C: MessageSearch> Finder<'a, C> {
         })
     }
 
-    /// The choice of a frame, if it is a data frame that goes to a message. Only a chooser that caches allocates.
-    #[tactic(auto, unfolding(can_choice::specs::Choices::frame_choice))]
+    /// The choice of a frame, if it is a data frame that goes to a message. Only a search that caches allocates.
+    #[tactic(auto, unfolding(crate::specs::Choices::frame_choice))]
     pub fn choose(&mut self, frame: &Frame) -> Result<Option<Choice>, Memory>
         ensures choice { IfOk result (λ choice. choice ≡ frame_choice self.old.database frame.now) }
         ensures same { self.new ≡ self.old }
     {
         if frame.is_data() {
-            self.chooser.choice(frame.number())
+            self.search.choice(frame.number())
         } else {
             Ok(None)
         }
     }
 
     // What a frame goes to.
-    #[tactic(auto, unfolding(crate::specs::DecodedLines::chosen_target, can_choice::specs::Choices::chosen_index, can_choice::specs::Choices::frame_choice, can_choice::specs::Choices::choice_of))]
+    #[tactic(auto, unfolding(crate::specs::DecodedLines::chosen_target, crate::specs::Choices::chosen_index, crate::specs::Choices::frame_choice, crate::specs::Choices::choice_of))]
     fn target_of(&mut self, frame: &Frame) -> Result<Option<Target<'a>>, Memory>
         ensures target { IfOk result (λ target. target ≡ chosen_target self.old.short self.old.database frame.now) }
         ensures same { self.new ≡ self.old }
@@ -125,7 +126,7 @@ fn known_plan(plans: &[Plan], index: usize) -> &Plan
 fn chosen_of<'a>(
     database: &Database,
     plans: &'a [Plan],
-    line: &ReadLine<'_>,
+    line: &LogLine<'_>,
 ) -> Option<(usize, &'a Plan)>
     requires { plans.now ≡ map (plan_of database.now) database.now.messages }
     ensures index { option_map (λ one. one.0) result ≡ line_index database.now line.now }
@@ -151,6 +152,6 @@ pub fn decode_line(
     ensures text { IfOk result (λ text. text.items ≡ decoded_line short database.now line.now) }
     ensures counted { meter.new ≡ with_line meter.old }
 {
-    let chosen = chosen_of(database, plans, &ReadLine::of(line));
+    let chosen = chosen_of(database, plans, &LogLine::of(line));
     decode_at(alloc, database, chosen, line, meter, short)
 }

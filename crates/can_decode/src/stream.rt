@@ -6,11 +6,12 @@ ghost use Rattle.can_layout.specs.Meters.{with_line, repeated};
 ghost use Rattle.can_decode.specs.Counting.{refused_count, counted};
 ghost use Rattle.can_decode.specs.DecodedLines.{decoded_line, bus_line};
 
+use crate::cached_search::CachedSearch;
 use crate::decoding::Decoding;
 use crate::line::{Finder, push_line};
+use crate::message_search::{LinearSearch, MessageSearch};
 use crate::short::Short;
 use byte_devices::{Sink, Source};
-use can_choice::{CachedSearch, LinearSearch, MessageSearch};
 use can_layout::{Meter, Plan};
 use can_line_stream::{LineText, StreamFault, stream_texts};
 use dbc_records::Database;
@@ -68,7 +69,7 @@ impl<T: LineText> LineText for Counted<T> {
 }
 
 /// A finder that caches the choice for each CAN identifier.
-pub fn remembering<'a, C: MessageSearch>(
+pub fn caching<'a, C: MessageSearch>(
     alloc: Global,
     finder: Finder<'a, C>,
 ) -> Finder<'a, CachedSearch<C>>
@@ -78,7 +79,7 @@ pub fn remembering<'a, C: MessageSearch>(
         database: finder.database,
         plans: finder.plans,
         short: finder.short,
-        chooser: CachedSearch::new(alloc, finder.chooser),
+        search: CachedSearch::new(alloc, finder.search),
     }
 }
 
@@ -128,7 +129,7 @@ fn stream_by<'a, C: MessageSearch, R: Source, W: Sink>(
         × (meter.new ≡ counted result lines meter.old) }
 {
     let lines = PlainLines {
-        finder: remembering(alloc, finder),
+        finder: caching(alloc, finder),
     };
     stream_counted(alloc, lines, meter, source, sink)
 }
@@ -158,7 +159,7 @@ pub fn decode_stream<R: Source, W: Sink>(
         database,
         plans,
         short,
-        chooser: LinearSearch { database },
+        search: LinearSearch { database },
     };
     stream_by(alloc, finder, meter, source, sink)
 }
@@ -179,7 +180,7 @@ pub fn decode_stream_by<R: Source, W: Sink>(
         database: decoding.database(),
         plans: decoding.plans(),
         short: decoding.short(),
-        chooser: decoding.choices(),
+        search: decoding.indexed_messages(),
     };
     stream_by(alloc, finder, meter, source, sink)
 }

@@ -1,3 +1,6 @@
+pub mod Links
+pub mod Walks
+pub mod Switches
 pub mod Rows
 pub mod Groups
 pub mod Indexes

@@ -16,7 +16,8 @@ const MAX_STANDARD_ID: u32 = 2_047;
 /// The first PDU format of parameter groups without a destination.
 const FIRST_BROADCAST_FORMAT: u32 = 240;
 
-fn is_extended(number: u32) -> bool
+/// Whether a message ID, or the CAN identifier of a frame with the same mark, is extended (29-bit): bit 31 marks it.
+pub fn is_extended(number: u32) -> bool
     ensures { result ≡ is_extended number }
 {
     number >> 31 == 1

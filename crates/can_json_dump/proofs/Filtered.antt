@@ -3,7 +3,7 @@ use Rattle.std.proofs.Common.{◌≡◌, ℕ, zero, suc, ◌+◌, Bool, true, fa
 use Rattle.std.proofs.Common.{take, slice_get}
 use Rattle.std.proofs.Common.{filter, sym, ap, ◌∙◌, refl, append_assoc, append-nil, arith}
 use Rattle.std.specs.List.{flat_map}
-use Rattle.can_json_records.proofs.Appended.{appended_then}
+use Rattle.can_json_texts.proofs.Appended.{appended_then}
 
 module _ {A B : Type 0} (p : A → Bool) (f : A → List B) where
   taken : (items : List A) (index : ℕ) (item : A) → Some item ≡ slice_get items index

@@ -7,14 +7,14 @@ use Rattle.std.proofs.lemmas.List.{length-map}
 use Rattle.std.proofs.lemmas.List.FromFn.{length-enumerate_from}
 use Rattle.json.specs.Token.{Token}
 use Rattle.can_json_texts.specs.Members.{Member}
-use Rattle.can_json_records.specs.Values.{tokens_of}
-use Rattle.can_json_records.proofs.Tokens.{members_then}
+use Rattle.can_json_texts.specs.Values.{tokens_of}
+use Rattle.can_json_texts.proofs.Tokens.{members_then}
 use Rattle.dbc_records.specs.Records.{Signal, Message}
 use Rattle.dbc_records.specs.Databases.{Database}
 use Rattle.can_entries.specs.Rows.{rows_of}
-use Rattle.can_mux.specs.Walks.{walk_of}
-use Rattle.can_mux.specs.Switches.{mux_parents_of}
-use Rattle.can_mux.specs.declared.mux_parent.MuxParent.{MuxParent}
+use Rattle.can_entries.specs.Walks.{walk_of}
+use Rattle.can_entries.specs.Switches.{mux_parents_of}
+use Rattle.can_entries.specs.declared.mux_parent.MuxParent.{MuxParent}
 use Rattle.can_layout.specs.Plans.{Plan, plan_of, plan_in, plan_rows, row_of, chain_of}
 use Rattle.can_layout.specs.Presence.{AreChained, chain_at}
 use Rattle.can_layout.specs.declared.row.Row.{Row}

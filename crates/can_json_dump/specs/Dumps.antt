@@ -3,9 +3,9 @@
 use Rattle.std.specs.Prelude.{ℕ, ◌==◌, Bool, false, not, List, [], ◌∷◌, ◌++◌, map, codes, filter}
 use Rattle.json.specs.Json.{Json}
 use Rattle.can_json_texts.specs.Members.{Member, object_of, text_members, json_text}
-use Rattle.can_json_records.specs.Values.{array_of, or_null}
-use Rattle.can_json_records.specs.Records.{decimal_json, names_json, table_json, definition_json, default_json, comment_json}
-use Rattle.can_json_records.specs.Records.{attribute_json, values_json, float_json, mux_json, kept_json}
+use Rattle.can_json_texts.specs.Values.{array_of, or_null}
+use Rattle.can_json_texts.specs.Records.{decimal_json, names_json, table_json, definition_json, default_json, comment_json}
+use Rattle.can_json_texts.specs.Records.{attribute_json, values_json, float_json, mux_json, kept_json}
 use Rattle.dbc_records.specs.Records.{ValueRow, FloatRow, MuxRow}
 use Rattle.dbc_records.specs.Comments.{Comment}
 use Rattle.dbc_records.specs.Attributes.{AttrRow}

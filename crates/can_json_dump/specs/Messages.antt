@@ -6,10 +6,10 @@ use Rattle.std.specs.Prelude.{if◌then◌else◌}
 use Rattle.std.specs.List.{range_with_len}
 use Rattle.json.specs.Json.{Json, null, boolean, string}
 use Rattle.can_json_texts.specs.Members.{Member, object_of, text_members, json_text}
-use Rattle.can_json_records.specs.Values.{array_of, or_null}
-use Rattle.can_json_records.specs.Records.{whole_json, decimal_json, name_json, names_json, entries_json, ranges_json}
-use Rattle.can_json_records.specs.Records.{own_attribute_json}
-use Rattle.can_json_records.specs.Records.{tag_json}
+use Rattle.can_json_texts.specs.Values.{array_of, or_null}
+use Rattle.can_json_texts.specs.Records.{whole_json, decimal_json, name_json, names_json, entries_json, ranges_json}
+use Rattle.can_json_texts.specs.Records.{own_attribute_json}
+use Rattle.can_json_texts.specs.Records.{tag_json}
 use Rattle.dbc_records.specs.Records.{Head, Signal, Message, is_intel}
 use Rattle.dbc_records.specs.Comments.{Comment}
 use Rattle.dbc_records.specs.Attributes.{AttrRow}
@@ -18,7 +18,7 @@ use Rattle.can_bits.specs.Bits.{position_of}
 use Rattle.can_bits.specs.declared.field.Field.{Field}
 use Rattle.can_entries.specs.Rows.{rows_of, first_values, entries_of}
 use Rattle.can_entries.specs.Groups.{group_of, is_bad_number, is_extended}
-use Rattle.can_mux.specs.Links.{Link}
+use Rattle.can_entries.specs.Links.{Link}
 use Rattle.can_layout.specs.Plans.{Plan, plan_of}
 use Rattle.can_layout.specs.Diagrams.{cause_word, name_of}
 use Rattle.can_layout.specs.declared.row.Row.{Row}

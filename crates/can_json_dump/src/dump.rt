@@ -8,7 +8,7 @@ ghost use Rattle.can_json_dump.specs.Dumps.{json_line, rest_json, dump_lines};
 use crate::message::Messages;
 use crate::rest::write_rest;
 use can_entries::Lookup;
-use can_json_records::JsonText;
+use can_json_texts::JsonText;
 use can_layout::{Meter, Plan, plans_with};
 use can_references::CrossReferences;
 use dbc_records::{Database, Message};

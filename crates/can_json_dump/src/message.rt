@@ -5,8 +5,8 @@ ghost use Rattle.json.specs.Json.{null, boolean};
 ghost use Rattle.json.specs.Token.{key};
 ghost use Rattle.json.specs.Tree.{json_tokens};
 ghost use Rattle.can_json_texts.specs.Members.{object_of};
-ghost use Rattle.can_json_records.specs.Values.{tokens_of, array_of};
-ghost use Rattle.can_json_records.specs.Records.{whole_json, name_json, entries_json};
+ghost use Rattle.can_json_texts.specs.Values.{tokens_of, array_of};
+ghost use Rattle.can_json_texts.specs.Records.{whole_json, name_json, entries_json};
 ghost use Rattle.can_entries.specs.Rows.{rows_of, first_values, entries_of};
 ghost use Rattle.can_entries.specs.Groups.{group_of, is_extended};
 ghost use Rattle.can_layout.specs.Plans.{plan_of, chain_of};
@@ -16,17 +16,19 @@ ghost use Rattle.can_json_dump.specs.Messages.{given_members, scale_members, use
 ghost use Rattle.can_json_dump.specs.Messages.{signal_member};
 ghost use Rattle.can_json_dump.specs.Messages.{paired, remark_members, planned_members, message_json};
 
-use crate::remarks::{Annotations, write_null};
+use crate::annotations::{Annotations, write_null};
 use crate::signal::{
     write_bit_field, write_chain, write_positions, write_refused, write_scale, write_use,
 };
 use crate::subject::Subject;
-use can_entries::{Lookup, group_in, is_bad_number};
-use can_json_records::{
+use can_entries::{
+    Lookup, MessageRows, MuxParent, Walk, group_in, is_bad_number, is_extended, mux_parents_of,
+    walk_of,
+};
+use can_json_texts::{
     JsonText, write_array, write_flag, write_member, write_optional, write_whole,
 };
 use can_layout::{Plan, Row};
-use can_mux::{MessageRows, MuxParent, Walk, mux_parents_of, walk_of};
 use dbc_records::{Head, Message, Signal, ValueRow};
 use dbc_values::{List, Memory, Name};
 use std::alloc::Global;
@@ -34,7 +36,7 @@ use std::marker::Model;
 
 // ---- head
 
-#[tactic(auto, using(can_json_records::proofs::Tokens::members_then))]
+#[tactic(auto, using(can_json_texts::proofs::Tokens::members_then))]
 fn write_no_identifier(text: &mut JsonText) -> Result<(), Memory>
     ensures { OnOk result (text.new ≡ text.old ++ tokens_of ((codes "id", null) ∷ (codes "extended", null) ∷ [])) }
 {
@@ -42,19 +44,13 @@ fn write_no_identifier(text: &mut JsonText) -> Result<(), Memory>
     write_null(text, "extended")
 }
 
-#[tactic(auto, using(can_json_records::proofs::Tokens::members_then))]
+#[tactic(auto, using(can_json_texts::proofs::Tokens::members_then))]
 fn write_known_identifier(text: &mut JsonText, number: u32) -> Result<(), Memory>
     ensures { OnOk result (text.new ≡ text.old ++ tokens_of ((codes "id", whole_json (number % 2 ^ 31))
         ∷ (codes "extended", boolean (is_extended number)) ∷ [])) }
 {
     write_whole(text, "id", u64::from(number % 0x8000_0000))?;
     write_flag(text, "extended", is_extended(number))
-}
-
-fn is_extended(number: u32) -> bool
-    ensures { result ≡ is_extended number }
-{
-    number / 0x8000_0000 % 2 == 1
 }
 
 // The identifier, and whether it is extended (29-bit).
@@ -68,7 +64,7 @@ fn write_identifier(text: &mut JsonText, number: u32) -> Result<(), Memory>
     }
 }
 
-#[tactic(auto, using(can_json_records::proofs::Tokens::members_then))]
+#[tactic(auto, using(can_json_texts::proofs::Tokens::members_then))]
 fn write_name_and_number(text: &mut JsonText, head: &Head) -> Result<(), Memory>
     ensures { OnOk result (text.new ≡ text.old ++ tokens_of ((codes "name", name_json head.now.name)
         ∷ (codes "number", whole_json head.now.number) ∷ [])) }
@@ -77,7 +73,7 @@ fn write_name_and_number(text: &mut JsonText, head: &Head) -> Result<(), Memory>
     write_whole(text, "number", u64::from(head.number))
 }
 
-#[tactic(auto, using(can_json_records::proofs::Tokens::members_then))]
+#[tactic(auto, using(can_json_texts::proofs::Tokens::members_then))]
 fn write_size_and_sender(text: &mut JsonText, head: &Head) -> Result<(), Memory>
     ensures { OnOk result (text.new ≡ text.old ++ tokens_of ((codes "size", whole_json head.now.size)
         ∷ (codes "sender", name_json head.now.sender) ∷ [])) }
@@ -86,7 +82,7 @@ fn write_size_and_sender(text: &mut JsonText, head: &Head) -> Result<(), Memory>
     write_member(text, "sender", &head.sender)
 }
 
-#[tactic(auto, using(can_json_records::proofs::Tokens::members_then))]
+#[tactic(auto, using(can_json_texts::proofs::Tokens::members_then))]
 fn write_numbers(text: &mut JsonText, head: &Head) -> Result<(), Memory>
     ensures { OnOk result (text.new ≡ text.old ++ tokens_of (identifier_members head.now.number
         ++ ((codes "size", whole_json head.now.size) ∷ (codes "sender", name_json head.now.sender) ∷ []))) }
@@ -95,7 +91,7 @@ fn write_numbers(text: &mut JsonText, head: &Head) -> Result<(), Memory>
     write_size_and_sender(text, head)
 }
 
-#[tactic(auto, using(can_json_records::proofs::Tokens::members_then))]
+#[tactic(auto, using(can_json_texts::proofs::Tokens::members_then))]
 fn write_head(text: &mut JsonText, head: &Head) -> Result<(), Memory>
     ensures { OnOk result (text.new ≡ text.old ++ tokens_of (head_members head.now)) }
 {
@@ -106,7 +102,7 @@ fn write_head(text: &mut JsonText, head: &Head) -> Result<(), Memory>
 // ---- signals
 
 // What the plan has on a signal.
-#[tactic(auto, using(can_json_records::proofs::Tokens::members_then))]
+#[tactic(auto, using(can_json_texts::proofs::Tokens::members_then))]
 fn write_decoding(text: &mut JsonText, row: &Row) -> Result<(), Memory>
     ensures { OnOk result (text.new ≡ text.old ++ tokens_of ((
       codes "positions",
@@ -119,7 +115,7 @@ fn write_decoding(text: &mut JsonText, row: &Row) -> Result<(), Memory>
 }
 
 // What the plan has on a signal, and its multiplexors.
-#[tactic(auto, using(can_json_records::proofs::Tokens::members_then))]
+#[tactic(auto, using(can_json_texts::proofs::Tokens::members_then))]
 fn write_plan(text: &mut JsonText, signals: &[Signal], row: &Row, walk: &Walk) -> Result<(), Memory>
     requires { row.now.chain ≡ chain_of walk.now }
     ensures { OnOk result (text.new ≡ text.old ++ tokens_of (plan_members signals.now row.now)) }
@@ -163,7 +159,7 @@ fn write_entries(text: &mut JsonText, row: Option<&ValueRow>) -> Result<(), Memo
 }
 
 // The contents of a signal's statement.
-#[tactic(auto, using(can_json_records::proofs::Tokens::members_then))]
+#[tactic(auto, using(can_json_texts::proofs::Tokens::members_then))]
 fn write_use_of(text: &mut JsonText, signal: &Signal) -> Result<(), Memory>
     ensures { OnOk result (text.new ≡ text.old ++ tokens_of (scale_members signal.now ++ use_members signal.now)) }
 {
@@ -172,7 +168,7 @@ fn write_use_of(text: &mut JsonText, signal: &Signal) -> Result<(), Memory>
     Ok(())
 }
 
-#[tactic(auto, using(can_json_records::proofs::Tokens::members_then))]
+#[tactic(auto, using(can_json_texts::proofs::Tokens::members_then))]
 fn write_stated(text: &mut JsonText, signal: &Signal) -> Result<(), Memory>
     ensures { OnOk result (text.new ≡ text.old ++ tokens_of (stated_members signal.now)) }
 {
@@ -317,7 +313,7 @@ impl<'a, L: Lookup> Messages<'a, L> {
         Ok(Messages { lookup, remarks })
     }
 
-    #[tactic(auto, using(can_json_records::proofs::Tokens::member_written))]
+    #[tactic(auto, using(can_json_texts::proofs::Tokens::member_written))]
     fn write_values(&self, text: &mut JsonText, number: u32, name: &Name) -> Result<(), Memory>
         ensures { OnOk result (text.new ≡ text.old ++ tokens_of ((
           codes "values",

@@ -4,14 +4,14 @@ ghost use Rattle.std.specs.Prelude.{if◌then◌else◌};
 ghost use Rattle.std.specs.List.{flat_map};
 ghost use Rattle.json.specs.Tree.{json_tokens};
 ghost use Rattle.can_json_texts.specs.Members.{text_members};
-ghost use Rattle.can_json_records.specs.Values.{tokens_of, array_of, or_null};
-ghost use Rattle.can_json_records.specs.Records.{decimal_json, names_json, table_json, definition_json, default_json, comment_json};
-ghost use Rattle.can_json_records.specs.Records.{attribute_json, values_json, float_json, mux_json, kept_json};
+ghost use Rattle.can_json_texts.specs.Values.{tokens_of, array_of, or_null};
+ghost use Rattle.can_json_texts.specs.Records.{decimal_json, names_json, table_json, definition_json, default_json, comment_json};
+ghost use Rattle.can_json_texts.specs.Records.{attribute_json, values_json, float_json, mux_json, kept_json};
 ghost use Rattle.can_json_dump.specs.Dumps.{is_given, other_comments, other_attributes, other_values, other_floats, other_muxes};
 ghost use Rattle.can_json_dump.specs.Dumps.{front_members, definition_members, other_members, rest_json};
 
 use can_entries::Lookup;
-use can_json_records::{JsonText, ToJson, write_array, write_array_member, write_text};
+use can_json_texts::{JsonText, ToJson, write_array, write_array_member, write_text};
 use can_references::CrossReferences;
 use dbc_records::{
     AttrDef, AttrDefault, AttrRow, Comment, Database, FloatRow, MuxRow, TableRow, Target, ValueRow,
@@ -441,7 +441,7 @@ fn write_rest_of<L: Lookup>(
     Ok(())
 }
 
-#[tactic(auto, using(can_json_records::proofs::Tokens::members_then))]
+#[tactic(auto, using(can_json_texts::proofs::Tokens::members_then))]
 fn write_after_front<L: Lookup>(
     text: &mut JsonText,
     known: &CrossReferences<'_, L>,
@@ -452,7 +452,7 @@ fn write_after_front<L: Lookup>(
     write_rest_of(text, known)
 }
 
-#[tactic(auto, using(can_json_records::proofs::Tokens::members_then))]
+#[tactic(auto, using(can_json_texts::proofs::Tokens::members_then))]
 fn write_rest_members<L: Lookup>(
     text: &mut JsonText,
     known: &CrossReferences<'_, L>,
@@ -465,7 +465,7 @@ fn write_rest_members<L: Lookup>(
 }
 
 /// Writes the object of all that belongs to no message.
-#[tactic(auto, using(can_json_records::proofs::Tokens::object_written))]
+#[tactic(auto, using(can_json_texts::proofs::Tokens::object_written))]
 pub(crate) fn write_rest<L: Lookup>(
     text: &mut JsonText,
     known: &CrossReferences<'_, L>,

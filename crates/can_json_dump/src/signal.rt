@@ -4,18 +4,18 @@ ghost use Rattle.std.specs.List.{flat_map};
 ghost use Rattle.json.specs.Json.{boolean, string};
 ghost use Rattle.json.specs.Tree.{json_tokens};
 ghost use Rattle.can_json_texts.specs.Members.{text_members};
-ghost use Rattle.can_json_records.specs.Values.{tokens_of, array_of};
-ghost use Rattle.can_json_records.specs.Records.{whole_json, decimal_json, name_json, names_json, ranges_json, tag_json};
+ghost use Rattle.can_json_texts.specs.Values.{tokens_of, array_of};
+ghost use Rattle.can_json_texts.specs.Records.{whole_json, decimal_json, name_json, names_json, ranges_json, tag_json};
 ghost use Rattle.can_layout.specs.Diagrams.{cause_word, name_of};
 ghost use Rattle.can_layout.specs.Plans.{chain_of};
 ghost use Rattle.can_json_dump.specs.Messages.{position_upward, positions_of, order_word, refused_json, link_json, chain_json};
 ghost use Rattle.can_json_dump.specs.Messages.{bit_field_members, scale_members, use_members};
 
-use can_json_records::{
+use can_entries::{Link, Walk};
+use can_json_texts::{
     JsonText, write_array_member, write_flag, write_member, write_string, write_text, write_whole,
 };
 use can_layout::{Cause, Field, Reading};
-use can_mux::{Link, Walk};
 use dbc_records::{ByteOrder, Signal, Tag};
 use dbc_values::{Memory, Name};
 use std::alloc::Global;
@@ -26,7 +26,7 @@ fn order_word(intel: bool) -> &'static str
     if intel { "intel" } else { "motorola" }
 }
 
-#[tactic(auto, using(can_json_records::proofs::Tokens::members_then))]
+#[tactic(auto, using(can_json_texts::proofs::Tokens::members_then))]
 fn write_span(text: &mut JsonText, signal: &Signal) -> Result<(), Memory>
     ensures { OnOk result (text.new ≡ text.old ++ tokens_of ((codes "start", whole_json signal.now.start)
         ∷ (codes "length", whole_json signal.now.length) ∷ [])) }
@@ -35,7 +35,7 @@ fn write_span(text: &mut JsonText, signal: &Signal) -> Result<(), Memory>
     write_whole(text, "length", u64::from(signal.length))
 }
 
-#[tactic(auto, using(can_json_records::proofs::Tokens::members_then))]
+#[tactic(auto, using(can_json_texts::proofs::Tokens::members_then))]
 fn write_kind(text: &mut JsonText, signal: &Signal) -> Result<(), Memory>
     ensures { OnOk result (text.new ≡ text.old ++ tokens_of ((codes "order", string (order_word signal.now.intel))
         ∷ (codes "signed", boolean signal.now.signed) ∷ [])) }
@@ -45,7 +45,7 @@ fn write_kind(text: &mut JsonText, signal: &Signal) -> Result<(), Memory>
 }
 
 /// Where the bits of a signal are, and what kind of number they represent.
-#[tactic(auto, using(can_json_records::proofs::Tokens::members_then))]
+#[tactic(auto, using(can_json_texts::proofs::Tokens::members_then))]
 pub(crate) fn write_bit_field(text: &mut JsonText, signal: &Signal) -> Result<(), Memory>
     ensures { OnOk result (text.new ≡ text.old ++ tokens_of (bit_field_members signal.now)) }
 {
@@ -53,7 +53,7 @@ pub(crate) fn write_bit_field(text: &mut JsonText, signal: &Signal) -> Result<()
     write_kind(text, signal)
 }
 
-#[tactic(auto, using(can_json_records::proofs::Tokens::members_then))]
+#[tactic(auto, using(can_json_texts::proofs::Tokens::members_then))]
 fn write_conversion(text: &mut JsonText, signal: &Signal) -> Result<(), Memory>
     ensures { OnOk result (text.new ≡ text.old ++ tokens_of ((codes "factor", decimal_json signal.now.factor)
         ∷ (codes "offset", decimal_json signal.now.offset) ∷ [])) }
@@ -62,7 +62,7 @@ fn write_conversion(text: &mut JsonText, signal: &Signal) -> Result<(), Memory>
     write_member(text, "offset", &signal.offset)
 }
 
-#[tactic(auto, using(can_json_records::proofs::Tokens::members_then))]
+#[tactic(auto, using(can_json_texts::proofs::Tokens::members_then))]
 fn write_bounds(text: &mut JsonText, signal: &Signal) -> Result<(), Memory>
     ensures { OnOk result (text.new ≡ text.old ++ tokens_of ((codes "minimum", decimal_json signal.now.minimum)
         ∷ (codes "maximum", decimal_json signal.now.maximum) ∷ [])) }
@@ -72,7 +72,7 @@ fn write_bounds(text: &mut JsonText, signal: &Signal) -> Result<(), Memory>
 }
 
 /// Factor and offset, and the bounds of the physical value.
-#[tactic(auto, using(can_json_records::proofs::Tokens::members_then))]
+#[tactic(auto, using(can_json_texts::proofs::Tokens::members_then))]
 pub(crate) fn write_scale(text: &mut JsonText, signal: &Signal) -> Result<(), Memory>
     ensures { OnOk result (text.new ≡ text.old ++ tokens_of (scale_members signal.now)) }
 {
@@ -169,7 +169,7 @@ fn write_cause(text: &mut JsonText, reading: &Reading) -> Result<(), Memory>
 }
 
 /// Why the signal can't be decoded, or null.
-#[tactic(auto, using(can_json_records::proofs::Tokens::member_written))]
+#[tactic(auto, using(can_json_texts::proofs::Tokens::member_written))]
 pub(crate) fn write_refused(text: &mut JsonText, reading: &Reading) -> Result<(), Memory>
     ensures { OnOk result (text.new ≡ text.old ++ tokens_of ((codes "refused", refused_json reading.now) ∷ [])) }
 {
@@ -187,7 +187,7 @@ fn write_switch_name(text: &mut JsonText, signals: &[Signal], link: &Link) -> Re
     }
 }
 
-#[tactic(auto, using(can_json_records::proofs::Tokens::member_written))]
+#[tactic(auto, using(can_json_texts::proofs::Tokens::member_written))]
 fn write_switch(text: &mut JsonText, signals: &[Signal], link: &Link) -> Result<(), Memory>
     ensures { OnOk result (text.new ≡ text.old ++ tokens_of ((
       codes "switch",
@@ -199,7 +199,7 @@ fn write_switch(text: &mut JsonText, signals: &[Signal], link: &Link) -> Result<
     write_switch_name(text, signals, link)
 }
 
-#[tactic(auto, using(can_json_records::proofs::Tokens::members_then))]
+#[tactic(auto, using(can_json_texts::proofs::Tokens::members_then))]
 fn write_link_members(text: &mut JsonText, signals: &[Signal], link: &Link) -> Result<(), Memory>
     ensures { OnOk result (text.new ≡ text.old ++ tokens_of ((
       codes "switch",
@@ -211,7 +211,7 @@ fn write_link_members(text: &mut JsonText, signals: &[Signal], link: &Link) -> R
     write_array_member(text, "ranges", link.ranges())
 }
 
-#[tactic(auto, using(can_json_records::proofs::Tokens::object_written))]
+#[tactic(auto, using(can_json_texts::proofs::Tokens::object_written))]
 fn write_link(text: &mut JsonText, signals: &[Signal], link: &Link) -> Result<(), Memory>
     ensures { OnOk result (text.new ≡ text.old ++ json_tokens (link_json signals.now link.now)) }
 {
@@ -251,7 +251,7 @@ fn write_walk(text: &mut JsonText, signals: &[Signal], walk: &Walk) -> Result<()
 }
 
 /// The multiplexors (switches) of a signal, its own first; null if the signal is never present.
-#[tactic(auto, using(can_json_records::proofs::Tokens::member_written))]
+#[tactic(auto, using(can_json_texts::proofs::Tokens::member_written))]
 pub(crate) fn write_chain(
     text: &mut JsonText,
     signals: &[Signal],

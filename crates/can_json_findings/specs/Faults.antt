@@ -3,7 +3,7 @@ use Rattle.std.specs.Prelude.{◌≡◌, ℕ, ◌-◌, Bool, true, false, List, 
 use Rattle.std.specs.Prelude.{Option, Some, None, option_map, codes}
 use Rattle.json.specs.Json.{Json, boolean, string}
 use Rattle.can_json_texts.specs.Members.{Member, object_of, text_members, json_text}
-use Rattle.can_json_records.specs.Records.{whole_json}
+use Rattle.can_json_texts.specs.Records.{whole_json}
 use Rattle.dbc_ranges.specs.declared.range.Range.{Range}
 use Rattle.dbc_tokens.specs.Causes.{cause_number, cause_word}
 use Rattle.dbc_tokens.specs.declared.fault.Cause.{Cause}

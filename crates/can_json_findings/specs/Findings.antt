@@ -3,8 +3,8 @@ use Rattle.std.specs.Prelude.{ℕ, ℤ, List, [], ◌∷◌, ◌++◌, Option, S
 use Rattle.std.specs.Fmt.{signed_decimal}
 use Rattle.json.specs.Json.{Json, number, string}
 use Rattle.can_json_texts.specs.Members.{Member, object_of, text_members, json_text}
-use Rattle.can_json_records.specs.Values.{array_of}
-use Rattle.can_json_records.specs.Records.{whole_json, name_json, object_json}
+use Rattle.can_json_texts.specs.Values.{array_of}
+use Rattle.can_json_texts.specs.Records.{whole_json, name_json, object_json}
 use Rattle.dbc_records.specs.declared.definition.Object.{Object}
 use Rattle.dbc_records.specs.declared.target.Target.{Target}
 use Rattle.dbc_records.specs.declared.target.Target.TheVariants as targets

@@ -1,3 +1,4 @@
+pub mod Locations
 pub mod Marks
 pub mod Findings
 pub mod Faults

@@ -3,7 +3,7 @@ ghost use Rattle.std.specs.Prelude.{◌≡◌, ◌∷◌, ◌++◌, [], true, So
 ghost use Rattle.json.specs.Json.{string};
 ghost use Rattle.json.specs.Tree.{json_tokens};
 ghost use Rattle.can_json_texts.specs.Members.{text_members};
-ghost use Rattle.can_json_records.specs.Values.{tokens_of};
+ghost use Rattle.can_json_texts.specs.Values.{tokens_of};
 ghost use Rattle.can_json_findings.specs.Faults.{cause_members, guess_members, reason_members};
 ghost use Rattle.dbc_tokens.specs.Causes.{cause_number, cause_word};
 ghost use Rattle.can_json_findings.specs.Faults.{fault_range, words_members, fault_members, fault_json, fault_line};
@@ -15,7 +15,7 @@ ghost use Rattle.dbc_faults.specs.Derivatives.{found_of};
 ghost use Rattle.std.specs.List.{flat_map};
 
 use crate::finding::{line_of, write_at};
-use can_json_records::{JsonText, write_flag, write_string, write_text, write_whole};
+use can_json_texts::{JsonText, write_flag, write_string, write_text, write_whole};
 use dbc_faults::{FaultDetails, first_fault, guessed_faults};
 use dbc_ranges::Range;
 use dbc_tokens::{Cause, ReadFault};
@@ -37,7 +37,7 @@ fn write_word_and_severity(text: &mut JsonText, cause: Cause) -> Result<(), Memo
     Ok(())
 }
 
-#[tactic(auto, using(can_json_records::proofs::Tokens::members_then))]
+#[tactic(auto, using(can_json_texts::proofs::Tokens::members_then))]
 fn write_cause(text: &mut JsonText, cause: Cause) -> Result<(), Memory>
     ensures { OnOk result (text.new ≡ text.old ++ tokens_of (cause_members cause)) }
 {
@@ -45,7 +45,7 @@ fn write_cause(text: &mut JsonText, cause: Cause) -> Result<(), Memory>
     write_word_and_severity(text, cause)
 }
 
-#[tactic(auto, using(can_json_records::proofs::Tokens::none_written))]
+#[tactic(auto, using(can_json_texts::proofs::Tokens::none_written))]
 fn write_guess(text: &mut JsonText, is_guess: bool) -> Result<(), Memory>
     ensures { OnOk result (text.new ≡ text.old ++ tokens_of (guess_members is_guess)) }
 {
@@ -56,7 +56,7 @@ fn write_guess(text: &mut JsonText, is_guess: bool) -> Result<(), Memory>
     }
 }
 
-#[tactic(auto, using(can_json_records::proofs::Tokens::members_then))]
+#[tactic(auto, using(can_json_texts::proofs::Tokens::members_then))]
 fn write_found_and_expected(text: &mut JsonText, details: &FaultDetails<'_>) -> Result<(), Memory>
     ensures { OnOk result (text.new ≡ text.old ++ tokens_of (text_members (codes "found") details.now.found.items
         ++ text_members (codes "expected") details.now.expected.items)) }
@@ -65,7 +65,7 @@ fn write_found_and_expected(text: &mut JsonText, details: &FaultDetails<'_>) -> 
     write_text(text, "expected", details.expected.as_slice())
 }
 
-#[tactic(auto, using(can_json_records::proofs::Tokens::none_written))]
+#[tactic(auto, using(can_json_texts::proofs::Tokens::none_written))]
 fn write_reason(text: &mut JsonText, reason: Option<&[u8]>) -> Result<(), Memory>
     ensures { OnOk result (text.new ≡ text.old ++ tokens_of (reason_members (option_map (λ words. words.now) reason.entry))) }
 {
@@ -75,7 +75,7 @@ fn write_reason(text: &mut JsonText, reason: Option<&[u8]>) -> Result<(), Memory
     }
 }
 
-#[tactic(auto, using(can_json_records::proofs::Tokens::members_then))]
+#[tactic(auto, using(can_json_texts::proofs::Tokens::members_then))]
 fn write_words(text: &mut JsonText, details: &FaultDetails<'_>) -> Result<(), Memory>
     ensures { OnOk result (text.new ≡ text.old ++ tokens_of (words_members details.now)) }
 {
@@ -106,7 +106,7 @@ fn write_location(
     write_at(text, &ranges)
 }
 
-#[tactic(auto, using(can_json_records::proofs::Tokens::members_then))]
+#[tactic(auto, using(can_json_texts::proofs::Tokens::members_then))]
 fn write_words_and_location(
     text: &mut JsonText,
     size: usize,
@@ -119,7 +119,7 @@ fn write_words_and_location(
     write_location(text, size, details)
 }
 
-#[tactic(auto, using(can_json_records::proofs::Tokens::members_then))]
+#[tactic(auto, using(can_json_texts::proofs::Tokens::members_then))]
 fn write_cause_and_guess(text: &mut JsonText, cause: Cause, is_guess: bool) -> Result<(), Memory>
     ensures { OnOk result (text.new ≡ text.old ++ tokens_of (cause_members cause ++ guess_members is_guess)) }
 {
@@ -127,7 +127,7 @@ fn write_cause_and_guess(text: &mut JsonText, cause: Cause, is_guess: bool) -> R
     write_guess(text, is_guess)
 }
 
-#[tactic(auto, using(can_json_records::proofs::Tokens::members_then))]
+#[tactic(auto, using(can_json_texts::proofs::Tokens::members_then))]
 fn write_members(
     text: &mut JsonText,
     size: usize,

@@ -4,8 +4,8 @@ ghost use Rattle.json.specs.Json.{string};
 ghost use Rattle.json.specs.Print.{print};
 ghost use Rattle.json.specs.Tree.{json_tokens};
 ghost use Rattle.can_json_texts.specs.Members.{text_members};
-ghost use Rattle.can_json_records.specs.Records.{whole_json};
-ghost use Rattle.can_json_records.specs.Values.{array_of, tokens_of};
+ghost use Rattle.can_json_texts.specs.Records.{whole_json};
+ghost use Rattle.can_json_texts.specs.Values.{array_of, tokens_of};
 ghost use Rattle.std.specs.Prelude.{map};
 ghost use Rattle.std.specs.List.{flat_map};
 ghost use Rattle.can_diagnostics.specs.Codes.{code_word};
@@ -16,7 +16,7 @@ use crate::ranges::ranges_of;
 use crate::subject::write_subject;
 use can_diagnostics::{Code, Diagnostic};
 use can_findings::{Finding, remedy};
-use can_json_records::{JsonText, write_string, write_text, write_whole};
+use can_json_texts::{JsonText, write_string, write_text, write_whole};
 use dbc_ranges::Range;
 use dbc_values::Memory;
 use std::alloc::Global;
@@ -30,7 +30,7 @@ fn severity(code: Code) -> &'static str
     }
 }
 
-#[tactic(auto, using(can_json_records::proofs::Tokens::members_then))]
+#[tactic(auto, using(can_json_texts::proofs::Tokens::members_then))]
 fn write_word_and_severity(text: &mut JsonText, code: Code) -> Result<(), Memory>
     ensures { OnOk result (text.new ≡ text.old ++ tokens_of (text_members (codes "word") (code_word code)
         ++ ((codes "severity", string (severity code)) ∷ []))) }
@@ -39,7 +39,7 @@ fn write_word_and_severity(text: &mut JsonText, code: Code) -> Result<(), Memory
     write_string(text, "severity", severity(code))
 }
 
-#[tactic(auto, using(can_json_records::proofs::Tokens::members_then))]
+#[tactic(auto, using(can_json_texts::proofs::Tokens::members_then))]
 fn write_code(text: &mut JsonText, code: Code) -> Result<(), Memory>
     ensures { OnOk result (text.new ≡ text.old ++ tokens_of (code_members code)) }
 {
@@ -47,7 +47,7 @@ fn write_code(text: &mut JsonText, code: Code) -> Result<(), Memory>
     write_word_and_severity(text, code)
 }
 
-#[tactic(auto, using(can_json_records::proofs::Tokens::members_then))]
+#[tactic(auto, using(can_json_texts::proofs::Tokens::members_then))]
 fn write_from_and_to(text: &mut JsonText, range: Range) -> Result<(), Memory>
     ensures { OnOk result (text.new ≡ text.old ++ tokens_of ((codes "from", whole_json range.from)
         ∷ (codes "to", whole_json range.to) ∷ [])) }
@@ -56,7 +56,7 @@ fn write_from_and_to(text: &mut JsonText, range: Range) -> Result<(), Memory>
     write_whole(text, "to", range.to as u64)
 }
 
-#[tactic(auto, using(can_json_records::proofs::Tokens::members_then))]
+#[tactic(auto, using(can_json_texts::proofs::Tokens::members_then))]
 fn write_range_members(text: &mut JsonText, range: Range) -> Result<(), Memory>
     ensures { OnOk result (text.new ≡ text.old ++ tokens_of ((codes "line", whole_json range.line)
         ∷ (codes "from", whole_json range.from) ∷ (codes "to", whole_json range.to) ∷ [])) }
@@ -65,7 +65,7 @@ fn write_range_members(text: &mut JsonText, range: Range) -> Result<(), Memory>
     write_from_and_to(text, range)
 }
 
-#[tactic(auto, using(can_json_records::proofs::Tokens::object_written))]
+#[tactic(auto, using(can_json_texts::proofs::Tokens::object_written))]
 fn write_range(text: &mut JsonText, range: Range) -> Result<(), Memory>
     ensures { OnOk result (text.new ≡ text.old ++ json_tokens (range_json range)) }
 {
@@ -85,7 +85,7 @@ fn write_each(text: &mut JsonText, ranges: &[Range]) -> Result<(), Memory>
     Ok(())
 }
 
-#[tactic(auto, using(can_json_records::proofs::Tokens::array_written))]
+#[tactic(auto, using(can_json_texts::proofs::Tokens::array_written))]
 fn write_ranges(text: &mut JsonText, ranges: &[Range]) -> Result<(), Memory>
     ensures { OnOk result (text.new ≡ text.old ++ json_tokens (array_of (map range_json ranges.now))) }
 {
@@ -96,15 +96,15 @@ fn write_ranges(text: &mut JsonText, ranges: &[Range]) -> Result<(), Memory>
 }
 
 /// Writes the member `at` of an object: the ranges of its parts in a text.
-#[tactic(auto, using(can_json_records::proofs::Tokens::member_written))]
-pub fn write_at(text: &mut JsonText, ranges: &[Range]) -> Result<(), Memory>
+#[tactic(auto, using(can_json_texts::proofs::Tokens::member_written))]
+pub(crate) fn write_at(text: &mut JsonText, ranges: &[Range]) -> Result<(), Memory>
     ensures { OnOk result (text.new ≡ text.old ++ tokens_of (at_members ranges.now)) }
 {
     text.key("at")?;
     write_ranges(text, ranges)
 }
 
-#[tactic(auto, using(can_json_records::proofs::Tokens::members_then))]
+#[tactic(auto, using(can_json_texts::proofs::Tokens::members_then))]
 fn write_end(text: &mut JsonText, code: Code, ranges: &[Range]) -> Result<(), Memory>
     ensures { OnOk result (text.new ≡ text.old ++ tokens_of (end_members code ranges.now)) }
 {
@@ -112,7 +112,7 @@ fn write_end(text: &mut JsonText, code: Code, ranges: &[Range]) -> Result<(), Me
     write_at(text, ranges)
 }
 
-#[tactic(auto, using(can_json_records::proofs::Tokens::members_then))]
+#[tactic(auto, using(can_json_texts::proofs::Tokens::members_then))]
 fn write_subject_and_end(
     text: &mut JsonText,
     diagnostic: &Diagnostic,
@@ -125,7 +125,7 @@ fn write_subject_and_end(
     write_end(text, diagnostic.code, ranges)
 }
 
-#[tactic(auto, using(can_json_records::proofs::Tokens::members_then))]
+#[tactic(auto, using(can_json_texts::proofs::Tokens::members_then))]
 fn write_members(
     text: &mut JsonText,
     diagnostic: &Diagnostic,
@@ -137,7 +137,7 @@ fn write_members(
     write_subject_and_end(text, diagnostic, ranges)
 }
 
-#[tactic(auto, using(can_json_records::proofs::Tokens::object_written))]
+#[tactic(auto, using(can_json_texts::proofs::Tokens::object_written))]
 fn write_object(
     text: &mut JsonText,
     diagnostic: &Diagnostic,
@@ -152,7 +152,7 @@ fn write_object(
 }
 
 /// The text of an object as a line: with an LF.
-pub fn line_of(text: JsonText) -> Result<Vec<u8>, Memory>
+pub(crate) fn line_of(text: JsonText) -> Result<Vec<u8>, Memory>
     ensures { IfOk result (λ line. line.items ≡ print text ++ codes "\n") }
 {
     let mut line = text.into_bytes();

@@ -1,15 +1,18 @@
-//! Findings as JSON objects, each with the byte ranges of the parts of the text that it is about.
+//! Diagnostics, faults and names of a database as JSON objects, each with the byte ranges of the parts of the text that it is
+//! about.
 //!
 //! [`finding_line`] makes the line of one finding: an object and an LF; [`fault_lines`] makes those of the faults for which a text
-//! is rejected. Lines of other objects about the same parts are made of [`write_subject`], [`write_at`] and [`line_of`].
+//! is rejected. [`location_lines`] makes those of all names in a text: of messages, senders, signals, receivers and entries.
 #![tactic(auto)]
 
+mod entry_locations;
 mod fault;
 mod finding;
+mod location;
+mod message_locations;
 mod ranges;
 mod subject;
 
+pub use entry_locations::location_lines;
 pub use fault::{FaultLines, fault_lines};
-pub use finding::{finding_line, line_of, write_at};
-pub use ranges::{key_items, ranges_of};
-pub use subject::write_subject;
+pub use finding::finding_line;

@@ -57,7 +57,7 @@ fn target_items(target: &Target) -> usize
 }
 
 /// How many items the key of an entry has, from its keyword on.
-pub fn key_items(key: &EntryKey) -> usize
+pub(crate) fn key_items(key: &EntryKey) -> usize
     ensures { result ≡ key_items key.now }
 {
     match key {
@@ -92,7 +92,7 @@ fn part_about(code: Code, subject: &Subject) -> Part<'_>
 }
 
 /// The ranges that a finding is about in the text in which it was found: one, or for two signals one each.
-pub fn ranges_of(alloc: Global, text: &[u8], finding: &Finding) -> Result<Vec<Range>, Memory>
+pub(crate) fn ranges_of(alloc: Global, text: &[u8], finding: &Finding) -> Result<Vec<Range>, Memory>
     ensures { IfOk result (λ ranges. ranges.items ≡ ranges_of text.now finding.now) }
 {
     let part = part_about(finding.diagnostic.code, &finding.diagnostic.subject);

@@ -4,19 +4,19 @@ ghost use Rattle.std.specs.Fmt.{signed_decimal};
 ghost use Rattle.json.specs.Json.{number as number_json};
 ghost use Rattle.json.specs.Token.{number as number_token};
 ghost use Rattle.can_json_texts.specs.Members.{text_members};
-ghost use Rattle.can_json_records.specs.Values.{tokens_of};
+ghost use Rattle.can_json_texts.specs.Values.{tokens_of};
 ghost use Rattle.dbc_records.specs.declared.target.Target.TheVariants as targets;
 ghost use Rattle.dbc_records.specs.declared.entry_key.EntryKey.TheVariants as keys;
 ghost use Rattle.can_json_findings.specs.Findings.{message_members, name_member, signal_members, target_members, object_members};
 ghost use Rattle.can_json_findings.specs.Findings.{entry_member, key_members, subject_members};
 
 use can_diagnostics::Subject;
-use can_json_records::{JsonText, write_member, write_string, write_text, write_whole};
+use can_json_texts::{JsonText, write_member, write_string, write_text, write_whole};
 use dbc_records::{EntryKey, Object, Target};
 use dbc_values::{Memory, Name, Text};
 use itoa::Buffer;
 
-#[tactic(auto, using(can_json_records::proofs::Tokens::members_then))]
+#[tactic(auto, using(can_json_texts::proofs::Tokens::members_then))]
 fn write_message(text: &mut JsonText, number: u32, name: &Name) -> Result<(), Memory>
     ensures { OnOk result (text.new ≡ text.old ++ tokens_of (message_members number name.now)) }
 {
@@ -25,7 +25,7 @@ fn write_message(text: &mut JsonText, number: u32, name: &Name) -> Result<(), Me
 }
 
 // A message and the name of a part of it.
-#[tactic(auto, using(can_json_records::proofs::Tokens::members_then))]
+#[tactic(auto, using(can_json_texts::proofs::Tokens::members_then))]
 fn write_part(
     text: &mut JsonText,
     number: u32,
@@ -40,7 +40,7 @@ fn write_part(
 }
 
 // A signal, by the names of its message and its own, and the name of a part of it.
-#[tactic(auto, using(can_json_records::proofs::Tokens::members_then))]
+#[tactic(auto, using(can_json_texts::proofs::Tokens::members_then))]
 fn write_signal_part(
     text: &mut JsonText,
     number: u32,
@@ -57,7 +57,7 @@ fn write_signal_part(
 }
 
 // A number with a sign or without.
-#[tactic(auto, using(can_json_records::proofs::Numbers::signed_is_number))]
+#[tactic(auto, using(can_json_texts::proofs::Numbers::signed_is_number))]
 fn write_number(text: &mut JsonText, value: i128) -> Result<(), Memory>
     ensures { OnOk result (text.new ≡ text.old ++ number_token (signed_decimal value) ∷ []) }
 {
@@ -65,7 +65,7 @@ fn write_number(text: &mut JsonText, value: i128) -> Result<(), Memory>
     text.number(buffer.format(value))
 }
 
-#[tactic(auto, using(can_json_records::proofs::Tokens::member_written))]
+#[tactic(auto, using(can_json_texts::proofs::Tokens::member_written))]
 fn write_value(text: &mut JsonText, value: i128) -> Result<(), Memory>
     ensures { OnOk result (text.new ≡ text.old ++ tokens_of ((codes "value", number_json (signed_decimal value)) ∷ [])) }
 {
@@ -73,7 +73,7 @@ fn write_value(text: &mut JsonText, value: i128) -> Result<(), Memory>
     write_number(text, value)
 }
 
-#[tactic(auto, using(can_json_records::proofs::Tokens::members_then))]
+#[tactic(auto, using(can_json_texts::proofs::Tokens::members_then))]
 fn write_described(
     text: &mut JsonText,
     number: u32,
@@ -88,7 +88,7 @@ fn write_described(
     write_value(text, value)
 }
 
-#[tactic(auto, using(can_json_records::proofs::Tokens::members_then))]
+#[tactic(auto, using(can_json_texts::proofs::Tokens::members_then))]
 fn write_signal(text: &mut JsonText, number: u32, signal: &Name) -> Result<(), Memory>
     ensures { OnOk result (text.new ≡ text.old ++ tokens_of (target_members (targets.Signal number signal.now))) }
 {
@@ -97,7 +97,7 @@ fn write_signal(text: &mut JsonText, number: u32, signal: &Name) -> Result<(), M
 }
 
 // What an entry describes.
-#[tactic(auto, using(can_json_records::proofs::Tokens::none_written))]
+#[tactic(auto, using(can_json_texts::proofs::Tokens::none_written))]
 fn write_target(text: &mut JsonText, target: &Target) -> Result<(), Memory>
     ensures { OnOk result (text.new ≡ text.old ++ tokens_of (target_members target.now)) }
 {
@@ -109,7 +109,7 @@ fn write_target(text: &mut JsonText, target: &Target) -> Result<(), Memory>
     }
 }
 
-#[tactic(auto, using(can_json_records::proofs::Tokens::none_written))]
+#[tactic(auto, using(can_json_texts::proofs::Tokens::none_written))]
 fn write_object(text: &mut JsonText, object: Option<Object>) -> Result<(), Memory>
     ensures { OnOk result (text.new ≡ text.old ++ tokens_of (object_members object)) }
 {
@@ -126,7 +126,7 @@ fn write_entry(text: &mut JsonText, word: &str) -> Result<(), Memory>
 }
 
 // The entry that has a text as its key.
-#[tactic(auto, using(can_json_records::proofs::Tokens::members_then))]
+#[tactic(auto, using(can_json_texts::proofs::Tokens::members_then))]
 fn write_named(text: &mut JsonText, word: &str, name: &Text) -> Result<(), Memory>
     ensures { OnOk result (text.new ≡ text.old ++ tokens_of (entry_member word.now ++ text_members (codes "name") name.now)) }
 {
@@ -134,7 +134,7 @@ fn write_named(text: &mut JsonText, word: &str, name: &Text) -> Result<(), Memor
     write_text(text, "name", name.as_bytes())
 }
 
-#[tactic(auto, using(can_json_records::proofs::Tokens::members_then))]
+#[tactic(auto, using(can_json_texts::proofs::Tokens::members_then))]
 fn write_table(text: &mut JsonText, name: &Name) -> Result<(), Memory>
     ensures { OnOk result (text.new ≡ text.old ++ tokens_of (entry_member (codes "VAL_TABLE_")
         ++ name_member (codes "name") name.now)) }
@@ -144,7 +144,7 @@ fn write_table(text: &mut JsonText, name: &Name) -> Result<(), Memory>
 }
 
 // The entry about this.
-#[tactic(auto, using(can_json_records::proofs::Tokens::members_then))]
+#[tactic(auto, using(can_json_texts::proofs::Tokens::members_then))]
 fn write_comment(text: &mut JsonText, target: &Target) -> Result<(), Memory>
     ensures { OnOk result (text.new ≡ text.old ++ tokens_of (entry_member (codes "CM_") ++ target_members target.now)) }
 {
@@ -152,7 +152,7 @@ fn write_comment(text: &mut JsonText, target: &Target) -> Result<(), Memory>
     write_target(text, target)
 }
 
-#[tactic(auto, using(can_json_records::proofs::Tokens::members_then))]
+#[tactic(auto, using(can_json_texts::proofs::Tokens::members_then))]
 fn write_object_and_name(
     text: &mut JsonText,
     object: Option<Object>,
@@ -164,7 +164,7 @@ fn write_object_and_name(
     write_text(text, "name", name.as_bytes())
 }
 
-#[tactic(auto, using(can_json_records::proofs::Tokens::members_then))]
+#[tactic(auto, using(can_json_texts::proofs::Tokens::members_then))]
 fn write_definition(text: &mut JsonText, object: Option<Object>, name: &Text) -> Result<(), Memory>
     ensures { OnOk result (text.new ≡ text.old ++ tokens_of (entry_member (codes "BA_DEF_") ++ (object_members object
         ++ text_members (codes "name") name.now))) }
@@ -173,7 +173,7 @@ fn write_definition(text: &mut JsonText, object: Option<Object>, name: &Text) ->
     write_object_and_name(text, object, name)
 }
 
-#[tactic(auto, using(can_json_records::proofs::Tokens::members_then))]
+#[tactic(auto, using(can_json_texts::proofs::Tokens::members_then))]
 fn write_name_and_target(text: &mut JsonText, name: &Text, target: &Target) -> Result<(), Memory>
     ensures { OnOk result (text.new ≡ text.old ++ tokens_of (text_members (codes "name") name.now
         ++ target_members target.now)) }
@@ -182,7 +182,7 @@ fn write_name_and_target(text: &mut JsonText, name: &Text, target: &Target) -> R
     write_target(text, target)
 }
 
-#[tactic(auto, using(can_json_records::proofs::Tokens::members_then))]
+#[tactic(auto, using(can_json_texts::proofs::Tokens::members_then))]
 fn write_attribute(text: &mut JsonText, name: &Text, target: &Target) -> Result<(), Memory>
     ensures { OnOk result (text.new ≡ text.old ++ tokens_of (entry_member (codes "BA_") ++ (text_members (codes "name") name.now
         ++ target_members target.now))) }
@@ -192,7 +192,7 @@ fn write_attribute(text: &mut JsonText, name: &Text, target: &Target) -> Result<
 }
 
 // The entry of a signal.
-#[tactic(auto, using(can_json_records::proofs::Tokens::members_then))]
+#[tactic(auto, using(can_json_texts::proofs::Tokens::members_then))]
 fn write_signal_entry(
     text: &mut JsonText,
     word: &str,
@@ -240,7 +240,7 @@ fn write_key(text: &mut JsonText, key: &EntryKey) -> Result<(), Memory>
 }
 
 /// Writes what a diagnostic, or a location, is about as members: names and numbers, and for an entry its keyword and key.
-pub fn write_subject(text: &mut JsonText, subject: &Subject) -> Result<(), Memory>
+pub(crate) fn write_subject(text: &mut JsonText, subject: &Subject) -> Result<(), Memory>
     ensures { OnOk result (text.new ≡ text.old ++ tokens_of (subject_members subject.now)) }
 {
     match subject {

@@ -4,12 +4,12 @@ use Rattle.std.specs.List.{enumerate_from}
 use Rattle.std.proofs.lemmas.List.Elements.{All-nil, All-cons}
 use Rattle.dbc_records.specs.Records.{Signal}
 use Rattle.can_entries.specs.Rows.{SignalRows, rows_of}
-use Rattle.can_mux.specs.Switches.{mux_parents_of}
-use Rattle.can_mux.specs.declared.mux_parent.MuxParent.{MuxParent}
+use Rattle.can_entries.specs.Switches.{mux_parents_of}
+use Rattle.can_entries.specs.declared.mux_parent.MuxParent.{MuxParent}
 use Rattle.can_layout.specs.declared.refusal.Cause.{Cause}
 use Rattle.can_layout.specs.declared.row.Row.{Row}
 use Rattle.can_layout.specs.Plans.{plan_in, row_of, reading_unless, cause_of}
-use Rattle.can_json_laws.specs.Laws.{IsExact, ValuesAreExact}
+use Rattle.can_json_laws.specs.LineLaws.{IsExact, ValuesAreExact}
 use Rattle.can_json_laws.proofs.Readings.{fits_of, value_exact}
 
 exact_by : (bytes : List ℕ) (rows : SignalRows) (size : ℕ) (signal : Signal) (cause : Option Cause)

@@ -12,3 +12,12 @@ pub mod OneLine
 pub mod Bytes
 pub mod LineTexts
 pub mod Exact
+pub mod Chains
+pub mod Messages
+pub mod Planned
+pub mod Records
+pub mod Rest
+pub mod Written
+pub mod Ranges
+pub mod Subjects
+pub mod ParseBack

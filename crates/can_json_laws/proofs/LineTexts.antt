@@ -18,8 +18,8 @@ use Rattle.dbc_records.specs.Databases.{Database, IsDatabase}
 use Rattle.can_entries.specs.Rows.{SignalRows, rows_of}
 use Rattle.can_entries.specs.Groups.{specific_of, format_of}
 use Rattle.can_bits.specs.Bits.{raw_value}
-use Rattle.can_mux.specs.Switches.{mux_parents_of}
-use Rattle.can_mux.specs.declared.mux_parent.MuxParent.{MuxParent}
+use Rattle.can_entries.specs.Switches.{mux_parents_of}
+use Rattle.can_entries.specs.declared.mux_parent.MuxParent.{MuxParent}
 use Rattle.can_layout.specs.declared.refusal.Cause.{Cause}
 use Rattle.can_layout.specs.declared.refusal.Cause.TheVariants as causes
 use Rattle.can_layout.specs.declared.row.Row.{Row}
@@ -39,10 +39,10 @@ use Rattle.can_json_lines.specs.Lines.{kind_word, frame_members, group_members, 
 use Rattle.can_json_lines.specs.Lines.{values_members, data_stated, stated_members, rest_members, interface_of, rest_of, time_of}
 use Rattle.can_json_lines.specs.Lines.{known_members, members_by, line_members, line_json}
 use Rattle.can_json_laws.specs.OneLine.{HasTexts, MembersHaveTexts}
-use Rattle.can_json_laws.specs.Laws.{ShowsBytes, ObjectsAreLines}
+use Rattle.can_json_laws.specs.LineLaws.{ShowsBytes, ObjectsAreLines}
 use Rattle.can_json_laws.proofs.OneLine.{printed_line}
 use Rattle.can_json_laws.proofs.Bytes.{AreBytes, are_bytes, body_bytes, word_bytes, after_bytes, text_is_utf8, hex_utf8}
-use Rattle.can_json_records.proofs.Names.{name_utf8}
+use Rattle.can_json_texts.proofs.Names.{name_utf8}
 use Rattle.can_json_laws.proofs.Stamps.{LinesAreGiven}
 use Rattle.can_json_laws.proofs.Targets.{IsKnown, known, all_at}
 use Rattle.can_json_laws.proofs.StatedSignals.{EntryBytes, ReadingBytes, RowBytes, find_all, shown_bytes}

@@ -23,7 +23,7 @@ use Rattle.can_json_lines.specs.Lines.{kind_word, data_members, frame_members, g
 use Rattle.can_json_lines.specs.Lines.{message_members, wrong_size_members, values_members, data_stated, stated_members}
 use Rattle.can_json_lines.specs.Lines.{rest_members}
 use Rattle.can_json_lines.specs.Lines.{interface_of, rest_of, time_of, known_members, members_by, line_members, line_json}
-use Rattle.can_json_laws.specs.Laws.{ParsesBack, KeysAreUnique}
+use Rattle.can_json_laws.specs.LineLaws.{ParsesBack, KeysAreUnique}
 use Rattle.can_json_laws.proofs.Among.{Among, distinct_names, distinct_among, keys_of, both_among}
 use Rattle.can_json_laws.proofs.Sound.{IsSound, AreSound, sound_append, string_sound, number_sound, boolean_sound, object_sound}
 use Rattle.can_json_laws.proofs.Sound.{texts_sound, texts_among}

@@ -17,8 +17,8 @@ use Rattle.can_bits.specs.declared.field.Field.{Field}
 use Rattle.can_bits.specs.Bits.{field_of, bits_of, is_outside, raw_value}
 use Rattle.can_bits.proofs.SignedValues.{value_in_range}
 use Rattle.can_entries.specs.Rows.{SignalRows, rows_of, first_float, is_float_row, first_values, entries_of}
-use Rattle.can_mux.specs.Switches.{mux_parents_of}
-use Rattle.can_mux.specs.declared.mux_parent.MuxParent.{MuxParent}
+use Rattle.can_entries.specs.Switches.{mux_parents_of}
+use Rattle.can_entries.specs.declared.mux_parent.MuxParent.{MuxParent}
 use Rattle.can_layout.specs.declared.refusal.Cause.{Cause}
 use Rattle.can_layout.specs.declared.refusal.Cause.TheVariants as causes
 use Rattle.can_layout.specs.declared.row.Row.{Row}

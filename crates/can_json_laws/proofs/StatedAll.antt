@@ -26,7 +26,7 @@ use Rattle.can_json_lines.specs.Signals.{signal_members}
 use Rattle.can_json_lines.specs.Lines.{frame_members, group_members, j1939_members, message_members}
 use Rattle.can_json_lines.specs.Lines.{wrong_size_members, data_stated, stated_members, rest_members, interface_of, rest_of}
 use Rattle.can_json_lines.specs.Lines.{time_of, known_members, members_by, line_members}
-use Rattle.can_json_laws.specs.Laws.{ShowsBytes, ReportsNoLess}
+use Rattle.can_json_laws.specs.LineLaws.{ShowsBytes, ReportsNoLess}
 use Rattle.can_json_laws.specs.Stated.{value_at, text_in, members_in, text_at, number_at, destination_by, fields_by, group_by}
 use Rattle.can_json_laws.specs.Stated.{signals_by, cause_by, frame_by, stated_by}
 use Rattle.can_json_laws.proofs.Among.{none_among, keys_of}

@@ -15,8 +15,8 @@ use Rattle.dbc_records.specs.Records.{Signal, Message, Entry, ValueRow}
 use Rattle.dbc_records.specs.Databases.{Database}
 use Rattle.can_entries.specs.Rows.{SignalRows, rows_of, first_values, entries_of}
 use Rattle.can_bits.specs.Bits.{raw_value}
-use Rattle.can_mux.specs.Switches.{mux_parents_of}
-use Rattle.can_mux.specs.declared.mux_parent.MuxParent.{MuxParent}
+use Rattle.can_entries.specs.Switches.{mux_parents_of}
+use Rattle.can_entries.specs.declared.mux_parent.MuxParent.{MuxParent}
 use Rattle.can_layout.specs.declared.refusal.Cause.{Cause}
 use Rattle.can_layout.specs.declared.row.Row.{Row}
 use Rattle.can_layout.specs.declared.row.Reading.{Reading}
@@ -27,7 +27,7 @@ use Rattle.dbc_text_buffer.specs.Shown.{shown}
 use Rattle.can_decode.specs.Values.{named_or_number, reading_text}
 use Rattle.can_decode.specs.DecodedLines.{signal_text, further_signal, listed, is_shown, shown_rows, signals_text}
 use Rattle.can_json_lines.specs.Signals.{value_text, unit_members, given_members, reading_members, signal_member, signal_members}
-use Rattle.can_json_laws.specs.Laws.{ShowsBytes}
+use Rattle.can_json_laws.specs.LineLaws.{ShowsBytes}
 use Rattle.can_json_laws.specs.Stated.{value_at, described_by, reading_by, signal_by, further_by, signals_by, bytes_at}
 use Rattle.can_json_laws.proofs.Among.{none_among, keys_of}
 use Rattle.can_json_laws.proofs.Looked.{absent, bytes_found}

@@ -5,7 +5,7 @@ use Rattle.std.proofs.lemmas.List.Elements.{All-get_or}
 use Rattle.std.proofs.lemmas.Option.{slice_get_within, get_or_from_slice_get}
 use Rattle.dbc_records.specs.Records.{Message}
 use Rattle.dbc_records.specs.Databases.{Database}
-use Rattle.can_choice.specs.Choices.{chosen_index}
+use Rattle.can_decode.specs.Choices.{chosen_index}
 use Rattle.can_frames.specs.Frames.{Frame, frame_of}
 use Rattle.can_frames.specs.LogGrammar.{IsIdentifierText, IsLogLine}
 use Rattle.can_frames.specs.Frames.{Identifier}

@@ -1,4 +1,6 @@
 pub mod Keys
 pub mod Stated
 pub mod OneLine
-pub mod Laws
+pub mod LineLaws
+pub mod DatabaseLaws
+pub mod FindingLaws

@@ -1,3 +1,4 @@
+pub mod PreparedTexts
 pub mod Signals
 pub mod Lines
 pub mod inner

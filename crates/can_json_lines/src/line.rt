@@ -4,14 +4,14 @@ ghost use Rattle.json.specs.Json.{number};
 ghost use Rattle.can_json_texts.specs.Members.{Key as PlainKey, keyed, further_members, object_text, text_members};
 ghost use Rattle.can_json_lines.specs.Lines.{frame_members, stated_members, rest_members, known_members, line_members};
 
+use crate::finder::PreparedFinder;
 use crate::frame::{push_frame, push_stated};
 use crate::interface::Ready;
 use crate::keys::{Keys, LineKeys};
 use crate::signals::JsonTarget;
 use crate::words::{Words, words_of};
-use can_choice::MessageSearch;
+use can_decode::MessageSearch;
 use can_frames::{Frame, body_of, fill_frame};
-use can_prepared_texts::PreparedFinder;
 use dbc_text_buffer::TextBuffer;
 use dbc_values::Memory;
 

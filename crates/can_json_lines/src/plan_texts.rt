@@ -1,13 +1,13 @@
-//! Texts that are prepared with messages.
+//! What is prepared of a signal: the texts before and after its value.
 ghost use Rattle.std.specs.Prelude.{◌≡◌, ◌++◌, IfOk, OnOk, codes};
 ghost use Rattle.can_json_texts.specs.Members.{further_members};
 ghost use Rattle.can_json_lines.specs.Signals.{unit_members};
 ghost use Rattle.can_json_lines.specs.inner.Prepared.{value_label, row_label, next_label, row_tail, row_texts, message_text};
 
 use crate::keys::{Keys, SignalKeys, StatedKeys};
+use crate::prepare::Prepare;
 use can_json_texts::push_quoted;
 use can_layout::{Decoder, Reading, Row};
-use can_prepared_texts::Prepare;
 use dbc_records::Message;
 use dbc_text_buffer::{ReadyText, TextBuffer};
 use dbc_values::Memory;

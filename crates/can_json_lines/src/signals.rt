@@ -9,9 +9,9 @@ ghost use Rattle.can_layout.specs.declared.row.Reading.TheVariants.{Read};
 
 use crate::keys::{Keys, SignalKeys};
 use crate::plan_texts::RowTexts;
+use crate::prepared_target::PreparedTarget;
 use can_decode::{SignalText, push_scaled, push_signals};
 use can_layout::{Decoder, Plan, Reading};
-use can_prepared_texts::PreparedTarget;
 use dbc_text_buffer::TextBuffer;
 use dbc_values::Memory;
 use std::marker::Model;

@@ -4,15 +4,15 @@ ghost use Rattle.can_line_stream.specs.LineTexts.{StreamsLines};
 ghost use Rattle.can_decode.specs.Counting.{counted};
 ghost use Rattle.can_json_lines.specs.Lines.{json_line};
 
+use crate::finder::PreparedFinder;
 use crate::interface::Ready;
 use crate::keys::Keys;
 use crate::line::push_line;
+use crate::prepared::{Prepared, prepared_finder};
 use byte_devices::{Sink, Source};
-use can_choice::{CachedSearch, MessageSearch};
-use can_decode::{Decoding, stream_counted};
+use can_decode::{CachedSearch, Decoding, MessageSearch, stream_counted};
 use can_layout::Meter;
 use can_line_stream::{LineText, StreamFault};
-use can_prepared_texts::{Prepared, PreparedFinder, prepared_finder};
 use dbc_text_buffer::TextBuffer;
 use dbc_values::Memory;
 use std::alloc::Global;
@@ -81,13 +81,13 @@ impl<'a, C: MessageSearch> LineText for JsonLines<'a, C> {
 fn lines_by<'a, C: MessageSearch>(
     alloc: Global,
     decoding: &'a JsonDecoding<'a>,
-    chooser: C,
+    search: C,
 ) -> JsonLines<'a, C>
-    requires { C.whole chooser ≡ decoding.now.database }
+    requires { C.whole search ≡ decoding.now.database }
     ensures { result ≡ decoding.now }
 {
     JsonLines {
-        finder: prepared_finder(alloc, &decoding.prepared, chooser),
+        finder: prepared_finder(alloc, &decoding.prepared, search),
         ready: Ready::of(decoding.prepared.preparer()),
     }
 }
@@ -104,6 +104,6 @@ pub fn json_stream_by<R: Source, W: Sink>(
         (W.written sink.old) (W.written sink.new) result lines
         × (meter.new ≡ counted result lines meter.old) }
 {
-    let lines = lines_by(alloc, decoding, decoding.prepared.choices());
+    let lines = lines_by(alloc, decoding, decoding.prepared.indexed_messages());
     stream_counted(alloc, lines, meter, source, sink)
 }

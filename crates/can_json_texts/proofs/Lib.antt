@@ -1,3 +1,8 @@
+pub mod Appended
+pub mod Names
+pub mod Numbers
+pub mod Texts
+pub mod Tokens
 pub mod Digits
 pub mod Keyed
 pub mod Objects

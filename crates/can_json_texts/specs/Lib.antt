@@ -1,2 +1,4 @@
+pub mod Values
+pub mod Records
 pub mod Texts
 pub mod Members

@@ -122,7 +122,7 @@ fn push_characters(text: &mut TextBuffer, bytes: &[u8]) -> Result<(), Memory>
 
 /// Appends the text of bytes as a string.
 #[tactic(auto, using(crate::proofs::Spellings::own_text, crate::proofs::Spellings::text_of_characters))]
-pub fn push_string(text: &mut TextBuffer, bytes: &[u8]) -> Result<(), Memory>
+pub(crate) fn push_string(text: &mut TextBuffer, bytes: &[u8]) -> Result<(), Memory>
     ensures { OnOk result (text.new.items ≡ text.old.items ++ quoted (text_of bytes.now)) }
 {
     match std::str::from_utf8(bytes) {

@@ -9,18 +9,18 @@ use Rattle.std.proofs.lemmas.List.Sums.{AllPass-from_list_all}
 use Rattle.std.proofs.lemmas.Option.{slice_get_past}
 use Rattle.dbc_records.specs.Records.{Signal}
 use Rattle.can_entries.specs.Rows.{SignalRows}
-use Rattle.can_mux.specs.Links.{Link}
+use Rattle.can_entries.specs.Links.{Link}
 use Rattle.can_layout.specs.Plans.{chain_of, row_of, plan_rows, is_met, are_met, is_present}
 use Rattle.can_layout.specs.Presence.{link_of, chain_at, AreChained, ArePlain, is_top, are_plain}
-use Rattle.can_mux.specs.Switches.{mux_parent_of, mux_parents_of}
-use Rattle.can_mux.specs.Walks.{mux_parent_or_missing, mux_parent_at, with_link, walk_mux_parent, walk_up, walk_of, links_in}
-use Rattle.can_mux.specs.declared.mux_parent.MuxParent.{MuxParent}
-use Rattle.can_mux.specs.declared.mux_parent.MuxParent.TheVariants.{Nothing, Missing, Switch}
+use Rattle.can_entries.specs.Switches.{mux_parent_of, mux_parents_of}
+use Rattle.can_entries.specs.Walks.{mux_parent_or_missing, mux_parent_at, with_link, walk_mux_parent, walk_up, walk_of, links_in}
+use Rattle.can_entries.specs.declared.mux_parent.MuxParent.{MuxParent}
+use Rattle.can_entries.specs.declared.mux_parent.MuxParent.TheVariants.{Nothing, Missing, Switch}
 use Rattle.can_layout.specs.declared.row.Row.{Row}
-use Rattle.can_mux.specs.declared.walk.Walk.{Walk}
-use Rattle.can_mux.specs.declared.walk.Walk.TheVariants.{Chain, Absent, Loop}
-use Rattle.can_mux.proofs.WalkSteps.{walk_step}
-use Rattle.can_mux.proofs.WalkLaws.{further}
+use Rattle.can_entries.specs.declared.walk.Walk.{Walk}
+use Rattle.can_entries.specs.declared.walk.Walk.TheVariants.{Chain, Absent, Loop}
+use Rattle.can_entries.proofs.WalkSteps.{walk_step}
+use Rattle.can_entries.proofs.WalkLaws.{further}
 
 -- a test on multiplexing chains: only a chain passes, and one that begins with a link passes if the link and the rest
 -- of the chain do

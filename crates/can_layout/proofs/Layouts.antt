@@ -5,7 +5,7 @@ use Rattle.std.proofs.lemmas.Simd.{map-map}
 use Rattle.std.proofs.lemmas.List.Folds.{flat_map-map}
 use Rattle.dbc_records.specs.Records.{Signal}
 use Rattle.can_entries.specs.Rows.{SignalRows}
-use Rattle.can_mux.specs.declared.mux_parent.MuxParent.{MuxParent}
+use Rattle.can_entries.specs.declared.mux_parent.MuxParent.{MuxParent}
 use Rattle.can_layout.specs.Plans.{plan_rows}
 use Rattle.can_layout.specs.Diagrams.{legend_text}
 use Rattle.can_layout.specs.Layouts.{SignalLayout, layout_of, row_by, legend_by}

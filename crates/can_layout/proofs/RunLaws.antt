@@ -4,13 +4,13 @@ use Rattle.std.proofs.Common.{is_some, refl, sym, ap, subst, ◌∙◌, ⊎_elim
 use Rattle.std.specs.Option.{option_and_then}
 use Rattle.std.proofs.lemmas.Bool.{cases_lt}
 use Rattle.std.proofs.lemmas.Option.{slice_get-get_or}
-use Rattle.can_mux.specs.Links.{Link}
-use Rattle.can_mux.specs.Walks.{mux_parent_at, with_link, walk_mux_parent, walk_up, walk_of}
-use Rattle.can_mux.specs.declared.mux_parent.MuxParent.{MuxParent}
-use Rattle.can_mux.specs.declared.mux_parent.MuxParent.TheVariants.{Nothing, Missing, Switch}
-use Rattle.can_mux.specs.declared.walk.Walk.{Walk}
-use Rattle.can_mux.specs.declared.walk.Walk.TheVariants.{Chain, Absent, Loop}
-use Rattle.can_mux.proofs.WalkLaws.{further}
+use Rattle.can_entries.specs.Links.{Link}
+use Rattle.can_entries.specs.Walks.{mux_parent_at, with_link, walk_mux_parent, walk_up, walk_of}
+use Rattle.can_entries.specs.declared.mux_parent.MuxParent.{MuxParent}
+use Rattle.can_entries.specs.declared.mux_parent.MuxParent.TheVariants.{Nothing, Missing, Switch}
+use Rattle.can_entries.specs.declared.walk.Walk.{Walk}
+use Rattle.can_entries.specs.declared.walk.Walk.TheVariants.{Chain, Absent, Loop}
+use Rattle.can_entries.proofs.WalkLaws.{further}
 use Rattle.can_layout.specs.Plans.{chain_of}
 use Rattle.can_layout.specs.Presence.{IsRun, IsLongestRun, AreChained, ArePlain, chain_at, parent_at}
 use Rattle.can_layout.specs.declared.row.Row.{Row}

@@ -9,15 +9,15 @@ use Rattle.dbc_records.specs.declared.mux_row.Range.{Range}
 use Rattle.can_bits.specs.Bits.{field_of}
 use Rattle.can_bits.specs.Grids.{right, grid_text}
 use Rattle.can_entries.specs.Rows.{SignalRows, rows_of}
-use Rattle.can_mux.specs.Links.{Link}
-use Rattle.can_mux.specs.Walks.{walk_of}
-use Rattle.can_mux.specs.Switches.{mux_parents_of}
+use Rattle.can_entries.specs.Links.{Link}
+use Rattle.can_entries.specs.Walks.{walk_of}
+use Rattle.can_entries.specs.Switches.{mux_parents_of}
 use Rattle.can_layout.specs.Plans.{cause_of}
-use Rattle.can_mux.specs.declared.mux_parent.MuxParent.{MuxParent}
+use Rattle.can_entries.specs.declared.mux_parent.MuxParent.{MuxParent}
 use Rattle.can_layout.specs.declared.refusal.Cause.{Cause}
 use Rattle.can_layout.specs.declared.refusal.Cause.TheVariants as causes
-use Rattle.can_mux.specs.declared.walk.Walk.{Walk}
-use Rattle.can_mux.specs.declared.walk.Walk.TheVariants as walks
+use Rattle.can_entries.specs.declared.walk.Walk.{Walk}
+use Rattle.can_entries.specs.declared.walk.Walk.TheVariants as walks
 
 -- `Message name number size`
 unfoldable pub title_line : Head → List ℕ

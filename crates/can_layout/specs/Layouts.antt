@@ -4,9 +4,9 @@ use Rattle.dbc_values.specs.Scales.{Scale}
 use Rattle.dbc_records.specs.Records.{Signal, Message}
 use Rattle.can_bits.specs.Bits.{field_of}
 use Rattle.can_entries.specs.Rows.{SignalRows}
-use Rattle.can_mux.specs.Walks.{walk_of}
-use Rattle.can_mux.specs.Switches.{mux_parents_of}
-use Rattle.can_mux.specs.declared.mux_parent.MuxParent.{MuxParent}
+use Rattle.can_entries.specs.Walks.{walk_of}
+use Rattle.can_entries.specs.Switches.{mux_parents_of}
+use Rattle.can_entries.specs.declared.mux_parent.MuxParent.{MuxParent}
 use Rattle.can_layout.specs.Plans.{cause_of, chain_of, reading_unless}
 use Rattle.can_layout.specs.Diagrams.{legend_line}
 use Rattle.can_layout.specs.declared.refusal.Cause.{Cause}

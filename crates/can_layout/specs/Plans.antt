@@ -12,18 +12,18 @@ use Rattle.dbc_records.specs.Databases.{Database}
 use Rattle.dbc_records.specs.declared.mux_row.Range.{Range}
 use Rattle.can_bits.specs.Bits.{field_of, is_outside, bits_of, unsigned_raw, raw_value}
 use Rattle.can_entries.specs.Rows.{SignalRows, rows_of, first_values, first_float, is_float_row, entries_of}
-use Rattle.can_mux.specs.Links.{Link}
+use Rattle.can_entries.specs.Links.{Link}
 use Rattle.dbc_records.specs.Ranges.{in_range}
-use Rattle.can_mux.specs.Walks.{walk_of}
-use Rattle.can_mux.specs.Switches.{mux_parents_of}
-use Rattle.can_mux.specs.declared.mux_parent.MuxParent.{MuxParent}
+use Rattle.can_entries.specs.Walks.{walk_of}
+use Rattle.can_entries.specs.Switches.{mux_parents_of}
+use Rattle.can_entries.specs.declared.mux_parent.MuxParent.{MuxParent}
 use Rattle.can_layout.specs.declared.refusal.Cause.{Cause}
 use Rattle.can_layout.specs.declared.refusal.Cause.TheVariants as causes
 use Rattle.can_layout.specs.declared.row.Reading.{Reading}
 use Rattle.can_layout.specs.declared.row.Reading.TheVariants.{Refused, Read}
 use Rattle.can_layout.specs.declared.row.Row.{Row}
-use Rattle.can_mux.specs.declared.walk.Walk.{Walk}
-use Rattle.can_mux.specs.declared.walk.Walk.TheVariants as walks
+use Rattle.can_entries.specs.declared.walk.Walk.{Walk}
+use Rattle.can_entries.specs.declared.walk.Walk.TheVariants as walks
 
 -- ---- why a signal is refused
 

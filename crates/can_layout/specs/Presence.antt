@@ -5,12 +5,12 @@ use Rattle.std.specs.List.{list_any, list_all}
 use Rattle.std.specs.Option.{option_and_then}
 use Rattle.dbc_records.specs.declared.mux_row.Range.{Range}
 use Rattle.can_bits.specs.Bits.{unsigned_raw}
-use Rattle.can_mux.specs.Links.{Link}
+use Rattle.can_entries.specs.Links.{Link}
 use Rattle.dbc_records.specs.Ranges.{in_range}
-use Rattle.can_mux.specs.Walks.{walk_of, mux_parent_at}
+use Rattle.can_entries.specs.Walks.{walk_of, mux_parent_at}
 use Rattle.can_layout.specs.Plans.{chain_of, is_present, is_whole}
-use Rattle.can_mux.specs.declared.mux_parent.MuxParent.{MuxParent}
-use Rattle.can_mux.specs.declared.mux_parent.MuxParent.TheVariants.{Nothing, Missing, Switch}
+use Rattle.can_entries.specs.declared.mux_parent.MuxParent.{MuxParent}
+use Rattle.can_entries.specs.declared.mux_parent.MuxParent.TheVariants.{Nothing, Missing, Switch}
 use Rattle.can_layout.specs.declared.row.Reading.{Reading}
 use Rattle.can_layout.specs.declared.row.Reading.TheVariants.{Refused, Read}
 use Rattle.can_layout.specs.declared.cached.CachedMultiplexor.{CachedMultiplexor}

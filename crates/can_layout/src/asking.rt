@@ -2,13 +2,12 @@
 ghost use Rattle.std.specs.Prelude.{◌≡◌, IfOk, IsSome, Some};
 ghost use Rattle.std.specs.Option.{option_map};
 ghost use Rattle.can_entries.specs.Rows.{rows_of};
-ghost use Rattle.can_mux.specs.Walks.{walk_of};
-ghost use Rattle.can_mux.specs.Switches.{mux_parents_of};
+ghost use Rattle.can_entries.specs.Walks.{walk_of};
+ghost use Rattle.can_entries.specs.Switches.{mux_parents_of};
 ghost use Rattle.can_layout.specs.Plans.{cause_of, signal_at};
 
 use crate::refusal::{Cause, cause_of};
-use can_entries::Lookup;
-use can_mux::{MessageRows, Walk, mux_parents_of, walk_of};
+use can_entries::{Lookup, MessageRows, Walk, mux_parents_of, walk_of};
 use dbc_records::{Database, Signal};
 use dbc_values::Memory;
 use std::alloc::Global;

@@ -1,13 +1,12 @@
 //! The layout of a message, from which both its plan and its diagram are made.
 ghost use Rattle.std.specs.Prelude.{◌≡◌, IfOk, map};
 ghost use Rattle.can_entries.specs.Rows.{rows_of};
-ghost use Rattle.can_mux.specs.Switches.{mux_parents_of};
+ghost use Rattle.can_entries.specs.Switches.{mux_parents_of};
 ghost use Rattle.can_layout.specs.Layouts.{layout_of};
 
 use crate::refusal::{Cause, scale_of};
 use crate::sharing::{PlanRows, Sharing};
-use can_entries::Lookup;
-use can_mux::{MessageRows, MuxParent, mux_parents_of};
+use can_entries::{Lookup, MessageRows, MuxParent, mux_parents_of};
 use dbc_records::{Message, Signal};
 use dbc_values::{List, Memory, Scale};
 use std::alloc::Global;

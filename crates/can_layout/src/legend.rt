@@ -2,15 +2,14 @@
 ghost use Rattle.std.specs.Prelude.{◌≡◌, ◌++◌, IfOk, OnOk, decimal};
 ghost use Rattle.can_bits.specs.Grids.{right};
 ghost use Rattle.std.specs.List.{flat_map, enumerate_from};
-ghost use Rattle.can_mux.specs.Switches.{mux_parents_of};
+ghost use Rattle.can_entries.specs.Switches.{mux_parents_of};
 ghost use Rattle.can_layout.specs.Diagrams.{signal_text, legend_line, legend_text, picture_in};
 ghost use Rattle.can_layout.specs.Layouts.{legend_by};
 
 use crate::layout::{Layout, SignalLayout};
 use crate::text::{push_bytes, push_cause, push_span, push_title, push_walk};
 use can_bits::{fields_of, push_grid, push_right};
-use can_entries::Lookup;
-use can_mux::{MuxParent, Walk, walk_of};
+use can_entries::{Lookup, MuxParent, Walk, walk_of};
 use dbc_records::{Message, Signal};
 use dbc_values::Memory;
 use itoa::Buffer;

@@ -31,8 +31,9 @@ mod text;
 pub use asking::{cause, chain};
 pub use cached_name::CachedName;
 pub use can_bits::{Field, Steps, position};
-pub use can_entries::{Indexed, Lookup, group_in, group_number, group_of, is_bad_number};
-pub use can_mux::{Link, Walk};
+pub use can_entries::{
+    Indexed, Link, Lookup, Walk, group_in, group_number, group_of, is_bad_number,
+};
 pub use decoder::Decoder;
 pub use diagram::{picture, picture_with, pictures};
 pub use making::{make_plan, make_plans, plan_and_picture, plan_sharing, plan_with, plans_with};

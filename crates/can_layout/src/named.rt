@@ -56,6 +56,7 @@ impl Named {
     }
 
     // The name of a raw value, or that it has none, if it is one of the first raw values.
+    #[inline(always)]
     fn name_at(&self, raw: i128) -> Option<&Option<ReadyText>>
         ensures { IfSome result (λ name. name.now ≡ name_of raw self.now) }
     {

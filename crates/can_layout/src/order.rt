@@ -1,7 +1,7 @@
 //! The order in which the runs of a message are looked up in data.
 
 use crate::runs::Run;
-use can_mux::MuxParent;
+use can_entries::MuxParent;
 use dbc_values::Memory;
 use std::alloc::Global;
 

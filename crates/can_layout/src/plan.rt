@@ -8,8 +8,8 @@ ghost use Rattle.can_layout.specs.Presence.{AreCached, AreAllCached, raw_of, swi
 ghost use Rattle.can_layout.specs.declared.runs.Run.{Run as PlainRun};
 ghost use Rattle.std.specs.List.{list_any, enumerate_from};
 ghost use Rattle.dbc_records.specs.Ranges.{in_range};
-ghost use Rattle.can_mux.specs.Walks.{walk_of};
-ghost use Rattle.can_mux.specs.declared.mux_parent.MuxParent.{MuxParent as PlainAbove};
+ghost use Rattle.can_entries.specs.Walks.{walk_of};
+ghost use Rattle.can_entries.specs.declared.mux_parent.MuxParent.{MuxParent as PlainAbove};
 
 use crate::cached::{CachedMultiplexor, MAX_KEPT, Switches};
 use crate::decoder::Decoder;
@@ -21,8 +21,7 @@ use crate::runs::{Run, runs_of};
 use crate::sharing::PlanRows;
 use crate::switch_chain::Chain;
 use can_bits::Field;
-use can_entries::Lookup;
-use can_mux::{Link, MuxParent, mux_parent_at};
+use can_entries::{Link, Lookup, MuxParent, mux_parent_at};
 use dbc_records::Range;
 use dbc_text_buffer::{ReadyText, TextBuffer, push_bytes};
 use dbc_values::{Copied, List, Memory};

@@ -7,8 +7,7 @@ ghost use Rattle.can_layout.specs.Layouts.{cause_in};
 ghost use Rattle.can_layout.specs.Diagrams.{cause_word};
 
 use can_bits::Field;
-use can_entries::Lookup;
-use can_mux::MessageRows;
+use can_entries::{Lookup, MessageRows};
 use dbc_records::Signal;
 use dbc_values::Scale;
 

@@ -1,12 +1,12 @@
 //! Runs of signals with the same multiplexing chain: they are present together.
 ghost use Rattle.std.specs.Prelude.{◌≡◌, ◌<◌, ◌≤◌, is_some, option_map, IfOk, length};
 ghost use Rattle.std.specs.Bool.{Decides};
-ghost use Rattle.can_mux.specs.Walks.{mux_parent_at, mux_parent_or_missing};
-ghost use Rattle.can_mux.specs.declared.mux_parent.MuxParent.TheVariants.{Switch};
+ghost use Rattle.can_entries.specs.Walks.{mux_parent_at, mux_parent_or_missing};
+ghost use Rattle.can_entries.specs.declared.mux_parent.MuxParent.TheVariants.{Switch};
 ghost use Rattle.can_layout.specs.Presence.{AreChained, AreRuns, IsLongestRun, chain_at, parent_at};
 
 use crate::row::Row;
-use can_mux::{Link, MuxParent, mux_parent_at};
+use can_entries::{Link, MuxParent, mux_parent_at};
 use dbc_records::Range;
 use dbc_values::{Copied, Memory};
 use std::alloc::Global;

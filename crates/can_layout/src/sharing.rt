@@ -6,8 +6,7 @@ ghost use Rattle.can_layout.specs.Shares.{row_of, is_shared};
 
 use crate::named::Named;
 use crate::shared_row::{NamedRow, SharedNumber};
-use can_entries::{Index, Lookup};
-use can_mux::MessageRows;
+use can_entries::{Index, Lookup, MessageRows};
 use dbc_records::{Database, Message, ValueRow};
 use dbc_text_buffer::TextBuffer;
 use dbc_values::{Copied, Memory, Name};

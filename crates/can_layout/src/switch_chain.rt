@@ -3,9 +3,9 @@ ghost use Rattle.std.specs.Prelude.{◌≡◌, IfOk, Some, slice_get, is_some};
 ghost use Rattle.std.specs.Option.{option_map};
 ghost use Rattle.can_layout.specs.Plans.{chain_of};
 ghost use Rattle.can_layout.specs.Presence.{link_of, is_top};
-ghost use Rattle.can_mux.specs.Walks.{walk_of, mux_parent_at};
+ghost use Rattle.can_entries.specs.Walks.{walk_of, mux_parent_at};
 
-use can_mux::{Link, MuxParent, mux_parent_at};
+use can_entries::{Link, MuxParent, mux_parent_at};
 use dbc_values::{List, Memory};
 use std::marker::Model;
 use std::rc::Rc;
@@ -20,9 +20,9 @@ pub struct Chain {
 
 impl Model for Chain {
     ghost use Rattle.std.specs.Prelude.{◌≡◌, List as Items};
-    ghost use Rattle.can_mux.specs.Links as links;
-    ghost use Rattle.can_mux.specs.Walks.{walk_of, links_in};
-    ghost use Rattle.can_mux.specs.declared.walk.Walk.TheVariants.{Chain as IsOf};
+    ghost use Rattle.can_entries.specs.Links as links;
+    ghost use Rattle.can_entries.specs.Walks.{walk_of, links_in};
+    ghost use Rattle.can_entries.specs.declared.walk.Walk.TheVariants.{Chain as IsOf};
 
     ghost Value = { Items links.Link };
 

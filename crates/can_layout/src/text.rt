@@ -5,7 +5,7 @@ ghost use Rattle.can_layout.specs.Diagrams.{title_line, span_text, cause_text, r
 ghost use Rattle.can_layout.specs.Diagrams.{link_text, walk_text};
 
 use crate::refusal::Cause;
-use can_mux::{Link, Walk};
+use can_entries::{Link, Walk};
 use dbc_records::{Head, Range, Signal};
 use dbc_values::Memory;
 

@@ -5,9 +5,9 @@ use Rattle.std.specs.List.{slice_get}
 use Rattle.std.specs.Option.{option_and_then}
 use Rattle.std.proofs.lemmas.Bool.{cases_eq}
 use Rattle.std.proofs.lemmas.List.Folds.{list_all_more}
-use Rattle.can_mux.specs.Links.{Link}
-use Rattle.can_mux.specs.declared.walk.Walk.{Walk}
-use Rattle.can_mux.specs.declared.walk.Walk.TheVariants.{Chain, Absent, Loop}
+use Rattle.can_entries.specs.Links.{Link}
+use Rattle.can_entries.specs.declared.walk.Walk.{Walk}
+use Rattle.can_entries.specs.declared.walk.Walk.TheVariants.{Chain, Absent, Loop}
 use Rattle.can_overlap.specs.Overlaps.{agree, agrees_with, ranges_meet}
 use Rattle.can_overlap.specs.inner.MuxPaths.{IsStep, own_at, of_switch, agrees_if_there, AreEntered}
 use Rattle.can_overlap.proofs.Words.{eqb-apart}

@@ -7,7 +7,7 @@ use Rattle.dbc_records.specs.Records.{is_intel}
 use Rattle.can_bits.specs.declared.field.Field.{Field}
 use Rattle.can_bits.specs.Bits.{mirrored, position_of, has_position}
 use Rattle.can_bits.specs.Steps.{passed_at}
-use Rattle.can_mux.specs.declared.walk.Walk.{Walk}
+use Rattle.can_entries.specs.declared.walk.Walk.{Walk}
 use Rattle.can_overlap.specs.declared.pair.Pair.{Pair}
 use Rattle.can_overlap.specs.inner.Apart.{ends_before, apart, all_apart, seen_apart}
 use Rattle.can_overlap.specs.Overlaps.{Laid, laid_from, share, together, pair_where, pair_of, for_pairs, overlapping}

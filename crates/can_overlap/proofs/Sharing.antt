@@ -9,9 +9,9 @@ use Rattle.std.proofs.lemmas.List.{drop_all}
 use Rattle.std.proofs.lemmas.Grind.{common_steps}
 use Rattle.can_bits.specs.declared.field.Field.{Field}
 use Rattle.can_bits.specs.Bits.{position_of, has_position}
-use Rattle.can_mux.specs.Links.{Link}
-use Rattle.can_mux.specs.declared.walk.Walk.{Walk}
-use Rattle.can_mux.specs.declared.walk.Walk.TheVariants.{Chain, Loop}
+use Rattle.can_entries.specs.Links.{Link}
+use Rattle.can_entries.specs.declared.walk.Walk.{Walk}
+use Rattle.can_entries.specs.declared.walk.Walk.TheVariants.{Chain, Loop}
 use Rattle.can_overlap.specs.declared.pair.Pair.{Pair}
 use Rattle.can_overlap.specs.declared.indexes.IndexSet.{IndexSet}
 use Rattle.can_overlap.specs.inner.IndexSet.{has}

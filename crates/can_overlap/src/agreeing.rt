@@ -3,7 +3,7 @@ ghost use Rattle.std.specs.Prelude.{◌≡◌};
 ghost use Rattle.std.specs.List.{list_any};
 ghost use Rattle.can_overlap.specs.Overlaps.{have_common, ranges_meet, agree, agrees_with, all_agree, together};
 
-use can_mux::{Link, Walk};
+use can_entries::{Link, Walk};
 use dbc_records::Range;
 
 fn have_common(a: &Range, b: &Range) -> bool

@@ -2,7 +2,7 @@
 ghost use Rattle.std.specs.Prelude.{◌≡◌, [], IsTrue, List};
 ghost use Rattle.std.specs.List.{list_all};
 ghost use Rattle.can_bits.specs.Steps.{passed_at};
-ghost use Rattle.can_mux.specs.declared.walk.Walk.{Walk as Way};
+ghost use Rattle.can_entries.specs.declared.walk.Walk.{Walk as Way};
 ghost use Rattle.can_overlap.specs.inner.Apart.{ends_before, apart, all_apart, seen_apart};
 ghost use Rattle.can_overlap.specs.Overlaps.{overlapping};
 

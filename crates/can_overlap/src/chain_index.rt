@@ -1,14 +1,14 @@
 //! The links of one multiplexing chain, indexed by their multiplexors (switches).
 ghost use Rattle.std.specs.Prelude.{◌≡◌, ℕ, Some, None, IsTrue, IfOk, length, slice_get};
 ghost use Rattle.std.specs.Option.{option_map};
-ghost use Rattle.can_mux.specs.declared.walk.Walk.TheVariants.{Chain};
+ghost use Rattle.can_entries.specs.declared.walk.Walk.TheVariants.{Chain};
 ghost use Rattle.can_overlap.specs.Overlaps.{agrees_with};
 ghost use Rattle.can_overlap.specs.inner.MuxPaths.{of_switch, noted_if, goes_at, AreEntered, AreNoted};
 
 use crate::agreeing::{agrees_with, all_agree};
 use crate::mux_paths::MuxPaths;
 use crate::sorted_link::SortedLink;
-use can_mux::Link;
+use can_entries::Link;
 use dbc_values::Memory;
 use std::alloc::Global;
 use std::marker::Model;

@@ -4,7 +4,7 @@ ghost use Rattle.std.specs.List.{flat_map, range_with_len};
 ghost use Rattle.can_overlap.specs.Overlaps.{overlapping, pairs_from};
 
 use can_bits::Field;
-use can_mux::Walk;
+use can_entries::Walk;
 
 /// The pairs of a message are those of each signal except the last with later ones.
 #[tactic(auto, unfolding(crate::specs::Overlaps::overlapping))]

@@ -1,12 +1,12 @@
 //! The multiplexing paths of a message's signals, each by its own link and the path of its multiplexor (switch).
 ghost use Rattle.std.specs.Prelude.{◌≡◌, List, ◌∷◌, Some, None, IsTrue, IfOk, IfSome, length, slice_get};
 ghost use Rattle.std.specs.Option.{option_map};
-ghost use Rattle.can_mux.specs.Links.{Link as PlainLink};
-ghost use Rattle.can_mux.specs.declared.walk.Walk.TheVariants.{Chain};
+ghost use Rattle.can_entries.specs.Links.{Link as PlainLink};
+ghost use Rattle.can_entries.specs.declared.walk.Walk.TheVariants.{Chain};
 ghost use Rattle.can_overlap.specs.inner.MuxPaths.{IsStep, own_at, chain_if};
 
 use crate::sorted_link::SortedLink;
-use can_mux::{Link, Walk};
+use can_entries::{Link, Walk};
 use dbc_records::Range;
 use dbc_values::Memory;
 use std::alloc::Global;

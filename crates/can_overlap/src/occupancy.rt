@@ -9,7 +9,7 @@ use crate::pair::Pair;
 use crate::pairing::push_pairs;
 use crate::table::{clear_all, empty, grow, mark_all};
 use can_bits::Field;
-use can_mux::Walk;
+use can_entries::Walk;
 use dbc_values::Memory;
 use std::alloc::Global;
 use std::marker::Model;

@@ -1,6 +1,6 @@
 //! The pairs of signals that overlap, if a table has their indexes.
 ghost use Rattle.std.specs.Prelude.{◌≡◌, Some, ◌+◌, ◌≤◌, ◌<◌, ◌++◌, length, drop, OnOk, All, slice_get};
-ghost use Rattle.can_mux.specs.declared.walk.Walk.TheVariants.{Chain};
+ghost use Rattle.can_entries.specs.declared.walk.Walk.TheVariants.{Chain};
 ghost use Rattle.can_overlap.specs.Overlaps.{pair_where, pairs_from};
 ghost use Rattle.can_overlap.specs.inner.Occupancy.{shared_pairs, reach, IsOccupancy};
 ghost use Rattle.can_overlap.specs.inner.MuxPaths.{goes_at, AreNoted};
@@ -11,7 +11,7 @@ use crate::mux_paths::MuxPaths;
 use crate::pair::Pair;
 use crate::table::shared_by;
 use can_bits::Field;
-use can_mux::Link;
+use can_entries::Link;
 use dbc_values::Memory;
 use std::alloc::Global;
 

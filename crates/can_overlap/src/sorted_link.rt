@@ -3,7 +3,7 @@ ghost use Rattle.std.specs.Prelude.{◌≡◌, IfOk};
 ghost use Rattle.can_overlap.specs.Overlaps.{agree};
 
 use crate::ranges::{in_order, meet};
-use can_mux::Link;
+use can_entries::Link;
 use dbc_records::Range;
 use dbc_values::Memory;
 use std::alloc::Global;
@@ -17,7 +17,7 @@ pub(crate) struct SortedLink<'a> {
 }
 
 impl<'a> Model for SortedLink<'a> {
-    ghost use Rattle.can_mux.specs.Links.{Link as Plain};
+    ghost use Rattle.can_entries.specs.Links.{Link as Plain};
     ghost use Rattle.can_overlap.specs.inner.Ordered.{StandFor};
 
     ghost Value = { Plain };

@@ -9,7 +9,7 @@ use crate::pair::Pair;
 use crate::ranges::{in_order, meet};
 use crate::table::{empty, grow, mark_all};
 use can_bits::Field;
-use can_mux::{Link, Walk};
+use can_entries::{Link, Walk};
 use dbc_records::{ByteOrder, Numbers, Range};
 use dbc_values::{List, Memory};
 use std::alloc::Global;

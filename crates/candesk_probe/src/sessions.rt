@@ -5,8 +5,7 @@ use crate::showing::show_session;
 use byte_devices::{Sink, Source};
 use can_session::{Keep, LineCount, Options, Refusal, Session, Short};
 use dbc_tokens::ReadFault;
-use session_commands::{Command, command_of};
-use session_script::serve;
+use session_script::{Command, command_of, serve};
 use std::alloc::Global;
 
 fn report_answer<W: Sink>(sink: &mut W, answer: Result<(), Refusal>) {

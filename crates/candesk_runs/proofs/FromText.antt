@@ -22,7 +22,7 @@ use Rattle.candesk_runs.specs.declared.checking.Verdict.{Verdict}
 use Rattle.candesk_runs.specs.Explaining.{ExplainsFound, ExplainsFault, ExplainsText}
 use Rattle.candesk_runs.specs.FindingObjects.{WritesFindings, WritesObjects}
 use Rattle.candesk_runs.specs.Locating.{WritesLocations}
-use Rattle.can_json_locations.specs.Locations.{locations_text}
+use Rattle.can_json_findings.specs.Locations.{locations_text}
 use Rattle.can_json_findings.specs.declared.fault.FaultLines.{FaultLines}
 use Rattle.can_json_findings.specs.Faults.{BeginsWithFault, AreOfFaults}
 use Rattle.can_findings.specs.AllFindings.{all_findings}

@@ -5,7 +5,7 @@ use Rattle.byte_devices.specs.Device.{Written, Wrote, Broke}
 use Rattle.dbc_reader.specs.Texts.{IsRead}
 use Rattle.dbc_reader.specs.Located.{HasLocatedDatabase}
 use Rattle.dbc_reader.specs.declared.start.Starts.{Starts}
-use Rattle.can_json_locations.specs.Locations.{locations_text}
+use Rattle.can_json_findings.specs.Locations.{locations_text}
 use Rattle.candesk_runs.specs.declared.fault.RunFault.{RunFault}
 use Rattle.candesk_runs.specs.declared.fault.RunFault.TheVariants as faults
 use Rattle.can_line_stream.specs.declared.fault.StreamFault.TheVariants as streams

@@ -3,7 +3,7 @@ ghost use Rattle.dbc_reader.specs.Located.{HasLocatedDatabase};
 ghost use Rattle.candesk_runs.specs.Locating.{WritesLocations};
 
 use crate::fault::RunFault;
-use can_json_locations::location_lines;
+use can_json_findings::location_lines;
 use can_line_stream::StreamFault;
 use dbc_model::{Sink, WriteFault, put_all};
 use dbc_reader::{Starts, read_with_starts};

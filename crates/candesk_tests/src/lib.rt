@@ -1,30 +1,8 @@
-//! Tests of checks, plans, diagrams, decoding and whole runs: what no contract states about them. They are separate, as a crate
-//! with tests is proved once more with them. So are those of the entries, diagnostics, keys, frames, ready texts and words below.
+//! Tests of command lines and of whole runs: what no contract states about them. They are separate, as a crate with tests is
+//! proved once more with them.
 #![tactic(auto)]
 
 #[cfg(test)]
 mod calls;
-#[cfg(test)]
-mod checking;
-#[cfg(test)]
-mod decoding;
-#[cfg(test)]
-mod diagnostics;
-#[cfg(test)]
-mod entries;
-#[cfg(test)]
-mod frames;
-#[cfg(test)]
-mod identifiers;
-#[cfg(test)]
-mod keys;
-#[cfg(test)]
-mod layouts;
-#[cfg(test)]
-mod reading;
-#[cfg(test)]
-mod ready;
-#[cfg(test)]
-mod visiting;
 #[cfg(test)]
 mod words;

@@ -1,4 +1,5 @@
 //! Why no more is taken.
+ghost use Rattle.std.specs.Prelude.{◌≡◌};
 
 use crate::memory::Memory;
 use thiserror::Error;

@@ -8,8 +8,8 @@ use Rattle.dbc_records.specs.Records.{Message}
 use Rattle.dbc_records.specs.Databases.{Database}
 use Rattle.can_layout.specs.Plans.{plan_of}
 use Rattle.can_layout.specs.Diagrams.{picture_of}
-use Rattle.session_edit_reach.specs.Touched.{is_among}
-use Rattle.session_edit_reach.specs.Elsewhere.{is_elsewhere, SameElsewhere}
+use Rattle.session_log.specs.Touched.{is_among}
+use Rattle.session_log.specs.Elsewhere.{is_elsewhere, SameElsewhere}
 use Rattle.can_check.specs.MessageFaults.{own_faults}
 use Rattle.session_database.specs.CompiledMessage.{CompiledMessage, compiled_of}
 

@@ -3,7 +3,7 @@ use Rattle.std.specs.Prelude.{◌≡◌, ℕ, List, Ok}
 use Rattle.dbc_records.specs.Databases.{Database}
 use Rattle.dbc_edits.specs.declared.edit.Edit.{Edit}
 use Rattle.dbc_edits.specs.Edits.{edited}
-use Rattle.session_edit_reach.specs.Touched.{edit_numbers}
+use Rattle.session_log.specs.Touched.{edit_numbers}
 
 -- an edit, with the databases before and after it
 pub record Acceptance : Type 0 where

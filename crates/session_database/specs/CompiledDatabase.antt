@@ -3,8 +3,8 @@ use Rattle.std.specs.Prelude.{◌≡◌, List, map}
 use Rattle.dbc_records.specs.Databases.{Database}
 use Rattle.can_diagnostics.specs.declared.diagnostic.Diagnostic.{Diagnostic}
 use Rattle.can_check.specs.AllFaults.{all_faults}
-use Rattle.can_choice.specs.declared.message_index.MessageIndex.{MessageIndex}
-use Rattle.can_choice.specs.Remembering.{IsIndexOf}
+use Rattle.can_decode.specs.declared.message_index.MessageIndex.{MessageIndex}
+use Rattle.can_decode.specs.MessageIndexes.{IsIndexOf}
 use Rattle.session_database.specs.declared.diagnosing.FaultCounts.{FaultCounts}
 use Rattle.session_database.specs.CompiledMessage.{CompiledMessage, compiled_of}
 use Rattle.session_database.specs.Diagnosed.{counts_of}

@@ -5,7 +5,7 @@ use Rattle.dbc_records.specs.Databases.{Database}
 use Rattle.can_layout.specs.Plans.{Plan, plan_of}
 use Rattle.can_layout.specs.Diagrams.{picture_of}
 use Rattle.can_layout.specs.Meters.{Meter}
-use Rattle.session_edit_reach.specs.Touched.{is_among}
+use Rattle.session_log.specs.Touched.{is_among}
 
 -- the plan and the diagram of a message
 pub record CompiledMessage : Type 0 where

@@ -11,7 +11,7 @@ use can_layout::Meter;
 use dbc_edits::{Edit, Refusal, edited};
 use dbc_records::Database;
 use dbc_values::Memory;
-use session_edit_reach::{Numbers, edit_numbers};
+use session_log::{Numbers, edit_numbers};
 use std::alloc::Global;
 use std::marker::Model;
 

@@ -1,6 +1,6 @@
 //! What is compiled of the messages of an edited database. What the edit doesn't touch is kept.
 ghost use Rattle.std.specs.Prelude.{◌≡◌, IfOk, map, filter, count_by};
-ghost use Rattle.session_edit_reach.specs.Elsewhere.{is_elsewhere};
+ghost use Rattle.session_log.specs.Elsewhere.{is_elsewhere};
 ghost use Rattle.session_database.specs.Acceptance.{numbers_of};
 ghost use Rattle.session_database.specs.CompiledMessage.{compiled_of, messages_touched, message_touched, Raised};
 ghost use Rattle.session_database.specs.CompiledDatabase.{IsShown};
@@ -13,8 +13,8 @@ use can_decode::MessageIndex;
 use can_layout::{Indexed, Lookup, Meter, SharedRows, Sharing};
 use dbc_records::Message;
 use dbc_values::Memory;
-use session_edit_reach::is_among;
-use session_edit_reach::laws::{others_stay, untouched_messages_stay};
+use session_log::is_among;
+use session_log::reach_laws::{others_stay, untouched_messages_stay};
 use std::alloc::Global;
 use std::rc::Rc;
 

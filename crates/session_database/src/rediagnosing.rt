@@ -1,7 +1,7 @@
 //! The diagnostics of an edited database. The own ones of messages that the edit doesn't touch are kept.
 ghost use Rattle.std.specs.Prelude.{◌≡◌, ◌++◌, IfOk, OnOk, map, filter};
 ghost use Rattle.std.specs.List.{flat_map};
-ghost use Rattle.session_edit_reach.specs.Elsewhere.{is_elsewhere};
+ghost use Rattle.session_log.specs.Elsewhere.{is_elsewhere};
 ghost use Rattle.can_check.specs.MessageFaults.{own_faults, head_then_own};
 ghost use Rattle.session_database.specs.Acceptance.{numbers_of};
 ghost use Rattle.session_database.specs.Diagnosed.{counts_of};
@@ -17,7 +17,7 @@ use can_layout::Lookup;
 use can_references::{CrossReferences, row_faults};
 use dbc_records::Message;
 use dbc_values::Memory;
-use session_edit_reach::laws::others_stay;
+use session_log::reach_laws::others_stay;
 use std::alloc::Global;
 
 // The own diagnostics of the messages that have none of the CAN identifiers, in order.

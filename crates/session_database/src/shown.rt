@@ -5,7 +5,7 @@ ghost use Rattle.can_layout.specs.Plans.{plan_of};
 ghost use Rattle.can_layout.specs.Diagrams.{picture_of};
 ghost use Rattle.can_check.specs.AllFaults.{all_faults};
 ghost use Rattle.can_check.specs.MessageFaults.{own_faults};
-ghost use Rattle.can_choice.specs.Choices.{line_choice};
+ghost use Rattle.can_decode.specs.Choices.{line_choice};
 ghost use Rattle.session_database.specs.CompiledMessage.{compiled_of, Raised};
 ghost use Rattle.session_database.specs.CompiledDatabase.{IsShown};
 
@@ -14,8 +14,7 @@ use crate::diagnosing::{Diagnosed, diagnose};
 use crate::splitting::OwnParts;
 use can_check::Diagnostic;
 use can_check::laws::faults_in_order;
-use can_choice::Choice;
-use can_decode::{IndexedMessages, MessageIndex, ReadLine};
+use can_decode::{Choice, IndexedMessages, LogLine, MessageIndex};
 use can_layout::{Indexed, Meter, Plan, SharedRows};
 use dbc_records::{Database, Message};
 use dbc_values::Memory;
@@ -163,7 +162,7 @@ impl CompiledDatabase {
     }
 
     // What the frame of a line goes to.
-    fn choice_of(&self, line: &ReadLine<'_>) -> Option<Choice>
+    fn choice_of(&self, line: &LogLine<'_>) -> Option<Choice>
         ensures { result ≡ line_choice self.now line.now }
     {
         let frame = line.frame()?;
@@ -172,7 +171,7 @@ impl CompiledDatabase {
 
     /// What the frame of a line goes to, with the plan of that message. It is found by the index of the messages, in time that
     /// doesn't depend on how many attributes the database has.
-    pub fn chosen(&self, line: &ReadLine<'_>) -> Option<(Choice, &Plan)>
+    pub fn chosen(&self, line: &LogLine<'_>) -> Option<(Choice, &Plan)>
         ensures choice { option_map (λ one. one.0) result ≡ line_choice self.now line.now }
         ensures plan { IfSome result (λ one. Some one.1.now ≡ option_map (plan_of self.now)
             (slice_get self.now.messages one.0.index)) }

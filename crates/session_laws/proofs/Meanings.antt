@@ -6,9 +6,9 @@ use Rattle.dbc_reader.specs.Grammar as grammar
 use Rattle.dbc_reader.specs.Texts.{HasStatement, HasFirstFault}
 use Rattle.dbc_read.specs.Laws.{ExactlyOne, NoSuch, OneReadingAlone}
 use Rattle.can_frames.specs.LogLines.{body_of}
-use Rattle.session_commands.specs.Words.{word_of, rest_of, verb_of}
-use Rattle.session_commands.specs.Commands.{Command, Says, Sense, Plain, Reads, HasSense, line_sense, Means}
-use Rattle.session_commands.specs.ScriptGrammar.{IsScriptLine}
+use Rattle.session_script.specs.Words.{word_of, rest_of, verb_of}
+use Rattle.session_script.specs.Commands.{Command, Says, Sense, Plain, Reads, HasSense, line_sense, Means}
+use Rattle.session_script.specs.ScriptGrammar.{IsScriptLine}
 use Rattle.session_laws.specs.Meanings.{OneMeaning}
 
 -- ---- the statement that a text is

@@ -8,7 +8,7 @@ use Rattle.can_line_stream.specs.Lines.{lines_of, whole_lines}
 use Rattle.can_line_stream.specs.Runs.{Breaks, BreaksInside, BreaksFollowing}
 use Rattle.can_line_stream.specs.Runs as streams
 use Rattle.can_session.specs.States.{State}
-use Rattle.session_commands.specs.Commands as script
+use Rattle.session_script.specs.Commands as script
 use Rattle.session_script.specs.Replies.{Replies, Does, answer_text}
 use Rattle.session_script.specs.Serving.{longest_line, script_rules}
 use Rattle.session_laws.specs.Runs.{Command, Answer, Runs}

@@ -7,7 +7,7 @@ use Rattle.std.proofs.lemmas.Bool.{cases_Bool, both_ways, or_left, or_right}
 use Rattle.std.proofs.lemmas.List.Elements.{All-nil, All-append}
 use Rattle.std.proofs.lemmas.List.Folds.{list_any-append}
 use Rattle.std.proofs.lemmas.List.Sums.{sum_by-cons}
-use Rattle.session_edit_reach.specs.Touched.{line_touched}
+use Rattle.session_log.specs.Touched.{line_touched}
 use Rattle.session_log.specs.inner.Indexes.{is_untouched_at, Covers}
 use Rattle.session_log.specs.Positions.{positions_from}
 use Rattle.session_log.proofs.Positions.{length-positions, within-all, found-position, positions_of_all}

@@ -5,7 +5,7 @@ use Rattle.std.specs.Prelude.{Some, None, ◌&&◌, if◌then◌else◌}
 use Rattle.std.proofs.lemmas.List.{append-nil, map_push}
 use Rattle.can_entries.specs.Groups.{is_extended, group_number_of}
 use Rattle.session_log.specs.declared.log_index.LogIndex.{LogIndex}
-use Rattle.can_choice.specs.Choices.{data_number}
+use Rattle.can_decode.specs.Choices.{data_number}
 use Rattle.session_log.specs.Positions.{positions_from, position_from}
 use Rattle.session_log.specs.inner.Indexes.{has_number, has_group, serials_at, SameSerials, Puts, Drops, IsIndexed}
 use Rattle.session_log.proofs.Positions.{positions-push}

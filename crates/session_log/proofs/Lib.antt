@@ -1,3 +1,6 @@
+pub mod ListFacts
+pub mod Edits
+pub mod Frames
 pub mod Exchanges
 pub mod Positions
 pub mod Reached

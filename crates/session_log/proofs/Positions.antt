@@ -14,7 +14,7 @@ use Rattle.std.specs.Option.{option_map_or}
 use Rattle.session_log.specs.Positions.{positions_from}
 use Rattle.session_log.specs.inner.Indexes.{Covers}
 use Rattle.can_decode.specs.DecodedLines.{Bus, bus_line}
-use Rattle.session_edit_reach.specs.Touched.{line_touched}
+use Rattle.session_log.specs.Touched.{line_touched}
 use Rattle.session_log.specs.declared.line.Line.{Line}
 use Rattle.session_log.specs.declared.line.RedecodedLine.{RedecodedLine}
 use Rattle.session_log.specs.Logs.{bytes_of, IsDecoded, position_of, is_for, TextsAt, Completes}

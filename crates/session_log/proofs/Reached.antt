@@ -6,9 +6,9 @@ use Rattle.std.proofs.lemmas.Bool.{cases_Bool, eqb-true, eq-eqb, and_parts}
 use Rattle.std.proofs.lemmas.List.Folds.{list_any-append}
 use Rattle.can_frames.specs.Frames.{Frame, body_of, frame_of, is_data}
 use Rattle.can_entries.specs.Groups.{is_extended, is_bad_number, group_number_of}
-use Rattle.session_edit_reach.specs.Touched.{may_have_group, concerns, is_touched, line_touched, number_touched}
+use Rattle.session_log.specs.Touched.{may_have_group, concerns, is_touched, line_touched, number_touched}
 use Rattle.session_log.specs.declared.log_index.LogIndex.{LogIndex}
-use Rattle.can_choice.specs.Choices.{number_of_data, data_number}
+use Rattle.can_decode.specs.Choices.{number_of_data, data_number}
 use Rattle.session_log.specs.declared.line.Line.{Line}
 use Rattle.session_log.specs.Logs.{bytes_of, IsNumbered}
 use Rattle.session_log.specs.inner.Indexes.{has_number, has_group, serials_of, IsIndexed}

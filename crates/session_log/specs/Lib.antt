@@ -1,3 +1,5 @@
+pub mod Touched
+pub mod Elsewhere
 pub mod Positions
 pub mod Logs
 pub mod Kept

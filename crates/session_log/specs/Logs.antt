@@ -1,7 +1,7 @@
 -- The lines of a session's log with their decoded texts, and texts that are made again.
 use Rattle.std.specs.Prelude.{◌≡◌, ◌==◌, ℕ, ◌<◌, Bool, false, List, All, length, map}
 use Rattle.std.specs.List.{list_any, slice_index_or}
-use Rattle.can_choice.specs.Choices.{data_number}
+use Rattle.can_decode.specs.Choices.{data_number}
 use Rattle.can_decode.specs.DecodedLines.{Bus, bus_line}
 use Rattle.session_log.specs.declared.line.Line.{Line}
 use Rattle.session_log.specs.declared.line.RedecodedLine.{RedecodedLine}

@@ -2,7 +2,7 @@
 ghost use Rattle.std.specs.Prelude.{◌≡◌, ◌<◌, ◌+◌, ◌%◌, ◌^◌, [], ◌∷◌, ◌++◌, IfOk, OnOk, OnErr, All, Some, drop, filter, length};
 ghost use Rattle.std.specs.Prelude.{map, slice_get};
 ghost use Rattle.can_decode.specs.DecodedLines.{Bus};
-ghost use Rattle.session_edit_reach.specs.Touched.{line_touched};
+ghost use Rattle.session_log.specs.Touched.{line_touched};
 ghost use Rattle.session_log.specs.Logs.{bytes_of, IsNumbered, IsDecoded, Completes};
 ghost use Rattle.session_log.specs.Positions.{positions_from};
 ghost use Rattle.session_log.specs.inner.Indexes.{is_untouched_at, Covers};
@@ -10,15 +10,15 @@ ghost use Rattle.session_log.specs.inner.Indexes.{is_untouched_at, Covers};
 use crate::line::{Line, RedecodedLine, exchange};
 use crate::log_hash::LogHash;
 use crate::log_index::LogIndex;
+use crate::touching::number_touched;
 use dbc_values::Memory;
-use session_edit_reach::number_touched;
 use std::alloc::Global;
 use std::collections::VecDeque;
 use std::hash::RandomState;
 use std::marker::Model;
 
-/// The lines of a session's log in order of arrival, each with the CAN identifier of its frame, and the index of them by their
-/// serial numbers, which don't change when older lines are removed. Contracts see the lines.
+/// The lines of a session's log in order of arrival, each with the CAN identifier of its frame, and the index of them by these
+/// and by PGNs. The index has serial numbers, which don't change when older lines are removed. Contracts see the lines.
 #[derive(Drop)]
 pub struct Log {
     // the serial number of the first line
@@ -83,7 +83,7 @@ impl Log {
     }
 
     /// Appends a line to the others, and adds it to the index. If memory runs out, the lines are as they were.
-    pub fn retain(&mut self, alloc: Global, line: Line) -> Result<(), Memory>
+    pub fn push(&mut self, alloc: Global, line: Line) -> Result<(), Memory>
         requires { IsNumbered line }
         ensures ok { OnOk result (self.new ≡ self.old ++ line ∷ []) }
         ensures err { OnErr result (self.new ≡ self.old) }

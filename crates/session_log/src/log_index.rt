@@ -3,15 +3,16 @@ ghost use Rattle.std.specs.Prelude.{◌≡◌, [], OnOk, OnErr};
 ghost use Rattle.std.specs.Option.{option_map_or};
 ghost use Rattle.indexmap.specs.IndexMap.{hasher_of};
 ghost use Rattle.can_entries.specs.Groups.{is_extended, group_number_of};
-ghost use Rattle.session_edit_reach.specs.Touched.{may_have_group};
+ghost use Rattle.session_log.specs.Touched.{may_have_group};
 ghost use Rattle.session_log.specs.inner.Indexes.{numbers_in, SameSerials, Puts, Drops, serials_of, IsIndexed};
 
 use crate::keyed_serials::{KeyedSerials, Serials, add, drop_first, drop_last};
 use crate::log_hash::LogHash;
+use crate::touching::may_have_group;
 use can_decode::group_number;
+use can_entries::is_extended;
 use dbc_values::Memory;
 use indexmap::IndexMap;
-use session_edit_reach::{is_extended, may_have_group};
 use std::alloc::Global;
 
 /// The serial numbers of lines by the CAN identifiers of their data frames, and of those with extended (29-bit) identifiers by

@@ -14,9 +14,9 @@ use Rattle.dbc_edits.specs.declared.refusal.Refusal.{Refusal}
 use Rattle.dbc_edits.specs.declared.refusal.Refusal.TheVariants as refusals
 use Rattle.dbc_edits.specs.Refusals.{refusal_number, refusal_word}
 use Rattle.can_session.specs.States.{State, Applies, Adds}
-use Rattle.session_commands.specs.Words.{word_of, verb_of}
-use Rattle.session_commands.specs.Commands.{Command, Log, Change, ShowDiagnostics, ShowLayout, ShowLines, Print, Means}
-use Rattle.session_commands.specs.Commands.{takes_memory}
+use Rattle.session_script.specs.Words.{word_of, verb_of}
+use Rattle.session_script.specs.Commands.{Command, Log, Change, ShowDiagnostics, ShowLayout, ShowLines, Print, Means}
+use Rattle.session_script.specs.Commands.{takes_memory}
 
 -- ---- texts
 

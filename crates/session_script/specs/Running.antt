@@ -15,7 +15,7 @@ ServesSession first last unread left old new (Ok count) = Serves first old unrea
 ServesSession first last unread left old new (Err (faults.Stream fault)) = Serves first old unread left last new (Err fault)
 ServesSession first last unread left old new (Err (faults.Read fault)) = ⊥
 
--- the script was run from the text's database without lines, with the choices
+-- the script was run from the text's database without lines, with the options
 abbrev pub ServesText : List ℕ → Options → Unread → Unread → Written → Written → Result ℕ StreamFault → Type 0
 ServesText text options unread left old new result =
     (first last : State) × HasDatabase text first.database × (first.lines ≡ []) × (first.options ≡ options)

@@ -1,15 +1,16 @@
 //! What is done with a line.
 ghost use Rattle.std.specs.Prelude.{◌≡◌, ℕ, List, Some, None, option_map};
 ghost use Rattle.byte_devices.specs.Device.{Prints};
-ghost use Rattle.session_commands.specs.Commands.{seen, Means};
+ghost use Rattle.session_script.specs.Commands.{seen, Means};
 ghost use Rattle.session_script.specs.Replies.{Does, Replies};
 
+use crate::command::Command;
+use crate::commands::{command_of, log_line};
 use crate::replies::{
     put_answer, put_bad, put_refusal, show_diagnostics, show_layout, show_lines, show_print,
 };
 use byte_devices::{Sink, WriteFault};
 use can_session::{Refusal, Session};
-use session_commands::{Command, command_of, log_line};
 use std::alloc::Global;
 
 // Does what a command asks for, and writes the reply.

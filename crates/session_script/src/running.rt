@@ -23,7 +23,7 @@ fn run_in<R: Source, W: Sink>(
     }
 }
 
-/// Reads the database text, opens a session on it with these choices, and runs the script to its end. It returns how many commands
+/// Reads the database text, opens a session on it with these options, and runs the script to its end. It returns how many commands
 /// there are, up to `u64::MAX`.
 #[inline(never)]
 pub fn session_run<R: Source, W: Sink>(

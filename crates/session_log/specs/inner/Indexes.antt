@@ -6,8 +6,8 @@ use Rattle.std.specs.List.{list_any, slice_index_or}
 use Rattle.std.specs.Option.{option_map_or}
 use Rattle.indexmap.specs.IndexMap.{IndexMap, get}
 use Rattle.can_entries.specs.Groups.{is_extended, group_number_of}
-use Rattle.can_choice.specs.Choices.{data_number}
-use Rattle.session_edit_reach.specs.Touched.{may_have_group, line_touched}
+use Rattle.can_decode.specs.Choices.{data_number}
+use Rattle.session_log.specs.Touched.{may_have_group, line_touched}
 use Rattle.session_log.specs.declared.log_index.LogIndex.{LogIndex}
 use Rattle.session_log.specs.declared.keyed_serials.Serials.{Serials}
 use Rattle.session_log.specs.Positions.{positions_from, position_from}

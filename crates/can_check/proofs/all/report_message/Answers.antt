@@ -1,6 +1,6 @@
 use Rattle.std.proofs.Common.{List, subst}
 use Rattle.can_entries.specs.Rows.{rows_of}
-use Rattle.can_mux.specs.declared.walk.Walk.{Walk}
+use Rattle.can_entries.specs.declared.walk.Walk.{Walk}
 use Rattle.can_check.specs.MessageFaults.{faults_by, message_faults}
 use Rattle.can_check.specs.Reports.{Takes}
 use Rattle.can_check.proofs.all.report_message.Goals as goal

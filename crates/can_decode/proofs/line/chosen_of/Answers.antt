@@ -2,8 +2,8 @@ use Rattle.std.proofs.Common.{◌≡◌, ◌<◌, length, sym, ap, subst, ◌∙
 use Rattle.std.specs.Prelude.{Some, IfSome}
 use Rattle.std.specs.Option.{option_and_then}
 use Rattle.std.proofs.lemmas.List.{length-map}
-use Rattle.can_choice.specs.Choices.{chosen_index, line_index}
-use Rattle.can_choice.proofs.Chosen.{index_is_within}
+use Rattle.can_decode.specs.Choices.{chosen_index, line_index}
+use Rattle.can_decode.proofs.Chosen.{index_is_within}
 use Rattle.can_decode.proofs.line.chosen_of.Goals as goal
 
 pub known_plan-requires : goal.known_plan-requires

@@ -1,4 +1,4 @@
 use Rattle.can_decode.proofs.stream.stream_by.Goals as goal
 
 pub returns : goal.returns
-returns g c = rw c.remembering.ensures at c.stream_counted.ensures
+returns g c = rw c.caching.ensures at c.stream_counted.ensures

@@ -1,7 +1,7 @@
 use Rattle.std.proofs.Common.{[], ◌∷◌, ◌++◌, map}
 use Rattle.std.specs.Prelude.{codes}
 use Rattle.can_json_dump.specs.Messages.{bit_field_members, scale_members, use_members}
-use Rattle.can_json_records.proofs.Tokens.{members_then}
+use Rattle.can_json_texts.proofs.Tokens.{members_then}
 use Rattle.can_json_dump.proofs.message.write_use_of.Goals as goal
 
 pub returns : goal.returns

@@ -1,7 +1,7 @@
 use Rattle.std.proofs.Common.{[], ◌∷◌, ◌++◌, filter, map, not, ap, ◌∙◌, rules}
 use Rattle.std.specs.Prelude.{codes}
-use Rattle.can_json_records.specs.Values.{array_of, tokens_of}
-use Rattle.can_json_records.specs.Records.{comment_json}
+use Rattle.can_json_texts.specs.Values.{array_of, tokens_of}
+use Rattle.can_json_texts.specs.Records.{comment_json}
 use Rattle.can_json_dump.specs.Dumps.{is_given}
 use Rattle.can_json_dump.proofs.rest.write_comments.Goals as goal
 

@@ -1,5 +1,5 @@
 use Rattle.std.proofs.Common.{filter, not}
-use Rattle.can_json_records.proofs.Tokens.{array_written}
+use Rattle.can_json_texts.proofs.Tokens.{array_written}
 use Rattle.can_json_dump.proofs.rest.write_other_array.Goals as goal
 
 pub returns : goal.returns

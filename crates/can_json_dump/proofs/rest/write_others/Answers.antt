@@ -1,6 +1,6 @@
 use Rattle.std.proofs.Common.{filter, map, not}
-use Rattle.can_json_records.specs.Values.{array_of}
-use Rattle.can_json_records.proofs.Tokens.{member_written}
+use Rattle.can_json_texts.specs.Values.{array_of}
+use Rattle.can_json_texts.proofs.Tokens.{member_written}
 use Rattle.can_json_dump.proofs.rest.write_others.Goals as goal
 
 pub returns : goal.returns

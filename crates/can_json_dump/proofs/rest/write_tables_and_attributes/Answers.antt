@@ -1,11 +1,11 @@
 use Rattle.std.proofs.Common.{[], ◌∷◌, ◌++◌, map}
 use Rattle.std.specs.Prelude.{codes}
 use Rattle.can_json_texts.specs.Members.{text_members}
-use Rattle.can_json_records.specs.Values.{array_of, or_null}
-use Rattle.can_json_records.specs.Records.{decimal_json, names_json, table_json, definition_json, default_json, tag_json}
-use Rattle.can_json_records.specs.Records.{comment_json}
-use Rattle.can_json_records.specs.Records.{attribute_json, values_json, float_json, mux_json, kept_json}
-use Rattle.can_json_records.proofs.Tokens.{members_then}
+use Rattle.can_json_texts.specs.Values.{array_of, or_null}
+use Rattle.can_json_texts.specs.Records.{decimal_json, names_json, table_json, definition_json, default_json, tag_json}
+use Rattle.can_json_texts.specs.Records.{comment_json}
+use Rattle.can_json_texts.specs.Records.{attribute_json, values_json, float_json, mux_json, kept_json}
+use Rattle.can_json_texts.proofs.Tokens.{members_then}
 use Rattle.can_json_dump.proofs.rest.write_tables_and_attributes.Goals as goal
 
 pub returns : goal.returns

@@ -1,8 +1,8 @@
 use Rattle.std.proofs.Common.{map}
 use Rattle.std.specs.Prelude.{codes}
-use Rattle.can_json_records.specs.Values.{array_of, or_null}
-use Rattle.can_json_records.specs.Records.{decimal_json}
-use Rattle.can_json_records.proofs.Tokens.{member_written}
+use Rattle.can_json_texts.specs.Values.{array_of, or_null}
+use Rattle.can_json_texts.specs.Records.{decimal_json}
+use Rattle.can_json_texts.proofs.Tokens.{member_written}
 use Rattle.can_json_dump.proofs.rest.write_timing.Goals as goal
 
 pub returns : goal.returns

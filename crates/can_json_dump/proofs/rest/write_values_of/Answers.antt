@@ -1,7 +1,7 @@
 use Rattle.std.proofs.Common.{[], ◌∷◌, ◌++◌, filter, map, not, ap, ◌∙◌, rules}
 use Rattle.std.specs.Prelude.{codes}
-use Rattle.can_json_records.specs.Values.{array_of, tokens_of}
-use Rattle.can_json_records.specs.Records.{values_json}
+use Rattle.can_json_texts.specs.Values.{array_of, tokens_of}
+use Rattle.can_json_texts.specs.Records.{values_json}
 use Rattle.can_json_dump.specs.Dumps.{has_signal}
 use Rattle.can_json_dump.proofs.rest.write_values_of.Goals as goal
 

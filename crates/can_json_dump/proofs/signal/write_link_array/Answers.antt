@@ -1,4 +1,4 @@
-use Rattle.can_json_records.proofs.Tokens.{array_written}
+use Rattle.can_json_texts.proofs.Tokens.{array_written}
 use Rattle.can_json_dump.specs.Messages.{link_json}
 use Rattle.can_json_dump.proofs.signal.write_link_array.Goals as goal
 

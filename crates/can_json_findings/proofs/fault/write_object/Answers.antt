@@ -1,4 +1,4 @@
-use Rattle.can_json_records.proofs.Tokens.{object_written}
+use Rattle.can_json_texts.proofs.Tokens.{object_written}
 use Rattle.can_json_findings.specs.Faults.{fault_members}
 use Rattle.can_json_findings.proofs.fault.write_object.Goals as goal
 

@@ -1,6 +1,6 @@
 use Rattle.std.proofs.Common.{codes, ◌∷◌, []}
 use Rattle.json.specs.Json.{string}
-use Rattle.can_json_records.proofs.Tokens.{members_then}
+use Rattle.can_json_texts.proofs.Tokens.{members_then}
 use Rattle.dbc_tokens.specs.Causes.{cause_word}
 use Rattle.can_json_findings.proofs.fault.write_word_and_severity.Goals as goal
 

@@ -1,4 +1,4 @@
-use Rattle.can_json_records.proofs.Tokens.{array_written}
+use Rattle.can_json_texts.proofs.Tokens.{array_written}
 use Rattle.can_json_findings.specs.Findings.{range_json}
 use Rattle.can_json_findings.proofs.finding.write_ranges.Goals as goal
 

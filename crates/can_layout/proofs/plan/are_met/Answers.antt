@@ -1,9 +1,9 @@
 use Rattle.std.proofs.Common.{◌≡◌, ◌+◌, ◌-◌, length, sym, ap, ◌∙◌, arith}
 use Rattle.std.specs.Option.{option_map}
-use Rattle.can_mux.specs.Links.{Link}
+use Rattle.can_entries.specs.Links.{Link}
 use Rattle.can_layout.specs.Plans.{chain_of, is_met, are_met}
-use Rattle.can_mux.specs.Walks.{mux_parent_or_missing, mux_parent_at}
-use Rattle.can_mux.specs.declared.mux_parent.MuxParent.TheVariants.{Switch}
+use Rattle.can_entries.specs.Walks.{mux_parent_or_missing, mux_parent_at}
+use Rattle.can_entries.specs.declared.mux_parent.MuxParent.TheVariants.{Switch}
 use Rattle.can_layout.proofs.Chains.{asks_met, at_met}
 use Rattle.can_layout.proofs.plan.are_met.Goals as goal
 

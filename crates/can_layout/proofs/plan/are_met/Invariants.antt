@@ -1,6 +1,6 @@
 use Rattle.std.proofs.Common.{◌≡◌, ◌-◌}
 use Rattle.can_layout.specs.Plans.{chain_of, are_met}
-use Rattle.can_mux.specs.Walks.{walk_of, walk_up}
+use Rattle.can_entries.specs.Walks.{walk_of, walk_up}
 use Rattle.can_layout.proofs.plan.are_met.Given as goal
 
 -- the rest of the chain is met if the whole chain is

@@ -1,6 +1,6 @@
 use Rattle.std.proofs.Common.{◌≡◌, ◌-◌, is_some}
 use Rattle.can_layout.specs.Plans.{chain_of}
-use Rattle.can_mux.specs.Walks.{walk_of, walk_up}
+use Rattle.can_entries.specs.Walks.{walk_of, walk_up}
 use Rattle.can_layout.proofs.switch_chain.is_chain.Given as goal
 
 -- the rest of the walk is a chain if the whole walk is

@@ -1,7 +1,7 @@
 use Rattle.std.proofs.Common.{◌≡◌, ℕ, ◌+◌, ◌<◌, List, Option, Some, None, length, set, take, subst, arith, refl, sym, ap, ◌∙◌}
 use Rattle.std.specs.List.{slice_get}
-use Rattle.can_mux.specs.Links.{Link}
-use Rattle.can_mux.specs.declared.walk.Walk.{Walk}
+use Rattle.can_entries.specs.Links.{Link}
+use Rattle.can_entries.specs.declared.walk.Walk.{Walk}
 use Rattle.can_overlap.specs.inner.MuxPaths.{AreEntered, of_switch, own_at}
 use Rattle.can_overlap.proofs.Entered.{goes_on, one_entered}
 use Rattle.can_overlap.proofs.chain_index.enter_all.Goals as goal

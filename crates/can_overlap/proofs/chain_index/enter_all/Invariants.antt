@@ -1,6 +1,6 @@
 use Rattle.std.proofs.Common.{◌≡◌, Some, take, drop}
 use Rattle.std.specs.Prelude.{slice_get}
-use Rattle.can_mux.specs.declared.walk.Walk.TheVariants.{Chain}
+use Rattle.can_entries.specs.declared.walk.Walk.TheVariants.{Chain}
 use Rattle.can_overlap.specs.inner.MuxPaths.{AreEntered}
 use Rattle.can_overlap.proofs.chain_index.enter_all.Given as goal
 

@@ -1,5 +1,5 @@
 use Rattle.std.proofs.Common.{◌≡◌, ℕ, ◌+◌, ◌-◌, List, length, length-drop, drop, arith}
-use Rattle.can_mux.specs.declared.walk.Walk.{Walk}
+use Rattle.can_entries.specs.declared.walk.Walk.{Walk}
 use Rattle.can_overlap.proofs.Sharing.{none_following}
 use Rattle.can_overlap.proofs.pairing.push_chained.Goals as goal
 

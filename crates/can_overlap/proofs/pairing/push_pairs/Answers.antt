@@ -3,8 +3,8 @@ use Rattle.std.proofs.Common.{sym, ◌∙◌}
 use Rattle.std.proofs.lemmas.List.{get_or_default, get_or-drop}
 use Rattle.dbc_records.specs.declared.byte_order.ByteOrder.TheVariants as orders
 use Rattle.can_bits.specs.declared.field.Field.{Field}
-use Rattle.can_mux.specs.declared.walk.Walk.{Walk}
-use Rattle.can_mux.specs.declared.walk.Walk.TheVariants.{Chain, Loop}
+use Rattle.can_entries.specs.declared.walk.Walk.{Walk}
+use Rattle.can_entries.specs.declared.walk.Walk.TheVariants.{Chain, Loop}
 use Rattle.can_overlap.specs.declared.pair.Pair.{Pair}
 use Rattle.can_overlap.specs.inner.IndexSet.{has}
 use Rattle.can_overlap.specs.Overlaps.{laid_from, share, together}

@@ -1,5 +1,5 @@
 use Rattle.std.proofs.Common.{◌≡◌, ◌++◌, map, filter, drop}
-use Rattle.session_edit_reach.specs.Elsewhere.{is_elsewhere}
+use Rattle.session_log.specs.Elsewhere.{is_elsewhere}
 use Rattle.can_check.specs.MessageFaults.{own_faults}
 use Rattle.session_database.proofs.rediagnosing.kept_own.Given as goal
 

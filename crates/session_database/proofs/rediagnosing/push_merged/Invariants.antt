@@ -1,6 +1,6 @@
 use Rattle.std.proofs.Common.{◌≡◌, ◌++◌, map, filter, drop}
 use Rattle.std.specs.List.{flat_map}
-use Rattle.session_edit_reach.specs.Elsewhere.{is_elsewhere}
+use Rattle.session_log.specs.Elsewhere.{is_elsewhere}
 use Rattle.can_check.specs.MessageFaults.{own_faults, head_then_own}
 use Rattle.session_database.specs.Diagnosed.{counts_of}
 use Rattle.session_database.proofs.rediagnosing.push_merged.Given as goal

@@ -1,8 +1,8 @@
 use Rattle.std.proofs.Common.{List, [], ◌∷◌, ◌++◌, None, Some}
 use Rattle.std.specs.Prelude.{codes}
 use Rattle.can_json_texts.specs.Members.{Member, object_of}
-use Rattle.can_json_records.specs.Records.{entries_json}
-use Rattle.can_json_records.proofs.Tokens.{members_then, member_written, object_written}
+use Rattle.can_json_texts.specs.Records.{entries_json}
+use Rattle.can_json_texts.proofs.Tokens.{members_then, member_written, object_written}
 use Rattle.can_entries.specs.Rows.{rows_of, first_values, entries_of}
 use Rattle.can_entries.specs.Groups.{group_of}
 use Rattle.can_json_dump.specs.Subjects.{Subject}

@@ -1,5 +1,5 @@
 use Rattle.std.proofs.Common.{◌≡◌, ◌++◌, take}
-use Rattle.can_json_records.specs.Values.{tokens_of}
+use Rattle.can_json_texts.specs.Values.{tokens_of}
 use Rattle.can_json_dump.specs.Messages.{paired, signal_member}
 use Rattle.can_json_dump.proofs.message.Messages.write_signals.Given as goal
 

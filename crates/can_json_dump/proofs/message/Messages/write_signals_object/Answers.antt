@@ -1,4 +1,4 @@
-use Rattle.can_json_records.proofs.Tokens.{object_written}
+use Rattle.can_json_texts.proofs.Tokens.{object_written}
 use Rattle.can_json_dump.specs.Messages.{paired, signal_member}
 use Rattle.can_json_dump.proofs.message.Messages.write_signals_object.Goals as goal
 

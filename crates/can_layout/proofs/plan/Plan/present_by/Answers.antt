@@ -1,6 +1,6 @@
 use Rattle.std.proofs.Common.{◌≡◌, ℕ, List, slice_get, sym, ap, ◌∙◌}
 use Rattle.std.specs.Option.{option_map}
-use Rattle.can_mux.specs.Links.{Link}
+use Rattle.can_entries.specs.Links.{Link}
 use Rattle.can_layout.specs.Presence.{IsRunOf, there_by, switch_raw, is_among}
 use Rattle.can_layout.specs.declared.row.Row.{Row}
 use Rattle.can_layout.proofs.plan.Plan.present_by.Goals as goal

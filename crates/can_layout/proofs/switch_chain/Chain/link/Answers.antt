@@ -1,9 +1,9 @@
 use Rattle.std.proofs.Common.{◌≡◌, ℕ, suc, ◌+◌, List, slice_get, sym, ap, ◌∙◌, arith}
 use Rattle.std.specs.Option.{option_map}
-use Rattle.can_mux.specs.Links.{Link}
-use Rattle.can_mux.specs.Walks.{walk_of, mux_parent_at, links_in}
-use Rattle.can_mux.specs.declared.mux_parent.MuxParent.{MuxParent}
-use Rattle.can_mux.specs.declared.mux_parent.MuxParent.TheVariants.{Switch}
+use Rattle.can_entries.specs.Links.{Link}
+use Rattle.can_entries.specs.Walks.{walk_of, mux_parent_at, links_in}
+use Rattle.can_entries.specs.declared.mux_parent.MuxParent.{MuxParent}
+use Rattle.can_entries.specs.declared.mux_parent.MuxParent.TheVariants.{Switch}
 use Rattle.can_layout.proofs.Chains.{first_link, next_chain, next_links, mux_parent_of_link}
 use Rattle.can_layout.proofs.switch_chain.Chain.link.Goals as goal
 

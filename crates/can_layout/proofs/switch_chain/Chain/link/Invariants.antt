@@ -1,6 +1,6 @@
 use Rattle.std.proofs.Common.{◌≡◌, ℕ, ◌+◌, slice_get}
-use Rattle.can_mux.specs.Walks.{walk_of, links_in}
-use Rattle.can_mux.specs.declared.walk.Walk.TheVariants.{Chain}
+use Rattle.can_entries.specs.Walks.{walk_of, links_in}
+use Rattle.can_entries.specs.declared.walk.Walk.TheVariants.{Chain}
 use Rattle.can_layout.proofs.switch_chain.Chain.link.Given as goal
 
 -- the links that are left are those of the rest of the chain

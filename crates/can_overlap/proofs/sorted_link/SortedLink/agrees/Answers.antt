@@ -1,6 +1,6 @@
 use Rattle.std.proofs.Common.{◌≡◌, not, ◌||◌, List, eq-eqb, sym, ap, ◌∙◌}
 use Rattle.dbc_records.specs.declared.mux_row.Range.{Range}
-use Rattle.can_mux.specs.Links.{Link}
+use Rattle.can_entries.specs.Links.{Link}
 use Rattle.can_overlap.specs.Overlaps.{ranges_meet}
 use Rattle.can_overlap.proofs.Ordered.{meet_alike}
 use Rattle.can_overlap.proofs.sorted_link.SortedLink.agrees.Goals as goal

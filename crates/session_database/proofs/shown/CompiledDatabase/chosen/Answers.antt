@@ -1,7 +1,7 @@
 use Rattle.std.proofs.Common.{◌≡◌, ◌<◌, length, sym, subst, ◌∙◌}
 use Rattle.std.specs.Prelude.{Some, IfSome}
-use Rattle.can_choice.specs.Choices.{line_choice}
-use Rattle.can_choice.proofs.Chosen.{choice_is_within}
+use Rattle.can_decode.specs.Choices.{line_choice}
+use Rattle.can_decode.proofs.Chosen.{choice_is_within}
 use Rattle.session_database.proofs.shown.CompiledDatabase.chosen.Goals as goal
 
 pub plan-requires : goal.plan-requires

@@ -2,7 +2,7 @@ use Rattle.std.proofs.Common.{◌≡◌, ◌<◌, ◌+◌, ◌%◌, ◌^◌, zer
 use Rattle.std.proofs.lemmas.List.{length-map}
 use Rattle.std.proofs.lemmas.List.Elements.{All-tail}
 use Rattle.std.proofs.lemmas.Nat.{mod_below}
-use Rattle.can_choice.specs.Choices.{data_number}
+use Rattle.can_decode.specs.Choices.{data_number}
 use Rattle.session_log.specs.declared.line.Line.{Line}
 use Rattle.session_log.specs.Kept.{IsLog}
 use Rattle.session_log.specs.Logs.{bytes_of, IsNumbered}

@@ -1,6 +1,0 @@
-pub mod Chains
-pub mod Messages
-pub mod Planned
-pub mod Records
-pub mod Rest
-pub mod Written

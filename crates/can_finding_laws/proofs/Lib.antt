@@ -1,3 +1,0 @@
-pub mod Ranges
-pub mod Subjects
-pub mod ParseBack

@@ -1,5 +1,0 @@
-use Rattle.can_json_laws.proofs.Exact.{values_are_exact}
-use Rattle.can_json_laws.proofs.values_are_exact.Goals as goal
-
-pub returns : goal.returns
-returns c = values_are_exact

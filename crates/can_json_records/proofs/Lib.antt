@@ -1,5 +1,0 @@
-pub mod Appended
-pub mod Names
-pub mod Numbers
-pub mod Texts
-pub mod Tokens

@@ -1,2 +1,0 @@
-pub mod WalkSteps
-pub mod WalkLaws
