@@ -10,7 +10,7 @@ use Rattle.dbc_edits.specs.declared.refusal.Refusal.{Refusal}
 use Rattle.dbc_edits.specs.declared.refusal.Refusal.TheVariants as refusals
 use Rattle.dbc_edits.specs.Refusals.{IsRefusal}
 use Rattle.dbc_edits.specs.Edits.{edited}
-use Rattle.session_edit_reach.specs.Touched.{line_touched}
+use Rattle.session_log.specs.Touched.{line_touched}
 use Rattle.can_decode.specs.declared.short.Short.TheVariants.{Refuse}
 use Rattle.can_session.specs.declared.options.Options.{Options}
 use Rattle.session_kept_lines.specs.declared.keep.Keep.{Keep}
@@ -24,7 +24,7 @@ pub record State : Type 0 where
   pub database : Database
   pub lines : List (List ℕ)
 
--- the default choices: truncated frames are refused, and all lines are kept
+-- the default options: truncated frames are refused, and all lines are kept
 abbrev pub usual : Options
 usual = record { short = Refuse; keep = All }
 
@@ -35,7 +35,7 @@ pub record Open : Type 0 where
 
 -- ---- the first state
 
--- The state of a text's database without lines, with the choices, for which at most as many plans and diagrams were counted as
+-- The state of a text's database without lines, with the options, for which at most as many plans and diagrams were counted as
 -- there are messages. Or the first fault of the text, or memory ran out.
 abbrev pub Opens : List ℕ → Options → Result Open ReadFault → Type 0
 Opens text options (Ok session) =

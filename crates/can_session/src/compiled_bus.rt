@@ -5,7 +5,7 @@ ghost use Rattle.can_decode.specs.DecodedLines.{bus_line};
 ghost use Rattle.session_database.specs.CompiledMessage.{Raised};
 ghost use Rattle.session_log.specs.Logs.{bytes_of, IsNumbered, IsDecoded};
 
-use can_decode::{Bus, ReadLine, Short};
+use can_decode::{Bus, LogLine, Short};
 use can_layout::Meter;
 use dbc_text_buffer::TextBuffer;
 use dbc_values::Memory;
@@ -36,7 +36,7 @@ impl<'a> CompiledBus<'a> {
     pub(crate) fn decode(
         &self,
         buffer: &mut TextBuffer,
-        line: &ReadLine<'_>,
+        line: &LogLine<'_>,
         meter: &mut Meter,
     ) -> Result<Vec<u8>, Memory>
         ensures text { IfOk result (λ text. text.items ≡ bus_line self.now line.now) }
@@ -62,7 +62,7 @@ impl<'a> CompiledBus<'a> {
         ensures decoded { IfOk result (λ made. IsDecoded self.now made) }
         ensures lines { Raised 0 1 meter.old meter.new }
     {
-        let read = ReadLine::of(line);
+        let read = LogLine::of(line);
         let number = read.number();
         let bytes = SmallVec::from_slice(buffer.allocator(), line)?;
         let decoded = self.decode(buffer, &read, meter)?;

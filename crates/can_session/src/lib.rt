@@ -6,9 +6,9 @@
 #![tactic(auto)]
 
 mod compiled_bus;
+mod logged_edit;
 mod options;
 mod session;
-mod touching;
 
 pub use can_check::Diagnostic;
 pub use can_decode::Short;

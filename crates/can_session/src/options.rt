@@ -1,4 +1,4 @@
-//! The choices of a session.
+//! The options of a session.
 ghost use Rattle.std.specs.Prelude.{◌≡◌};
 ghost use Rattle.can_session.specs.States.{usual};
 
@@ -6,7 +6,7 @@ use can_decode::Short;
 use session_kept_lines::Keep;
 use std::hash::RandomState;
 
-/// The choices for a session as it is opened. No command changes them.
+/// The options with which a session is opened. No command changes them.
 #[derive(Clone, Copy, Debug, PartialEq, Eq)]
 pub struct Options {
     /// How truncated frames are decoded.
@@ -15,12 +15,12 @@ pub struct Options {
     pub keep: Keep,
 }
 
-/// What is chosen for a session, and the keys with which its log's index hashes. They come from `RandomState::new`, and what is
+/// The options of a session, and the keys with which its log's index hashes. They come from `RandomState::new`, and what is
 /// shown is the same without them; but then identifiers can be crafted that make each line as slow as all lines before it, so a
 /// program that reads untrusted lines draws keys.
 #[derive(Clone, Copy)]
 pub struct KeyedOptions {
-    /// The choices.
+    /// The options.
     pub options: Options,
     /// The keys, if any were drawn.
     pub keys: Option<RandomState>,

@@ -1,20 +1,19 @@
 //! The open session.
-ghost use Rattle.std.specs.Prelude.{◌≡◌, ◌<◌, IfOk, Some, [], All, count_by, map, length, slice_get};
+ghost use Rattle.std.specs.Prelude.{◌≡◌, ◌<◌, IfOk, Some, [], All, map, length, slice_get};
 ghost use Rattle.std.specs.Option.{option_map};
 ghost use Rattle.can_layout.specs.Plans.{plan_of};
 ghost use Rattle.can_layout.specs.Diagrams.{picture_of};
 ghost use Rattle.can_check.specs.AllFaults.{all_faults};
 ghost use Rattle.can_decode.specs.DecodedLines.{decoded_line};
 ghost use Rattle.dbc_edits.specs.Edits.{edited};
-ghost use Rattle.session_edit_reach.specs.Touched.{edit_numbers, line_touched};
-ghost use Rattle.session_database.specs.Acceptance.{numbers_of};
-ghost use Rattle.session_database.specs.CompiledMessage.{messages_touched, Raised, nothing_made};
-ghost use Rattle.session_log.specs.Logs.{bytes_of, IsDecoded, Completes};
+ghost use Rattle.session_log.specs.Touched.{edit_numbers};
+ghost use Rattle.session_database.specs.CompiledMessage.{Raised, nothing_made};
+ghost use Rattle.session_log.specs.Logs.{bytes_of};
 ghost use Rattle.can_session.specs.States.{Applies, Adds, RaisedBy, Opens, usual};
 
 use crate::compiled_bus::CompiledBus;
+use crate::logged_edit::LoggedEdit;
 use crate::options::{KeyedOptions, Options};
-use crate::touching::decode_touched;
 use can_check::Diagnostic;
 use can_decode::Short;
 use can_layout::{Meter, Plan};
@@ -25,7 +24,7 @@ use dbc_text_buffer::TextBuffer;
 use dbc_tokens::{Cause, ReadFault};
 use dbc_values::Memory;
 use session_database::{Accepted, CompiledDatabase};
-use session_log::{Log, RedecodedLine};
+use session_log::Log;
 use std::alloc::Global;
 use std::hash::RandomState;
 use std::marker::Model;
@@ -65,26 +64,6 @@ impl Model for Session {
     } };
 
     ghost invariant = { λ a. IsOpen (record { database = a.shown; short = a.options.short }) a.options.keep a.log };
-}
-
-// What is shown after an accepted edit, and the new texts of the lines that it touches.
-fn made_after(
-    alloc: Global,
-    accepted: Accepted<'_>,
-    short: Short,
-    log: &Log,
-    meter: &mut Meter,
-) -> Result<(CompiledDatabase, Vec<RedecodedLine>), Memory>
-    requires { All (IsDecoded (record { database = accepted.before; short = short })) log.now }
-    ensures shown { IfOk result (λ made. made.0 ≡ accepted.entry.after) }
-    ensures redecoded { IfOk result (λ made. Completes (record { database = accepted.entry.after; short = short }) log.now
-        made.1.items) }
-    ensures made { Raised (messages_touched (numbers_of accepted.entry) accepted.entry.after)
-        (count_by (line_touched (numbers_of accepted.entry)) (map bytes_of log.now)) meter.old meter.new }
-{
-    let applied = accepted.applied(alloc, meter)?;
-    let redecoded = decode_touched(alloc, &applied, short, log, meter)?;
-    Ok((applied.into_shown(), redecoded))
 }
 
 // The log without lines, whose index hashes with these keys, if there are any.
@@ -137,7 +116,7 @@ impl Session {
         Session::open_with(alloc, text, Options::default())
     }
 
-    /// The same, with the given choices.
+    /// The same, with the given options.
     pub fn open_with(alloc: Global, text: &[u8], options: Options) -> Result<Session, ReadFault>
         ensures { Opens text.now options result }
     {
@@ -168,22 +147,21 @@ impl Session {
             self.old.state.lines self.old.meter self.new.meter }
     {
         let accepted = Accepted::of(self.alloc, &self.shown, edit)?;
-        // All growths come first.
         let short = self.options.short;
-        let (shown, redecoded) = made_after(
-            self.alloc,
+        let logged = LoggedEdit {
             accepted,
+            log: &self.log,
             short,
-            &self.log,
-            &mut self.meter,
-        )?;
+        };
+        // All growths come first.
+        let (shown, redecoded) = logged.made(self.alloc, &mut self.meter)?;
         // From here on nothing allocates.
         self.shown = shown;
         self.log.exchange(redecoded);
         Ok(())
     }
 
-    /// Keeps a line, which holds no LF, according to the session's choice. A refused one changes nothing but the meter: a line has
+    /// Keeps a line, which holds no LF, according to the session's options. A refused one changes nothing but the meter: a line has
     /// at most 4,096 bytes, and if all lines are kept there is space for 1,048,576. If only the last ones are kept, a new one
     /// replaces the oldest, and the log is never full. Running out of memory comes last.
     pub fn add_line(&mut self, line: &[u8]) -> Result<(), Refusal>
@@ -203,7 +181,7 @@ impl Session {
         let made = bus.line(&mut self.buffer, line, &mut self.meter);
         limit_buffer(&mut self.buffer);
         let made = made?;
-        self.log.retain(self.alloc, made)?;
+        self.log.push(self.alloc, made)?;
         if self.log.len() > self.options.keep.most() {
             self.log.drop_first();
         }
@@ -265,7 +243,7 @@ impl Session {
     }
 
     /// The decoded text of the line at an index, where 0 is the oldest that is kept: what decoding it by itself gives, with the
-    /// database as it is and by the session's choice.
+    /// database as it is and by the session's options.
     pub fn decoded(&self, n: usize) -> &[u8]
         requires { n < length self.now.state.lines }
         ensures { Some result.now ≡ option_map (decoded_line self.now.state.options.short self.now.state.database)

@@ -13,7 +13,7 @@ pub invariant_of-self-then-len-most : goal.invariant_of-self-then-len-most
 invariant_of-self-then-len-most c =
     let log : List Line = c.self.inside.log in
     let bus : Bus = record { database = c.self.inside.shown; short = c.self.inside.options.short } in
-    let all = c.in_ok-retain.ensures.ok in
+    let all = c.in_ok-push.ensures.ok in
     let left : c.drop_first.new.self ≡ drop 1 (log ++ c.in_ok-made.made ∷ []) = c.drop_first.ensures ∙ ap (drop 1) all in
     rw left record {
       decoded = All-drop (IsDecoded bus) 1 (log ++ c.in_ok-made.made ∷ []) (All-push (IsDecoded bus) log c.in_ok-made.made
@@ -30,7 +30,7 @@ pub invariant_of-self-else-len-most : goal.invariant_of-self-else-len-most
 invariant_of-self-else-len-most c =
     let log : List Line = c.self.inside.log in
     let bus : Bus = record { database = c.self.inside.shown; short = c.self.inside.options.short } in
-    let all = c.in_ok-retain.ensures.ok in
+    let all = c.in_ok-push.ensures.ok in
     record {
       decoded = rw all (All-push (IsDecoded bus) log c.in_ok-made.made c.self.invariant.decoded c.in_ok-made.ensures.decoded);
       few = omega (arith, c.if-len-most.false, c.len-2.ensures, c.most.ensures);
@@ -42,7 +42,7 @@ returns-then-len-most-clause-step c =
     let log : List Line = c.self.inside.log in
     let lines = map bytes_of log in
     let line = c.args.line.now in
-    let all = c.in_ok-retain.ensures.ok in
+    let all = c.in_ok-push.ensures.ok in
     let many = length-map log bytes_of in
     let space : is_full keep (length lines) ≡ false = ap (is_full keep) (many ∙ sym c.len.ensures) ∙ sym c.is_full.ensures
     ∙ c.if-is_full.false in

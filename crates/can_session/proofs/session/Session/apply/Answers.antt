@@ -6,12 +6,12 @@ use Rattle.can_session.proofs.session.Session.apply.Goals as goal
 pub returns-in_err-shown-clause-meter : goal.returns-in_err-shown-clause-meter
 returns-in_err-shown-clause-meter c =
     let accepted = c.in_ok-accepted.ensures in
-    rw (← c.self.view_is) (rw accepted.done (rw (accepted.before, accepted.edit) at c.made_after.ensures.made))
+    rw (← c.self.view_is) (rw accepted.done (rw (accepted.before, accepted.edit) at c.made.ensures.made))
 
 pub returns-clause-meter : goal.returns-clause-meter
 returns-clause-meter c =
     let accepted = c.in_ok-accepted.ensures in
-    rw (← c.self.view_is) (rw accepted.done (rw (accepted.before, accepted.edit) at c.made_after.ensures.made))
+    rw (← c.self.view_is) (rw accepted.done (rw (accepted.before, accepted.edit) at c.made.ensures.made))
 
 pub invariant_of-self-2 : goal.invariant_of-self-2
 invariant_of-self-2 c =
