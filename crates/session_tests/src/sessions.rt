@@ -204,6 +204,62 @@ fn metered(rt: HostRuntime) -> Result<(), Fail> {
     Ok(())
 }
 
+// ---- what isn't made again
+
+// one message, of signals in big-endian byte order, one of them with value descriptions
+const EXAMPLE: &[u8] = b"\
+BO_ 496 ExampleMessage: 8 Vector__XXX
+ SG_ Enable : 7|1@0+ (1,0) [0|0] \"-\"
+ SG_ AverageRadius : 6|6@0+ (0.1,0) [0|5] \"m\"
+ SG_ Temperature : 0|12@0- (0.01,250) [229.52|270.47] \"degK\"
+VAL_ 496 Enable 0 \"Disabled\" 1 \"Enabled\" ;
+";
+
+const EXAMPLE_LINES: &[u8] = b"\
+log (0.000000) vcan0 1F0#804A0F0000000000
+log (0.000000) vcan0 1F0#804A0F0000000000
+log (0.000000) vcan0 1F0#804A0F0000000000
+";
+
+const TABLE: &[u8] = b"\
+set-table VAL_TABLE_ T 0 \"z\" ;
+print
+";
+
+const WITH_TABLE: &[u8] = b"\
+ok
+VERSION \"\"
+NS_ :
+BS_:
+BU_:
+VAL_TABLE_ T 0 \"z\" ;
+BO_ 496 ExampleMessage: 8 Vector__XXX
+ SG_ Enable : 7|1@0+ (1,0) [0|0] \"-\"
+ SG_ AverageRadius : 6|6@0+ (0.1,0) [0|5] \"m\"
+ SG_ Temperature : 0|12@0- (0.01,250) [229.52|270.47] \"degK\"
+VAL_ 496 Enable 0 \"Disabled\" 1 \"Enabled\" ;
+ok
+";
+
+const EXAMPLE_STATE: SessionState = SessionState {
+    messages: 1,
+    signals: 3,
+    diagnostics: 0,
+    line: b"(0.000000) vcan0 1F0#804A0F0000000000",
+    decoded: b"(0.000000) vcan0 1F0#804A0F0000000000 :: ExampleMessage(Enable: Enabled, AverageRadius: 0 m, Temperature: 255.92 degK)",
+};
+
+// A value table makes no plan and no diagram anew, and decodes no line again.
+#[test]
+fn unmetered(rt: HostRuntime) -> Result<(), Fail> {
+    let runs = [
+        done(EXAMPLE_LINES, b"ok\nok\nok\n", 3, EXAMPLE_STATE, (1, 3)),
+        done(TABLE, WITH_TABLE, 2, EXAMPLE_STATE, (1, 3)),
+    ];
+    assert!(rt; all_done(rt.alloc(), EXAMPLE, Keep::All, &SOUND, &runs)?);
+    Ok(())
+}
+
 // ---- the last lines
 
 const LAST_TWO: &[u8] = b"\
