@@ -58,8 +58,8 @@
   (eglot-rename "Pace")
   (report "renamed" (buffer-string)))
 
-(defun face-at (place)
-  (go-to (car place) (cadr place))
+(defun face-at (position)
+  (go-to (car position) (cadr position))
   (symbol-name (get-text-property (point) 'face)))
 
 (defun try ()

@@ -29,7 +29,7 @@ DIAGNOSTICS: Final = int(os.environ.get("CANDESK_DIAGNOSTICS", "100000"))
 SEED: Final = int(os.environ.get("CANDESK_DIAGNOSTICS_SEED", "1"))
 MOST_STATEMENTS: Final = 40
 # what `explain` writes before a diagnostic
-PLACED: Final = re.compile(r"^(line \d+|lines \d+ and \d+): (.*)$", re.MULTILINE)
+LOCATED: Final = re.compile(r"^(line \d+|lines \d+ and \d+): (.*)$", re.MULTILINE)
 EXTENDED: Final = 1 << 31
 # words of statements, which a list of symbols and a statement kept verbatim may have as well
 WORDS: Final = ("CM_", "BA_", "VAL_", "SG_", "BO_TX_BU_", "EV_", "VAL_TABLE_", "BA_DEF_", "NS_", "CAT_", "VERSION", "foo")
@@ -37,7 +37,7 @@ GAPS: Final = (" ", " ", " ", "\t", "\n", "\r\n", ' // BO_ 1 CM_ "x; \n', "//\n"
 PIECES: Final = ("a", ";", "\n", "BO_ ", '\\"', "//", " ", "CM_", "\r\n", "\u00e9")
 
 
-class Placed(NamedTuple):
+class Located(NamedTuple):
     """A token: its line, and the offsets of its first byte and after its last."""
 
     line: int
@@ -49,21 +49,21 @@ class Found(NamedTuple):
     """A diagnostic as `check` writes it, the first tokens of the statements it is about, and its object without the remedy."""
 
     line: str
-    starts: tuple[Placed, ...]
+    starts: tuple[Located, ...]
     members: dict[str, object]
 
-    def place(self) -> str:
+    def lines(self) -> str:
         """What `explain` has to write before it."""
-        lines = [str(start.line) for start in self.starts]
-        return f"line {lines[0]}" if len(lines) == 1 else f"lines {lines[0]} and {lines[1]}"
+        numbers = [str(start.line) for start in self.starts]
+        return f"line {numbers[0]}" if len(numbers) == 1 else f"lines {numbers[0]} and {numbers[1]}"
 
 
-def span(tokens: list[Placed], first: int, last: int) -> dict[str, int]:
+def span(tokens: list[Located], first: int, last: int) -> dict[str, int]:
     """The range from one token to another."""
     return {"line": tokens[first].line, "from": tokens[first].begin, "to": tokens[last].end}
 
 
-def found(line: str, tokens: list[Placed], first: int, last: int, **members: object) -> Found:
+def found(line: str, tokens: list[Located], first: int, last: int, **members: object) -> Found:
     """A diagnostic of one statement, and the tokens of it that it is about."""
     code, word = line.split(" ")[:2]
     head = {"code": int(code), "word": word, "severity": "warning"}
@@ -129,44 +129,44 @@ class Text:
         self.messages: list[dict[str, object]] = []
         self.entries: dict[str, list[dict[str, object]]] = {word: [] for word in ENTRIES}
 
-    def _locate(self, words: tuple[str, ...], placed: list[Placed]) -> None:
+    def _locate(self, words: tuple[str, ...], located: list[Located]) -> None:
         """Notes what names the parts of a statement or a signal."""
         if words[0] == "BO_":
             self.message = {"number": int(words[1]), "message": words[2]}
-            self.messages.append(self.message | {"at": [span(placed, 0, 2)]})
-            self.messages.append(self.message | {"node": words[5], "at": [span(placed, 5, 5)]})
+            self.messages.append(self.message | {"at": [span(located, 0, 2)]})
+            self.messages.append(self.message | {"node": words[5], "at": [span(located, 5, 5)]})
         elif words[0] == "SG_":
             signal = self.message | {"signal": words[1]}
-            self.messages.append(signal | {"at": [span(placed, 0, 1)]})
+            self.messages.append(signal | {"at": [span(located, 0, 1)]})
             # (after the limits comes the unit)
             for i in range(words.index("]") + 2, len(words), 2):
-                self.messages.append(signal | {"node": words[i], "at": [span(placed, i, i)]})
+                self.messages.append(signal | {"node": words[i], "at": [span(located, i, i)]})
         elif words[0] in self.entries:
             members = key(words)
             if members is not None:
-                ranges = [span(placed, 0, key_size(words, members) - 1)]
-                ranges += [span(placed, 3, 3)] if words[0] == "SG_MUL_VAL_" else []
+                ranges = [span(located, 0, key_size(words, members) - 1)]
+                ranges += [span(located, 3, 3)] if words[0] == "SG_MUL_VAL_" else []
                 self.entries[words[0]].append({"entry": words[0]} | members | {"at": ranges})
 
     def locations(self) -> list[dict[str, object]]:
         """The objects of `dump --at`."""
         return self.messages + [it for word in ENTRIES for it in self.entries[word]]
 
-    def _add(self, part: str) -> Placed:
+    def _add(self, part: str) -> Located:
         line, begin = self.line, self.size
         self.parts.append(part)
         self.line += part.count("\n")
         self.size += len(part.encode())
-        return Placed(line, begin, self.size)
+        return Located(line, begin, self.size)
 
-    def statement(self, *tokens: str) -> list[Placed]:
+    def statement(self, *tokens: str) -> list[Located]:
         """Adds tokens with gaps before them."""
-        placed = []
+        located = []
         for token in tokens:
             self._add("".join(self.rnd.choice(GAPS) for _ in range(self.rnd.choice((1, 1, 1, 2, 3)))))
-            placed.append(self._add(token))
-        self._locate(tokens, placed)
-        return placed
+            located.append(self._add(token))
+        self._locate(tokens, located)
+        return located
 
     def string(self, line_ends: bool = True) -> str:
         made = '"' + "".join(self.rnd.choice(PIECES) for _ in range(self.rnd.randrange(6))) + '"'
@@ -208,8 +208,8 @@ def message(text: Text, number: int) -> Iterator[Found]:
 
 
 def _signal(name: str, tag: tuple[str, ...], start: int, length: int = 1, factor: tuple[str, ...] = ("1",)) -> tuple[str, ...]:
-    place = (str(start), "|", str(length), "@", "1", "+")
-    return ("SG_", name, *tag, ":", *place, "(", *factor, ",", "-", "1", ")", "[", "+", "0", "|", "0", "]")
+    bits = (str(start), "|", str(length), "@", "1", "+")
+    return ("SG_", name, *tag, ":", *bits, "(", *factor, ",", "-", "1", ")", "[", "+", "0", "|", "0", "]")
 
 
 def overlapping(text: Text, number: int) -> Iterator[Found]:
@@ -399,9 +399,9 @@ class Locations(ProgramCase):
     def check_lines(self, all_found: list[Found], text: str, ended: Ended) -> None:
         """Whether `explain` reports each diagnostic in its line, and no other."""
         status, output, errors = ended
-        reported: dict[str, str] = {subject: place for place, subject in PLACED.findall(output.decode())}
+        reported: dict[str, str] = {subject: lines for lines, subject in LOCATED.findall(output.decode())}
         for it in all_found:
-            self.check_equal(f"{it.line} of a text of seed {SEED}", reported.get(it.line), it.place())
+            self.check_equal(f"{it.line} of a text of seed {SEED}", reported.get(it.line), it.lines())
         others = sorted(reported.keys() - {it.line for it in all_found})
         if others or errors or status != (HAS_DIAGNOSTICS if all_found else DONE):
             self.check(f"a text of seed {SEED}", f"{others[:3]}, status {status}, {errors[:200]!r}:\n{text}")

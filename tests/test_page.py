@@ -105,7 +105,7 @@ class Access(PageCase):
                 self.check_true("page: refused: a message that is too large", is_closed, last)
             async with it.talk() as talk:
                 await talk.next()
-                wishes = ('{"id": 1, "want": "fly"}', '{"id": 2, "want": "message", "place": 99}', '{"id": 3, "want": "edit"}')
+                wishes = ('{"id": 1, "want": "fly"}', '{"id": 2, "want": "message", "index": 99}', '{"id": 3, "want": "edit"}')
                 for text in ("no JSON", "[]", *wishes):
                     await talk.socket.send_str(text)
                     reply = await talk.next()
@@ -133,12 +133,12 @@ class Edits(PageCase):
         with open(example("car.log"), "rb") as log, page(path, log=log) as it:
             async with it.talk() as talk:
                 state = (await talk.next())["state"]
-                lights = {"place": 6, "number": 769, "name": "Lights", "size": 1}
+                lights = {"index": 6, "number": 769, "name": "Lights", "size": 1}
                 self.check_true("page: messages", state["messages"][6] == lights, state)
                 await talk.wish("edit", command="rename-signal 6 Indicator Blinker")
                 lines = (await talk.wish("lines", first=7, count=1))["items"]
                 self.check_true("page: an edit is seen in the log", "Blinker: hazard" in lines[0][1] and lines[0][0] == 8, lines)
-                message = json.loads(await talk.wish("message", place=6))
+                message = json.loads(await talk.wish("message", index=6))
                 self.check_true("page: an edit is seen in a message", "Blinker" in message["signals"], message)
                 reply = await talk.wish("differences")
                 wanted = ['~ signal Lights.Blinker: name "Indicator" -> "Blinker"']
@@ -157,7 +157,7 @@ class Edits(PageCase):
             async with it.talk() as talk:
                 await talk.next()
                 await talk.wish("edit", command="rename-signal 6 Indicator Blinker")
-                await talk.wish("move", place=6, signal="Main", start=2, length=2)
+                await talk.wish("move", index=6, signal="Main", start=2, length=2)
                 state = await talk.wish("state")
                 overlap = next((line for line in state["diagnostics"] if line.startswith("6 Overlap 769")), "none")
                 self.check_true("page: a signal that is moved overlaps", overlap != "none", state)
@@ -190,14 +190,14 @@ class Edits(PageCase):
                 await talk.next()
                 accepted, wrong = 0, []
                 for at in range(EDITS):
-                    place, number = dice.randrange(14), dice.choice((256, 769, 770, 1024, 1536))
+                    index, number = dice.randrange(14), dice.choice((256, 769, 770, 1024, 1536))
                     old, new = dice.choice(("Speed", "Main", "Pack", "S1", "S2")), dice.choice(("S1", "S2", "Main"))
                     bits = f"{dice.randrange(70)}|{dice.randrange(1, 40)}@{dice.randrange(2)}+"
                     command = dice.choice((
-                        f"rename-signal {place} {old} {new}", f'add-signal {place} 0 SG_ N{at} : {bits} (0.5,1) [0|0] "x" E',
-                        f"remove-signal {place} {dice.choice((f'N{max(0, at - 1)}', 'Who', 'Heat'))}",
-                        f"renumber {place} {dice.randrange(2048)}", f'set-values VAL_ {number} Main 1 "a{at}" 300 "b" ;',
-                        f"change-message {place} M{at} {dice.randrange(9)} Body", "undo",
+                        f"rename-signal {index} {old} {new}", f'add-signal {index} 0 SG_ N{at} : {bits} (0.5,1) [0|0] "x" E',
+                        f"remove-signal {index} {dice.choice((f'N{max(0, at - 1)}', 'Who', 'Heat'))}",
+                        f"renumber {index} {dice.randrange(2048)}", f'set-values VAL_ {number} Main 1 "a{at}" 300 "b" ;',
+                        f"change-message {index} M{at} {dice.randrange(9)} Body", "undo",
                     ))
                     try:
                         await (talk.wish("undo") if command == "undo" else talk.wish("edit", command=command))
@@ -217,7 +217,7 @@ class Edits(PageCase):
         wrong: list[Any] = []
         if state["diagnostics"] != ran([self.program, "check", path]).out.decode().splitlines():
             wrong.append(("check", state["diagnostics"]))
-        drawn = [await talk.wish("layout", place=it["place"]) for it in state["messages"]]
+        drawn = [await talk.wish("layout", index=it["index"]) for it in state["messages"]]
         if "".join(it + "\n" for it in drawn) != ran([self.program, "dump", path]).out.decode():
             wrong.append(("dump", drawn))
         shown = [line for _, line in (await talk.wish("lines", first=0, count=100))["items"]]

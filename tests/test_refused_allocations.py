@@ -6,7 +6,7 @@ run's output; of `print` nothing, of `dump` whole layout diagrams, of `check` an
 allocation of a command is refused answers it with `refused 90 Memory`, and goes on as if there had been no such command. An edit of
 a session with a long log that affects none of its lines makes far fewer allocations than there are lines.
 
-With the program of tests of the crate candesk_tests the same is checked of calls that no command makes: each of their tests passes,
+With the program of tests of the crate can_tests the same is checked of calls that no command makes: each of their tests passes,
 or ends out of memory. A C compiler is needed, as cc.
 """
 
@@ -20,8 +20,8 @@ from typing import ClassVar, Final
 sys.dont_write_bytecode = True
 sys.path.insert(0, os.path.dirname(os.path.realpath(__file__)))
 
-from test_support import DONE, MEMORY, Ended, Preloaded, ProgramCase, cases, main, program_of_tests  # noqa: E402
-from test_support import put, run, script, shown  # noqa: E402
+from test_support import DONE, EXAMPLE, MEMORY, ROOT, Ended, Preloaded, ProgramCase, cases, content, main  # noqa: E402
+from test_support import program_of_tests, put, run, script, shown  # noqa: E402
 
 # a database with a statement of each kind
 WHOLE = b"""\
@@ -246,6 +246,12 @@ class Commands(RefusalCase):
 class Calls(RefusalCase):
     """Tests of calls that no command makes."""
 
+    def test_names(self) -> None:
+        for name in CALLS:
+            module, function = name.split("::")
+            source = content(os.path.join(ROOT, "crates", "can_tests", "src", f"{module}.rt")).decode()
+            self.check(f"{name} is a test", None if f"#[test]\nfn {function}(" in source else "the sources have no such test")
+
     def row(self, name: str) -> None:
         tests = program_of_tests("CANDESK_TESTS", script("proving").TESTS)
 
@@ -263,8 +269,8 @@ class LongLogs(RefusalCase):
     def test_edits_without_effect_on_a_long_log(self) -> None:
         """An edit that affects no line of a long log makes fewer allocations than there are lines: its allocation of number 10,000,
         which is refused, is never made."""
-        words = [self.program, "session", put(self.folder, "database.dbc", EDITED)]
-        commands = b"log (1.5) can0 123#0000\n" * KEPT_LINES
+        words = [self.program, "session", put(self.folder, "database.dbc", EXAMPLE)]
+        commands = b"log (0.000000) vcan0 1F0#804A0F0000000000\n" * KEPT_LINES
         for edit in WITHOUT_EFFECT:
             before = self.count(words, commands)
             commands += edit

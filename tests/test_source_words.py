@@ -1,8 +1,8 @@
 #!/usr/bin/env python3
 """Comments and names are in the field's words.
 
-Looked at are the comments of the crates, of the Python files with their docstrings, and of the shell scripts, and the names in the
-crates. What is between backquotes in a comment is code and doesn't count, nor do quoted texts in code: the words of
+Looked at are the comments of the crates, of the Python files with their docstrings, and of the shell scripts, the names in the
+crates, and the names of must-fail edits. What is between backquotes in a comment is code and doesn't count, nor do quoted texts in code: the words of
 diagnostics, refusals, replies and public names are fixed. The pages have a test of their own.
 """
 
@@ -140,6 +140,12 @@ class SourceWords(Case):
             lines = enumerate(content(path).decode().split("\n"), 1)
             found = [f"line {at}: {it}" for at, line in lines if not is_comment(line) for it in names_in(line)]
             self.check(path.removeprefix(f"{ROOT}/"), "; ".join(found) or None)
+
+    def test_edits(self) -> None:
+        """An edit's name describes a mistake, its words apart by underscores."""
+        for path in sorted(glob.glob(f"{ROOT}/crates/*/must-fail/*.edit")):
+            name = os.path.basename(path).removesuffix(".edit").replace("_", " ")
+            self.check(path.removeprefix(f"{ROOT}/"), "; ".join(ours_in(name)) or None)
 
     def test_families(self) -> None:
         for crate in sorted(os.listdir(f"{ROOT}/crates")):

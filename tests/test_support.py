@@ -8,7 +8,7 @@ reason. These environment variables name what is tested:
 
 - CANDESK_PROGRAM: the program. Else it is the one that was built of the sources as they are, or that of dist/
 - CANDESK_CASES: the folder of the outside cases. Else there are none
-- CANDESK_TESTS: the program of tests of the crate candesk_tests, for `test_refused_allocations`. Else it is the one that was built
+- CANDESK_TESTS: the program of tests of the crate can_tests, for `test_refused_allocations`. Else it is the one that was built
   of the sources as they are
 - CANDESK_PROBE: the same of the crate candesk_probe, for `test_refused_calls` and `test_failing_devices`
 - CANDESK_FUZZ_MINUTES, CANDESK_FUZZ_SEED: how long `test_fuzz` runs, 1 minute unless given, and its seed, 1 unless given
