@@ -40,7 +40,7 @@ async function edit(want, words) {
   page.editedAt = performance.now();
   try {
     // (the answer has all that this page shows)
-    const look = { place: page.index, first: Math.max(0, Math.round(page.first)), count: visible() };
+    const look = { index: page.index, first: Math.max(0, Math.round(page.first)), count: visible() };
     await showState(await request(want, { ...words, look }));
     showStatus(want === "save" ? "saved" : "ok");
   } catch (error) {
@@ -100,7 +100,7 @@ function showMessages() {
     const isSought = it => it.name.toLowerCase().includes(sought) || hex(it).toLowerCase().includes(sought);
     const list = page.state.messages.filter(isSought);
     page.items = list.map(it => {
-      const button = made("button", null, { onclick: () => openMessage(it.place) });
+      const button = made("button", null, { onclick: () => openMessage(it.index) });
       const frames = made("small"), cycle = made("small");
       button.append(made("span", it.name), made("code", hex(it)), frames, cycle);
       return { message: it, isCurrent: false, button, frames, cycle };
@@ -109,7 +109,7 @@ function showMessages() {
     showFrames();
   }
   for (const item of page.items) {
-    const isCurrent = item.message.place === page.index;
+    const isCurrent = item.message.index === page.index;
     if (item.isCurrent === isCurrent) continue;
     item.isCurrent = isCurrent;
     item.button.ariaCurrent = isCurrent ? "true" : null;
@@ -158,7 +158,7 @@ function showFound() {
 
 async function showMessage() {
   if (page.index < 0) { by("name").textContent = "no messages"; return; }
-  putMessage(JSON.parse(await request("message", { place: page.index })));
+  putMessage(JSON.parse(await request("message", { index: page.index })));
 }
 function putMessage(message) {
   page.message = message;
@@ -227,7 +227,7 @@ by("grid").ondrop = event => {
   if (!dragged || event.target.dataset.at === undefined) return;
   const { name, signal, at } = dragged, by8 = along(signal, Number(event.target.dataset.at)) - along(signal, at);
   const start = along(signal, Math.max(0, along(signal, signal.start) + by8));
-  edit("move", { place: page.index, signal: name, start, length: signal.length });
+  edit("move", { index: page.index, signal: name, start, length: signal.length });
 };
 function showSignals() {
   const head = made("tr");
@@ -237,7 +237,7 @@ function showSignals() {
     swatch.style.background = colour(index);
     const number = (value, label) => made("input", null, { type: "number", value, min: 0, "aria-label": `${label} of ${name}` });
     const start = number(signal.start, "start"), length = number(signal.length, "length");
-    const move = () => edit("move", { place: page.index, signal: name, start: Number(start.value), length: Number(length.value) });
+    const move = () => edit("move", { index: page.index, signal: name, start: Number(start.value), length: Number(length.value) });
     start.onchange = move; length.onchange = move;
     const cells = [swatch, made("span", `${index} ${name}${signal.refused ? ` ?${signal.refused}` : ""}`), start, length,
       made("span", `${signal.order}${signal.signed ? " signed" : ""}`),
@@ -352,7 +352,7 @@ by("only").onchange = async () => {
   const found = page.state.messages.find(it => it.name === by("only").value);
   await filter();
   if (found) {
-    const message = JSON.parse(await request("message", { place: found.place }));
+    const message = JSON.parse(await request("message", { index: found.index }));
     by("onlySignal").append(...Object.keys(message.signals).map(it => made("option", it, { value: it })));
   }
 };

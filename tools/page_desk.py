@@ -169,7 +169,7 @@ class Desk:
     def listed(self) -> list[dict[str, Any]]:
         """The messages, in the form for the list of a page."""
         found = tools.messages_of(self.text)
-        return [{"place": it.index, "number": it.number, "name": it.name, "size": it.length} for it in found]
+        return [{"index": it.index, "number": it.number, "name": it.name, "size": it.length} for it in found]
 
     def summary(self) -> dict[str, Any]:
         return {

@@ -57,17 +57,17 @@ class Server:
         self.ended = asyncio.Event()
         self.requests: dict[str, Callable[[dict[str, Any]], Any]] = {
             "state": lambda _: desk.state(),
-            "message": lambda it: desk.message(int(it["place"])),
+            "message": lambda it: desk.message(int(it["index"])),
             "lines": lambda it: desk.lines(int(it["first"]), int(it["count"])),
             "remedies": lambda _: desk.remedies(),
             "values": lambda it: self.values(int(it["number"]), bool(it.get("all"))),
             "differences": lambda _: self.differences(),
             "text": lambda _: desk.text.decode("latin-1"),
-            "layout": lambda it: tools.shown(b"\n".join(desk.session.ask(b"show layout %d" % int(it["place"]))[1])),
+            "layout": lambda it: tools.shown(b"\n".join(desk.session.ask(b"show layout %d" % int(it["index"]))[1])),
         }
         self.edits: dict[str, Callable[[dict[str, Any]], None]] = {
             "edit": lambda it: desk.edit(str(it["command"])),
-            "move": lambda it: desk.move(int(it["place"]), str(it["signal"]), int(it["start"]), int(it["length"])),
+            "move": lambda it: desk.move(int(it["index"]), str(it["signal"]), int(it["start"]), int(it["length"])),
             "undo": lambda _: desk.undo(),
             "redo": lambda _: desk.redo(),
             "save": lambda _: desk.save(),
@@ -179,7 +179,7 @@ class Server:
         state = await self.state_for(socket)
         calls: dict[str, Callable[[], Any]] = {}
         if isinstance(look, dict):
-            index, first, count = (int(look[it]) for it in ("place", "first", "count"))
+            index, first, count = (int(look[it]) for it in ("index", "first", "count"))
             calls["lines"] = lambda: self.desk.lines(first, count)
             calls["message"] = lambda: self.desk.message(index)
         answers = await asyncio.gather(*map(self.run, calls.values()), return_exceptions=True)
