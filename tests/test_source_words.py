@@ -2,8 +2,8 @@
 """Comments and names are in the field's words.
 
 Looked at are the comments of the crates, of the Python files with their docstrings, and of the shell scripts, the names in the
-crates, and the names of must-fail edits. What is between backquotes in a comment is code and doesn't count, nor do quoted texts in code: the words of
-diagnostics, refusals, replies and public names are fixed. The pages have a test of their own.
+crates, and the names of must-fail edits. What is between backquotes in a comment is code and doesn't count, nor do quoted texts in
+code: the words of diagnostics, refusals, replies and public names are fixed. The pages have a test of their own.
 """
 
 from __future__ import annotations
